@@ -1,0 +1,12 @@
+-- The lines of a body. A line ends at a line feed (10); a last part without one is a line if it isn't
+-- empty, as in POSIX.1-2017 XBD 3.206 and for a text that ends without a line feed.
+use Rattle.std.specs.Prelude.{ℕ, ◌==◌, if◌then◌else◌, List, [], ◌∷◌}
+
+-- one more byte at the front of the first line
+abbrev pub with_byte_in_front : ℕ → List (List ℕ) → List (List ℕ)
+with_byte_in_front b [] = (b ∷ []) ∷ []
+with_byte_in_front b (line ∷ lines) = (b ∷ line) ∷ lines
+
+unfoldable pub lines_of : List ℕ → List (List ℕ)
+lines_of [] = []
+lines_of (b ∷ body) = if b == 10 then [] ∷ lines_of body else with_byte_in_front b (lines_of body)

@@ -1,0 +1,41 @@
+//! Why a pattern is refused.
+
+ghost use Rattle.std.specs.Prelude.{◌≡◌};
+
+/// Why a pattern is refused, and where.
+#[derive(Clone, Copy, Debug, PartialEq, Eq)]
+pub struct EreError {
+    /// The kind of fault.
+    pub kind: EreErrorKind,
+    /// The offset in the pattern, from 0, at which the fault is reported; 0 for `OutOfMemory`.
+    pub at: u32,
+}
+
+/// The kinds of faults of a pattern, in the order of their numbers.
+#[derive(Clone, Copy, Debug, PartialEq, Eq)]
+pub enum EreErrorKind {
+    /// The pattern has over 1,024 bytes. Reported at 1024.
+    TooLong,
+    /// A byte 0 or 10 (line feed). Reported at the byte.
+    BadByte,
+    /// A backslash before a byte that it cannot stand before, or at the end. Reported at the backslash.
+    BadEscape,
+    /// A bracket expression has no end. Reported at its `[`.
+    BadBracket,
+    /// A range that is backwards, that shares its end with another, or that has a class at an end. Reported at the `-`.
+    BadRange,
+    /// An unknown class, or a collating name that is not one byte. Reported at the `[` of the symbol.
+    BadClass,
+    /// `{` and a digit do not begin a valid interval. Reported at the `{`.
+    BadInterval,
+    /// A duplication with nothing before it. Reported at its first byte.
+    NothingToRepeat,
+    /// A group has no end. Reported at the innermost open `(`.
+    Unclosed,
+    /// Over 64 groups are open, reported at the 65th `(`; or the tree's height is over 64, reported at 0.
+    TooDeep,
+    /// The tree has over 4,096 leaves. Reported at 0.
+    TooLarge,
+    /// Memory ran out. Reported at 0.
+    OutOfMemory,
+}

@@ -1,0 +1,29 @@
+//! The tree of an extended regular expression.
+
+ghost use Rattle.std.specs.Prelude.{◌↔◌, IsTrue};
+ghost use Rattle.ere.specs.Limits.{IsWithinLimits};
+ghost use Rattle.ere.specs.Tree.{form};
+
+use crate::byte_set::ByteSet;
+
+/// The greatest length of a line, in bytes.
+pub const MAX_LINE: usize = 4096;
+
+/// An extended regular expression as a tree. `docs/DEFINITIONS.md` says which texts each tree matches.
+#[derive(Clone, Debug, PartialEq, Eq, Drop)]
+pub enum Ere {
+    /// The empty text.
+    Empty,
+    /// One byte of the set.
+    Set(ByteSet),
+    /// The empty text at the line's start: `^`.
+    Start,
+    /// The empty text at the line's end: `$`.
+    End,
+    /// A word of each member, one behind the other.
+    Cat(Vec<Ere>),
+    /// A word of one of the members.
+    Alt(Vec<Ere>),
+    /// Words of the body, one behind the other: at least the first number of them, and at most the second, where there is one.
+    Repeat(Box<Ere>, u8, Option<u8>),
+}
