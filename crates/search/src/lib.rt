@@ -1,0 +1,10 @@
+//! Searches of an index, line by line: prepared patterns, answers, and the text of an answer.
+#![tactic(auto)]
+
+pub mod answer;
+pub mod pattern;
+pub mod scan;
+
+pub use answer::{Answer, Hit};
+pub use pattern::{Prepared, WithinError};
+pub use scan::find;
