@@ -69,6 +69,13 @@ impl Index {
         self.commands.len() as u32
     }
 
+    /// The commands of the journal, from the first one on.
+    pub fn commands(&self) -> &[Command]
+        ensures { result.now ≡ self.now }
+    {
+        self.commands.as_slice()
+    }
+
     /// The number of documents.
     pub fn documents(&self) -> u32
         ensures { result ≡ length (documents_of self.now) }

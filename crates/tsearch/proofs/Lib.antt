@@ -1,0 +1,6 @@
+pub mod ItemLemmas
+pub mod CarryLemmas
+pub mod RowLemmas
+pub mod EntryLemmas
+pub mod RunLemmas
+pub mod LegalLemmas

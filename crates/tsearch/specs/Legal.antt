@@ -27,7 +27,7 @@ pub data IsRoomFor (most : ℕ) (commands : List Command) (line : ℕ) (entry : 
 
 -- Faults of a name come first; memory may run out only for a name.
 pub data IsNamed (name : List ℕ) (line : ℕ) (entry : Entry) (Else : Type 0) : Type 0 where
-  bad_name : (fault : NameError) → fault ≢ name_error.OutOfMemory → IsNameFault fault name → entry ≡ Refused line (reason.Name fault) → IsNamed name line entry Else
+  bad_name : (fault : NameError) → (fault ≡ name_error.OutOfMemory → ⊥) → IsNameFault fault name → entry ≡ Refused line (reason.Name fault) → IsNamed name line entry Else
   no_memory : IsName name → entry ≡ Refused line reason.OutOfMemory → IsNamed name line entry Else
   named : IsName name → Else → IsNamed name line entry Else
 
@@ -76,7 +76,7 @@ pub record IsAnswered (place : Place) (pattern : Pattern) (reader : ℕ) (answer
   pub published : (answer.version ≡ 0) ⊎ Contains (published_in (all_rows place)) answer.version
   pub not_older : published_last place.before ≤ answer.version
   pub exact : IsAnswerOf (take answer.version (commands_of (all_rows place))) pattern answer
-  pub reader : reader ≤ place.readers
+  pub one_of_them : reader ≤ place.readers
   pub not_newer : IfSome (newest_allowed place) (λ version. answer.version ≤ version)
 
 -- the number of a search, from 1
@@ -113,14 +113,14 @@ IsEntryOf Holds most place line truncated entry = entry ≡ Refused line reason.
 IsEntryOf Holds most place line body_not_closed entry = entry ≡ Refused line reason.BodyNotClosed
 
 -- A sync has no entry, and every other item has one.
+abbrev pub HasEntry : (List ℕ → List ℕ → Type 0) → ℕ → Place → Item → Option Entry → Type 0
+HasEntry Holds most place sync None = Unit {0}
+HasEntry Holds most place sync (Some entry) = ⊥
+HasEntry Holds most place item None = ⊥
+HasEntry Holds most place item (Some entry) = IsEntryOf Holds most place place.row.numbered.line item entry
+
 abbrev pub IsLegalRow : (List ℕ → List ℕ → Type 0) → ℕ → Place → Type 0
-IsLegalRow Holds most place = has_entry place.row.numbered.item place.row.entry
-  where
-    has_entry : Item → Option Entry → Type 0
-    has_entry sync None = Unit {0}
-    has_entry sync (Some entry) = ⊥
-    has_entry item None = ⊥
-    has_entry item (Some entry) = IsEntryOf Holds most place place.row.numbered.line item entry
+IsLegalRow Holds most place = HasEntry Holds most place place.row.numbered.item place.row.entry
 
 -- The turns of one reader are distinct, and its versions never fall as they rise.
 pub record IsInTurn (first second : ℕ) (first_version second_version : ℕ) : Type 0 where
@@ -128,10 +128,12 @@ pub record IsInTurn (first second : ℕ) (first_version second_version : ℕ) : 
   pub rises : first < second → first_version ≤ second_version
   pub falls : second < first → second_version ≤ first_version
 
-abbrev pub AreInTurn : List Entry → Type 0
-AreInTurn entries =
-    (front middle back : List Entry) (reader search turn search' turn' : ℕ) (answer answer' : Reply)
-    → entries ≡ front ++ Found search reader turn answer ∷ (middle ++ Found search' reader turn' answer' ∷ back)
+abbrev pub AreInTurn : List Row → Type 0
+AreInTurn rows =
+    (before middle after : List Row) (row row' : Row) (reader number turn number' turn' : ℕ) (answer answer' : Reply)
+    → rows ≡ before ++ row ∷ (middle ++ row' ∷ after)
+    → row.entry ≡ Some (Found number reader turn answer)
+    → row'.entry ≡ Some (Found number' reader turn' answer')
     → IsInTurn turn turn' answer.version answer'.version
 
 -- The greatest count of failures that a source can answer.
@@ -146,5 +148,5 @@ pub record IsLegal (script : List ℕ) (options : Options) (Holds : List ℕ →
   pub whole : entries ≡ entries_of rows
   pub each : (before : List Row) (row : Row) (after : List Row) → rows ≡ before ++ row ∷ after
       → IsLegalRow Holds options.max_commands (record { readers = options.readers; before = before; row = row; after = after })
-  pub turns : AreInTurn entries
+  pub turns : AreInTurn rows
   pub failures : (count_failures rows + failed ≤ failed') ⊎ (failed' ≡ greatest_failures)

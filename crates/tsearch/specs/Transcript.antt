@@ -26,7 +26,7 @@ text_of_entry stats (Published line version) = []
 text_of_entry stats (Found number reader turn answer) = text_of_answer number stats answer
 text_of_entry stats (SearchRefused number reason) = codes "search " ++ decimal number ++ codes " refused: " ++ text_of_search_reason reason ++ line_end
 
-unfoldable pub text_of_transcript : Bool → List Entry → List ℕ
+abbrev pub text_of_transcript : Bool → List Entry → List ℕ
 text_of_transcript stats entries = flat_map (text_of_entry stats) entries
 
 abbrev pub is_refusal : Entry → Bool
@@ -44,5 +44,5 @@ has_hit (Found number reader turn answer) = nat_lt 0 (length answer.hits)
 has_hit (SearchRefused number reason) = false
 
 -- 2 where anything was refused, else 0 where some search has a hit, else 1
-unfoldable pub status_of : List Entry → ℕ
+abbrev pub status_of : List Entry → ℕ
 status_of entries = if list_any is_refusal entries then 2 else (if list_any has_hit entries then 0 else 1)

@@ -1,6 +1,7 @@
 //! Transcripts of runs.
 
 ghost use Rattle.std.specs.Prelude.{◌≡◌, ◌++◌, OnOk, OnErr};
+ghost use Rattle.std.specs.List.{list_any};
 ghost use Rattle.tsearch.specs.Transcript.{status_of, is_refusal, has_hit};
 
 use ere::EreError;
@@ -48,11 +49,20 @@ pub enum SearchReason {
 #[derive(Debug, Drop)]
 pub enum Entry {
     /// A command was accepted: the number of its line, and how many commands are accepted with it.
-    Accepted { line: u32, commands: u32 },
+    Accepted {
+        line: u32,
+        commands: u32,
+    },
     /// A line was refused.
-    Refused { line: u32, reason: Reason },
+    Refused {
+        line: u32,
+        reason: Reason,
+    },
     /// All accepted commands were published; the version is their number.
-    Published { line: u32, version: u32 },
+    Published {
+        line: u32,
+        version: u32,
+    },
     /// A search was answered: its number, the reader that answered, and that reader's turn, from 1.
     Found {
         search: u32,
@@ -61,7 +71,10 @@ pub enum Entry {
         answer: Answer,
     },
     /// A search was refused: its number, and why.
-    SearchRefused { search: u32, reason: SearchReason },
+    SearchRefused {
+        search: u32,
+        reason: SearchReason,
+    },
 }
 
 /// The entries of a run, in the order of the script: one for each item but `sync`.
@@ -74,14 +87,25 @@ pub struct Transcript {
 pub fn status(transcript: &Transcript) -> u8
     ensures { result ≡ status_of transcript.now.entries.items }
 {
-    let entries = transcript.entries.as_slice();
-    if entries.iter().any(is_refusal) {
+    if any_refused(&transcript.entries) {
         2
-    } else if entries.iter().any(has_hit) {
+    } else if any_hit(&transcript.entries) {
         0
     } else {
         1
     }
+}
+
+fn any_refused(entries: &[Entry]) -> bool
+    ensures { result ≡ list_any is_refusal entries.now }
+{
+    entries.iter().any(|entry| is_refusal(entry))
+}
+
+fn any_hit(entries: &[Entry]) -> bool
+    ensures { result ≡ list_any has_hit entries.now }
+{
+    entries.iter().any(|entry| has_hit(entry))
 }
 
 fn is_refusal(entry: &Entry) -> bool
