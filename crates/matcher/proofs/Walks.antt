@@ -1,0 +1,2 @@
+-- TODO
+use Rattle.std.proofs.Common.{◌≡◌}
