@@ -15,17 +15,19 @@ end_of_nothing x w e = rw e (ap length (sym (append-nil x)))
 steps_of_copies : (line : List ℕ) (language : Language) (relation : Relation) → ((x w y : List ℕ) → line ≡ x ++ (w ++ y) → language x w y → relation (length x) (length (x ++ w))) → (count : ℕ) (x w y : List ℕ) → line ≡ x ++ (w ++ y) → InCopies language count x w y → Steps relation count (length x) (length (x ++ w))
 unfolding InCopies Steps
 steps_of_copies line language relation one zero x w y whole h = end_of_nothing x w h
-steps_of_copies line language relation one (suc count) x w y whole (u, v, e, first, last) =
-    (length (x ++ u),
-    steps_of_copies line language relation one count x u (v ++ y) (whole ∙ ap (λ t. x ++ (t ++ y)) e ∙ ap (λ t. x ++ t) (append_assoc u v y)) first,
-    subst (λ t. relation (length (x ++ u)) (length t)) (append_assoc x u v ∙ ap (λ t. x ++ t) (sym e)) (one (x ++ u) v y (whole ∙ ap (λ t. x ++ (t ++ y)) e ∙ ap (λ t. x ++ t) (append_assoc u v y) ∙ sym (append_assoc x u (v ++ y))) last))
+steps_of_copies line language relation one (suc count) x w y whole (u, v, e, first, last) = (
+  length (x ++ u),
+  steps_of_copies line language relation one count x u (v ++ y) (whole ∙ ap (λ t. x ++ (t ++ y)) e ∙ ap (λ t. x ++ t) (append_assoc u v y)) first,
+  subst (λ t. relation (length (x ++ u)) (length t)) (append_assoc x u v ∙ ap (λ t. x ++ t) (sym e)) (one (x ++ u) v y (whole ∙ ap (λ t. x ++ (t ++ y)) e ∙ ap (λ t. x ++ t) (append_assoc u v y) ∙ sym (append_assoc x u (v ++ y))) last),
+)
 
 seam : (line x y : List ℕ) (b : ℕ) → line ≡ x ++ b ∷ y → b ≡ get_or line (length x) 0
 seam line x y b whole = rw whole (sym (get_or-append_seam x b y 0))
 
 mutual
+  unfolding InLanguage InEach InSome Spans SpansEach SpansSome
+
   pub spans_of_language : (line : List ℕ) (tree : Tree) (x w y : List ℕ) → line ≡ x ++ (w ++ y) → InLanguage tree x w y → Spans line tree (length x) (length (x ++ w))
-  unfolding InLanguage Spans
   spans_of_language line empty x w y whole h = end_of_nothing x w h
   spans_of_language line (set members) x w y whole h =
       let whole_b : line ≡ x ++ h.0 ∷ y = whole ∙ ap (λ t. x ++ (t ++ y)) h.1 in
@@ -39,15 +41,14 @@ mutual
       (h.0, h.1, h.2, steps_of_copies line (InLanguage body) (Spans line body) (λ x' w' y'. spans_of_language line body x' w' y') h.0 x w y whole h.3)
 
   spans_of_each : (line : List ℕ) (trees : Trees) (x w y : List ℕ) → line ≡ x ++ (w ++ y) → InEach trees x w y → SpansEach line trees (length x) (length (x ++ w))
-  unfolding InEach SpansEach
   spans_of_each line none x w y whole h = end_of_nothing x w h
-  spans_of_each line (more tree trees) x w y whole (u, v, e, first, rest) =
-      (length (x ++ u),
-      spans_of_language line tree x u (v ++ y) (whole ∙ ap (λ t. x ++ (t ++ y)) e ∙ ap (λ t. x ++ t) (append_assoc u v y)) first,
-      subst (λ t. SpansEach line trees (length (x ++ u)) (length t)) (append_assoc x u v ∙ ap (λ t. x ++ t) (sym e)) (spans_of_each line trees (x ++ u) v y (whole ∙ ap (λ t. x ++ (t ++ y)) e ∙ ap (λ t. x ++ t) (append_assoc u v y) ∙ sym (append_assoc x u (v ++ y))) rest))
+  spans_of_each line (more tree trees) x w y whole (u, v, e, first, rest) = (
+    length (x ++ u),
+    spans_of_language line tree x u (v ++ y) (whole ∙ ap (λ t. x ++ (t ++ y)) e ∙ ap (λ t. x ++ t) (append_assoc u v y)) first,
+    subst (λ t. SpansEach line trees (length (x ++ u)) (length t)) (append_assoc x u v ∙ ap (λ t. x ++ t) (sym e)) (spans_of_each line trees (x ++ u) v y (whole ∙ ap (λ t. x ++ (t ++ y)) e ∙ ap (λ t. x ++ t) (append_assoc u v y) ∙ sym (append_assoc x u (v ++ y))) rest),
+  )
 
   spans_of_some : (line : List ℕ) (trees : Trees) (x w y : List ℕ) → line ≡ x ++ (w ++ y) → InSome trees x w y → SpansSome line trees (length x) (length (x ++ w))
-  unfolding InSome SpansSome
   spans_of_some line none x w y whole h = h
   spans_of_some line (more tree trees) x w y whole (inl h) = inl (spans_of_language line tree x w y whole h)
   spans_of_some line (more tree trees) x w y whole (inr h) = inr (spans_of_some line trees x w y whole h)
@@ -91,8 +92,9 @@ next_byte line x [] whole inside = absurd (omega (arith, ap length whole, length
 next_byte line x (b ∷ y) whole inside = (y, ap (λ t. t ∷ y) (seam line x y b whole))
 
 mutual
-  pub language_of_spans : (line : List ℕ) (tree : Tree) (x z : List ℕ) (from to : ℕ) → line ≡ x ++ z → length x ≡ from → Spans line tree from to → Leads (InLanguage tree) x z to
-  unfolding InLanguage Spans
+  unfolding InLanguage InEach InSome Spans SpansEach SpansSome
+
+  language_of_spans : (line : List ℕ) (tree : Tree) (x z : List ℕ) (from to : ℕ) → line ≡ x ++ z → length x ≡ from → Spans line tree from to → Leads (InLanguage tree) x z to
   language_of_spans line empty x z from to whole at h = leads_nowhere (InLanguage empty) x z to (at ∙ h) refl
   language_of_spans line (set members) x z from to whole at h =
       let next = next_byte line x z whole (omega (arith, h.1)) in
@@ -112,13 +114,11 @@ mutual
       record { word = copies.word; after = copies.after; is_rest = copies.is_rest; is_end = copies.is_end; in_language = (h.0, h.1, h.2, copies.in_language) }
 
   each_of_spans : (line : List ℕ) (trees : Trees) (x z : List ℕ) (from to : ℕ) → line ≡ x ++ z → length x ≡ from → SpansEach line trees from to → Leads (InEach trees) x z to
-  unfolding InEach SpansEach
   each_of_spans line none x z from to whole at h = leads_nowhere (InEach none) x z to (at ∙ h) refl
   each_of_spans line (more tree trees) x z from to whole at h =
       leads_on (InLanguage tree) (InEach trees) (InEach (more tree trees)) line x z to h.0 whole (language_of_spans line tree x z from h.0 whole at h.1) (λ x' z' e at'. each_of_spans line trees x' z' h.0 to e at' h.2) (λ u v y p q. (u, v, refl, p, q))
 
   some_of_spans : (line : List ℕ) (trees : Trees) (x z : List ℕ) (from to : ℕ) → line ≡ x ++ z → length x ≡ from → SpansSome line trees from to → Leads (InSome trees) x z to
-  unfolding InSome SpansSome
   some_of_spans line none x z from to whole at h = absurd h
   some_of_spans line (more tree trees) x z from to whole at (inl h) =
       let one = language_of_spans line tree x z from to whole at h in

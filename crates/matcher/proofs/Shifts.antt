@@ -6,8 +6,8 @@ use Rattle.ere.specs.ByteSet.{has}
 use Rattle.ere.specs.Tree as tree
 use Rattle.matcher.specs.declared.positions.TheConstants.{POSITIONS}
 use Rattle.matcher.specs.Bounds.{IsBounded}
-use Rattle.matcher.specs.Spans.{Spans}
-use Rattle.matcher.specs.PositionSets.{has_position, absent, Moves}
+use Rattle.matcher.specs.Spans.{Spans, Steps}
+use Rattle.matcher.specs.PositionSets.{has_position, HasNone, Moves}
 use Rattle.matcher.proofs.Truths.{is_false, absent-set, false≢true, low_none, high_none, all_none}
 
 -- whether a position is held with a byte of the set behind it
@@ -202,13 +202,163 @@ module _ (old_found old_fresh found fresh : List Bool) (first end at : ℕ) (gro
           let none : get_or old_fresh k false ≡ false = high_none bounds k (omega arith) in
           h.fresh_above k far ∙ rw none refl
 
-  pub added_fewer : MatchBool grown (count_by not found < count_by not old_found) ((k : ℕ) → get_or fresh k false ≡ false)
+  pub added_fewer : MatchBool grown (count_by not found < count_by not old_found) (HasNone fresh)
+  unfolding has_position
   added_fewer = go grown h.fewer
     where
-      go : (t : Bool) → MatchBool t (count_by not found < count_by not old_found) ((count_by not found ≡ count_by not old_found) × ((k : ℕ) → k < at → get_or fresh k false ≡ false)) → MatchBool t (count_by not found < count_by not old_found) ((k : ℕ) → get_or fresh k false ≡ false)
+      go : (t : Bool) → MatchBool t (count_by not found < count_by not old_found) ((count_by not found ≡ count_by not old_found) × ((k : ℕ) → k < at → get_or fresh k false ≡ false)) → MatchBool t (count_by not found < count_by not old_found) (HasNone fresh)
       go true x = x
-      go false x = λ k. each x.1 k (nat_lt k at) refl
+      go false x = record { none = λ k. each x.1 k (nat_lt k at) refl }
         where
           each : ((k : ℕ) → k < at → get_or fresh k false ≡ false) → (k : ℕ) → (t : Bool) → nat_lt k at ≡ t → get_or fresh k false ≡ false
           each below k true e = below k (grind (arith, nat_tests))
           each below k false e = let far : at ≤ k = grind (arith, nat_tests) in h.fresh_above k far ∙ high_none bounds k (omega arith)
+
+-- whether a position is held, or held positions lead to it over bytes of the set
+abbrev pub reached : List ℕ → List Bool → List Bool → ℕ → Bool
+reached line members old zero = get_or old 0 false
+reached line members old (suc k) = get_or old (suc k) false || (reached line members old k && (nat_lt k (length line) && has members (get_or line k 0)))
+
+-- The sweep is made up to `at`.
+pub record IsSweptTo (line : List ℕ) (members old new : List Bool) (at first end : ℕ) : Type 0 where
+  pub below : (k : ℕ) → k ≤ at → get_or new k false ≡ reached line members old k
+  pub above : (k : ℕ) → at < k → get_or new k false ≡ get_or old k false
+  pub bounds : IsBounded new first end
+
+reached-suc : (line : List ℕ) (members old : List Bool) (at next : ℕ) → next ≡ suc at → reached line members old next ≡ (get_or old next false || (reached line members old at && (nat_lt at (length line) && has members (get_or line at 0))))
+reached-suc line members old at next e = rw e refl
+
+-- before the first position nothing is reached
+none_reached : (line : List ℕ) (members old : List Bool) (first : ℕ) → ((k : ℕ) → k < first → get_or old k false ≡ false) → (k : ℕ) → k < first → reached line members old k ≡ false
+none_reached line members old first none zero h = none 0 h
+none_reached line members old first none (suc k) h = rw (none (suc k) h, none_reached line members old first none k (omega arith)) refl
+
+same_reached : (line : List ℕ) (members old : List Bool) (first : ℕ) → ((k : ℕ) → k < first → get_or old k false ≡ false) → (k : ℕ) → k ≤ first → get_or old k false ≡ reached line members old k
+same_reached line members old first none zero h = refl
+same_reached line members old first none (suc k) h = let before : reached line members old k ≡ false = none_reached line members old first none k (omega arith) in rw before (or_false (get_or old (suc k) false))
+
+pub swept_first : (line : List ℕ) (members old : List Bool) (first end : ℕ) → IsBounded old first end → IsSweptTo line members old old first first end
+swept_first line members old first end bounds = record {
+  below = same_reached line members old first (low_none bounds);
+  above = λ k h. refl;
+  bounds = bounds;
+}
+
+pub swept_more : (line : List ℕ) (members old new : List Bool) (at first end next_end : ℕ) → IsSweptTo line members old new at first end → first ≤ at → at + 1 < POSITIONS → IsTrue (get_or new at false && (nat_lt at (length line) && has members (get_or line at 0))) → next_end ≡ max end (at + 2) → IsSweptTo line members old (set new (at + 1) true) (at + 1) first next_end
+swept_more line members old new at first end next_end h begins inside passed e = record {
+  below = λ k l. below k l (k == (at + 1)) refl;
+  above = λ k l. get_or-set_other new (at + 1) k true false (omega arith) ∙ h.above k (omega arith);
+  bounds = record {
+    whole = length-set new (at + 1) true ∙ h.bounds.whole;
+    inside = let b = h.bounds.inside in omega arith;
+    low = λ k held. low k held (k == (at + 1)) refl;
+    high = λ k held. high k held (k == (at + 1)) refl;
+  };
+}
+  where
+    within : at + 1 < length new
+    within = omega (arith, h.bounds.whole)
+
+    or_right : (a : Bool) → true ≡ (a || true)
+    or_right true = refl
+    or_right false = refl
+
+    below : (k : ℕ) → k ≤ at + 1 → (t : Bool) → (k == (at + 1)) ≡ t → get_or (set new (at + 1) true) k false ≡ reached line members old k
+    below k l true e' =
+        let same : k ≡ at + 1 = grind (arith, nat_tests) in
+        let comes : IsTrue (reached line members old at && (nat_lt at (length line) && has members (get_or line at 0))) = ap (λ t. t && (nat_lt at (length line) && has members (get_or line at 0))) (sym (h.below at (omega arith))) ∙ passed in
+        let held : reached line members old (at + 1) ≡ true = reached-suc line members old at (at + 1) (omega arith) ∙ rw comes (sym (or_right (get_or old (at + 1) false))) in
+        rw same (get_or-set_same new (at + 1) true false within ∙ sym held)
+    below k l false e' = let other : k ≢ at + 1 = grind (arith, nat_tests) in get_or-set_other new (at + 1) k true false other ∙ h.below k (omega arith)
+
+    low : (k : ℕ) → IsTrue (get_or (set new (at + 1) true) k false) → (t : Bool) → (k == (at + 1)) ≡ t → first ≤ k
+    low k held true e' = let same : k ≡ at + 1 = grind (arith, nat_tests) in omega arith
+    low k held false e' = let other : k ≢ at + 1 = grind (arith, nat_tests) in h.bounds.low k (sym (get_or-set_other new (at + 1) k true false other) ∙ held)
+
+    high : (k : ℕ) → IsTrue (get_or (set new (at + 1) true) k false) → (t : Bool) → (k == (at + 1)) ≡ t → k < next_end
+    high k held true e' = let same : k ≡ at + 1 = grind (arith, nat_tests) in omega arith
+    high k held false e' =
+        let other : k ≢ at + 1 = grind (arith, nat_tests) in
+        let low_end : k < end = h.bounds.high k (sym (get_or-set_other new (at + 1) k true false other) ∙ held) in
+        omega arith
+
+pub swept_past : (line : List ℕ) (members old new : List Bool) (at first end : ℕ) → IsSweptTo line members old new at first end → (get_or new at false && (nat_lt at (length line) && has members (get_or line at 0))) ≡ false → IsSweptTo line members old new (at + 1) first end
+swept_past line members old new at first end h stays = record {
+  below = λ k l. below k l (k == (at + 1)) refl;
+  above = λ k l. h.above k (omega arith);
+  bounds = h.bounds;
+}
+  where
+    below : (k : ℕ) → k ≤ at + 1 → (t : Bool) → (k == (at + 1)) ≡ t → get_or new k false ≡ reached line members old k
+    below k l true e =
+        let same : k ≡ at + 1 = grind (arith, nat_tests) in
+        let comes : (reached line members old at && (nat_lt at (length line) && has members (get_or line at 0))) ≡ false = ap (λ t. t && (nat_lt at (length line) && has members (get_or line at 0))) (sym (h.below at (omega arith))) ∙ stays in
+        let held : reached line members old (at + 1) ≡ get_or old (at + 1) false = reached-suc line members old at (at + 1) (omega arith) ∙ rw comes (sym (or_false (get_or old (at + 1) false))) in
+        rw same (h.above (at + 1) (omega arith) ∙ sym held)
+    below k l false e = let other : k ≢ at + 1 = grind (arith, nat_tests) in h.below k (omega arith)
+
+-- behind the line's end nothing more is reached
+past_reached : (line : List ℕ) (members old : List Bool) (k : ℕ) → length line < k → get_or old k false ≡ reached line members old k
+past_reached line members old zero far = refl
+past_reached line members old (suc k) far =
+    let test : nat_lt k (length line) ≡ false = grind (arith, nat_tests) in
+    go (get_or old (suc k) false) (reached line members old k) (nat_lt k (length line)) (has members (get_or line k 0)) test
+  where
+    go : (a b c d : Bool) → c ≡ false → a ≡ (a || (b && (c && d)))
+    go a true c d e = rw e (or_false a)
+    go a false c d e = or_false a
+
+pub swept_all : (line : List ℕ) (members old new : List Bool) (at first end : ℕ) → IsSweptTo line members old new at first end → length line ≤ at → (k : ℕ) → get_or new k false ≡ reached line members old k
+swept_all line members old new at first end h limit k = go (nat_le k at) refl
+  where
+    go : (t : Bool) → nat_le k at ≡ t → get_or new k false ≡ reached line members old k
+    go true e = h.below k (grind (arith, nat_tests))
+    go false e =
+        let far : at < k = grind (arith, nat_tests) in
+        h.above k far ∙ past_reached line members old k (omega arith)
+
+-- a held position leads to it by words of the set
+abbrev Comes : List ℕ → List Bool → List Bool → ℕ → Type 0
+Comes line members old k = (start : ℕ) × IsTrue (get_or old start false) × ((words : ℕ) × Steps (Spans line (tree.set members)) words start k)
+
+pub moves_swept : (line : List ℕ) (members old new : List Bool) → ((k : ℕ) → get_or new k false ≡ reached line members old k) → Moves (λ from to. (words : ℕ) × Steps (Spans line (tree.set members)) words from to) old new
+unfolding has_position Spans Steps
+moves_swept line members old new each = record {
+  sound = λ k holds. sound k (sym (each k) ∙ holds);
+  complete = λ start k held leads. each k ∙ complete leads.0 start k held leads.1;
+}
+  where
+    either : (a b : Bool) → IsTrue (a || b) → IsTrue a ⊎ IsTrue b
+    either true b h = inl refl
+    either false b h = inr h
+
+    or_right : (a b : Bool) → IsTrue b → IsTrue (a || b)
+    or_right true b h = refl
+    or_right false b h = h
+
+    or_left : (a b : Bool) → IsTrue a → IsTrue (a || b)
+    or_left true b h = refl
+    or_left false b h = absurd (false≢true h)
+
+    more : (k : ℕ) → Comes line members old k → IsTrue (nat_lt k (length line)) → IsTrue (has members (get_or line k 0)) → Comes line members old (suc k)
+    more k w test member = (w.0, w.1, (suc w.2.0, (k, w.2.1, (refl, grind (arith, nat_tests), member))))
+
+    next : (k : ℕ) → (IsTrue (reached line members old k) → Comes line members old k) → IsTrue (get_or old (suc k) false) ⊎ IsTrue (reached line members old k && (nat_lt k (length line) && has members (get_or line k 0))) → Comes line members old (suc k)
+    next k before (inl x) = (suc k, x, (0, refl))
+    next k before (inr x) = let parts = and_parts (reached line members old k) (nat_lt k (length line)) (has members (get_or line k 0)) x in more k (before parts.0) parts.1 parts.2
+
+    sound : (k : ℕ) → IsTrue (reached line members old k) → Comes line members old k
+    sound zero h = (0, h, (0, refl))
+    sound (suc k) h = next k (sound k) (either (get_or old (suc k) false) (reached line members old k && (nat_lt k (length line) && has members (get_or line k 0))) h)
+
+    held_reached : (k : ℕ) → IsTrue (get_or old k false) → IsTrue (reached line members old k)
+    held_reached zero h = h
+    held_reached (suc k) h = or_left (get_or old (suc k) false) (reached line members old k && (nat_lt k (length line) && has members (get_or line k 0))) h
+
+    complete : (words start k : ℕ) → IsTrue (get_or old start false) → Steps (Spans line (tree.set members)) words start k → IsTrue (reached line members old k)
+    complete zero start k held r = held_reached k (subst (λ (n : ℕ). IsTrue (get_or old n false)) r held)
+    complete (suc words) start k held r =
+        let before = complete words start r.0 held r.1 in
+        let test : IsTrue (nat_lt r.0 (length line)) = let inside = r.2.1 in grind (arith, nat_tests) in
+        let next : IsTrue (reached line members old (suc r.0)) = or_right (get_or old (suc r.0) false) (reached line members old r.0 && (nat_lt r.0 (length line) && has members (get_or line r.0 0))) (and_made (reached line members old r.0) (nat_lt r.0 (length line)) (has members (get_or line r.0 0)) before test r.2.2) in
+        subst (λ n. IsTrue (reached line members old n)) (sym r.2.0) next

@@ -3,8 +3,8 @@
 ghost use Rattle.std.specs.Prelude.{◌≡◌, ◌≤◌, ◌<◌, ℕ, false, not, ◌&&◌, ◌||◌, ◌==◌, nat_le, IsTrue, MatchBool, length, nat_lt, slice_index, slice_index_or};
 ghost use Rattle.ere.specs.ByteSet.{has};
 ghost use Rattle.ere.specs.Tree.{set};
-ghost use Rattle.matcher.specs.Spans.{Spans};
-ghost use Rattle.matcher.specs.PositionSets.{has_position, absent, Moves};
+ghost use Rattle.matcher.specs.Spans.{Spans, Steps};
+ghost use Rattle.matcher.specs.PositionSets.{has_position, absent, HasNone, IsEither, IsNew, Moves};
 
 use ere::{ByteSet, MAX_LINE};
 use std::marker::Model;
@@ -36,7 +36,7 @@ impl Model for Positions {
 impl Positions {
     /// The set with no position.
     pub fn none() -> Positions
-        ensures { (k : ℕ) → has_position result k ≡ false }
+        ensures { HasNone result }
     {
         Positions {
             held: every(false),
@@ -74,7 +74,7 @@ impl Positions {
 
     /// Whether no position is in the set.
     pub fn is_empty(&self) -> bool
-        ensures { MatchBool result ((k : ℕ) → has_position self.now k ≡ false) ((k : ℕ) × IsTrue (has_position self.now k)) }
+        ensures { MatchBool result (HasNone self.now) ((k : ℕ) × IsTrue (has_position self.now k)) }
     {
         for at in self.first..self.end {
             if self.held[at] {
@@ -86,7 +86,7 @@ impl Positions {
 
     /// Takes every position out.
     pub fn clear(&mut self)
-        ensures { (k : ℕ) → has_position self.new k ≡ false }
+        ensures { HasNone self.new }
     {
         for at in self.first..self.end {
             self.held[at] = false;
@@ -110,9 +110,9 @@ impl Positions {
     /// Puts the positions of `fresh` in, and takes those out of `fresh` that were in already. Whether
     /// any was not.
     pub fn add(&mut self, fresh: &mut Positions) -> bool
-        ensures both { (k : ℕ) → has_position self.new k ≡ (has_position self.old k || has_position fresh.old k) }
-        ensures new { (k : ℕ) → has_position fresh.new k ≡ (has_position fresh.old k && not (has_position self.old k)) }
-        ensures grown { MatchBool result (absent self.new < absent self.old) ((k : ℕ) → has_position fresh.new k ≡ false) }
+        ensures both { IsEither self.old fresh.old self.new }
+        ensures new { IsNew fresh.old self.old fresh.new }
+        ensures grown { MatchBool result (absent self.new < absent self.old) (HasNone fresh.new) }
     {
         let mut grown = false;
         for at in fresh.first..fresh.end {
@@ -156,6 +156,21 @@ impl Positions {
             passed = passes;
         }
         self.first = first;
+        self.end = end;
+    }
+
+    /// Moves each position over any number of bytes that are in the set.
+    pub fn sweep(&mut self, members: &ByteSet, line: &[u8])
+        requires { length line.now ≤ MAX_LINE }
+        ensures { Moves (λ from to. (words : ℕ) × Steps (Spans line.now (set members.now)) words from to) self.old self.new }
+    {
+        let mut end = self.end;
+        for at in self.first..line.len() {
+            if self.held[at] && members.has(line[at]) {
+                self.held[at + 1] = true;
+                end = end.max(at + 2);
+            }
+        }
         self.end = end;
     }
 }

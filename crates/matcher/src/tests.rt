@@ -31,9 +31,7 @@ fn twice_with_end(alloc: Global) -> Result<Ere, Fail> {
 /// `(^a)+b`
 fn started_word(alloc: Global) -> Result<Ere, Fail> {
     let first = Ere::Cat(vec![in alloc; Ere::Start, set(b"a")]?);
-    Ok(Ere::Cat(
-        vec![in alloc; times(alloc, first, 1, None)?, set(b"b")]?,
-    ))
+    Ok(Ere::Cat(vec![in alloc; times(alloc, first, 1, None)?, set(b"b")]?))
 }
 
 #[test]
@@ -46,9 +44,7 @@ fn finds_anchors_inside_repeats(rt: HostRuntime) -> Result<(), Fail> {
     let tree = started_word(alloc)?;
     assert!(rt; matches(&tree, b"ab"));
     assert!(rt; !matches(&tree, b"aab"));
-    let tree = Ere::Cat(
-        vec![in alloc; times(alloc, Ere::Start, 0, None)?, set(b"a"), set(b"b")]?,
-    );
+    let tree = Ere::Cat(vec![in alloc; times(alloc, Ere::Start, 0, None)?, set(b"a"), set(b"b")]?);
     assert!(rt; matches(&tree, b"xab"));
     assert!(rt; !matches(&tree, b"xa"));
     Ok(())
@@ -62,9 +58,13 @@ fn star_chain_comes_back(rt: HostRuntime) -> Result<(), Fail> {
     for _ in 0..40 {
         stars = times(alloc, stars, 0, None)?;
     }
-    let tree = Ere::Cat(
-        vec![in alloc; Ere::Start, times(alloc, pair, 0, None)?, stars, set(b"b"), Ere::End]?,
-    );
+    let tree = Ere::Cat(vec![in alloc;
+        Ere::Start,
+        times(alloc, pair, 0, None)?,
+        stars,
+        set(b"b"),
+        Ere::End,
+    ]?);
     let line = [b'a'; 4000];
     assert!(rt; !matches(&tree, &line));
     Ok(())

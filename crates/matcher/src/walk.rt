@@ -61,8 +61,11 @@ fn advance_counted(body: &Ere, least: u8, greatest: Option<u8>, line: &[u8], at:
     ensures { Moves (Spans line.now (repeat (form body.now) least greatest)) at.old at.new }
 {
     match greatest {
-        Some(most) if most < least => at.clear(),
         Some(most) => {
+            if most < least {
+                at.clear();
+                return;
+            }
             advance_exactly(body, least, line, at);
             advance_at_most(body, most - least, line, at);
         }
@@ -114,6 +117,10 @@ fn advance_any(body: &Ere, line: &[u8], at: &mut Positions)
     requires { length line.now ≤ MAX_LINE }
     ensures { Moves (λ from to. (words : ℕ) × Steps (Spans line.now (form body.now)) words from to) at.old at.new }
 {
+    if let Ere::Set(members) = body {
+        at.sweep(members, line);
+        return;
+    }
     let mut found = at.copy();
     loop {
         advance(body, line, at);
@@ -129,5 +136,8 @@ fn advance_any(body: &Ere, line: &[u8], at: &mut Positions)
 fn joins_words(tree: &Ere) -> bool
     ensures { IsTrue result → (line : List ℕ) (start middle end : ℕ) → Spans line (form tree.now) start middle → Spans line (form tree.now) middle end → Spans line (form tree.now) start end }
 {
-    matches!(tree, Ere::Repeat(_, _, None))
+    match tree {
+        Ere::Repeat(_body, _least, greatest) => greatest.is_none(),
+        _ => false,
+    }
 }

@@ -9,11 +9,11 @@ found_is c = elim c.if-self.branch [ then-self w ↦ w.self-is | else-self w ↦
 
 pub returns-clause-both : goal.returns-clause-both
 unfolding has_position
-returns-clause-both c = λ k. rw (found_is c, ← c.self.view_is, ← c.fresh.view_is) (added_found c.self.inside.held c.fresh.inside.held c.loop-at.self-inside.held c.loop-at.fresh-inside.held c.fresh.inside.first c.fresh.inside.end c.loop-at.at c.loop-at.grown c.loop-at.invariant.added c.fresh.invariant c.loop-at-test.false k)
+returns-clause-both c = record { each = λ k. rw (found_is c, ← c.self.view_is, ← c.fresh.view_is) (added_found c.self.inside.held c.fresh.inside.held c.loop-at.self-inside.held c.loop-at.fresh-inside.held c.fresh.inside.first c.fresh.inside.end c.loop-at.at c.loop-at.grown c.loop-at.invariant.added c.fresh.invariant c.loop-at-test.false k) }
 
 pub returns-clause-new : goal.returns-clause-new
 unfolding has_position
-returns-clause-new c = λ k. rw (← c.self.view_is, ← c.fresh.view_is) (added_fresh c.self.inside.held c.fresh.inside.held c.loop-at.self-inside.held c.loop-at.fresh-inside.held c.fresh.inside.first c.fresh.inside.end c.loop-at.at c.loop-at.grown c.loop-at.invariant.added c.fresh.invariant c.loop-at-test.false k)
+returns-clause-new c = record { each = λ k. rw (← c.self.view_is, ← c.fresh.view_is) (added_fresh c.self.inside.held c.fresh.inside.held c.loop-at.self-inside.held c.loop-at.fresh-inside.held c.fresh.inside.first c.fresh.inside.end c.loop-at.at c.loop-at.grown c.loop-at.invariant.added c.fresh.invariant c.loop-at-test.false k) }
 
 pub returns-clause-grown : goal.returns-clause-grown
 unfolding absent has_position

@@ -8,4 +8,4 @@ invariant_of-self c = none_bounded c.loop-at.invariant.whole (all_none c.loop-at
 
 pub returns : goal.returns
 unfolding has_position
-returns c = all_none c.loop-at.invariant (omega arith)
+returns c = record { none = all_none c.loop-at.invariant (omega arith) }

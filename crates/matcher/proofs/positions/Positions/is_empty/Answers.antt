@@ -9,4 +9,4 @@ returns-then-self-at c = (c.loop-at.at, rw (← c.self.view_is) c.if-self-at.tru
 
 pub returns : goal.returns
 unfolding has_position
-returns c = λ k. rw (← c.self.view_is) (false_up_to c.self.invariant c.loop-at.at (omega arith) c.loop-at.invariant k)
+returns c = record { none = λ k. rw (← c.self.view_is) (false_up_to c.self.invariant c.loop-at.at (omega arith) c.loop-at.invariant k) }

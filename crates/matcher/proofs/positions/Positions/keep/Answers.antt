@@ -5,8 +5,8 @@ use Rattle.matcher.proofs.positions.Positions.keep.Goals as goal
 
 pub invariant_of-self : goal.invariant_of-self
 unfolding has_position
-invariant_of-self c = kept_bounded c.self-2.inside.held c.self.inside.held c.args.position (λ k. rw c.self-2.view_is (c.clear.ensures k)) c.self-2.invariant.whole (omega arith)
+invariant_of-self c = kept_bounded c.self-2.inside.held c.self.inside.held c.args.position (λ k. rw c.self-2.view_is (c.clear.ensures.none k)) c.self-2.invariant.whole (omega arith)
 
 pub returns : goal.returns
 unfolding has_position
-returns c = λ k. rw (← c.self.view_is) (kept c.self-2.inside.held c.self.inside.held c.args.position (λ k. rw c.self-2.view_is (c.clear.ensures k)) (omega (arith, c.self-2.invariant.whole)) k)
+returns c = λ k. rw (← c.self.view_is) (kept c.self-2.inside.held c.self.inside.held c.args.position (λ k. rw c.self-2.view_is (c.clear.ensures.none k)) (omega (arith, c.self-2.invariant.whole)) k)

@@ -8,4 +8,4 @@ invariant_of-result c = none_bounded c.every.ensures.whole (false_past _ _ c.eve
 
 pub returns : goal.returns
 unfolding has_position
-returns c = false_past _ _ c.every.ensures.whole c.every.ensures.same
+returns c = record { none = false_past _ _ c.every.ensures.whole c.every.ensures.same }
