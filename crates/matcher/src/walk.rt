@@ -87,7 +87,7 @@ fn advance_exactly(body: &Ere, count: u8, line: &[u8], at: &mut Positions)
     requires { length line.now ≤ MAX_LINE }
     ensures { Moves (Steps (Spans line.now (form body.now)) count) at.old at.new }
 {
-    for _round in 0..count {
+    for _word in 0..count {
         if at.is_empty() {
             return;
         }
@@ -124,7 +124,8 @@ fn advance_any(body: &Ere, line: &[u8], at: &mut Positions)
     let mut found = at.copy();
     loop {
         advance(body, line, at);
-        if !found.add(at) {
+        let grown = found.add(at);
+        if !grown {
             break;
         }
     }

@@ -30,14 +30,14 @@ advance-returns-in-Repeat t c = rw (ap form c.in-Repeat.is ∙ form-Repeat c.in-
 pub advance_any-returns-in-Set : goal.advance_any-returns-in-Set
 advance_any-returns-in-Set t c = rw (ap form c.in-Set.is ∙ form-Set c.in-Set.members) c.sweep.ensures
 
-pub advance_any-loop-init : goal.advance_any-loop-init
-advance_any-loop-init t c = rw c.copy-found.ensures (walks.widened_first (Spans c.args.line.now (form c.args.body.now)) (λ _. Unit {0}) c.args.at.now tt)
+pub advance_any-loop-grown-init : goal.advance_any-loop-grown-init
+advance_any-loop-grown-init t c = rw c.copy-found.ensures (walks.widened_first (Spans c.args.line.now (form c.args.body.now)) (λ _. Unit {0}) c.args.at.now tt)
 
-pub advance_any-loop-preserved : goal.advance_any-loop-preserved
-advance_any-loop-preserved t c = walks.widened_more (Spans c.args.line.now (form c.args.body.now)) (λ _. Unit {0}) (λ _. Unit {0}) c.args.at.now c.loop.found c.loop.at c.advance.new.at c.add.new.self c.add.new.fresh c.loop.invariant c.advance.ensures c.add.ensures.both c.add.ensures.new (λ _ _. tt) (λ _ _. tt)
+pub advance_any-loop-grown-preserved : goal.advance_any-loop-grown-preserved
+advance_any-loop-grown-preserved t c = walks.widened_more (Spans c.args.line.now (form c.args.body.now)) (λ _. Unit {0}) (λ _. Unit {0}) c.args.at.now c.loop-grown.found c.loop-grown.at c.advance.new.at c.add-grown.new.self c.add-grown.new.fresh c.loop-grown.invariant c.advance.ensures c.add-grown.ensures.both c.add-grown.ensures.new (λ _ _. tt) (λ _ _. tt)
 
 pub advance_any-returns : goal.advance_any-returns
-advance_any-returns t c = walks.moves_any (Spans c.args.line.now (form c.args.body.now)) c.args.at.now c.add.new.self c.add.new.fresh (walks.widened_more (Spans c.args.line.now (form c.args.body.now)) (λ _. Unit {0}) (λ _. Unit {0}) c.args.at.now c.loop.found c.loop.at c.advance.new.at c.add.new.self c.add.new.fresh c.loop.invariant c.advance.ensures c.add.ensures.both c.add.ensures.new (λ _ _. tt) (λ _ _. tt)) c.if-not-add.ensures.grown
+advance_any-returns t c = walks.moves_any (Spans c.args.line.now (form c.args.body.now)) c.args.at.now c.add-grown.new.self c.add-grown.new.fresh (walks.widened_more (Spans c.args.line.now (form c.args.body.now)) (λ _. Unit {0}) (λ _. Unit {0}) c.args.at.now c.loop-grown.found c.loop-grown.at c.advance.new.at c.add-grown.new.self c.add-grown.new.fresh c.loop-grown.invariant c.advance.ensures c.add-grown.ensures.both c.add-grown.ensures.new (λ _ _. tt) (λ _ _. tt)) (rw c.if-not-grown.true at c.add-grown.ensures.grown)
 
 pub advance_at_most-loop-round-init : goal.advance_at_most-loop-round-init
 advance_at_most-loop-round-init t c = rw c.copy-found.ensures (walks.widened_by_none (Spans c.args.line.now (form c.args.body.now)) c.args.at.now)
@@ -81,14 +81,14 @@ advance_each-loop-member-preserved t c = λ to h. c.loop-member.invariant to (wa
 pub advance_each-returns : goal.advance_each-returns
 advance_each-returns t c = c.loop-member.invariant c.loop-member.at (walks.moves_no_members c.args.line.now c.args.members.now c.loop-member.member-index c.loop-member.at c.loop-member-test.false)
 
-pub advance_exactly-loop-round-init : goal.advance_exactly-loop-round-init
-advance_exactly-loop-round-init t c = walks.moves_zero_steps (Spans c.args.line.now (form c.args.body.now)) c.args.at.now
+pub advance_exactly-loop-word-init : goal.advance_exactly-loop-word-init
+advance_exactly-loop-word-init t c = walks.moves_zero_steps (Spans c.args.line.now (form c.args.body.now)) c.args.at.now
 
 pub advance_exactly-returns-then-is_empty : goal.advance_exactly-returns-then-is_empty
-advance_exactly-returns-then-is_empty t c = walks.moves_no_more (Spans c.args.line.now (form c.args.body.now)) c.loop-round._round c.args.count c.args.at.now c.loop-round.at (omega arith) c.loop-round.invariant c.if-is_empty.ensures
+advance_exactly-returns-then-is_empty t c = walks.moves_no_more (Spans c.args.line.now (form c.args.body.now)) c.loop-word._word c.args.count c.args.at.now c.loop-word.at (omega arith) c.loop-word.invariant c.if-is_empty.ensures
 
-pub advance_exactly-loop-round-preserved : goal.advance_exactly-loop-round-preserved
-advance_exactly-loop-round-preserved t c = walks.moves_more_steps (Spans c.args.line.now (form c.args.body.now)) c.loop-round._round (c.loop-round._round + 1) c.args.at.now c.loop-round.at c.advance.new.at refl c.loop-round.invariant c.advance.ensures
+pub advance_exactly-loop-word-preserved : goal.advance_exactly-loop-word-preserved
+advance_exactly-loop-word-preserved t c = walks.moves_more_steps (Spans c.args.line.now (form c.args.body.now)) c.loop-word._word (c.loop-word._word + 1) c.args.at.now c.loop-word.at c.advance.new.at refl c.loop-word.invariant c.advance.ensures
 
 pub advance_some-loop-i-init : goal.advance_some-loop-i-init
 advance_some-loop-i-init t c = walks.moves_by_no_member c.args.line.now c.args.members.now (length c.args.members.now) c.args.at.now c.none-found.result (omega arith) c.none-found.ensures

@@ -14,14 +14,14 @@ invariant-advance_each-loop-member l =
 abbrev pub invariant-advance_some-loop-i : goal.invariant-advance_some-loop-i
 invariant-advance_some-loop-i l = Moves (SpansSome l.line (trees_of (map form (drop l.i l.members)))) l.at l.found
 
-abbrev pub invariant-advance_exactly-loop-round : goal.invariant-advance_exactly-loop-round
-invariant-advance_exactly-loop-round l = Moves (Steps (Spans l.line (form l.body)) l._round) l.initial.at l.at
+abbrev pub invariant-advance_exactly-loop-word : goal.invariant-advance_exactly-loop-word
+invariant-advance_exactly-loop-word l = Moves (Steps (Spans l.line (form l.body)) l._word) l.initial.at l.at
 
 abbrev pub invariant-advance_at_most-loop-round : goal.invariant-advance_at_most-loop-round
 invariant-advance_at_most-loop-round l = IsWidenedBy (Spans l.line (form l.body)) l._round l.initial.at l.found l.at
 
-abbrev pub invariant-advance_any-loop : goal.invariant-advance_any-loop
-invariant-advance_any-loop l = IsWidened (Spans l.line (form l.body)) (λ _. Unit {0}) l.initial.at l.found l.at
+abbrev pub invariant-advance_any-loop-grown : goal.invariant-advance_any-loop-grown
+invariant-advance_any-loop-grown l = IsWidened (Spans l.line (form l.body)) (λ _. Unit {0}) l.initial.at l.found l.at
 
-abbrev pub decreases-advance_any-loop : goal.decreases-advance_any-loop
-decreases-advance_any-loop l = absent l.found
+abbrev pub decreases-advance_any-loop-grown : goal.decreases-advance_any-loop-grown
+decreases-advance_any-loop-grown l = absent l.found
