@@ -321,6 +321,28 @@ swept_all line members old new at first end h limit k = go (nat_le k at) refl
 abbrev Comes : List ℕ → List Bool → List Bool → ℕ → Type 0
 Comes line members old k = (start : ℕ) × IsTrue (get_or old start false) × ((words : ℕ) × Steps (Spans line (tree.set members)) words start k)
 
+-- nor is anything from where on no position is held any more
+lost : (line : List ℕ) (members old new : List Bool) (at first end : ℕ) → IsSweptTo line members old new at first end → end ≤ at → (k : ℕ) → at ≤ k → reached line members old k ≡ false
+lost line members old new at first end h limit zero far = sym (h.below zero (omega arith)) ∙ high_none h.bounds zero (omega arith)
+lost line members old new at first end h limit (suc k) far = go (nat_le (suc k) at) refl (lost line members old new at first end h limit k)
+  where
+    go : (t : Bool) → nat_le (suc k) at ≡ t → (at ≤ k → reached line members old k ≡ false) → reached line members old (suc k) ≡ false
+    go true e before = let near : suc k ≤ at = grind (arith, nat_tests) in sym (h.below (suc k) near) ∙ high_none h.bounds (suc k) (omega arith)
+    go false e before =
+        let beyond : at < suc k = grind (arith, nat_tests) in
+        let none : get_or old (suc k) false ≡ false = sym (h.above (suc k) beyond) ∙ high_none h.bounds (suc k) (omega arith) in
+        let none_before : reached line members old k ≡ false = before (omega arith) in
+        rw (none, none_before) refl
+
+pub swept_early : (line : List ℕ) (members old new : List Bool) (at first end : ℕ) → IsSweptTo line members old new at first end → end ≤ at → (k : ℕ) → get_or new k false ≡ reached line members old k
+swept_early line members old new at first end h limit k = go (nat_le k at) refl
+  where
+    go : (t : Bool) → nat_le k at ≡ t → get_or new k false ≡ reached line members old k
+    go true e = h.below k (grind (arith, nat_tests))
+    go false e =
+        let far : at ≤ k = grind (arith, nat_tests) in
+        high_none h.bounds k (omega arith) ∙ sym (lost line members old new at first end h limit k far)
+
 pub moves_swept : (line : List ℕ) (members old new : List Bool) → ((k : ℕ) → get_or new k false ≡ reached line members old k) → Moves (λ from to. (words : ℕ) × Steps (Spans line (tree.set members)) words from to) old new
 unfolding has_position Spans Steps
 moves_swept line members old new each = record {

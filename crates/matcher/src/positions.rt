@@ -166,6 +166,9 @@ impl Positions {
     {
         let mut end = self.end;
         for at in self.first..line.len() {
+            if at >= end {
+                break;
+            }
             if self.held[at] && members.has(line[at]) {
                 self.held[at + 1] = true;
                 end = end.max(at + 2);
