@@ -1,12 +1,12 @@
 -- The next line of a body, by its first line feed.
-use Rattle.std.proofs.Common.{◌≡◌, ℕ, zero, suc, ◌+◌, ◌-◌, ◌<◌, ◌≤◌, ◌==◌, true, false, Option, Some, None, List, [], ◌∷◌, ◌++◌, length, take, drop, refl, sym, ◌∙◌, ap, subst, arith, add-one, append_assoc, inl, inr, ◌⊎◌}
+use Rattle.std.proofs.Common.{◌≡◌, ℕ, suc, ◌+◌, ◌-◌, ◌<◌, ◌≤◌, false, List, [], ◌∷◌, ◌++◌, length, take, drop, refl, sym, ◌∙◌, ap, subst, arith, inl, inr}
 use Rattle.std.proofs.lemmas.Bool.{false≢true, cases_lt}
 use Rattle.std.proofs.lemmas.Bool.Decides.{nat_tests}
 use Rattle.std.proofs.lemmas.List.{append-nil, length-take, length-drop}
 use Rattle.ere.specs.Lines.{lines_of}
 use Rattle.memchr.specs.Find.{is_byte, Nowhere, NoneBefore, Passes}
 use Rattle.index.specs.Text.{has_long_line}
-use Rattle.index.proofs.LineLemmas.{lines_of-memchr, lines_of-none, only_line, long-first, long-last, rest-after}
+use Rattle.index.proofs.LineLemmas.{lines_of-memchr, lines_of-none, long-first, long-last, rest-after}
 use Rattle.search.specs.Scan.{Found}
 use Rattle.search.specs.Selects.{found, numbered, lines_found, Adds, Selects, done}
 use Rattle.search.proofs.SelectsLemmas.{Selects-after}

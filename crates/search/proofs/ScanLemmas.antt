@@ -1,18 +1,16 @@
 -- The lines of documents, and the scan of all of them.
-use Rattle.std.proofs.Common.{◌≡◌, ℕ, zero, suc, ◌+◌, ◌-◌, ◌<◌, ◌≤◌, ◌==◌, ◌⊎◌, inl, inr, ◌↔◌, Bool, true, false, cond, List, [], ◌∷◌, ◌++◌, map, length, drop, get_or, Option, Some, None, Contains, IfSome, IsTrue, refl, sym, ◌∙◌, ap, subst, arith, append_assoc}
+use Rattle.std.proofs.Common.{◌≡◌, ℕ, zero, suc, ◌+◌, ◌-◌, ◌<◌, ◌≤◌, ◌⊎◌, inl, inr, List, [], ◌∷◌, ◌++◌, map, length, drop, get_or, Some, None, Contains, IfSome, refl, sym, ◌∙◌, ap, subst, arith, append_assoc}
 use Rattle.std.specs.Prelude.{slice_get, flat_map}
 use Rattle.std.proofs.Math.Seq.{drop-cons}
 use Rattle.std.proofs.Math.ListN.{drop_of_length-le}
 use Rattle.std.proofs.lemmas.List.{append-nil}
-use Rattle.std.specs.Ordering.{nat_cmp, ordering_then, then_cmp, on}
+use Rattle.std.specs.Ordering.{nat_cmp}
 use Rattle.std.specs.Cmp.Lexicographic.{slice_cmp, nat_list_cmp_total}
 use Rattle.std.proofs.lemmas.Cmp.{tied_itself}
 use Rattle.std.specs.List.{AllByRecursion}
 use Rattle.std.specs.List.Sorted.{IsStrictlySortedBy}
-use Rattle.std.specs.declared.cmp.Ordering.{Ordering}
-use Rattle.std.specs.declared.cmp.Ordering.TheVariants.{Less, Equal}
+use Rattle.std.specs.declared.cmp.Ordering.TheVariants.{Less}
 use Rattle.std.proofs.lemmas.Bool.Decides.{nat_tests}
-use Rattle.std.proofs.lemmas.Option.{slice_get_within}
 use Rattle.ere.specs.Language.{Hit}
 use Rattle.ere.specs.Lines.{lines_of}
 use Rattle.index.specs.declared.command.Command.{Command}
@@ -59,6 +57,7 @@ numbered_at name line (text ∷ texts) f h = go (numbered_at name (suc line) tex
       at = let same : f.line ≡ line = ap (λ x. x.line) (sym is) in omega arith;
       text = ap (λ x. Some x.text) is;
     }
+
     go : (Contains (numbered name (suc line) texts) f → IsNumbered name (suc line) texts f) → (found name line text ≡ f) ⊎ Contains (numbered name (suc line) texts) f → IsNumbered name line (text ∷ texts) f
     go deeper (inl is) = here is
     go deeper (inr rest) = let d = deeper rest in record { i = suc d.i; named = d.named; at = omega (arith, d.at); text = d.text }
@@ -215,6 +214,7 @@ IsScanOf-Selects c pattern ordered hits order given =
           hit = h.1.hit;
           name_hit = h.1.name_hit;
         }
+
     back : (f : Found) → Selects (IsWanted pattern) (all_lines ordered) hits → IsFound c pattern f → Contains hits f
     back f s h =
         let at = Contains-numbered h.document.name 1 (lines_of h.document.body) (f.line - 1) f.text h.line in

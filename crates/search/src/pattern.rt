@@ -6,9 +6,9 @@ ghost use Rattle.ere.specs.Tree.{form};
 ghost use Rattle.ere.specs.Limits.{IsWithinLimits, HasNoTree};
 ghost use Rattle.search.specs.Limited.{IsWithinLimits-prop, ForSome-prop};
 
-use crate::scan::matches;
 use ere::{Ere, EreError, EreErrorKind, parse};
 use index::Name;
+use matcher::matches;
 use std::alloc::Global;
 
 /// A pattern, and where there is one a pattern for names, read and ready to search.

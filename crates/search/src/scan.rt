@@ -1,6 +1,6 @@
 //! Searches of an index.
 
-ghost use Rattle.std.specs.Prelude.{◌≡◌, ◌≤◌, ◌↔◌, [], ◌∷◌, length, flat_map, IfOk, OnOk, IsTrue};
+ghost use Rattle.std.specs.Prelude.{◌≡◌, ◌≤◌, [], ◌∷◌, length, flat_map, IfOk, OnOk};
 ghost use Rattle.ere.specs.Tree.{form};
 ghost use Rattle.ere.specs.Limits.{IsWithinLimits};
 ghost use Rattle.ere.specs.Language.{Hit as HitIn};
@@ -13,8 +13,9 @@ ghost use Rattle.search.specs.Selects.{Adds, Selects, IsWanted, found, lines_fou
 
 use crate::answer::{Answer, Hit};
 use crate::pattern::Prepared;
-use ere::Ere;
+use ere::{Ere, MAX_LINE};
 use index::{Body, Index, Name};
+use matcher::matches;
 use memchr::memchr;
 use std::alloc::{AllocError, Global};
 
@@ -104,7 +105,7 @@ fn scan_line(
     hits: &mut Vec<Hit>,
 ) -> Result<(), AllocError>
     requires limits { IsWithinLimits (form tree.now) }
-    requires short { length text.now ≤ 4096 }
+    requires short { length text.now ≤ MAX_LINE }
     ensures { OnOk result (Adds (λ f. HitIn (form tree.now) f.text) (found name.now line text.now ∷ [])
         (found_all hits.old.items) (found_all hits.new.items)) }
 {
@@ -118,12 +119,4 @@ fn scan_line(
     };
     hits.push(hit)?;
     Ok(())
-}
-
-pub fn matches(tree: &Ere, line: &[u8]) -> bool
-    requires limits { IsWithinLimits (form tree.now) }
-    requires short { length line.now ≤ 4096 }
-    ensures { IsTrue result ↔ HitIn (form tree.now) line.now }
-{
-    line.len() == 3
 }

@@ -1,4 +1,4 @@
-use Rattle.std.proofs.Common.{subst, ap, ◌∙◌, sym}
+use Rattle.std.proofs.Common.{subst, ◌∙◌}
 use Rattle.std.specs.Prelude.{flat_map}
 use Rattle.index.specs.Documents.{documents_of}
 use Rattle.search.specs.Found.{found_all}

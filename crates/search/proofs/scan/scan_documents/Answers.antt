@@ -1,4 +1,4 @@
-use Rattle.std.proofs.Common.{◌≡◌, ap, sym, subst, get_or, List, drop, ◌++◌, ◌+◌}
+use Rattle.std.proofs.Common.{sym, subst, get_or, List, drop, ◌++◌, ◌+◌}
 use Rattle.std.specs.Prelude.{flat_map}
 use Rattle.index.specs.Documents.{documents_of}
 use Rattle.search.specs.Scan.{Found}
@@ -18,8 +18,8 @@ loop-number-preserved c =
     let now = found_all c.loop-number.hits.items in
     let whole = flat_map (lines_at documents) numbers in
     elim c.match-document.branch [
-      in-Some+in_ok-scan_document w ↦ subst (λ hits. (more : List Found) → Selects Has (flat_map (lines_at documents) (drop (i + 1) numbers)) more → Selects Has whole (found_all hits.items ++ more)) (sym w.hits-is) (documents-step Has documents numbers i whole now _ c.loop-number-test.true (Adds-document Has documents (get_or numbers i 0) w.in-Some.name.now w.in-Some.body.now now _ w.in-Some.ensures w.in_ok-scan_document.ensures) c.loop-number.invariant)
-    | in_default w ↦ subst (λ hits. (more : List Found) → Selects Has (flat_map (lines_at documents) (drop (i + 1) numbers)) more → Selects Has whole (found_all hits.items ++ more)) (sym w.hits-is) (documents-step Has documents numbers i whole now now c.loop-number-test.true (Adds-absent Has documents (get_or numbers i 0) now w.in_default.ensures) c.loop-number.invariant)
+      | in-Some+in_ok-scan_document w ↦ subst (λ hits. (more : List Found) → Selects Has (flat_map (lines_at documents) (drop (i + 1) numbers)) more → Selects Has whole (found_all hits.items ++ more)) (sym w.hits-is) (documents-step Has documents numbers i whole now _ c.loop-number-test.true (Adds-document Has documents (get_or numbers i 0) w.in-Some.name.now w.in-Some.body.now now _ w.in-Some.ensures w.in_ok-scan_document.ensures) c.loop-number.invariant)
+      | in_default w ↦ subst (λ hits. (more : List Found) → Selects Has (flat_map (lines_at documents) (drop (i + 1) numbers)) more → Selects Has whole (found_all hits.items ++ more)) (sym w.hits-is) (documents-step Has documents numbers i whole now now c.loop-number-test.true (Adds-absent Has documents (get_or numbers i 0) now w.in_default.ensures) c.loop-number.invariant)
     ]
 
 pub returns : goal.returns

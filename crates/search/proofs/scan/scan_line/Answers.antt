@@ -1,4 +1,4 @@
-use Rattle.std.proofs.Common.{◌≡◌, ◌∷◌, [], ◌++◌, ◌∙◌, sym, ap, false}
+use Rattle.std.proofs.Common.{◌≡◌, ◌∷◌, [], ◌++◌, ◌∙◌, sym, ap}
 use Rattle.std.proofs.lemmas.Bool.{false≢true}
 use Rattle.std.proofs.lemmas.List.{map-append}
 use Rattle.ere.specs.Language.{Hit}
@@ -6,8 +6,6 @@ use Rattle.ere.specs.Tree.{form}
 use Rattle.search.specs.Found.{found_of, found_all}
 use Rattle.search.specs.Selects.{found}
 use Rattle.search.proofs.SelectsLemmas.{Adds-skip, Adds-keep}
-use Rattle.search.proofs.ScanLemmas.{IsScanOf-Selects}
-use Rattle.search.proofs.LineLemmas.{step}
 use Rattle.search.proofs.scan.scan_line.Goals as goal
 
 pub returns-then-not-matches : goal.returns-then-not-matches

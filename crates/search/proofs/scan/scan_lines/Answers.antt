@@ -1,6 +1,5 @@
-use Rattle.std.proofs.Common.{◌≡◌, ◌<◌, ◌+◌, length, arith, sym, ◌∙◌, false, true}
+use Rattle.std.proofs.Common.{◌≡◌, ◌<◌, ◌+◌, length, arith}
 use Rattle.std.proofs.lemmas.Bool.Decides.{nat_tests}
-use Rattle.std.proofs.lemmas.List.{length-take, length-drop}
 use Rattle.std.proofs.lemmas.Result.{on_ok_weaker}
 use Rattle.ere.specs.Language.{Hit}
 use Rattle.ere.specs.Tree.{form}

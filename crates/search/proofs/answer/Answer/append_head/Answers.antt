@@ -1,4 +1,4 @@
-use Rattle.std.proofs.Common.{◌≡◌, ◌++◌, ◌∙◌, ap, sym, cond, [], length, append_assoc}
+use Rattle.std.proofs.Common.{◌≡◌, ◌++◌, ◌∙◌, ap, sym, cond, [], length}
 use Rattle.std.specs.Prelude.{codes, decimal}
 use Rattle.std.proofs.lemmas.List.{append-nil}
 use Rattle.std.proofs.lemmas.Result.{on_ok_weaker}
@@ -21,8 +21,8 @@ returns-clause-ok c =
     let begun = six c.as_slice.result.now c.as_bytes.result.now c.as_slice-2.result.now c.as_bytes-2.result.now c.as_slice-3.result.now c.as_bytes-3.result.now ∙ (λ i. ((((a i ++ number i) ++ b i) ++ version i) ++ d i) ++ lines i) in
     let first = c.in_ok-append_all.ensures.ok ∙ ap (λ t. old ++ t) begun in
     let more : c.if-stats.out.items ≡ c.append_all.new.out.items ++ cond c.args.stats (text_of_stats now) [] = elim c.if-stats.branch [
-      then-stats+in_ok-append_stats w ↦ ap (λ v. v.items) w.out-is ∙ (w.in_ok-append_stats.ensures.ok ∙ ap (λ t. c.append_all.new.out.items ++ cond t (text_of_stats now) []) (sym w.if-stats.true))
-    | else-stats w ↦ ap (λ v. v.items) w.out-is ∙ (sym (append-nil c.append_all.new.out.items) ∙ ap (λ t. c.append_all.new.out.items ++ cond t (text_of_stats now) []) (sym w.if-stats.false))
+      | then-stats+in_ok-append_stats w ↦ ap (λ v. v.items) w.out-is ∙ (w.in_ok-append_stats.ensures.ok ∙ ap (λ t. c.append_all.new.out.items ++ cond t (text_of_stats now) []) (sym w.if-stats.true))
+      | else-stats w ↦ ap (λ v. v.items) w.out-is ∙ (sym (append-nil c.append_all.new.out.items) ∙ ap (λ t. c.append_all.new.out.items ++ cond t (text_of_stats now) []) (sym w.if-stats.false))
     ] in
     let end : c.as_slice-4.result.now ≡ line_end = c.as_slice-4.ensures in
     on_ok_weaker c.append_all-2.result (λ e. three old _ (cond c.args.stats (text_of_stats now) []) line_end c.append_all.new.out.items c.if-stats.out.items c.append_all-2.new.out.items first more (e ∙ ap (λ t. c.if-stats.out.items ++ (t ++ [])) end)) c.append_all-2.ensures.ok

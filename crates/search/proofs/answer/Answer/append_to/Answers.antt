@@ -1,9 +1,8 @@
-use Rattle.std.proofs.Common.{◌≡◌, ◌++◌, ◌∙◌, ap, sym, append_assoc, length}
+use Rattle.std.proofs.Common.{◌≡◌, ◌++◌, ◌∙◌, ap, append_assoc}
 use Rattle.std.specs.Prelude.{flat_map}
-use Rattle.std.proofs.lemmas.Result.{on_ok_weaker, on_err_weaker}
+use Rattle.std.proofs.lemmas.Result.{on_ok_weaker}
 use Rattle.search.specs.Found.{found_all}
-use Rattle.search.specs.Text.{text_of_answer, text_of_head, text_of_found, Begins}
-use Rattle.search.proofs.TextLemmas.{Begins-further}
+use Rattle.search.specs.Text.{text_of_answer, text_of_head, text_of_found}
 use Rattle.search.proofs.answer.Answer.append_to.Goals as goal
 
 pub returns-clause-ok : goal.returns-clause-ok

@@ -1,4 +1,0 @@
-use Rattle.search.proofs.scan.matches.Goals as goal
-
-pub returns : goal.returns
-returns c = ?
