@@ -1,6 +1,12 @@
 //! The index: a journal of commands, and the documents that it leaves.
 
 ghost use Rattle.std.specs.Prelude.{◌≡◌, ℕ, List, ◌+◌, ◌^◌, ◌<◌, [], ◌∷◌, ◌++◌, map, length, OnOk, OnErr, IfErr, IfOk, Option, option_map, Contains, ◌↔◌};
+ghost use Rattle.std.specs.Ordering.{nat_cmp};
+ghost use Rattle.std.specs.Cmp.Lexicographic.{slice_cmp};
+ghost use Rattle.std.specs.BTreeMap.{IsUnchanged, IsOrdered, values};
+ghost use Rattle.std.specs.List.Sorted.{IsStrictlyIncreasing};
+ghost use Rattle.index.specs.declared.command.Command.{Command as CommandValue};
+ghost use Rattle.index.specs.IndexParts.{Notes};
 ghost use Rattle.index.specs.Documents.{Document, documents_of, document_at, number_of, IsInNameOrder, IsDocument};
 
 use crate::body::Body;
@@ -56,10 +62,15 @@ impl Index {
         ensures err { OnErr result (self.new ≡ self.old) }
         ensures returned { IfErr result (λ e. e.command ≡ command) }
     {
-        Err(ApplyError {
-            command,
-            error: AllocError,
-        })
+        if let Err(error) = self.commands.reserve(1) {
+            return Err(ApplyError { command, error });
+        }
+        let place = self.commands.len() as u32 + 1;
+        if let Err(error) = note(&mut self.numbers, &command, place) {
+            return Err(ApplyError { command, error });
+        }
+        self.commands.push_reserved(command);
+        Ok(())
     }
 
     /// The number of commands.
@@ -113,10 +124,41 @@ impl Index {
     }
 
     /// The numbers of all documents, in the order of the documents' names.
-    pub fn numbers_by_name(&self, _alloc: Global) -> Result<Vec<u32>, AllocError>
+    pub fn numbers_by_name(&self, alloc: Global) -> Result<Vec<u32>, AllocError>
         ensures { IfOk result (λ numbers. (ordered : List Document) × IsInNameOrder (documents_of self.now) ordered
             × (numbers.items ≡ map (λ d. d.number) ordered)) }
     {
-        Err(AllocError)
+        numbers_of(&self.numbers, alloc)
     }
 }
+
+// Changes the numbers as the command at this place asks for.
+fn note(numbers: &mut BTreeMap<Name, u32>, command: &Command, place: u32) -> Result<(), AllocError>
+    ensures ok { OnOk result (Notes place command.now numbers.old numbers.new) }
+    ensures err { OnErr result (IsUnchanged numbers.old numbers.new) }
+{
+    match command {
+        Command::Put(name, _) => {
+            numbers.insert(name.copy()?, place)?;
+        }
+        Command::Remove(name) => {
+            numbers.remove(name);
+        }
+    }
+    Ok(())
+}
+
+// The numbers that stand under the names, in the order of the names.
+fn numbers_of(numbers: &BTreeMap<Name, u32>, alloc: Global) -> Result<Vec<u32>, AllocError>
+    ensures numbers { IfOk result (λ v. v.items ≡ values numbers.now) }
+    ensures ordered { IsOrdered (slice_cmp nat_cmp) numbers.now }
+{
+    numbers.values().copied().collect(alloc)
+}
+
+/// The documents are exactly the `Put`s that no later command names, each once.
+pub fn documents_are_puts()
+    ensures which { (commands : List CommandValue) (d : Document) →
+        Contains (documents_of commands) d ↔ IsDocument commands d }
+    ensures once { (commands : List CommandValue) → IsStrictlyIncreasing (map (λ d. d.number) (documents_of commands)) }
+{}

@@ -13,5 +13,8 @@ pub mod name;
 pub use body::Body;
 pub use command::Command;
 pub use error::{ApplyError, BodyError, BodyErrorKind, NameError};
-pub use journal::Index;
+pub use journal::{Index, documents_are_puts};
 pub use name::Name;
+
+#[cfg(test)]
+mod tests;

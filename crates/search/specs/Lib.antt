@@ -4,3 +4,4 @@ pub mod Scan
 pub mod Found
 pub mod Text
 pub mod Limited
+pub mod Selects

@@ -7,6 +7,8 @@ ghost use Rattle.ere.specs.Limits.{IsWithinLimits, HasNoTree};
 ghost use Rattle.search.specs.Limited.{IsWithinLimits-prop, ForSome-prop};
 
 use ere::{Ere, EreError, EreErrorKind, parse};
+use index::Name;
+use matcher::matches;
 use std::alloc::Global;
 
 /// A pattern, and where there is one a pattern for names, read and ready to search.
@@ -14,7 +16,7 @@ use std::alloc::Global;
 /// It is never changed by a search, so one value serves many searches at a time.
 #[derive(Debug, Drop)]
 pub struct Prepared {
-    tree: Ere,
+    pub(crate) tree: Ere,
     name_tree: Option<Ere>,
     pub ghost limits: { IsWithinLimits (form tree) } by { IsWithinLimits-prop (form tree) },
     pub ghost name_limits: { ForSome name_tree (λ e. IsWithinLimits (form e)) } by { ForSome-prop name_tree },
@@ -30,7 +32,8 @@ pub struct WithinError {
 }
 
 impl Prepared {
-    ghost use Rattle.std.specs.Prelude.{◌≢◌, IfOk, IfErr, MatchBool};
+    ghost use Rattle.std.specs.Prelude.{◌≢◌, ◌↔◌, IsTrue, IfOk, IfErr, IfSome, MatchBool};
+    ghost use Rattle.ere.specs.Language.{Hit as HitIn};
     ghost use Rattle.ere.specs.Limits.{HasNoTree};
     ghost use Rattle.search.specs.Pattern.{IsPatternOf, IsPatternWithin, HasTree};
     ghost use Rattle.search.specs.Prepared.{pattern_of};
@@ -76,6 +79,17 @@ impl Prepared {
                 in_name: false,
                 error,
             }),
+        }
+    }
+
+    /// Whether a document with this name counts: its name, taken as a line, matches the name pattern, or
+    /// there is none.
+    pub fn takes_name(&self, name: &Name) -> bool
+        ensures { IsTrue result ↔ IfSome (pattern_of self.now).name_tree (λ tree. HitIn tree name.now) }
+    {
+        match &self.name_tree {
+            None => true,
+            Some(tree) => matches(tree, name.as_bytes()),
         }
     }
 }
