@@ -175,8 +175,8 @@ fn append_hit(out: &mut Vec<u8>, hit: &Hit) -> Result<(), AllocError>
     )
 }
 
-// Appends the parts, one after another, or nothing.
-fn append_all(out: &mut Vec<u8>, parts: &[&[u8]]) -> Result<(), AllocError>
+/// Appends the parts, one after another. An `Err` comes only where memory ran out, and `out` stays as it was.
+pub fn append_all(out: &mut Vec<u8>, parts: &[&[u8]]) -> Result<(), AllocError>
     ensures ok { OnOk result (out.new.items ≡ out.old.items ++ flat_map (λ part. part.now) parts.now) }
     ensures err { OnErr result (out.new.items ≡ out.old.items) }
 {

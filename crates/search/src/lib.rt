@@ -5,6 +5,6 @@ pub mod answer;
 pub mod pattern;
 pub mod scan;
 
-pub use answer::{Answer, Hit};
+pub use answer::{Answer, Hit, append_all};
 pub use pattern::{Prepared, WithinError};
 pub use scan::find;

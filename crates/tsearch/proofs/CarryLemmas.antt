@@ -1,17 +1,16 @@
 -- Items that are carried out have their entries.
-use Rattle.std.proofs.Common.{◌≡◌, ℕ, ◌+◌, ◌≤◌, ◌<◌, ◌⊎◌, inl, inr, Bool, true, false, List, [], ◌∷◌, ◌++◌, Option, Some, None, refl, sym, ap, ◌∙◌, subst, arith, length}
+use Rattle.std.proofs.Common.{◌≡◌, ℕ, ◌+◌, inl, List, [], ◌∷◌, Some, None, refl, ap, ◌∙◌, length}
 use Rattle.index.specs.declared.command.Command.{Command}
 use Rattle.index.specs.declared.command.Command.TheVariants.{Put, Remove}
-use Rattle.search.specs.Pattern.{Pattern, IsPatternOf, IsPatternWithin}
+use Rattle.search.specs.Pattern.{Pattern}
 use Rattle.script.specs.Items as item
 use Rattle.tsearch.specs.declared.items.Counts.{Counts}
 use Rattle.tsearch.specs.declared.transcript.Entry.{Entry}
-use Rattle.tsearch.specs.declared.transcript.Entry.TheVariants.{Refused, SearchRefused, Published}
-use Rattle.tsearch.specs.declared.transcript.Reason.{Reason}
+use Rattle.tsearch.specs.declared.transcript.Entry.TheVariants.{Refused, Published}
 use Rattle.tsearch.specs.declared.transcript.Reason.TheVariants as reason
 use Rattle.tsearch.specs.Legal.{IsNamed, bad_name, no_memory, named, HasBody, bad_body, with_body, IsRoomFor, full, accepted, IsPut, IsRemove, no_such_file, is_there, IsPublish}
 use Rattle.tsearch.specs.Legal as legal
-use Rattle.tsearch.specs.Rows.{command_of, failures_in}
+use Rattle.tsearch.specs.Rows.{failures_in}
 use Rattle.tsearch.specs.Shelf.{Shelf, all_published}
 use Rattle.tsearch.specs.Entries.{IsLoadedEntry}
 use Rattle.tsearch.specs.Steps.{shelf_after, IsSearchedNow, IsSearchNow, IsSearchInNow, IsEntryNow, IsCarriedOut, IsCounted}

@@ -1,12 +1,12 @@
 -- Which item an entry can belong to: only a publish is published, and only a search is found.
-use Rattle.std.proofs.Common.{◌≡◌, ℕ, ◌+◌, ◌≤◌, ◌<◌, ◌⊎◌, inl, inr, List, Option, Some, None, refl, sym, ap, ◌∙◌, length}
+use Rattle.std.proofs.Common.{◌≡◌, ℕ, ◌+◌, List, Option, sym, ap, ◌∙◌, length}
 use Rattle.index.specs.declared.command.Command.{Command}
 use Rattle.search.specs.Pattern.{Pattern}
-use Rattle.search.specs.Scan.{Reply, IsAnswerOf}
+use Rattle.search.specs.Scan.{Reply}
 use Rattle.script.specs.Items.{Item, put, load, remove, publish, search, search_in, sync, bad_line, bad_put, truncated, body_not_closed}
 use Rattle.tsearch.specs.declared.items.Counts.{Counts}
 use Rattle.tsearch.specs.declared.transcript.Entry.{Entry}
-use Rattle.tsearch.specs.declared.transcript.Entry.TheVariants.{Accepted, Refused, Published, Found, SearchRefused}
+use Rattle.tsearch.specs.declared.transcript.Entry.TheVariants.{Published, Found}
 use Rattle.tsearch.specs.Legal.{IsNamed, bad_name, no_memory, named, HasBody, bad_body, with_body, IsRoomFor, full, accepted, IsPut, HasLoaded, failed, loaded_body, IsRemove, no_such_file, is_there, IsPublish}
 use Rattle.tsearch.specs.Legal as legal
 use Rattle.tsearch.specs.Shelf.{Shelf}

@@ -1,5 +1,5 @@
 -- The entries of single items are legal.
-use Rattle.std.proofs.Common.{◌≡◌, ℕ, ◌+◌, ◌≤◌, ◌<◌, ◌⊎◌, inl, inr, Bool, true, false, List, [], ◌∷◌, Option, Some, None, refl, sym, ap, ◌∙◌, subst, arith, MatchBool}
+use Rattle.std.proofs.Common.{◌≡◌, ℕ, ◌≤◌, ◌<◌, ◌⊎◌, inl, inr, Bool, true, false, List, Some, refl, ap, ◌∙◌, subst, arith, MatchBool}
 use Rattle.ere.specs.declared.error.EreError.{EreError}
 use Rattle.ere.specs.declared.error.EreErrorKind.{EreErrorKind}
 use Rattle.ere.specs.declared.error.EreErrorKind.TheVariants as kind
@@ -8,16 +8,15 @@ use Rattle.index.specs.declared.command.Command.{Command}
 use Rattle.index.specs.declared.error.NameError.{NameError}
 use Rattle.index.specs.declared.error.NameError.TheVariants as name
 use Rattle.index.specs.declared.error.BodyErrorKind.TheVariants as body
-use Rattle.std.proofs.Common.{length, ◌^◌, ◌-◌}
+use Rattle.std.proofs.Common.{length, ◌^◌}
 use Rattle.tsearch.specs.Rows.{failures_in}
-use Rattle.index.specs.Text.{greatest_body, IsName, IsNameFault, IsBody, IsBodyFault}
-use Rattle.search.specs.Pattern.{Pattern, IsPatternOf, IsPatternWithin, HasTree}
-use Rattle.search.specs.Scan.{Reply, IsAnswerOf}
+use Rattle.index.specs.Text.{greatest_body, IsName, IsNameFault, IsBodyFault}
+use Rattle.search.specs.Pattern.{Pattern, HasTree}
+use Rattle.search.specs.Scan.{IsAnswerOf}
 use Rattle.tsearch.specs.declared.transcript.Entry.{Entry}
 use Rattle.tsearch.specs.declared.transcript.Entry.TheVariants.{Refused, SearchRefused}
-use Rattle.tsearch.specs.declared.transcript.Reason.TheVariants as reason
 use Rattle.tsearch.specs.declared.transcript.SearchReason.TheVariants as search_reason
-use Rattle.tsearch.specs.Legal.{IsNamed, bad_name, no_memory, named, HasBody, bad_body, with_body, IsRoomFor, full, accepted, IsPut, HasLoaded, loaded_body}
+use Rattle.tsearch.specs.Legal.{IsNamed, bad_name, no_memory, named, bad_body, with_body, full, accepted, IsPut, HasLoaded, loaded_body}
 use Rattle.tsearch.specs.Entries.{reason_of_name, reason_of_fault, reason_of_fault_of, HasBodyOrNoMemory}
 use Rattle.tsearch.specs.Steps.{IsSearchedNow, IsSearchNow, IsSearchInNow, found, IsCounted}
 use Rattle.tsearch.specs.Steps as now

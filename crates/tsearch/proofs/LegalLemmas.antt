@@ -1,9 +1,8 @@
 -- The rows of a run on one thread make a legal transcript.
-use Rattle.std.proofs.Common.{◌≡◌, ◌≢◌, ℕ, ◌+◌, ◌-◌, ◌^◌, ◌≤◌, ◌<◌, ◌⊎◌, inl, inr, Bool, true, false, cond, ◌==◌, List, [], ◌∷◌, ◌++◌, Option, Some, None, refl, sym, ap, ◌∙◌, subst, arith, length, take, append_assoc, option_map, IfSome}
+use Rattle.std.proofs.Common.{◌≡◌, ℕ, ◌+◌, ◌≤◌, ◌<◌, ◌⊎◌, inl, inr, Bool, true, false, cond, ◌==◌, List, [], ◌∷◌, ◌++◌, Option, Some, None, refl, sym, ap, ◌∙◌, subst, arith, length, take, append_assoc, option_map, IfSome}
 use Rattle.std.proofs.lemmas.List.{append-nil, length-take-le, take-append-le}
 use Rattle.std.proofs.lemmas.List.Elements.{Contains-append_left, Contains-append_right}
 use Rattle.std.specs.Prelude.{Contains}
-use Rattle.index.specs.declared.command.Command.{Command}
 use Rattle.search.specs.Pattern.{Pattern, IsPatternOf, IsPatternWithin}
 use Rattle.search.specs.Scan.{Reply, IsAnswerOf}
 use Rattle.script.specs.Items.{Item, ItemsFrom, put, load, remove, publish, search, search_in, sync, bad_line, bad_put, truncated, body_not_closed}
@@ -13,7 +12,7 @@ use Rattle.tsearch.specs.declared.run.Options.{Options}
 use Rattle.tsearch.specs.declared.session.Session.{Session}
 use Rattle.tsearch.specs.declared.transcript.Entry.{Entry}
 use Rattle.tsearch.specs.declared.transcript.Entry.TheVariants.{Found}
-use Rattle.tsearch.specs.Rows.{Row, items_of, entries_of, commands_of, published_in, last_or, published_last, is_sync, before_sync, count_searches, count_failures}
+use Rattle.tsearch.specs.Rows.{Row, items_of, commands_of, published_in, last_or, published_last, is_sync, before_sync, count_searches}
 use Rattle.tsearch.specs.Legal.{Place, all_rows, IsEntryOf, HasEntry, IsLegalRow, IsAnswered, newest_allowed, IsSearched, IsSearch, IsSearchIn, IsInTurn, AreInTurn, IsLegal}
 use Rattle.tsearch.specs.Legal as legal
 use Rattle.tsearch.specs.Shelf.{Shelf}

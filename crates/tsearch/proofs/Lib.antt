@@ -4,3 +4,4 @@ pub mod RowLemmas
 pub mod EntryLemmas
 pub mod RunLemmas
 pub mod LegalLemmas
+pub mod WriteLemmas

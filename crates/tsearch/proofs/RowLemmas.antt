@@ -1,11 +1,7 @@
 -- Rows one behind the other, and what they add up to.
-use Rattle.std.proofs.Common.{◌≡◌, ℕ, ◌+◌, ◌≤◌, ◌<◌, ◌⊎◌, inl, inr, Bool, true, false, List, [], ◌∷◌, ◌++◌, Option, Some, None, refl, sym, ap, ◌∙◌, subst, arith, length, take, map, append_assoc, option_map}
+use Rattle.std.proofs.Common.{◌≡◌, ℕ, ◌+◌, ◌⊎◌, inl, inr, Bool, true, false, List, [], ◌∷◌, ◌++◌, Option, Some, None, refl, sym, ap, ◌∙◌, subst, arith, append_assoc, option_map}
 use Rattle.std.proofs.lemmas.List.{append-nil, map-append}
 use Rattle.std.proofs.lemmas.Grind.{flat_map-append}
-use Rattle.std.specs.Prelude.{Contains, flat_map}
-use Rattle.index.specs.declared.command.Command.{Command}
-use Rattle.script.specs.Items.{Numbered}
-use Rattle.tsearch.specs.declared.transcript.Entry.{Entry}
 use Rattle.tsearch.specs.Rows.{Row, items_of, entries_of, list_of, commands_of, accepted_by, command_of, version_in, published_in, last_or, published_last, is_sync, before_sync, searches_of, count_searches, failures_in, count_failures}
 use Rattle.tsearch.specs.Steps.{found_in}
 

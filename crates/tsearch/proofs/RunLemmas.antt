@@ -1,27 +1,21 @@
 -- A run on one thread is legal: what holds of its rows so far.
-use Rattle.std.proofs.Common.{◌≡◌, ℕ, zero, ◌+◌, ◌-◌, ◌^◌, ◌≤◌, ◌<◌, ◌⊎◌, inl, inr, Bool, true, false, cond, ◌==◌, List, [], ◌∷◌, ◌++◌, Option, Some, None, refl, sym, ap, ◌∙◌, subst, arith, length, take, map, append_assoc, option_map, IfSome, length-append}
-use Rattle.std.proofs.lemmas.List.{append-nil, length-take-le, take-append-le, take_all}
-use Rattle.std.proofs.lemmas.List.Elements.{Contains-append_left}
-use Rattle.std.specs.Prelude.{Contains}
+use Rattle.std.proofs.Common.{◌≡◌, ℕ, ◌+◌, ◌≤◌, ◌⊎◌, inl, inr, false, List, [], ◌∷◌, ◌++◌, Option, Some, None, refl, sym, ap, ◌∙◌, subst, arith, length, take, append_assoc, length-append}
+use Rattle.std.proofs.lemmas.List.{append-nil, take-append-le, take_all}
 use Rattle.index.specs.declared.command.Command.{Command}
-use Rattle.search.specs.Pattern.{Pattern, IsPatternOf, IsPatternWithin}
-use Rattle.search.specs.Scan.{Reply, IsAnswerOf}
-use Rattle.script.specs.Items.{Item, Numbered, numbered, ItemsFrom, IsItemsOf, put, load, remove, publish, search, search_in, sync, bad_line, bad_put, truncated, body_not_closed}
+use Rattle.script.specs.Items.{Item, Numbered, ItemsFrom, IsItemsOf, put, load, remove, publish, search, search_in, sync, bad_line, bad_put, truncated, body_not_closed}
 use Rattle.script.specs.Place.{Place}
 use Rattle.script.specs.Reading.{Takes}
 use Rattle.tsearch.specs.declared.items.Counts.{Counts}
-use Rattle.tsearch.specs.declared.run.Options.{Options}
 use Rattle.tsearch.specs.declared.session.Session.{Session}
 use Rattle.tsearch.specs.declared.transcript.Entry.{Entry}
 use Rattle.tsearch.specs.declared.transcript.Entry.TheVariants.{Accepted, Refused, Published, Found, SearchRefused}
-use Rattle.tsearch.specs.Rows.{Row, items_of, entries_of, list_of, commands_of, accepted_by, command_of, version_in, published_in, last_or, published_last, is_sync, before_sync, searches_of, count_searches, failures_in, count_failures}
+use Rattle.tsearch.specs.Rows.{Row, items_of, entries_of, list_of, commands_of, accepted_by, command_of, version_in, published_in, last_or, published_last, is_sync, searches_of, count_searches, failures_in, count_failures}
 use Rattle.tsearch.specs.Legal.{IsEntryOf, IsLegalRow, IsNamed, bad_name, no_memory, named, HasLoaded, loaded_body, IsAnswered, newest_allowed, IsSearched, IsSearch, IsSearchIn, IsInTurn, AreInTurn, IsLegal, greatest_failures}
 use Rattle.tsearch.specs.Legal as legal
 use Rattle.tsearch.specs.Shelf.{Shelf, empty_shelf}
-use Rattle.tsearch.specs.Steps.{shelf_after, IsSearchedNow, IsSearchNow, IsSearchInNow, IsEntryNow, HasEntryNow, IsCarriedOut, IsCounted, TakesItem, found_in}
-use Rattle.tsearch.specs.Steps as now
-use Rattle.tsearch.proofs.RowLemmas.{count_found, items_of-append, entries_of-append, commands_of-append, commands_of-one, published_in-append, published_last-push, count_searches-push, count_found-append, count_found-push, count_failures-push, split_push, before_sync_front}
-use Rattle.tsearch.proofs.EntryLemmas.{published_entry, found_entry}
+use Rattle.tsearch.specs.Steps.{shelf_after, IsEntryNow, HasEntryNow, IsCounted, TakesItem, found_in}
+use Rattle.tsearch.proofs.RowLemmas.{count_found, items_of-append, entries_of-append, commands_of-append, commands_of-one, published_last-push, count_searches-push, count_found-push, count_failures-push, split_push}
+use Rattle.tsearch.proofs.EntryLemmas.{published_entry}
 
 -- what is on the shelf after these rows
 unfoldable pub shelf_of_rows : ℕ → List Row → Shelf

@@ -1,5 +1,5 @@
 -- Which transcripts are legal for a script: what a run may answer, whatever its readers and their timing.
-use Rattle.std.specs.Prelude.{◌≡◌, ◌≢◌, ℕ, ◌+◌, ◌-◌, ◌^◌, ◌<◌, ◌≤◌, ◌⊎◌, List, [], ◌∷◌, ◌++◌, length, take, Option, Some, None, option_map, IfSome, Contains, if◌then◌else◌, ◌==◌}
+use Rattle.std.specs.Prelude.{◌≡◌, ◌≢◌, ℕ, ◌+◌, ◌-◌, ◌^◌, ◌<◌, ◌≤◌, ◌⊎◌, List, ◌∷◌, ◌++◌, length, take, Option, Some, None, option_map, IfSome, Contains, if◌then◌else◌, ◌==◌}
 use Rattle.ere.specs.Limits.{HasNoTree}
 use Rattle.ere.specs.declared.error.EreError.{EreError}
 use Rattle.ere.specs.declared.error.EreErrorKind.TheVariants as kind
@@ -11,10 +11,9 @@ use Rattle.index.specs.Documents.{documents_of, number_of}
 use Rattle.index.specs.Text.{IsName, IsNameFault, IsBody, IsBodyFault}
 use Rattle.search.specs.Pattern.{Pattern, IsPatternOf, IsPatternWithin, HasTree}
 use Rattle.search.specs.Scan.{Reply, IsAnswerOf}
-use Rattle.script.specs.Items.{Item, Numbered, IsItemsOf, put, load, remove, publish, search, search_in, sync, bad_line, bad_put, truncated, body_not_closed}
+use Rattle.script.specs.Items.{Item, IsItemsOf, put, load, remove, publish, search, search_in, sync, bad_line, bad_put, truncated, body_not_closed}
 use Rattle.tsearch.specs.declared.transcript.Entry.{Entry}
 use Rattle.tsearch.specs.declared.transcript.Entry.TheVariants.{Accepted, Refused, Published, Found, SearchRefused}
-use Rattle.tsearch.specs.declared.transcript.Reason.{Reason}
 use Rattle.tsearch.specs.declared.transcript.Reason.TheVariants as reason
 use Rattle.tsearch.specs.declared.transcript.SearchReason.TheVariants as search_reason
 use Rattle.tsearch.specs.declared.run.Options.{Options}

@@ -6,3 +6,4 @@ pub mod Rows
 pub mod Legal
 pub mod Steps
 pub mod Entries
+pub mod Written

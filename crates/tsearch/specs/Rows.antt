@@ -1,11 +1,11 @@
 -- A run of a script as rows: each item with what a source answered to it, and its entry.
-use Rattle.std.specs.Prelude.{ℕ, ◌+◌, Bool, true, false, option_map, if◌then◌else◌, List, [], ◌∷◌, ◌++◌, map, flat_map, length, Option, Some, None}
+use Rattle.std.specs.Prelude.{ℕ, ◌+◌, Bool, true, false, option_map, if◌then◌else◌, List, [], ◌∷◌, ◌++◌, map, flat_map, Option, Some, None}
 use Rattle.index.specs.declared.command.Command.{Command}
 use Rattle.index.specs.declared.command.Command.TheVariants.{Put, Remove}
-use Rattle.script.specs.Items.{Item, Numbered, put, load, remove, publish, search, search_in, sync, bad_line, bad_put, truncated, body_not_closed}
+use Rattle.script.specs.Items.{Item, Numbered, put, load, remove, search, search_in, sync}
 use Rattle.tsearch.specs.declared.transcript.Entry.{Entry}
 use Rattle.tsearch.specs.declared.transcript.Reason.TheVariants.{CannotLoad}
-use Rattle.tsearch.specs.declared.transcript.Entry.TheVariants.{Accepted, Refused, Published, Found, SearchRefused}
+use Rattle.tsearch.specs.declared.transcript.Entry.TheVariants.{Accepted, Refused, Published}
 
 -- loaded: of a load, the bytes that the source answered, where it didn't fail.
 -- entry: a sync has none.

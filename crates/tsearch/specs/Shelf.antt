@@ -1,5 +1,5 @@
 -- The commands that are accepted, those that are published, and how many may be accepted.
-use Rattle.std.specs.Prelude.{◌≡◌, ℕ, List, [], ◌∷◌, ◌++◌}
+use Rattle.std.specs.Prelude.{ℕ, List, [], ◌∷◌, ◌++◌}
 use Rattle.index.specs.declared.command.Command.{Command}
 
 pub record Shelf : Type 0 where

@@ -1,5 +1,5 @@
 -- What a store keeps.
-use Rattle.std.specs.Prelude.{ℕ, ◌≤◌, length, if◌then◌else◌, ◌≡◌, List, ◌++◌, drop, take}
+use Rattle.std.specs.Prelude.{◌≤◌, length, if◌then◌else◌, ◌≡◌, ◌++◌, drop}
 use Rattle.tsearch.specs.declared.store.Store.TheInside.{Inside}
 use Rattle.tsearch.specs.Shelf.{Shelf}
 

@@ -1,4 +1,4 @@
-use Rattle.std.proofs.Common.{refl, ap, ◌∙◌}
+use Rattle.std.proofs.Common.{ap}
 use Rattle.tsearch.specs.declared.transcript.Entry.TheVariants.{Published}
 use Rattle.tsearch.proofs.CarryLemmas.{carried_put, carried_load, carried_remove, carried_publish, carried_search, carried_search_in, carried_bad_line, carried_bad_put, carried_truncated, carried_open_body}
 use Rattle.tsearch.proofs.items.carry_out.Goals as goal

@@ -1,6 +1,5 @@
 use Rattle.std.proofs.Common.{arith}
 use Rattle.index.specs.declared.error.BodyErrorKind.TheVariants.{TooLong}
-use Rattle.tsearch.specs.Entries.{HasBodyOrNoMemory}
 use Rattle.tsearch.specs.Legal.{named, bad_body}
 use Rattle.tsearch.proofs.ItemLemmas.{named_fault, named_body, too_long_body}
 use Rattle.tsearch.proofs.items.put.Goals as goal

@@ -1,4 +1,4 @@
-use Rattle.std.proofs.Common.{refl, ap, ◌∙◌}
+use Rattle.std.proofs.Common.{ap}
 use Rattle.search.specs.Pattern.{IsPatternOf}
 use Rattle.search.specs.Prepared.{pattern_of}
 use Rattle.tsearch.specs.Steps.{searched}

@@ -1,6 +1,6 @@
-use Rattle.std.proofs.Common.{arith, ◌≡◌, ◌+◌, ◌≤◌, ◌<◌, ℕ, sym, ap, subst, length}
+use Rattle.std.proofs.Common.{arith, ap, length}
 use Rattle.script.specs.Reading.{shown_item}
-use Rattle.tsearch.proofs.RunLemmas.{IsRun, run_begins, run_goes_on, one_search, one_answer}
+use Rattle.tsearch.proofs.RunLemmas.{run_begins, run_goes_on, one_search, one_answer}
 use Rattle.tsearch.proofs.LegalLemmas.{run_is_legal}
 use Rattle.tsearch.proofs.run.run.Goals as goal
 

@@ -1,4 +1,4 @@
-use Rattle.std.proofs.Common.{◌≡◌, ◌≤◌, ◌+◌, ℕ, List, length}
+use Rattle.std.proofs.Common.{◌≤◌, ◌+◌, ℕ, List, length}
 use Rattle.tsearch.proofs.RunLemmas.{IsRun}
 use Rattle.tsearch.proofs.run.run.Given as goal
 
