@@ -1,5 +1,5 @@
 -- What a step over a set of bytes, and the joining of two sets, have done up to a position.
-use Rattle.std.proofs.Common.{◌≡◌, ◌≢◌, ◌⊎◌, ◌↔◌, inl, inr, ℕ, zero, suc, ◌+◌, ◌≤◌, ◌<◌, min, max, Bool, true, false, not, ◌&&◌, ◌||◌, ◌==◌, nat_le, nat_lt, IsTrue, MatchBool, List, length, get_or, set, count_by, refl, sym, ◌∙◌, ap, subst, arith, length-set}
+use Rattle.std.proofs.Common.{◌≡◌, ◌≢◌, ◌⊎◌, inl, inr, ℕ, zero, suc, ◌+◌, ◌≤◌, ◌<◌, min, max, Bool, true, false, not, ◌&&◌, ◌||◌, ◌==◌, nat_le, nat_lt, IsTrue, MatchBool, List, length, get_or, set, count_by, refl, sym, ◌∙◌, ap, subst, arith, length-set}
 use Rattle.std.proofs.lemmas.List.{get_or-set_same, get_or-set_other, get_or_past}
 use Rattle.std.proofs.lemmas.Bool.Decides.{nat_tests}
 use Rattle.ere.specs.ByteSet.{has}
@@ -8,7 +8,7 @@ use Rattle.matcher.specs.declared.positions.TheConstants.{POSITIONS}
 use Rattle.matcher.specs.Bounds.{IsBounded}
 use Rattle.matcher.specs.Spans.{Spans, Steps}
 use Rattle.matcher.specs.PositionSets.{has_position, HasNone, Moves}
-use Rattle.matcher.proofs.Truths.{is_false, absent-set, false≢true, low_none, high_none, all_none}
+use Rattle.matcher.proofs.Truths.{false≢true, low_none, high_none}
 
 -- whether a position is held with a byte of the set behind it
 abbrev pub passes : List ℕ → List Bool → List Bool → ℕ → Bool
