@@ -1,5 +1,5 @@
 -- What a step over a set of bytes, and the joining of two sets, have done up to a position.
-use Rattle.std.proofs.Common.{◌≡◌, ◌≢◌, ◌⊎◌, ◌↔◌, inl, inr, ℕ, zero, suc, ◌+◌, ◌≤◌, ◌<◌, min, max, Bool, true, false, not, ◌&&◌, ◌||◌, ◌==◌, nat_le, nat_lt, IsTrue, MatchBool, List, length, get_or, set, count_by, refl, sym, ◌∙◌, ap, subst, arith, length-set}
+use Rattle.std.proofs.Common.{◌≡◌, ◌≢◌, ◌⊎◌, inl, inr, ℕ, zero, suc, ◌+◌, ◌≤◌, ◌<◌, min, Bool, true, false, not, ◌&&◌, ◌||◌, ◌==◌, nat_le, nat_lt, IsTrue, MatchBool, List, length, get_or, set, count_by, refl, sym, ◌∙◌, ap, subst, arith, length-set}
 use Rattle.std.proofs.lemmas.List.{get_or-set_same, get_or-set_other, get_or_past}
 use Rattle.std.proofs.lemmas.Bool.Decides.{nat_tests}
 use Rattle.ere.specs.ByteSet.{has}
@@ -8,7 +8,7 @@ use Rattle.matcher.specs.declared.positions.TheConstants.{POSITIONS}
 use Rattle.matcher.specs.Bounds.{IsBounded}
 use Rattle.matcher.specs.Spans.{Spans, Steps}
 use Rattle.matcher.specs.PositionSets.{has_position, HasNone, Moves}
-use Rattle.matcher.proofs.Truths.{is_false, absent-set, false≢true, low_none, high_none, all_none}
+use Rattle.matcher.proofs.Truths.{false≢true, low_none, high_none}
 
 -- whether a position is held with a byte of the set behind it
 abbrev pub passes : List ℕ → List Bool → List Bool → ℕ → Bool
@@ -225,9 +225,6 @@ pub record IsSweptTo (line : List ℕ) (members old new : List Bool) (at first e
   pub above : (k : ℕ) → at < k → get_or new k false ≡ get_or old k false
   pub bounds : IsBounded new first end
 
-reached-suc : (line : List ℕ) (members old : List Bool) (at next : ℕ) → next ≡ suc at → reached line members old next ≡ (get_or old next false || (reached line members old at && (nat_lt at (length line) && has members (get_or line at 0))))
-reached-suc line members old at next e = rw e refl
-
 -- before the first position nothing is reached
 none_reached : (line : List ℕ) (members old : List Bool) (first : ℕ) → ((k : ℕ) → k < first → get_or old k false ≡ false) → (k : ℕ) → k < first → reached line members old k ≡ false
 none_reached line members old first none zero h = none 0 h
@@ -243,59 +240,6 @@ swept_first line members old first end bounds = record {
   above = λ k h. refl;
   bounds = bounds;
 }
-
-pub swept_more : (line : List ℕ) (members old new : List Bool) (at first end next_end : ℕ) → IsSweptTo line members old new at first end → first ≤ at → at + 1 < POSITIONS → IsTrue (get_or new at false && (nat_lt at (length line) && has members (get_or line at 0))) → next_end ≡ max end (at + 2) → IsSweptTo line members old (set new (at + 1) true) (at + 1) first next_end
-swept_more line members old new at first end next_end h begins inside passed e = record {
-  below = λ k l. below k l (k == (at + 1)) refl;
-  above = λ k l. get_or-set_other new (at + 1) k true false (omega arith) ∙ h.above k (omega arith);
-  bounds = record {
-    whole = length-set new (at + 1) true ∙ h.bounds.whole;
-    inside = let b = h.bounds.inside in omega arith;
-    low = λ k held. low k held (k == (at + 1)) refl;
-    high = λ k held. high k held (k == (at + 1)) refl;
-  };
-}
-  where
-    within : at + 1 < length new
-    within = omega (arith, h.bounds.whole)
-
-    or_right : (a : Bool) → true ≡ (a || true)
-    or_right true = refl
-    or_right false = refl
-
-    below : (k : ℕ) → k ≤ at + 1 → (t : Bool) → (k == (at + 1)) ≡ t → get_or (set new (at + 1) true) k false ≡ reached line members old k
-    below k l true e' =
-        let same : k ≡ at + 1 = grind (arith, nat_tests) in
-        let comes : IsTrue (reached line members old at && (nat_lt at (length line) && has members (get_or line at 0))) = ap (λ t. t && (nat_lt at (length line) && has members (get_or line at 0))) (sym (h.below at (omega arith))) ∙ passed in
-        let held : reached line members old (at + 1) ≡ true = reached-suc line members old at (at + 1) (omega arith) ∙ rw comes (sym (or_right (get_or old (at + 1) false))) in
-        rw same (get_or-set_same new (at + 1) true false within ∙ sym held)
-    below k l false e' = let other : k ≢ at + 1 = grind (arith, nat_tests) in get_or-set_other new (at + 1) k true false other ∙ h.below k (omega arith)
-
-    low : (k : ℕ) → IsTrue (get_or (set new (at + 1) true) k false) → (t : Bool) → (k == (at + 1)) ≡ t → first ≤ k
-    low k held true e' = let same : k ≡ at + 1 = grind (arith, nat_tests) in omega arith
-    low k held false e' = let other : k ≢ at + 1 = grind (arith, nat_tests) in h.bounds.low k (sym (get_or-set_other new (at + 1) k true false other) ∙ held)
-
-    high : (k : ℕ) → IsTrue (get_or (set new (at + 1) true) k false) → (t : Bool) → (k == (at + 1)) ≡ t → k < next_end
-    high k held true e' = let same : k ≡ at + 1 = grind (arith, nat_tests) in omega arith
-    high k held false e' =
-        let other : k ≢ at + 1 = grind (arith, nat_tests) in
-        let low_end : k < end = h.bounds.high k (sym (get_or-set_other new (at + 1) k true false other) ∙ held) in
-        omega arith
-
-pub swept_past : (line : List ℕ) (members old new : List Bool) (at first end : ℕ) → IsSweptTo line members old new at first end → (get_or new at false && (nat_lt at (length line) && has members (get_or line at 0))) ≡ false → IsSweptTo line members old new (at + 1) first end
-swept_past line members old new at first end h stays = record {
-  below = λ k l. below k l (k == (at + 1)) refl;
-  above = λ k l. h.above k (omega arith);
-  bounds = h.bounds;
-}
-  where
-    below : (k : ℕ) → k ≤ at + 1 → (t : Bool) → (k == (at + 1)) ≡ t → get_or new k false ≡ reached line members old k
-    below k l true e =
-        let same : k ≡ at + 1 = grind (arith, nat_tests) in
-        let comes : (reached line members old at && (nat_lt at (length line) && has members (get_or line at 0))) ≡ false = ap (λ t. t && (nat_lt at (length line) && has members (get_or line at 0))) (sym (h.below at (omega arith))) ∙ stays in
-        let held : reached line members old (at + 1) ≡ get_or old (at + 1) false = reached-suc line members old at (at + 1) (omega arith) ∙ rw comes (sym (or_false (get_or old (at + 1) false))) in
-        rw same (h.above (at + 1) (omega arith) ∙ sym held)
-    below k l false e = let other : k ≢ at + 1 = grind (arith, nat_tests) in h.below k (omega arith)
 
 -- behind the line's end nothing more is reached
 past_reached : (line : List ℕ) (members old : List Bool) (k : ℕ) → length line < k → get_or old k false ≡ reached line members old k

@@ -1,7 +1,6 @@
 -- Lists of truth values, one for each position.
-use Rattle.std.proofs.Common.{◌≡◌, ◌≢◌, ℕ, zero, suc, ◌+◌, ◌≤◌, ◌<◌, Bool, true, false, not, ◌&&◌, ◌||◌, ◌==◌, nat_le, cond, IsTrue, List, length, get_or, set, count_by, refl, sym, ◌∙◌, ap, arith, length-set}
+use Rattle.std.proofs.Common.{◌≡◌, ◌≢◌, ℕ, ◌+◌, ◌≤◌, ◌<◌, Bool, true, false, ◌&&◌, ◌==◌, nat_le, IsTrue, List, length, get_or, set, refl, sym, ◌∙◌, arith, length-set}
 use Rattle.std.proofs.lemmas.List.{get_or-set_same, get_or-set_other, get_or_past}
-use Rattle.std.proofs.lemmas.List.Sums.{sum_by-set}
 use Rattle.std.proofs.lemmas.Bool.Decides.{nat_tests}
 use Rattle.matcher.specs.declared.positions.TheConstants.{POSITIONS}
 use Rattle.matcher.specs.Bounds.{IsBounded}
@@ -10,14 +9,6 @@ use Rattle.matcher.specs.Bounds.{IsBounded}
 pub is_false : (b : Bool) → (IsTrue b → ⊥) → b ≡ false
 is_false true h = absurd (h refl)
 is_false false h = refl
-
-absent_one : Bool → ℕ
-absent_one h = cond (not h) 1 0
-
--- with one value more, one fewer is absent
-pub absent-set : (held : List Bool) (i : ℕ) → i < length held → get_or held i false ≡ false → count_by not (set held i true) < count_by not held
-unfolding absent_one
-absent-set held i inside was = omega (arith, sum_by-set absent_one held i true false inside, ap absent_one was)
 
 -- outside the bounds nothing holds
 pub low_none : {held : List Bool} {first end : ℕ} → IsBounded held first end → (k : ℕ) → k < first → get_or held k false ≡ false

@@ -1,9 +1,9 @@
 -- What each kind of tree does to a set of positions.
-use Rattle.std.proofs.Common.{◌≡◌, ℕ, zero, suc, ◌+◌, ◌-◌, ◌≤◌, ◌<◌, Bool, true, false, not, ◌&&◌, ◌||◌, ◌==◌, nat_le, IsTrue, MatchBool, List, length, get_or, drop, map, Option, Some, None, is_some, IfSome, ◌⊎◌, ◌↔◌, inl, inr, refl, sym, ap, subst, ◌∙◌, arith}
+use Rattle.std.proofs.Common.{◌≡◌, ℕ, zero, suc, ◌+◌, ◌-◌, ◌≤◌, ◌<◌, Bool, true, false, not, ◌&&◌, ◌||◌, ◌==◌, nat_le, IsTrue, MatchBool, List, length, get_or, drop, map, Option, Some, None, is_some, ◌⊎◌, ◌↔◌, inl, inr, refl, sym, ap, subst, ◌∙◌, arith}
 use Rattle.std.proofs.lemmas.Bool.Decides.{nat_tests}
 use Rattle.std.proofs.lemmas.List.{at_drop_more, at_drop_all}
 use Rattle.ere.specs.declared.tree.Ere.{Ere}
-use Rattle.ere.specs.Tree.{form, trees_of, Tree, empty, set, at_start, at_end, cat, alt, repeat, Trees, none, more}
+use Rattle.ere.specs.Tree.{form, trees_of, Tree, empty, at_start, at_end, cat, alt, repeat, Trees, none, more}
 use Rattle.matcher.specs.declared.positions.Positions.{Positions}
 use Rattle.matcher.specs.Spans.{Relation, Steps, Spans, SpansEach, SpansSome}
 use Rattle.matcher.specs.PositionSets.{has_position, HasNone, IsEither, IsNew, Moves}

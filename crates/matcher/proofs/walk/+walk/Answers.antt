@@ -1,5 +1,5 @@
-use Rattle.std.proofs.Common.{◌≡◌, ◌+◌, ◌-◌, ◌≤◌, ℕ, refl, MatchBool, Option, Some, None, length, map, drop, ap, sym, subst, ◌∙◌, arith}
-use Rattle.ere.specs.Tree.{form, repeat, trees_of}
+use Rattle.std.proofs.Common.{◌≡◌, ◌+◌, ◌-◌, refl, length, map, drop, ap, subst, ◌∙◌, arith}
+use Rattle.ere.specs.Tree.{form, trees_of}
 use Rattle.ere.specs.Forms.{form-Empty, form-Set, form-Start, form-End, form-Cat, form-Alt, form-Repeat}
 use Rattle.matcher.specs.Spans.{Spans, SpansEach, SpansSome, Steps}
 use Rattle.matcher.specs.PositionSets.{Moves}

@@ -1,4 +1,4 @@
-use Rattle.std.proofs.Common.{◌≡◌, map, drop}
+use Rattle.std.proofs.Common.{map, drop}
 use Rattle.ere.specs.Tree.{form, trees_of}
 use Rattle.matcher.specs.declared.positions.Positions.{Positions}
 use Rattle.matcher.specs.Spans.{Spans, SpansEach, SpansSome, Steps}

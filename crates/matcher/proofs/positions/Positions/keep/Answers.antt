@@ -1,4 +1,4 @@
-use Rattle.std.proofs.Common.{arith, subst, ◌∙◌, ap, get_or, false, ◌&&◌, ◌==◌, Bool, List}
+use Rattle.std.proofs.Common.{arith}
 use Rattle.matcher.specs.PositionSets.{has_position}
 use Rattle.matcher.proofs.Truths.{kept, kept_bounded}
 use Rattle.matcher.proofs.positions.Positions.keep.Goals as goal

@@ -1,4 +1,3 @@
-use Rattle.std.proofs.Common.{arith}
 use Rattle.matcher.specs.PositionSets.{has_position}
 use Rattle.matcher.proofs.Truths.{false_past, none_bounded}
 use Rattle.matcher.proofs.positions.Positions.none.Goals as goal

@@ -1,5 +1,4 @@
-use Rattle.std.proofs.Common.{◌≡◌, ◌≤◌, ◌<◌, ◌&&◌, nat_lt, length, get_or, false, inl, inr, arith, ◌∙◌}
-use Rattle.ere.specs.ByteSet.{has}
+use Rattle.std.proofs.Common.{◌≡◌, inl, inr, arith, ◌∙◌}
 use Rattle.matcher.proofs.Shifts.{AreNextBounds, passes, stepped_more, stepped_all, stepped_bounded, moves_stepped}
 use Rattle.matcher.proofs.positions.Positions.step.Goals as goal
 use Rattle.matcher.proofs.positions.Positions.step.Goals.{then-self-at, else-self-at, then-passed, then-end-eq0, else-end-eq0, else-passed}
