@@ -8,3 +8,6 @@ pub mod scan;
 pub use answer::{Answer, Hit, append_all};
 pub use pattern::{Prepared, WithinError};
 pub use scan::find;
+
+#[cfg(test)]
+mod tests;
