@@ -5,6 +5,7 @@
 #![tactic(auto)]
 
 pub mod byte_set;
+pub mod classes;
 pub mod error;
 pub mod limits;
 pub mod reader;
