@@ -1,9 +1,11 @@
 -- Sets made from a test, and 256 truth values as such a set.
-use Rattle.std.proofs.Common.{◌≡◌, ℕ, ◌+◌, ◌<◌, Bool, true, false, ◌&&◌, ◌||◌, ◌==◌, nat_lt, IsTrue, List, length, get_or, set, refl, sym, ◌∙◌, arith, ◌≢◌, length-set}
+use Rattle.std.proofs.Common.{◌≡◌, ℕ, ◌+◌, ◌<◌, Bool, true, false, ◌&&◌, ◌||◌, ◌==◌, nat_lt, IsTrue, List, length, get_or, set, refl, sym, ◌∙◌, arith, ◌≢◌, ap, map, length-set}
 use Rattle.std.proofs.lemmas.List.{get_or-set_same, get_or-set_other}
 use Rattle.std.proofs.lemmas.List.FromFn.{get_or-map-range_with_len, length-map-range_with_len, fill_by_all}
+use Rattle.std.specs.List.{range_with_len}
 use Rattle.std.proofs.lemmas.Bool.Decides.{nat_tests}
 use native.Mathlib.Decide.{dec_lt}
+use mathlib.Core.Path.{fun_ext}
 use Rattle.ere.specs.ByteSet.{is_line_byte, has, set_of, with_byte, IsByteSet}
 
 pub length-set_of : (test : ℕ → Bool) → length (set_of test) ≡ 256
@@ -107,3 +109,8 @@ and_at_true false t e = absurd (cc)
 pub and_at_false : (a t : Bool) → a ≡ false → false ≡ (a && t)
 and_at_false true t e = absurd (cc)
 and_at_false false t e = refl
+
+-- two tests that agree on line bytes make one set
+pub set_of-ext : (p q : ℕ → Bool) → ((b : ℕ) → (is_line_byte b && p b) ≡ (is_line_byte b && q b)) → set_of p ≡ set_of q
+unfolding set_of
+set_of-ext p q h = ap (λ f. map f (range_with_len 0 256)) (fun_ext h)

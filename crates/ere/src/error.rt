@@ -1,6 +1,6 @@
 //! Why a pattern is refused.
 
-ghost use Rattle.std.specs.Prelude.{◌≡◌};
+ghost use Rattle.std.specs.Prelude.{◌≡◌, ◌<◌, ◌^◌};
 
 /// Why a pattern is refused, and where.
 #[derive(Clone, Copy, Debug, PartialEq, Eq)]
@@ -38,4 +38,18 @@ pub enum EreErrorKind {
     TooLarge,
     /// Memory ran out. Reported at 0.
     OutOfMemory,
+}
+
+impl EreError {
+    /// A fault at an offset; offsets past the greatest `u32`, which no pattern within the limits has, are
+    /// reported as that.
+    pub fn new(kind: EreErrorKind, at: usize) -> EreError
+        ensures kind { result.kind ≡ kind }
+        ensures at { at < 2 ^ 32 → result.at ≡ at }
+    {
+        EreError {
+            kind,
+            at: u32::try_from(at).unwrap_or(u32::MAX),
+        }
+    }
 }

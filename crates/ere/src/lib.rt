@@ -4,6 +4,7 @@
 //! character is one byte. What POSIX leaves open is this program's choice, and `docs/PATTERNS.md` says it.
 #![tactic(auto)]
 
+pub mod brackets;
 pub mod byte_set;
 pub mod classes;
 pub mod error;
