@@ -268,7 +268,7 @@ pub no_hat_fails : (from : List ℕ) → IsFalse (begins_with 94 from) → ((res
 no_hat_fails from h none rest t (brackets.matching k a) = none rest t a
 no_hat_fails from h none rest t (brackets.non_matching items others f a is) = absurd (let hat : IsTrue (begins_with 94 from) = rw f (first_begins 94 items) in cc)
 
-eqb_differs : (a b : ℕ) → a ≢ b → (a == b) ≡ false
+pub eqb_differs : (a b : ℕ) → a ≢ b → (a == b) ≡ false
 eqb_differs a b h = grind (arith, nat_tests)
 
 pub open_end_begins : (text : List ℕ) (at : ℕ) → at < length text → get_or text at 0 ≢ 93 → IsFalse (begins_with 93 (drop at text))

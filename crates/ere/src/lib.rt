@@ -10,6 +10,7 @@ pub mod classes;
 pub mod error;
 pub mod limits;
 pub mod reader;
+pub mod token;
 pub mod tree;
 
 pub use byte_set::ByteSet;
