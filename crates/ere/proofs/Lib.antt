@@ -4,4 +4,6 @@ pub mod BracketLemmas
 pub mod BracketSteps
 pub mod TokenLemmas
 pub mod TokenSteps
+pub mod GrammarLemmas
+pub mod PartLemmas
 pub mod Sizes

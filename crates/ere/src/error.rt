@@ -2,6 +2,8 @@
 
 ghost use Rattle.std.specs.Prelude.{◌≡◌, ◌<◌, ◌^◌};
 
+use std::alloc::AllocFailed;
+
 /// Why a pattern is refused, and where.
 #[derive(Clone, Copy, Debug, PartialEq, Eq)]
 pub struct EreError {
@@ -51,5 +53,15 @@ impl EreError {
             kind,
             at: u32::try_from(at).unwrap_or(u32::MAX),
         }
+    }
+}
+
+impl<T: Drop> From<AllocFailed<T>> for EreError {
+    ghost use Rattle.ere.specs.declared.error.EreErrorKind.TheVariants.{OutOfMemory};
+
+    ghost from_gives = { λ _ e. e.kind ≡ OutOfMemory };
+
+    fn from(_: AllocFailed<T>) -> EreError {
+        EreError::new(EreErrorKind::OutOfMemory, 0)
     }
 }

@@ -9,6 +9,7 @@ pub mod byte_set;
 pub mod classes;
 pub mod error;
 pub mod limits;
+pub mod parts;
 pub mod reader;
 pub mod token;
 pub mod tree;
