@@ -277,3 +277,8 @@ open_end_begins text at inside other = rw (front text at inside) (eqb_differs (g
 pub may_begin_dash : (text : List ℕ) (at : ℕ) (first : Bool) → (IsTrue (begins_with 93 (drop at text)) → IsTrue first) → (first ≡ true) ⊎ (get_or text at 0 ≢ 45) → MayBegin first (drop at text)
 may_begin_dash text at first no_end (inl is_first) = record { no_end = no_end; no_dash = λ _. is_first }
 may_begin_dash text at first no_end (inr other) = record { no_end = no_end; no_dash = λ h. absurd (other (Stands-begins text at 45 h).is) }
+
+-- what holds whatever the error is, but for some
+pub if_err_but : {T E : Type 0} (r : Result T E) (K : E → Type 0) (P : Type 0) → P → IfErr r (λ e. K e → P)
+if_err_but (Ok x) K P p = tt
+if_err_but (Err e) K P p = λ _. p

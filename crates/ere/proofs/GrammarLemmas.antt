@@ -9,7 +9,7 @@ use Rattle.ere.specs.Spelling.{SpellsDuplications as duplications, SpellsAtom as
 use Rattle.ere.specs.Reading.{Ends, EndsBranch, NoTimes, join}
 
 -- what may stand behind
-ends_branch_of : (ts : List Token) (depth : ℕ) → Ends ts depth → EndsBranch ts depth
+pub ends_branch_of : (ts : List Token) (depth : ℕ) → Ends ts depth → EndsBranch ts depth
 ends_branch_of [] depth h = tt
 ends_branch_of (token.closes ∷ ts) (suc depth) h = tt
 ends_branch_of (token.closes ∷ ts) zero h = absurd h
@@ -20,7 +20,7 @@ ends_branch_of (token.at_start ∷ ts) depth h = absurd h
 ends_branch_of (token.at_end ∷ ts) depth h = absurd h
 ends_branch_of (token.times l g ∷ ts) depth h = absurd h
 
-ends_no_times : (ts : List Token) (depth : ℕ) → EndsBranch ts depth → NoTimes ts
+pub ends_no_times : (ts : List Token) (depth : ℕ) → EndsBranch ts depth → NoTimes ts
 ends_no_times [] depth h = tt
 ends_no_times (token.closes ∷ ts) depth h = tt
 ends_no_times (token.set m ∷ ts) depth h = tt
@@ -37,7 +37,7 @@ module _ (limit : ℕ) where
   atom_begins (atoms.group below inner) = tt
   atom_begins atoms.lone_close = tt
 
-  piece_begins : {depth : ℕ} {from rest : List Token} {tree : Tree} → SpellsPiece limit depth from rest tree → NoTimes from
+  pub piece_begins : {depth : ℕ} {from rest : List Token} {tree : Tree} → SpellsPiece limit depth from rest tree → NoTimes from
   piece_begins pieces_are.start = tt
   piece_begins pieces_are.finish = tt
   piece_begins (pieces_are.atom a ds) = atom_begins a
@@ -52,7 +52,7 @@ module _ (limit : ℕ) where
   piece_no_end pieces_are.finish h = h
   piece_no_end (pieces_are.atom a ds) h = atom_no_end a h
 
-  branch_begins : {depth : ℕ} {from rest : List Token} {pieces : Trees} → SpellsBranch limit depth from rest pieces → NoTimes rest → NoTimes from
+  pub branch_begins : {depth : ℕ} {from rest : List Token} {pieces : Trees} → SpellsBranch limit depth from rest pieces → NoTimes rest → NoTimes from
   branch_begins branches_are.done h = h
   branch_begins (branches_are.piece p b) h = piece_begins p
 
@@ -84,10 +84,10 @@ module _ (limit other : ℕ) where
     one_alternatives {depth} {from} {r} {q} (alternatives_are.bar {middle = m} a c) h (alternatives_are.last b) k =
         let same = one_branch a tt b (ends_branch_of q depth k) in
         absurd (no_bar m depth (subst (λ v. Ends v depth) (sym same.0) k))
-    one_alternatives {depth} {from} {r} {q} (alternatives_are.bar {middle = m} {branches = bs} a c) h (alternatives_are.bar {middle = n} {branches = cs} b d) k =
+    one_alternatives {depth} {from} {r} {q} (alternatives_are.bar {middle = m} {pieces = ps} {branches = bs} a c) h (alternatives_are.bar {middle = n} {pieces = qs} {branches = cs} b d) k =
         let same = one_branch a tt b tt in
         let rest = one_alternatives c h (subst (λ v. SpellsAlternatives other depth v q cs) (sym (bar_tail same.0)) d) k in
-        (rest.0, ap (λ ps. more (branch_of ps) bs) same.1 ∙ ap (more _) rest.1)
+        (rest.0, ap (λ v. more (branch_of v) bs) same.1 ∙ ap (more (branch_of qs)) rest.1)
 
     pub one_branch : {depth : ℕ} {from r q : List Token} {ps qs : Trees} → SpellsBranch limit depth from r ps → EndsBranch r depth → SpellsBranch other depth from q qs → EndsBranch q depth → (r ≡ q) × (ps ≡ qs)
     one_branch branches_are.done h branches_are.done k = (refl, refl)
@@ -115,3 +115,44 @@ module _ (limit other : ℕ) where
         let same = one_alternatives a tt b tt in
         (closes_tail same.0, ap alternatives_of same.1)
     one_atom atoms.lone_close atoms.lone_close = (refl, refl)
+
+-- one more at the end
+pub duplications_push : {from rest : List Token} {tree whole : Tree} {least : ℕ} {greatest : Option ℕ} → SpellsDuplications from (token.times least greatest ∷ rest) tree whole → SpellsDuplications from rest tree (repeat whole least greatest)
+duplications_push duplications.done = duplications.again duplications.done
+duplications_push (duplications.again a) = duplications.again (duplications_push a)
+
+module _ (limit : ℕ) where
+  pub branch_push : {depth : ℕ} {from middle rest : List Token} {pieces : Trees} {tree : Tree} → SpellsBranch limit depth from middle pieces → SpellsPiece limit depth middle rest tree → SpellsBranch limit depth from rest (join pieces (more tree none))
+  branch_push branches_are.done p = branches_are.piece p branches_are.done
+  branch_push (branches_are.piece o b) p = branches_are.piece o (branch_push b p)
+
+  pub alternatives_push : {depth : ℕ} {from middle rest : List Token} {branches pieces : Trees} → SpellsAlternatives limit depth from (token.bar ∷ middle) branches → SpellsBranch limit depth middle rest pieces → SpellsAlternatives limit depth from rest (join branches (more (branch_of pieces) none))
+  alternatives_push (alternatives_are.last a) b = alternatives_are.bar a (alternatives_are.last b)
+  alternatives_push (alternatives_are.bar a c) b = alternatives_are.bar a (alternatives_push c b)
+
+  -- Where alternatives have been read up to a bar, all alternatives go on behind it.
+  pub alternatives_left : {depth : ℕ} {from middle rest : List Token} {bs cs : Trees} → SpellsAlternatives limit depth from (token.bar ∷ middle) bs → SpellsAlternatives limit depth from rest cs → Ends rest depth → (us : Trees) × SpellsAlternatives limit depth middle rest us
+  alternatives_left {depth} {from} {middle} {rest} (alternatives_are.last a) (alternatives_are.last b) h =
+      let same = one_branch limit limit a tt b (ends_branch_of rest depth h) in
+      absurd (no_bar middle depth (subst (λ v. Ends v depth) (sym same.0) h))
+  alternatives_left {depth} {from} {middle} {rest} (alternatives_are.last a) (alternatives_are.bar {middle = m} {branches = us} b c) h =
+      let same = one_branch limit limit a tt b tt in
+      (us, subst (λ v. SpellsAlternatives limit depth v rest us) (sym (bar_tail same.0)) c)
+  alternatives_left {depth} {from} {middle} {rest} (alternatives_are.bar {middle = m} a c) (alternatives_are.last b) h =
+      let same = one_branch limit limit a tt b (ends_branch_of rest depth h) in
+      absurd (no_bar m depth (subst (λ v. Ends v depth) (sym same.0) h))
+  alternatives_left {depth} {from} {middle} {rest} (alternatives_are.bar a c) (alternatives_are.bar {branches = us} b d) h =
+      let same = one_branch limit limit a tt b tt in
+      alternatives_left c (subst (λ v. SpellsAlternatives limit depth v rest us) (sym (bar_tail same.0)) d) h
+
+  -- Alternatives begin with a branch.
+  pub alternatives_begin : {depth : ℕ} {from rest : List Token} {bs : Trees} → SpellsAlternatives limit depth from rest bs → Ends rest depth → (middle : List Token) × (pieces : Trees) × SpellsBranch limit depth from middle pieces × EndsBranch middle depth
+  alternatives_begin {depth} {from} {rest} (alternatives_are.last {pieces = ps} b) h = (rest, ps, b, ends_branch_of rest depth h)
+  alternatives_begin {depth} {from} {rest} (alternatives_are.bar {middle = m} {pieces = ps} b a) h = (token.bar ∷ m, ps, b, tt)
+
+  -- A branch that does not end here goes on with a piece.
+  pub branch_left : {depth : ℕ} {from middle rest : List Token} {tree : Tree} {pieces : Trees} → SpellsPiece limit depth from middle tree → NoTimes middle → SpellsBranch limit depth from rest pieces → EndsBranch rest depth → (us : Trees) × SpellsBranch limit depth middle rest us
+  branch_left p h branches_are.done k = absurd (piece_no_end limit p k)
+  branch_left {depth} {from} {middle} {rest} p h (branches_are.piece {pieces = us} o b) k =
+      let same = one_piece limit limit p h o (branch_begins limit b (ends_no_times rest depth k)) in
+      (us, subst (λ v. SpellsBranch limit depth v rest us) (sym same.0) b)

@@ -6,4 +6,5 @@ pub mod TokenLemmas
 pub mod TokenSteps
 pub mod GrammarLemmas
 pub mod PartLemmas
+pub mod ReaderSteps
 pub mod Sizes
