@@ -5,12 +5,14 @@ use native.Mathlib.Decide.{ℕ_discrete}
 use Rattle.ere.specs.ByteSet.{single}
 use Rattle.ere.specs.Brackets.{begins_with}
 use Rattle.ere.specs.Tree.{Tree, Trees, none, more, repeat, set, at_start, at_end}
-use Rattle.ere.specs.Limits.{greatest_open}
+use Rattle.ere.specs.Limits.{greatest_open, height}
 use Rattle.ere.specs.Tokens.{Token, Tokens, SpellsToken, token_of_byte, digit_ahead}
 use Rattle.ere.specs.Tokens as token
 use Rattle.ere.specs.Tokens.{Tokens as tokens, SpellsToken as spelled}
 use Rattle.ere.specs.Spelling.{SpellsDuplications, SpellsAtom, SpellsPiece, SpellsBranch, SpellsAlternatives, branch_of, alternatives_of}
 use Rattle.ere.specs.Spelling.{SpellsDuplications as duplications, SpellsAtom as atoms, SpellsPiece as pieces_are, SpellsBranch as branches_are, SpellsAlternatives as alternatives_are}
+use Rattle.std.specs.Result.{IsErrAnd, OnErr}
+use Rattle.std.specs.Prelude.{Result, Ok, Err, IfErr, IfOk}
 use Rattle.ere.specs.declared.parts.Part.{Part}
 use Rattle.ere.specs.declared.parts.Members.{Members}
 use Rattle.ere.specs.Reading.{Ends, EndsBranch, NoTimes, NoDuplication, ends_branch, join, Reads, IsBuilt, AreBuilt, ReadsDuplications, ReadsAtom, ReadsPiece, ReadsBranch, ReadsAlternatives, HasNoTokens, NoAtom, NoPiece, NoBranch, NoAlternatives}
@@ -381,3 +383,46 @@ group_reads depth from start to behind part s below read e = record {
       (Reads-token from start token.opens s)
       (Reads-then start to behind _ _ _ (λ all between rest inner is. subst (λ v. SpellsAlternatives greatest_open (suc depth) all v read.branches) is inner) read.reads (Reads-token to behind token.closes (closes_spelled to behind e)));
 }
+
+-- an error that is handed on
+pub pass_on : {T E : Type 0} (r : Result T E) (e : E) (K : E → Type 0) (P Q : Type 0) → IsErrAnd r (λ y. y ≡ e) → (P → Q) → (K e → P) → IfErr r (λ y. K y → Q)
+pass_on (Ok x) e K P Q h f g = tt
+pass_on (Err y) e K P Q h f g = λ k. f (g (subst K h k))
+
+pub on_err : {T E : Type 0} (r : Result T E) (P : Type 0) → P → OnErr r P
+on_err (Ok x) P p = tt
+on_err (Err e) P p = p
+
+pub times_first : (to behind : List ℕ) (l : ℕ) (g : Option ℕ) → SpellsToken to behind (token.times l g) → (all : List Token) → Tokens to all → NoTimes all → ⊥
+times_first to behind l g s all a n = let first = first_token to behind (token.times l g) all s a in subst NoTimes first.2 n
+
+pub on_err_map : {T E : Type 0} (r : Result T E) (K : E → Type 0) (P Q : Type 0) → (P → Q) → OnErr r P → IfErr r (λ e. K e → Q)
+on_err_map (Ok x) K P Q f p = tt
+on_err_map (Err e) K P Q f p = λ _. f p
+
+pub if_ok_both : {T E : Type 0} (r : Result T E) (P Q R : T → Type 0) → ((x : T) → P x → Q x → R x) → IfOk r P → IfOk r Q → IfOk r R
+if_ok_both (Ok x) P Q R f p q = f x p q
+if_ok_both (Err e) P Q R f p q = tt
+
+pub height_set : (members : List Bool) → height (set members) ≡ 1
+unfolding height
+height_set members = refl
+
+pub height_start : height at_start ≡ 1
+unfolding height
+height_start = refl
+
+pub height_end : height at_end ≡ 1
+unfolding height
+height_end = refl
+
+-- a `)` outside all groups
+pub lone_close_atom : (depth : ℕ) (from to : List ℕ) (part : Option Part) → SpellsToken from to token.closes → IsFalse (ends_branch depth from) → IsBuilt part (set (single 41)) → ReadsAtom depth from to part
+lone_close_atom zero from to part s open_end built = leaf_atom zero from to token.closes (set (single 41)) part s (λ rest. atoms.lone_close) built
+lone_close_atom (suc depth) from to part s open_end built =
+    let is : IsFalse (nat_lt 0 (suc depth) && true) = subst (λ v. IsFalse (ends_branch (suc depth) v)) (closes_only from to s) open_end in
+    let inside : nat_lt 0 (suc depth) ≡ true = grind (arith, nat_tests) in
+    absurd (let never : IsFalse (true && true) = subst (λ v. IsFalse (v && true)) inside is in cc)
+
+pub no_bar_begins : (depth : ℕ) (from to : List ℕ) → SpellsToken from to token.bar → IsFalse (ends_branch depth from) → ⊥
+no_bar_begins depth from to s open_end = absurd (let is : IsFalse (ends_branch depth (124 ∷ to)) = subst (λ v. IsFalse (ends_branch depth v)) (bar_only from to s) open_end in cc)
