@@ -7,4 +7,5 @@ pub mod TokenSteps
 pub mod GrammarLemmas
 pub mod PartLemmas
 pub mod ReaderSteps
+pub mod TreeLaws
 pub mod Sizes

@@ -9,3 +9,4 @@ pub mod Limits
 pub mod Language
 pub mod Lines
 pub mod Reading
+pub mod Faults

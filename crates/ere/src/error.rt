@@ -65,3 +65,27 @@ impl<T: Drop> From<AllocFailed<T>> for EreError {
         EreError::new(EreErrorKind::OutOfMemory, 0)
     }
 }
+
+impl EreErrorKind {
+    ghost use Rattle.ere.specs.Faults.{reason_of};
+
+    /// The words with which a pattern is refused, such as `bad escape`.
+    pub fn reason(self) -> &'static str
+        ensures { result.now ≡ reason_of self }
+    {
+        match self {
+            EreErrorKind::TooLong => "pattern too long",
+            EreErrorKind::BadByte => "bad byte",
+            EreErrorKind::BadEscape => "bad escape",
+            EreErrorKind::BadBracket => "bracket not closed",
+            EreErrorKind::BadRange => "bad range",
+            EreErrorKind::BadClass => "unknown class",
+            EreErrorKind::BadInterval => "bad interval",
+            EreErrorKind::NothingToRepeat => "nothing to repeat",
+            EreErrorKind::Unclosed => "group not closed",
+            EreErrorKind::TooDeep => "too deep",
+            EreErrorKind::TooLarge => "too large",
+            EreErrorKind::OutOfMemory => "out of memory",
+        }
+    }
+}

@@ -8,6 +8,7 @@ pub mod brackets;
 pub mod byte_set;
 pub mod classes;
 pub mod error;
+pub mod laws;
 pub mod limits;
 pub mod parts;
 pub mod reader;
