@@ -1,3 +1,5 @@
 pub mod Trigrams
 pub mod Query
 pub mod Forms
+pub mod Texts
+pub mod Analysis
