@@ -1,1 +1,2 @@
 pub mod BodyLemmas
+pub mod QueryLemmas

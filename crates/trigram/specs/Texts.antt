@@ -3,7 +3,15 @@
 use Rattle.std.specs.Prelude.{ℕ, ◌-◌, Bool, not, ◌&&◌, nat_lt, nat_le, List, [], ◌∷◌, ◌++◌, length, map, filter, drop, if◌then◌else◌}
 use Rattle.std.specs.List.{list_any, flat_map}
 use Rattle.std.specs.Str.{bytes_eq}
+use Rattle.std.specs.declared.alloc.Global.{Global}
+use Rattle.std.specs.declared.vec.Vec.{Vec}
+use Rattle.trigram.specs.declared.texts.Side.{Side}
+use Rattle.trigram.specs.declared.texts.Side.TheVariants.{Front, Back}
 use Rattle.trigram.specs.Trigrams.{TrigramSet, has_all_trigrams}
+
+-- the texts of a program's set
+abbrev pub texts_of : List (Vec ℕ Global) → List (List ℕ)
+texts_of texts = map (λ text. text.items) texts
 
 abbrev pub Texts : Type 0
 Texts = List (List ℕ)
@@ -42,6 +50,10 @@ ending count text = drop (length text - count) text
 abbrev pub Cut : Type 0
 Cut = ℕ → List ℕ → List ℕ
 
+abbrev pub cut_at : Side → Cut
+cut_at Front = take
+cut_at Back = ending
+
 abbrev pub cuts : Cut → ℕ → Texts → Texts
 cuts cut count texts = distinct (map (cut count) texts)
 
@@ -59,9 +71,12 @@ kept_bytes cut texts =
 abbrev pub is_shorter_end : Cut → List ℕ → List ℕ → Bool
 is_shorter_end cut part text = nat_lt (length part) (length text) && bytes_eq (cut (length part) text) part
 
+abbrev pub has_shorter_end : Cut → Texts → List ℕ → Bool
+has_shorter_end cut texts text = list_any (λ part. is_shorter_end cut part text) texts
+
 -- those with no shorter text of the set as their end
 abbrev pub shortest : Cut → Texts → Texts
-shortest cut texts = filter (λ text. not (list_any (λ part. is_shorter_end cut part text) texts)) texts
+shortest cut texts = filter (λ text. not (has_shorter_end cut texts text)) texts
 
 -- the ends that are kept of the texts
 abbrev pub kept_ends : Cut → Texts → Texts

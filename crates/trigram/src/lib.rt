@@ -5,7 +5,8 @@
 pub mod body;
 pub mod number;
 pub mod query;
+mod texts;
 
 pub use body::trigrams_of;
 pub use number::Trigram;
-pub use query::Query;
+pub use query::{Query, simplify};
