@@ -1,2 +1,3 @@
 pub mod BodyLemmas
 pub mod QueryLemmas
+pub mod TextsLemmas

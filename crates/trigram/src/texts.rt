@@ -43,6 +43,7 @@ fn add(texts: &mut Vec<Vec<u8>>, text: Vec<u8>) -> Result<(), AllocError>
 }
 
 /// Puts the other texts into the set.
+#[tactic(auto, unfolding(crate::specs::Texts::with_texts))]
 fn add_all(texts: &mut Vec<Vec<u8>>, others: Vec<Vec<u8>>) -> Result<(), AllocError>
     ensures { OnOk result (texts_of texts.new.items ≡ with_texts (texts_of texts.old.items) (texts_of others.items)) }
 {
@@ -53,6 +54,7 @@ fn add_all(texts: &mut Vec<Vec<u8>>, others: Vec<Vec<u8>>) -> Result<(), AllocEr
 }
 
 /// The texts of either set.
+#[tactic(auto, unfolding(crate::specs::Texts::with_texts))]
 pub(crate) fn union(
     alloc: Global,
     left: Vec<Vec<u8>>,
@@ -78,6 +80,7 @@ pub(crate) fn copied_texts(alloc: Global, texts: &[Vec<u8>]) -> Result<Vec<Vec<u
 }
 
 /// Every text of the first set with every text of the second behind it.
+#[tactic(auto, unfolding(crate::specs::Texts::with_texts))]
 pub(crate) fn joins(
     alloc: Global,
     left: &[Vec<u8>],
@@ -92,6 +95,7 @@ pub(crate) fn joins(
     Ok(whole)
 }
 
+#[tactic(auto, unfolding(crate::specs::Texts::with_texts))]
 fn add_joins(
     alloc: Global,
     whole: &mut Vec<Vec<u8>>,
@@ -135,6 +139,7 @@ pub(crate) fn kept_ends(
     shortest(alloc, side, none.as_slice())
 }
 
+#[tactic(auto, unfolding(crate::specs::Texts::with_texts))]
 fn cuts(
     alloc: Global,
     side: Side,
