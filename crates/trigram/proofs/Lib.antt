@@ -1,3 +1,4 @@
 pub mod BodyLemmas
 pub mod QueryLemmas
 pub mod TextsLemmas
+pub mod AnalysisLemmas

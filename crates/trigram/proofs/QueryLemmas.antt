@@ -1,5 +1,5 @@
 -- Queries as formulas: their equality, and members joined.
-use Rattle.std.proofs.Common.{◌≡◌, ◌≢◌, ℕ, zero, suc, ◌+◌, ◌<◌, ◌≤◌, Bool, true, false, ◌&&◌, ◌||◌, IsTrue, IsFalse, List, [], ◌∷◌, ◌++◌, length, map, take, drop, get_or, refl, sym, ap, ◌∙◌, arith, subst, ⊎_elim, inl, inr, ◌⊎◌, not, Option, Some, None, length-append, lit<}
+use Rattle.std.proofs.Common.{◌≡◌, ◌≢◌, ℕ, zero, suc, ◌<◌, ◌≤◌, Bool, true, false, ◌&&◌, IsFalse, List, [], ◌∷◌, ◌++◌, length, map, get_or, refl, sym, ap, ◌∙◌, arith, subst, Some, None, length-append, lit<}
 use Rattle.std.specs.declared.alloc.Global.{Global}
 use Rattle.std.specs.declared.vec.Vec.{Vec}
 use Rattle.trigram.specs.declared.query.Query.{Query}
@@ -7,11 +7,10 @@ use Rattle.trigram.specs.declared.query.Query.TheVariants as query
 use Rattle.trigram.specs.declared.query.Connective.{Connective}
 use Rattle.trigram.specs.declared.query.Connective.TheVariants.{And, Or}
 use Rattle.trigram.specs.Trigrams.{TrigramSet}
-use Rattle.trigram.specs.Forms.{formula_of-Any, formula_of-None, formula_of-Has, formula_of-And, formula_of-Or}
+use Rattle.trigram.specs.Forms.{formula_of-And, formula_of-Or}
 use Rattle.std.proofs.Math.Bool.{and_assoc, or_assoc}
 use Rattle.std.proofs.lemmas.Bool.{true≢false}
-use Rattle.std.proofs.lemmas.List.{drop_more, drop_all, get_or-map, length-map}
-use Rattle.trigram.specs.Query.{Formula, Formulas, always, never, has, all_of, one_of, none, more, formulas_of, formula_of, is_met, are_met, are_all_met, is_one_met, joined, is_of, is_all_of, is_one_of, idle, constant_of, HasTwo, IsPlain, IsReduced, AreReducedParts, IsJoin, AreMembersOf, HasTakenIn, IsCompound, AddsNothing, IsSimplification}
+use Rattle.trigram.specs.Query.{Formula, Formulas, always, never, has, all_of, one_of, none, more, formulas_of, formula_of, is_met, are_met, are_all_met, is_one_met, joined, is_of, idle, constant_of, HasTwo, IsPlain, IsReduced, AreReducedParts, IsJoin, AreMembersOf, HasTakenIn, IsCompound, AddsNothing, IsSimplification}
 
 pub and_same : (ones others : Vec Query Global) → map formula_of ones.items ≡ map formula_of others.items → formula_of (query.And ones) ≡ formula_of (query.And others)
 and_same ones others same = formula_of-And ones ∙ ap (λ members. all_of (formulas_of members)) same ∙ sym (formula_of-And others)

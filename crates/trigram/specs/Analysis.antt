@@ -126,7 +126,7 @@ repeated one least (Some most) =
     else (if least == most then copies_of one (least - 1) else both (copies_of one (least - 1)) (optional one (most - least)))
 
 -- the bytes of a set, rising
-abbrev pub bytes_in : List Bool → List ℕ
+unfoldable pub bytes_in : List Bool → List ℕ
 bytes_in members = filter (has members) (range_with_len 0 256)
 
 abbrev pub one_byte : List Bool → Analysis

@@ -1,6 +1,6 @@
 //! The analysis of a pattern into the condition that the document of every matching line meets.
 
-ghost use Rattle.std.specs.Prelude.{◌≡◌, IfOk, List, ℕ, map, ◌∷◌, []};
+ghost use Rattle.std.specs.Prelude.{◌≡◌, IfOk, List, ℕ, map, ◌∷◌, [], None, Some, if◌then◌else◌};
 ghost use Rattle.ere.specs.Limits.{IsWithinLimits};
 ghost use Rattle.ere.specs.Tree.{form, trees_of};
 ghost use Rattle.ere.specs.Tree as tree;
@@ -217,7 +217,7 @@ fn known_before(alloc: Global, texts: Vec<Vec<u8>>, ends: Ends) -> Result<Ends, 
         backs,
         condition,
     } = ends;
-    let all_nullable = has_text(texts.as_slice(), &[]) && nullable;
+    let all_nullable = has_text(texts.as_slice(), &[]) & nullable;
     let fronts = joins(alloc, texts.as_slice(), fronts.as_slice())?;
     let backs = widened(alloc, nullable, backs, texts)?;
     settle_loose(
@@ -241,7 +241,7 @@ fn known_behind(alloc: Global, ends: Ends, texts: Vec<Vec<u8>>) -> Result<Ends, 
         backs,
         condition,
     } = ends;
-    let all_nullable = nullable && has_text(texts.as_slice(), &[]);
+    let all_nullable = nullable & has_text(texts.as_slice(), &[]);
     let backs = joins(alloc, backs.as_slice(), texts.as_slice())?;
     let fronts = widened(alloc, nullable, fronts, texts)?;
     settle_loose(
@@ -275,13 +275,16 @@ fn both_loose(alloc: Global, left: Ends, right: Ends) -> Result<Ends, AllocError
     let border = joins(alloc, left_backs.as_slice(), right_fronts.as_slice())?;
     let across = query_of_texts(alloc, border.as_slice())?;
     let behind = join(alloc, Connective::And, right_condition, across)?;
+    let condition = join(alloc, Connective::And, left_condition, behind)?;
+    let fronts = widened(alloc, left_nullable, left_fronts, right_fronts)?;
+    let backs = widened(alloc, right_nullable, right_backs, left_backs)?;
     settle_loose(
         alloc,
         Ends {
-            nullable: left_nullable && right_nullable,
-            fronts: widened(alloc, left_nullable, left_fronts, right_fronts)?,
-            backs: widened(alloc, right_nullable, right_backs, left_backs)?,
-            condition: join(alloc, Connective::And, left_condition, behind)?,
+            nullable: left_nullable & right_nullable,
+            fronts,
+            backs,
+            condition,
         },
     )
 }
@@ -322,7 +325,7 @@ fn copies_of(alloc: Global, one: &Words, others: u8) -> Result<Words, AllocError
     ensures { IfOk result (StandFor (copies_of (words_analysis one.now) others)) }
 {
     let mut whole = copied_words(alloc, one)?;
-    for _ in 0..others {
+    for _made in 0..others {
         let next = copied_words(alloc, one)?;
         whole = both(alloc, whole, next)?;
     }

@@ -1,6 +1,6 @@
-use Rattle.std.proofs.Common.{map, ap, sym, refl, ◌∙◌, [], ◌∷◌}
+use Rattle.std.proofs.Common.{map}
 use Rattle.std.proofs.lemmas.List.{map_push}
-use Rattle.trigram.specs.Query.{formula_of, AddsNothing}
+use Rattle.trigram.specs.Query.{formula_of}
 use Rattle.trigram.proofs.QueryLemmas.{HasTakenIn-push, HasTakenIn-again}
 use Rattle.trigram.proofs.query.add.Goals as goal
 

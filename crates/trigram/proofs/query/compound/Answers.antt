@@ -1,7 +1,7 @@
-use Rattle.std.proofs.Common.{◌≡◌, ◌≢◌, map, length, ap, sym, ◌∙◌, arith, subst}
+use Rattle.std.proofs.Common.{map, ap, sym, ◌∙◌, arith, subst}
 use Rattle.std.proofs.lemmas.List.{length-map, get_or-map}
 use Rattle.trigram.specs.declared.query.Connective.{Connective}
-use Rattle.trigram.specs.Forms.{formula_of-Any, formula_of-None, formula_of-Has, formula_of-And, formula_of-Or}
+use Rattle.trigram.specs.Forms.{formula_of-And, formula_of-Or}
 use Rattle.trigram.specs.Query.{AreReducedParts, is_of, formula_of, formulas_of}
 use Rattle.trigram.proofs.QueryLemmas.{compound_and, compound_or, compound_one}
 use Rattle.trigram.proofs.query.compound.Goals as goal

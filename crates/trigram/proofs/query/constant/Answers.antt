@@ -1,5 +1,5 @@
 use Rattle.std.proofs.Common.{Some, ap, sym, ◌∙◌}
-use Rattle.trigram.specs.Forms.{formula_of-Any, formula_of-None, formula_of-Has, formula_of-And, formula_of-Or}
+use Rattle.trigram.specs.Forms.{formula_of-Any, formula_of-None}
 use Rattle.trigram.specs.Query.{constant_of}
 use Rattle.trigram.proofs.query.constant.Goals as goal
 

@@ -1,4 +1,4 @@
-use Rattle.std.proofs.Common.{◌≡◌, ℕ, Bool, false, not, map, ap, refl, ◌∙◌}
+use Rattle.std.proofs.Common.{◌≡◌, ℕ, false, not, map, ap, refl, ◌∙◌}
 use Rattle.trigram.specs.Forms.{formula_of-Any, formula_of-None, formula_of-Has, formula_of-And, formula_of-Or}
 use Rattle.trigram.specs.declared.query.Connective.{Connective}
 use Rattle.trigram.specs.declared.query.Connective.TheVariants.{And, Or}

@@ -1,4 +1,4 @@
-use Rattle.std.proofs.Common.{◌≡◌, map, length, ap, sym, refl, ◌∙◌, arith}
+use Rattle.std.proofs.Common.{map, ap, sym, refl, ◌∙◌, arith}
 use Rattle.std.proofs.lemmas.List.{length-map, get_or-map, get_or_read}
 use Rattle.trigram.specs.Query.{formula_of}
 use Rattle.trigram.proofs.QueryLemmas.{stands_already}

@@ -1,6 +1,6 @@
-use Rattle.std.proofs.Common.{◌≡◌, map, ap, sym, ◌∙◌}
+use Rattle.std.proofs.Common.{map, ap, sym, ◌∙◌}
 use Rattle.trigram.specs.Forms.{formula_of-Any, formula_of-None, formula_of-Has, formula_of-And, formula_of-Or}
-use Rattle.trigram.specs.Query.{IsReduced, formula_of, formulas_of, is_of, all_of, one_of}
+use Rattle.trigram.specs.Query.{formula_of, is_of}
 use Rattle.trigram.proofs.QueryLemmas.{members_itself, members_of_and, members_of_or, not_of_always, not_of_never, not_of_has}
 use Rattle.trigram.proofs.query.members_of.Goals as goal
 

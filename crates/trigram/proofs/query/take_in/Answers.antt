@@ -1,8 +1,8 @@
-use Rattle.std.proofs.Common.{◌≡◌, List, [], ◌∷◌, map, ap, length, arith}
+use Rattle.std.proofs.Common.{map, ap, arith}
 use Rattle.std.proofs.lemmas.List.{nil_from_length}
 use Rattle.std.specs.Vec.Iter.{into_iter_items}
 use Rattle.trigram.specs.Query.{formula_of}
-use Rattle.trigram.proofs.QueryLemmas.{IsTakingIn, IsTakingIn-step, IsTakingIn-all, first_parts}
+use Rattle.trigram.proofs.QueryLemmas.{IsTakingIn-step, IsTakingIn-all, first_parts}
 use Rattle.trigram.proofs.query.take_in.Goals as goal
 
 pub add-requires-clause-further : goal.add-requires-clause-further

@@ -1,5 +1,5 @@
-use Rattle.std.proofs.Common.{◌≡◌, [], ◌++◌, map, filter, drop, not}
-use Rattle.trigram.specs.Texts.{texts_of, has_text, with_text, with_texts, union, joins, kept_ends, cuts, shortest, has_shorter_end, cut_at, has_all_of_one}
+use Rattle.std.proofs.Common.{◌≡◌, map, drop}
+use Rattle.trigram.specs.Texts.{texts_of, with_texts, cuts, cut_at}
 use Rattle.trigram.proofs.texts.cuts.Given as goal
 
 abbrev pub invariant-loop-text : goal.invariant-loop-text

@@ -1,4 +1,4 @@
-use Rattle.std.proofs.Common.{◌+◌, ◌++◌, List, map, drop, ap, sym, ◌∙◌}
+use Rattle.std.proofs.Common.{◌+◌, ◌++◌, map, drop, ap, sym, ◌∙◌}
 use Rattle.std.specs.List.{flat_map}
 use Rattle.trigram.specs.Texts.{Texts, texts_of, with_texts}
 use Rattle.trigram.proofs.TextsLemmas.{with_texts-append, next_text}

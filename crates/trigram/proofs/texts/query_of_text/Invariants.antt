@@ -1,9 +1,8 @@
-use Rattle.std.proofs.Common.{◌≡◌, [], ◌++◌, map, filter, drop, not}
-use Rattle.trigram.specs.Texts.{texts_of, has_text, with_text, with_texts, union, joins, kept_ends, cuts, shortest, has_shorter_end, cut_at, has_all_of_one}
+use Rattle.std.proofs.Common.{drop}
 use Rattle.trigram.specs.Trigrams.{has_all_trigrams}
 use Rattle.trigram.specs.Query.{formula_of}
 use Rattle.trigram.proofs.TextsLemmas.{IsQuerySoFar}
-use Rattle.trigram.specs.declared.query.Connective.TheVariants.{And, Or}
+use Rattle.trigram.specs.declared.query.Connective.TheVariants.{And}
 use Rattle.trigram.proofs.texts.query_of_text.Given as goal
 
 abbrev pub invariant-loop-i : goal.invariant-loop-i

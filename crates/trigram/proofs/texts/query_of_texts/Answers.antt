@@ -1,6 +1,6 @@
-use Rattle.std.proofs.Common.{◌≡◌, ◌+◌, length, drop, get_or, sym, ap, subst, arith}
+use Rattle.std.proofs.Common.{◌+◌, drop, ap}
 use Rattle.trigram.specs.Forms.{formula_of-None}
-use Rattle.trigram.specs.declared.query.Connective.TheVariants.{And, Or}
+use Rattle.trigram.specs.declared.query.Connective.TheVariants.{Or}
 use Rattle.trigram.specs.Trigrams.{has_all_trigrams}
 use Rattle.trigram.specs.Query.{formula_of}
 use Rattle.trigram.specs.Texts.{texts_of, has_all_of_one}
