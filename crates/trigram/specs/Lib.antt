@@ -3,3 +3,4 @@ pub mod Query
 pub mod Forms
 pub mod Texts
 pub mod Analysis
+pub mod Laws

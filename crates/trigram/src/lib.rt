@@ -4,6 +4,7 @@
 
 pub mod analysis;
 pub mod body;
+pub mod laws;
 pub mod number;
 pub mod query;
 mod texts;
