@@ -13,3 +13,6 @@ pub use analysis::analyse;
 pub use body::trigrams_of;
 pub use number::Trigram;
 pub use query::{Query, simplify};
+
+#[cfg(test)]
+mod tests;
