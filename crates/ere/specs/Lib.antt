@@ -8,5 +8,9 @@ pub mod Spelling
 pub mod Limits
 pub mod Language
 pub mod Lines
+<<<<<<< HEAD
 pub mod Reading
 pub mod Faults
+=======
+pub mod LanguageLaws
+>>>>>>> trigram

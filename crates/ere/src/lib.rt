@@ -8,7 +8,11 @@ pub mod brackets;
 pub mod byte_set;
 pub mod classes;
 pub mod error;
+<<<<<<< HEAD
 pub mod laws;
+=======
+pub mod language_laws;
+>>>>>>> trigram
 pub mod limits;
 pub mod parts;
 pub mod reader;
