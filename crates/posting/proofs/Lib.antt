@@ -1,0 +1,4 @@
+pub mod Rising
+pub mod Members
+pub mod Merging
+pub mod Meeting
