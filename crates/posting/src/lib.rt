@@ -3,5 +3,8 @@
 #![tactic(auto)]
 
 pub mod list;
+mod pages;
+pub mod postings;
 
 pub use list::{List, Numbers};
+pub use postings::Postings;
