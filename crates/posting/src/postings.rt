@@ -162,7 +162,12 @@ impl Postings {
 
     // By the member with the fewest numbers first, so that the longer lists are looked at in few places.
     #[cycle(narrow)]
-    fn narrow_by_all(&self, alloc: Global, members: &[Query], within: &List) -> Result<List, AllocError>
+    fn narrow_by_all(
+        &self,
+        alloc: Global,
+        members: &[Query],
+        within: &List,
+    ) -> Result<List, AllocError>
         requires { IsStrictlyIncreasing within.now.members }
         ensures { IfOk result (λ chosen. chosen.members
             ≡ filter (λ n. are_all_met (formulas_of (map formula_of members.now)) (trigrams_with self.now n)) within.now.members) }
@@ -181,7 +186,12 @@ impl Postings {
     }
 
     #[cycle(narrow)]
-    fn narrow_by_one(&self, alloc: Global, members: &[Query], within: &List) -> Result<List, AllocError>
+    fn narrow_by_one(
+        &self,
+        alloc: Global,
+        members: &[Query],
+        within: &List,
+    ) -> Result<List, AllocError>
         requires { IsStrictlyIncreasing within.now.members }
         ensures { IfOk result (λ chosen. chosen.members
             ≡ filter (λ n. is_one_met (formulas_of (map formula_of members.now)) (trigrams_with self.now n)) within.now.members) }

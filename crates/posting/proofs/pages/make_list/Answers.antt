@@ -27,4 +27,4 @@ pub returns-clause-sound : goal.returns-clause-sound
 returns-clause-sound c =
     rw c.in_ok-push.ensures.items
     (IsSound-listed c.make_page.new.pages.items c.set_slot.new.pages.items c.args.lists.now.items c.args.trigram c.new.result
-     (IsSound-same c.args.pages.now.items c.make_page.new.pages.items c.args.lists.now.items c.in_ok-make_page.ensures.slots c.requires) (listed c))
+    (IsSound-same c.args.pages.now.items c.make_page.new.pages.items c.args.lists.now.items c.in_ok-make_page.ensures.slots c.requires) (listed c))

@@ -3,7 +3,6 @@ use Rattle.posting.specs.Pages.{slot_of}
 use Rattle.posting.proofs.Tables.{Stands, set_of-there, set_of-unlisted}
 use Rattle.posting.proofs.postings.Postings.list.Goals as goal
 
-
 pub returns-in-0-clause-none : goal.returns-in-0-clause-none
 returns-in-0-clause-none c =
     let slot : slot_of c.self.inside.pages.items c.args.trigram ≡ 0 = sym (rw c.deref.ensures.value at c.slot.ensures.value) ∙ c.in-0.is in
