@@ -8,3 +8,6 @@ pub mod postings;
 
 pub use list::{List, Numbers};
 pub use postings::Postings;
+
+#[cfg(test)]
+mod tests;
