@@ -1,9 +1,5 @@
 //! Sets and selections, worked by hand.
 
-ghost use Rattle.std.specs.Prelude.{◌<◌, All, length};
-ghost use Rattle.std.specs.List.Sorted.{IsStrictlyIncreasing};
-ghost use Rattle.posting.specs.Postings.{holds};
-
 use crate::{List, Postings};
 use std::alloc::{AllocError, Global};
 use std::test::Fail;
@@ -39,7 +35,10 @@ fn sets_keep_their_numbers_rising(rt: HostRuntime) -> Result<(), Fail> {
     assert!(rt; set.has(300) && !set.has(301) && set.has(4294967295));
     set.remove(300);
     set.remove(301);
-    assert_eq!(rt; numbers_of(alloc, &set)?.as_slice(), [1, 5, 70000, 70001, 4294967295].as_slice());
+    assert_eq!(rt;
+        numbers_of(alloc, &set)?.as_slice(),
+        [1, 5, 70000, 70001, 4294967295].as_slice()
+    );
     assert!(rt; List::new(alloc).is_empty());
     Ok(())
 }
@@ -57,10 +56,55 @@ fn sets_join_and_meet(rt: HostRuntime) -> Result<(), Fail> {
     Ok(())
 }
 
+fn selected(
+    alloc: Global,
+    postings: &Postings,
+    query: &Query,
+    live: &List,
+) -> Result<Vec<u32>, AllocError> {
+    numbers_of(alloc, &postings.select(alloc, query, live)?)
+}
+
 // Document 1 has the trigrams abc and bcd, document 2 has abc.
-fn two_documents(alloc: Global, abc: Trigram, bcd: Trigram) -> Result<Postings, AllocError> {
+#[test]
+fn queries_select_documents(rt: HostRuntime) -> Result<(), Fail> {
+    let alloc = rt.alloc();
+    let abc = Trigram::of([b'a', b'b', b'c']);
+    let bcd = Trigram::of([b'b', b'c', b'd']);
     let mut postings = Postings::new(alloc);
-    postings.prepare(1, &[abc])?;
-    postings.add(1, &[abc]);
-    Ok(postings)
+    postings.prepare(1, &[abc, bcd])?;
+    postings.add(1, &[abc, bcd]);
+    postings.prepare(2, &[abc])?;
+    postings.add(2, &[abc]);
+
+    let live = set_of(alloc, &[1, 2])?;
+    let either = vec![in alloc; Query::Has(abc), Query::Has(bcd)]?;
+    let both = vec![in alloc; Query::Has(abc), Query::Has(bcd)]?;
+    for (query, numbers) in [
+        (Query::Has(bcd), [1].as_slice()),
+        (Query::Any, [1, 2].as_slice()),
+        (Query::None, [].as_slice()),
+        (Query::And(Vec::new(alloc)), [1, 2].as_slice()),
+        (Query::Or(Vec::new(alloc)), [].as_slice()),
+        (Query::Or(either), [1, 2].as_slice()),
+        (Query::And(both), [1].as_slice()),
+    ] {
+        assert_eq!(rt;
+            selected(alloc, &postings, &query, &live)?.as_slice(),
+            numbers,
+            "{query:?}"
+        );
+    }
+
+    postings.withdraw(1, &[abc, bcd]);
+    let live = set_of(alloc, &[2])?;
+    assert_eq!(rt;
+        selected(alloc, &postings, &Query::Has(abc), &live)?.as_slice(),
+        [2].as_slice()
+    );
+    assert_eq!(rt;
+        selected(alloc, &postings, &Query::Has(bcd), &live)?.len(),
+        0
+    );
+    Ok(())
 }
