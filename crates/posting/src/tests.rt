@@ -1,5 +1,7 @@
 //! Sets and selections, worked by hand.
 
+ghost use Rattle.std.specs.Prelude.{◌≡◌};
+
 use crate::{List, Postings};
 use std::alloc::{AllocError, Global};
 use std::test::Fail;
@@ -56,55 +58,86 @@ fn sets_join_and_meet(rt: HostRuntime) -> Result<(), Fail> {
     Ok(())
 }
 
-fn selected(
-    alloc: Global,
-    postings: &Postings,
-    query: &Query,
-    live: &List,
-) -> Result<Vec<u32>, AllocError> {
-    numbers_of(alloc, &postings.select(alloc, query, live)?)
+fn abc() -> Trigram
+    ensures { result ≡ 6382179 }
+{
+    Trigram::of([b'a', b'b', b'c'])
+}
+
+fn bcd() -> Trigram
+    ensures { result ≡ 6447972 }
+{
+    Trigram::of([b'b', b'c', b'd'])
 }
 
 // Document 1 has the trigrams abc and bcd, document 2 has abc.
+fn two_documents(alloc: Global) -> Result<Postings, AllocError> {
+    let mut postings = Postings::new(alloc);
+    postings.prepare(1, &[abc(), bcd()])?;
+    postings.add(1, &[abc(), bcd()]);
+    postings.prepare(2, &[abc()])?;
+    postings.add(2, &[abc()]);
+    Ok(postings)
+}
+
+fn abc_and_bcd(alloc: Global) -> Result<Vec<Query>, AllocError> {
+    Ok(vec![in alloc; Query::Has(abc()), Query::Has(bcd())]?)
+}
+
+fn selects(
+    alloc: Global,
+    postings: &Postings,
+    query: Query,
+    live: &[u32],
+    numbers: &[u32],
+) -> bool {
+    match select(alloc, postings, &query, live) {
+        Ok(chosen) => chosen.as_slice() == numbers,
+        Err(_) => false,
+    }
+}
+
+fn select(
+    alloc: Global,
+    postings: &Postings,
+    query: &Query,
+    live: &[u32],
+) -> Result<Vec<u32>, AllocError> {
+    let live = set_of(alloc, live)?;
+    let chosen = postings.select(alloc, query, &live)?;
+    numbers_of(alloc, &chosen)
+}
+
 #[test]
 fn queries_select_documents(rt: HostRuntime) -> Result<(), Fail> {
     let alloc = rt.alloc();
-    let abc = Trigram::of([b'a', b'b', b'c']);
-    let bcd = Trigram::of([b'b', b'c', b'd']);
-    let mut postings = Postings::new(alloc);
-    postings.prepare(1, &[abc, bcd])?;
-    postings.add(1, &[abc, bcd]);
-    postings.prepare(2, &[abc])?;
-    postings.add(2, &[abc]);
-
-    let live = set_of(alloc, &[1, 2])?;
-    let either = vec![in alloc; Query::Has(abc), Query::Has(bcd)]?;
-    let both = vec![in alloc; Query::Has(abc), Query::Has(bcd)]?;
-    for (query, numbers) in [
-        (Query::Has(bcd), [1].as_slice()),
-        (Query::Any, [1, 2].as_slice()),
-        (Query::None, [].as_slice()),
-        (Query::And(Vec::new(alloc)), [1, 2].as_slice()),
-        (Query::Or(Vec::new(alloc)), [].as_slice()),
-        (Query::Or(either), [1, 2].as_slice()),
-        (Query::And(both), [1].as_slice()),
-    ] {
-        assert_eq!(rt;
-            selected(alloc, &postings, &query, &live)?.as_slice(),
-            numbers,
-            "{query:?}"
-        );
-    }
-
-    postings.withdraw(1, &[abc, bcd]);
-    let live = set_of(alloc, &[2])?;
-    assert_eq!(rt;
-        selected(alloc, &postings, &Query::Has(abc), &live)?.as_slice(),
-        [2].as_slice()
+    let either = abc_and_bcd(alloc)?;
+    let both = abc_and_bcd(alloc)?;
+    let postings = two_documents(alloc)?;
+    assert!(rt; selects(alloc, &postings, Query::Has(bcd()), &[1, 2], &[1]));
+    assert!(rt; selects(alloc, &postings, Query::Any, &[1, 2], &[1, 2]));
+    assert!(rt; selects(alloc, &postings, Query::None, &[1, 2], &[]));
+    assert!(rt;
+        selects(
+            alloc,
+            &postings,
+            Query::And(Vec::new(alloc)),
+            &[1, 2],
+            &[1, 2]
+        )
     );
-    assert_eq!(rt;
-        selected(alloc, &postings, &Query::Has(bcd), &live)?.len(),
-        0
-    );
+    assert!(rt; selects(alloc, &postings, Query::Or(Vec::new(alloc)), &[1, 2], &[]));
+    assert!(rt; selects(alloc, &postings, Query::Or(either), &[1, 2], &[1, 2]));
+    assert!(rt; selects(alloc, &postings, Query::And(both), &[1, 2], &[1]));
+    Ok(())
+}
+
+#[test]
+fn withdrawn_documents_are_not_selected(rt: HostRuntime) -> Result<(), Fail> {
+    let alloc = rt.alloc();
+    let mut postings = two_documents(alloc)?;
+    postings.withdraw(1, &[abc(), bcd()]);
+    assert!(rt; selects(alloc, &postings, Query::Has(abc()), &[2], &[2]));
+    assert!(rt; selects(alloc, &postings, Query::Has(bcd()), &[2], &[]));
     Ok(())
 }

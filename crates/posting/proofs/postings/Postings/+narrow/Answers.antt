@@ -4,14 +4,14 @@ use Rattle.posting.proofs.postings.Postings.+narrow.Goals as goal
 use Rattle.posting.proofs.postings.Postings.+narrow.Goals.{narrow_by_all-in-Some+in_ok-chosen-in-Some, narrow_by_all-in-None+in_ok-chosen-in-None, narrow_by_all-then-i-first+in_ok-chosen, narrow_by_all-else-i-first}
 
 pub narrow-returns-in-Any : goal.narrow-returns-in-Any
-narrow-returns-in-Any t c = rw (c.in-Any.is, chosen-Any c.args.self.now c.args.within.now.members) c.copy.ensures
+narrow-returns-in-Any t c = rw (c.in-Any.is, chosen-Any c.args.self.now c.args.within.now.members) (assumption)
 
 pub narrow-returns-in-None : goal.narrow-returns-in-None
-narrow-returns-in-None t c = rw (c.in-None.is, chosen-None c.args.self.now c.args.within.now.members) c.new.ensures
+narrow-returns-in-None t c = rw (c.in-None.is, chosen-None c.args.self.now c.args.within.now.members) (assumption)
 
 pub narrow-returns-in-Some : goal.narrow-returns-in-Some
 narrow-returns-in-Some t c =
-    rw (c.in-Has.is, chosen-Has c.args.self.now c.in-Has.trigram c.args.within.now.members, ← c.in-Some.ensures.some) c.intersect.ensures
+    rw (c.in-Has.is, chosen-Has c.args.self.now c.in-Has.trigram c.args.within.now.members, ← c.in-Some.ensures.some) (assumption)
 
 pub narrow-returns-in-None-list : goal.narrow-returns-in-None-list
 narrow-returns-in-None-list t c =
@@ -19,11 +19,11 @@ narrow-returns-in-None-list t c =
 
 pub narrow-returns-in-And : goal.narrow-returns-in-And
 narrow-returns-in-And t c =
-    rw (c.in-And.is, chosen-And c.args.self.now c.in-And.members c.args.within.now.members, ← c.deref.ensures.value) c.narrow_by_all.ensures
+    rw (c.in-And.is, chosen-And c.args.self.now c.in-And.members c.args.within.now.members, ← c.deref.ensures.value) (assumption)
 
 pub narrow-returns-in-Or : goal.narrow-returns-in-Or
 narrow-returns-in-Or t c =
-    rw (c.in-Or.is, chosen-Or c.args.self.now c.in-Or.members c.args.within.now.members, ← c.deref-in-Or.ensures.value) c.narrow_by_one.ensures
+    rw (c.in-Or.is, chosen-Or c.args.self.now c.in-Or.members c.args.within.now.members, ← c.deref-in-Or.ensures.value) (assumption)
 
 pub narrow_by_all-loop-i-init : goal.narrow_by_all-loop-i-init
 narrow_by_all-loop-i-init t c =
