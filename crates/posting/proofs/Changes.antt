@@ -1,14 +1,15 @@
 -- Tables of sets, as a number goes into or out of one set after another.
-use Rattle.std.proofs.Common.{◌≡◌, ◌≢◌, ℕ, ◌+◌, ◌<◌, Bool, true, false, not, ◌&&◌, ◌||◌, ◌==◌, IsTrue, List, [], ◌∷◌, ◌++◌, length, get_or, take, refl, sym, ap, ◌∙◌, arith}
-use Rattle.std.specs.Prelude.{All, AllPairs}
-use Rattle.std.proofs.lemmas.Bool.{false≢true, eq-eqb}
+use Rattle.std.proofs.Common.{◌≡◌, ◌≢◌, ℕ, ◌+◌, ◌<◌, Bool, true, false, not, ◌&&◌, ◌||◌, ◌==◌, List, [], ◌∷◌, ◌++◌, length, get_or, take, refl, sym, ap, ◌∙◌, arith}
+use Rattle.std.specs.Prelude.{All}
+use Rattle.std.proofs.lemmas.Bool.{false≢true}
 use Rattle.std.proofs.lemmas.Bool.Decides.{nat_tests}
-use Rattle.std.proofs.lemmas.List.{get_or-take, length-take-le, take_all}
+use Rattle.std.proofs.lemmas.List.{get_or-take, length-take-le}
 use Rattle.std.proofs.lemmas.List.Folds.{list_any_more}
 use Rattle.std.proofs.lemmas.List.Elements.{All-from_get_or, All-more, All-weaker}
 use Rattle.posting.specs.NumberSet.{NumberSet, has, without, HasRoom}
 use Rattle.posting.specs.Postings.{set_of, holds, IsPrepared, IsAbove, AllDiffer, SameSets, KeepsRoom}
-use Rattle.posting.proofs.Members.{has_at, has-append, has-filter, lacks_from_all}
+use Rattle.posting.specs.Laws.{has-append, has-filter}
+use Rattle.posting.proofs.Members.{has_at, lacks_from_all}
 
 pub has-take_more : (trigrams : List ℕ) (i t : ℕ) → i < length trigrams → has (take (i + 1) trigrams) t ≡ (has (take i trigrams) t || get_or trigrams i 0 == t)
 has-take_more trigrams i t inside = list_any_more (λ m. m == t) trigrams i 0 inside

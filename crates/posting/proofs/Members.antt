@@ -1,17 +1,16 @@
 -- Which numbers are in a list.
-use Rattle.std.proofs.Common.{◌≡◌, ◌≢◌, ℕ, zero, suc, ◌+◌, ◌<◌, ◌≤◌, Bool, true, false, not, ◌||◌, ◌&&◌, ◌==◌, cond, ◌⊎◌, inl, inr, List, [], ◌∷◌, ◌++◌, length, get_or, take, drop, refl, sym, ap, ◌∙◌, arith, Result, Ok, Err, MatchResult, is_ok, IsTrue}
-use Rattle.std.specs.Prelude.{All, Any, filter}
-use Rattle.std.specs.List.{list_any, remove}
+use Rattle.std.proofs.Common.{◌≡◌, ◌≢◌, ℕ, zero, suc, ◌<◌, ◌≤◌, Bool, true, false, not, ◌==◌, ◌⊎◌, inl, inr, List, [], ◌∷◌, length, get_or, refl, sym, ap, ◌∙◌, arith, Result, Ok, Err, MatchResult, is_ok}
+use Rattle.std.specs.Prelude.{All, filter}
+use Rattle.std.specs.List.{remove}
 use Rattle.std.specs.List.Sorted.{IsStrictlyIncreasing, IsBinarySearchResult}
 use Rattle.std.specs.Ordering.{nat_cmp}
 use Rattle.std.proofs.lemmas.List.Sorted.{searched}
 use Rattle.std.proofs.lemmas.Bool.{eq-eqb, false≢true, cases_lt}
 use Rattle.std.proofs.lemmas.Bool.Decides.{nat_tests}
-use Rattle.std.proofs.lemmas.List.{take-append-drop, drop_more, get_or-take, get_or-drop, length-take-le}
-use Rattle.std.proofs.lemmas.List.Folds.{list_any_at, list_any_none, Any-from_list_any, list_any-append}
-use Rattle.std.proofs.lemmas.List.Elements.{All-nil, All-cons, All-head, All-tail, All-weaker, filter-append, All-from_get_or}
+use Rattle.std.proofs.lemmas.List.Folds.{list_any_at, list_any_none}
+use Rattle.std.proofs.lemmas.List.Elements.{All-cons, All-head, All-tail, All-weaker, All-from_get_or}
 use Rattle.posting.specs.NumberSet.{has, without}
-use Rattle.posting.proofs.Rising.{rising-head, rising-tail, rising-left, rising-right, rising-across, rising_far}
+use Rattle.posting.proofs.Rising.{rising-head, rising-tail, rising_far}
 
 pub has_at : (xs : List ℕ) (i n : ℕ) → i < length xs → get_or xs i 0 ≡ n → has xs n ≡ true
 has_at xs i n inside is = list_any_at (λ m. m == n) xs i 0 inside (eq-eqb (get_or xs i 0) n is)
@@ -50,27 +49,6 @@ pub filter_none : (p : ℕ → Bool) (xs : List ℕ) → All (λ m. p m ≡ fals
 filter_none p [] h = refl
 filter_none p (x ∷ xs) h = rw (All-head (λ m. p m ≡ false) x xs h) (filter_none p xs (All-tail (λ m. p m ≡ false) x xs h))
 
-and-false : (b : Bool) → (b && false) ≡ false
-and-false true = refl
-and-false false = refl
-
-and-true : (b : Bool) → (b && true) ≡ b
-and-true true = refl
-and-true false = refl
-
-pub has-filter : (p : ℕ → Bool) (xs : List ℕ) (n : ℕ) → has (filter p xs) n ≡ (has xs n && p n)
-has-filter p [] n = refl
-has-filter p (x ∷ xs) n = cases (p x) (x == n) refl refl (has-filter p xs n)
-  where
-    cases : (keeps same : Bool) → p x ≡ keeps → (x == n) ≡ same → has (filter p xs) n ≡ (has xs n && p n) → has (filter p (x ∷ xs)) n ≡ (has (x ∷ xs) n && p n)
-    cases true true e f later = let is : x ≡ n = grind (arith, nat_tests) in rw e (rw f (sym (rw is at e)))
-    cases true false e f later = rw e (rw f later)
-    cases false true e f later =
-        let is : x ≡ n = grind (arith, nat_tests) in
-        let fails : p n ≡ false = rw is at e in
-        rw e (rw f (later ∙ ap (λ b. has xs n && b) fails ∙ and-false (has xs n) ∙ sym fails))
-    cases false false e f later = rw e (rw f later)
-
 pub without_absent : (xs : List ℕ) (n : ℕ) → All (λ m. m ≢ n) xs → without n xs ≡ xs
 without_absent xs n h = filter_all (λ m. not (m == n)) xs (All-weaker (λ m. m ≢ n) (λ m. not (m == n) ≡ true) (λ m ne. grind (arith, nat_tests)) xs h)
 
@@ -85,9 +63,6 @@ without-found (x ∷ xs) n (suc i) rising inside is =
     let before : x < n = rw is at (rising_far (x ∷ xs) rising zero (suc i) (omega arith) inside) in
     let other : (x == n) ≡ false = grind (arith, nat_tests) in
     rw other (ap (λ ys. x ∷ ys) (without-found xs n i (rising-tail x xs rising) within is))
-
-pub has-append : (xs ys : List ℕ) (n : ℕ) → has (xs ++ ys) n ≡ (has xs n || has ys n)
-has-append xs ys n = list_any-append (λ m. m == n) xs ys
 
 -- Rising lists with the same numbers are the same.
 pub same_rising : (xs ys : List ℕ) → IsStrictlyIncreasing xs → IsStrictlyIncreasing ys → ((n : ℕ) → has xs n ≡ has ys n) → xs ≡ ys

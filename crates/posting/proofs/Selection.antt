@@ -1,5 +1,5 @@
 -- The numbers whose trigrams meet a query.
-use Rattle.std.proofs.Common.{◌≡◌, ◌≢◌, ℕ, zero, suc, ◌+◌, ◌<◌, ◌≤◌, Bool, true, false, cond, ◌&&◌, ◌||◌, List, [], ◌∷◌, length, get_or, take, map, refl, sym, ap, ◌∙◌, arith, Option, Some, None}
+use Rattle.std.proofs.Common.{◌≡◌, ℕ, zero, suc, ◌+◌, ◌<◌, ◌≤◌, Bool, true, false, cond, ◌&&◌, ◌||◌, List, [], ◌∷◌, length, get_or, take, map, refl, sym, ap, ◌∙◌, Option, Some, None}
 use Rattle.std.specs.Prelude.{filter, slice_get}
 use Rattle.std.specs.List.{list_all, list_any}
 use Rattle.std.specs.List.Sorted.{IsStrictlyIncreasing}
@@ -8,7 +8,7 @@ use Rattle.std.specs.declared.vec.Vec.{Vec}
 use Rattle.std.proofs.lemmas.Bool.{false≢true}
 use Rattle.std.proofs.lemmas.List.{take_all}
 use Rattle.std.proofs.lemmas.List.Elements.{filter_agree}
-use Rattle.std.proofs.lemmas.List.Folds.{list_all_more, list_any_more, list_all_at}
+use Rattle.std.proofs.lemmas.List.Folds.{list_all_more, list_any_more}
 use Rattle.std.proofs.lemmas.List.Kept.{IsStrictlyIncreasing-filter}
 use Rattle.std.proofs.lemmas.Option.{slice_get-get_or, slice_get_read, slice_get_past}
 use Rattle.trigram.specs.Trigrams.{TrigramSet}
@@ -17,8 +17,9 @@ use Rattle.trigram.specs.declared.query.Query.TheVariants as query
 use Rattle.trigram.specs.Query.{formula_of, formulas_of, is_met, are_all_met, is_one_met}
 use Rattle.trigram.specs.Forms.{formula_of-Any, formula_of-None, formula_of-Has, formula_of-And, formula_of-Or}
 use Rattle.posting.specs.NumberSet.{NumberSet, has}
-use Rattle.posting.specs.Postings.{set_of, holds, trigrams_with}
-use Rattle.posting.proofs.Members.{filter_all, filter_none, has-filter, same_rising}
+use Rattle.posting.specs.Postings.{set_of, trigrams_with}
+use Rattle.posting.specs.Laws.{has-filter}
+use Rattle.posting.proofs.Members.{filter_all, filter_none, same_rising}
 
 -- the numbers of a list for which the set of their trigrams passes a test
 abbrev pub chosen_by : (TrigramSet → Bool) → List NumberSet → List ℕ → List ℕ

@@ -1,5 +1,5 @@
 -- Sets of numbers.
-use Rattle.std.specs.Prelude.{◌≡◌, ℕ, ◌-◌, ◌<◌, Bool, not, ◌==◌, List, length, filter}
+use Rattle.std.specs.Prelude.{ℕ, ◌<◌, Bool, not, ◌==◌, List, filter}
 use Rattle.std.specs.List.{list_any}
 
 -- the numbers of a set, rising, and for how many more there is surely room

@@ -1,4 +1,4 @@
-use Rattle.std.proofs.Common.{◌≡◌, ◌≤◌, length}
+use Rattle.std.proofs.Common.{◌≡◌}
 use Rattle.posting.proofs.Selection.{narrowed, joined}
 use Rattle.posting.proofs.postings.Postings.+narrow.Given as goal
 

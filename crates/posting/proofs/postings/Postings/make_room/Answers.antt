@@ -1,6 +1,6 @@
-use Rattle.std.proofs.Common.{◌≡◌, ◌-◌, ◌<◌, ◌≤◌, sym, ap, ◌∙◌, arith, refl, subst, OnOk}
+use Rattle.std.proofs.Common.{◌≡◌, ◌≤◌, sym, ◌∙◌, arith, refl, subst, OnOk}
 use Rattle.posting.specs.NumberSet.{NumberSet, HasRoom}
-use Rattle.posting.proofs.Tables.{Stands, set_of-there, set_of-written, tables_relate, written_relate, stands_inside}
+use Rattle.posting.proofs.Tables.{Stands, set_of-written, tables_relate, written_relate}
 use Rattle.posting.proofs.postings.Postings.make_room.Goals as goal
 
 pub returns-in_err-place-clause-members : goal.returns-in_err-place-clause-members
