@@ -8,11 +8,8 @@ pub mod brackets;
 pub mod byte_set;
 pub mod classes;
 pub mod error;
-<<<<<<< HEAD
-pub mod laws;
-=======
 pub mod language_laws;
->>>>>>> trigram
+pub mod laws;
 pub mod limits;
 pub mod parts;
 pub mod reader;
