@@ -103,6 +103,7 @@ class_unknown text at p behind ends first unknown name rest set e known = go (de
   where
     from : drop (at + 2) text ≡ name ++ 58 ∷ 93 ∷ rest
     from = class_text text at name rest e
+
     go : Dec (p < at + 2 + length name) → Dec (at + 2 + length name < p) → ⊥
     go (yes before) d =
         let i : ℕ = p - (at + 2) in
@@ -147,6 +148,7 @@ ahead_last text at short = go (dec_lt at (length text))
   where
     one : (t : List ℕ) (b : ℕ) → t ≡ b ∷ [] → range_ahead t ≡ false
     one t b e = rw e refl
+
     go : Dec (at < length text) → range_ahead (drop at text) ≡ false
     go (yes inside) = one (drop at text) (get_or text at 0) (front text at inside ∙ ap (λ t. get_or text at 0 ∷ t) (drop_all (at + 1) text short))
     go (no outside) = rw (drop_all at text (omega arith)) refl

@@ -86,6 +86,7 @@ bar_byte b text other e =
     skip : (c : Bool) (x y : Option Token) → (x ≡ Some token.bar → ⊥) → (y ≡ Some token.bar → ⊥) → cond c x y ≡ Some token.bar → ⊥
     skip true x y f h e = f e
     skip false x y f h e = h e
+
     pass : (c : Bool) (x y : Option Token) → c ≡ false → (y ≡ Some token.bar → ⊥) → cond c x y ≡ Some token.bar → ⊥
     pass true x y f h e = absurd (cc)
     pass false x y f h e = h e
@@ -98,6 +99,7 @@ closes_byte b text other e =
     skip : (c : Bool) (x y : Option Token) → (x ≡ Some token.closes → ⊥) → (y ≡ Some token.closes → ⊥) → cond c x y ≡ Some token.closes → ⊥
     skip true x y f h e = f e
     skip false x y f h e = h e
+
     pass : (c : Bool) (x y : Option Token) → c ≡ false → (y ≡ Some token.closes → ⊥) → cond c x y ≡ Some token.closes → ⊥
     pass true x y f h e = absurd (cc)
     pass false x y f h e = h e
@@ -264,7 +266,7 @@ alternatives_step depth from at behind to members after part so_far e next build
       (λ all between rest a (m, is, b). alternatives_push greatest_open (subst (λ v. SpellsAlternatives greatest_open depth all v so_far.branches) is a) b)
       so_far.reads
       (Reads-then at behind to _ _ (λ between rest. (m : List Token) × (between ≡ token.bar ∷ m) × SpellsBranch greatest_open depth m rest next.pieces)
-          (λ all between rest is b. (between, is, b)) (Reads-token at behind token.bar (bar_spelled at behind e)) next.reads);
+      (λ all between rest is b. (between, is, b)) (Reads-token at behind token.bar (bar_spelled at behind e)) next.reads);
   ends = next.ends;
 }
 
@@ -297,13 +299,16 @@ piece_of_atom depth from middle to atom part first rest =
 
 pub leaf_piece : (depth : ℕ) (from to : List ℕ) (t : Token) (plain : Tree) (part : Option Part) → SpellsToken from to t → ((rest : List Token) → SpellsPiece greatest_open depth (t ∷ rest) rest plain) → IsBuilt part plain → NoDuplication to → ReadsPiece depth from to part
 leaf_piece depth from to t plain part s make built next = record {
-  tree = plain; built = built; next = next;
+  tree = plain;
+  built = built;
+  next = next;
   reads = Reads-map from to _ _ (λ all rest e. subst (λ v. SpellsPiece greatest_open depth v rest plain) (sym e) (make rest)) (Reads-token from to t s);
 }
 
 pub leaf_atom : (depth : ℕ) (from to : List ℕ) (t : Token) (plain : Tree) (part : Option Part) → SpellsToken from to t → ((rest : List Token) → SpellsAtom greatest_open depth (t ∷ rest) rest plain) → IsBuilt part plain → ReadsAtom depth from to part
 leaf_atom depth from to t plain part s make built = record {
-  tree = plain; built = built;
+  tree = plain;
+  built = built;
   reads = Reads-map from to _ _ (λ all rest e. subst (λ v. SpellsAtom greatest_open depth v rest plain) (sym e) (make rest)) (Reads-token from to t s);
 }
 

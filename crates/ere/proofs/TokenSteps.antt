@@ -55,6 +55,7 @@ times_byte b text l g e no_star no_plus no_question =
     skip : (c : Bool) (x y : Option Token) → (x ≡ Some (times l g) → ⊥) → (y ≡ Some (times l g) → ⊥) → cond c x y ≡ Some (times l g) → ⊥
     skip true x y f h e = f e
     skip false x y f h e = h e
+
     pass : (c : Bool) (x y : Option Token) → c ≡ false → (y ≡ Some (times l g) → ⊥) → cond c x y ≡ Some (times l g) → ⊥
     pass true x y f h e = absurd (cc)
     pass false x y f h e = h e
@@ -94,19 +95,25 @@ counted_more from rest b value count r digit = record {
   is_front = r.is_front ∙ sym (append_assoc r.digits (b ∷ []) rest);
   decimal = All-push (λ d. is_digit d ≡ true) r.digits b r.decimal digit;
   value_is = let all : decimal_value (r.digits ++ b ∷ []) ≡ 10 * decimal_value r.digits + (b - 48) = fold-append (λ v d. 10 * v + (d - 48)) 0 r.digits (b ∷ []) in
-             let so_far = r.value_is in omega (arith, all, so_far);
+      let so_far = r.value_is in omega (arith, all, so_far);
   long = length-append r.digits (b ∷ []) ∙ omega (arith, r.long);
 }
 
 pub counted_all : (from rest : List ℕ) (value count : ℕ) → CountedTo from rest value count → IsFalse (digit_ahead rest) → 0 < count → value ≤ 255 → ReadsCount from rest (Some value)
 counted_all from rest value count r ends some within = record {
-  digits = r.digits; is_front = r.is_front; decimal = r.decimal; ends = ends;
+  digits = r.digits;
+  is_front = r.is_front;
+  decimal = r.decimal;
+  ends = ends;
   counted = record { some = omega (arith, r.long); decimal = r.decimal; value = omega (arith, r.value_is); within = within };
 }
 
 pub counted_no : (from rest : List ℕ) (value count : ℕ) → CountedTo from rest value count → IsFalse (digit_ahead rest) → (count ≡ 0) ⊎ (255 < value) → ReadsCount from rest None
 counted_no from rest value count r ends why = record {
-  digits = r.digits; is_front = r.is_front; decimal = r.decimal; ends = ends;
+  digits = r.digits;
+  is_front = r.is_front;
+  decimal = r.decimal;
+  ends = ends;
   counted = λ n c. not_both n c why;
 }
   where
@@ -153,6 +160,7 @@ comma_fails from tail behind tail2 count count2 r e no_brace q none rest l g h =
     least_is : (c : Option ℕ) → MatchOption c ((n : ℕ) → SpellsCount r.digits n → ⊥) (SpellsCount r.digits) → SpellsCount r.digits l → MatchOption c (Unit {0}) (λ n. l ≡ n)
     least_is None k a = tt
     least_is (Some n) k a = one_count r.digits l n a k
+
     go : IntervalView r.digits tail rest l g → ⊥
     go (view.exactly f a i) = absurd (omega (arith, head_of (sym e ∙ f)))
     go (view.at_least f a i) = begins_not behind 125 rest (tail_of (sym e ∙ f)) no_brace

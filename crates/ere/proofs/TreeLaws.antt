@@ -39,6 +39,7 @@ byte_proper b text t e =
     walk : (c : Bool) (x : Token) (y : Option Token) → IsProperToken x → (y ≡ Some t → IsProperToken t) → cond c (Some x) y ≡ Some t → IsProperToken t
     walk true x y p f e = let same : x ≡ t = cc in subst IsProperToken same p
     walk false x y p f e = f e
+
     last : (c : Bool) → cond c None (Some (token.set (single b))) ≡ Some t → IsProperToken t
     last true e = absurd (cc)
     last false e = let same : token.set (single b) ≡ t = cc in subst IsProperToken same tt

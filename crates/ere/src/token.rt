@@ -53,10 +53,7 @@ pub fn token_at(text: &[u8], at: usize) -> Result<(Token, usize), EreError>
 }
 
 /// The duplication at `at`, where one stands there, and the offset behind it.
-pub fn duplication_at(
-    text: &[u8],
-    at: usize,
-) -> Result<Option<(u8, Option<u8>, usize)>, EreError>
+pub fn duplication_at(text: &[u8], at: usize) -> Result<Option<(u8, Option<u8>, usize)>, EreError>
     requires { at ≤ length text.now }
     ensures ok { IfOk result (λ found. IfSome found (λ d. SpellsToken (drop at text.now) (drop d.2 text.now) (times d.0 d.1))) }
     ensures after { IfOk result (λ found. IfSome found (λ d. (at < d.2) × (d.2 ≤ length text.now))) }

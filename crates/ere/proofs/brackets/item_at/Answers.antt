@@ -24,7 +24,7 @@ returns-then-is_range_ahead-clause-ok c =
     let dash = (IsAhead-range_ahead c.args.text.now c.in_ok-low.after (sym c.if-is_range_ahead.ensures)).dash in
     let low : IsByteOrSymbol (drop c.args.at c.args.text.now) c.in_ok-low.low (45 ∷ drop (c.in_ok-low.after + 1) c.args.text.now) = subst (IsByteOrSymbol (drop c.args.at c.args.text.now) c.in_ok-low.low) dash.from c.in_ok-low.ensures.ok in
     if_ok_map c.range_at.result _ _ (λ r (high, end, order, is). range_item c.args.first _ _ _ high _ _ low (may_begin_dash c.args.text.now c.args.at c.args.first c.requires.no_end
-        (elim c.else-text-at-eq45.branch [ else-text-at-eq45-via-then-text-at-eq45+else-not-first w ↦ inl w.if-not-first.false | else-text-at-eq45-via-else-text-at-eq45 w ↦ inr w.if-text-at-eq45.false ])) end order is) c.range_at.ensures.ok
+    (elim c.else-text-at-eq45.branch [ else-text-at-eq45-via-then-text-at-eq45+else-not-first w ↦ inl w.if-not-first.false | else-text-at-eq45-via-else-text-at-eq45 w ↦ inr w.if-text-at-eq45.false ])) end order is) c.range_at.ensures.ok
 
 pub returns-then-is_range_ahead-clause-err : goal.returns-then-is_range_ahead-clause-err
 returns-then-is_range_ahead-clause-err c =
@@ -36,5 +36,5 @@ returns-then-is_range_ahead-clause-err c =
 pub returns-clause-ok : goal.returns-clause-ok
 returns-clause-ok c = simple_item c.args.first _ c.in_ok-low.low _ _ c.in_ok-low.ensures.ok (plain_from _ c.if-opens.ensures c.if-opens-2.ensures)
     (may_begin_dash c.args.text.now c.args.at c.args.first c.requires.no_end
-        (elim c.else-text-at-eq45.branch [ else-text-at-eq45-via-then-text-at-eq45+else-not-first w ↦ inl w.if-not-first.false | else-text-at-eq45-via-else-text-at-eq45 w ↦ inr w.if-text-at-eq45.false ]))
+    (elim c.else-text-at-eq45.branch [ else-text-at-eq45-via-then-text-at-eq45+else-not-first w ↦ inl w.if-not-first.false | else-text-at-eq45-via-else-text-at-eq45 w ↦ inr w.if-text-at-eq45.false ]))
     (sym c.if-is_range_ahead.ensures) c.single-2.ensures

@@ -15,6 +15,8 @@ returns-then-part-ge-MAX_HEIGHT-clause-ok c = λ tree built.
 
 pub returns-clause-ok : goal.returns-clause-ok
 returns-clause-ok c = λ tree built.
-    let kept = subst (λ m. IsBuilt m tree) c.in-Some.is built in
-    (form-Repeat c.in_ok-body.body c.args.least c.args.greatest ∙ ap (λ t. repeat t c.args.least c.args.greatest) (ap form c.in_ok-body.ensures.ok ∙ kept.0),
-     omega (arith, kept.1, height_repeat tree c.args.least c.args.greatest), omega (arith, c.if-part-ge-MAX_HEIGHT.false))
+    let kept = subst (λ m. IsBuilt m tree) c.in-Some.is built in (
+      form-Repeat c.in_ok-body.body c.args.least c.args.greatest ∙ ap (λ t. repeat t c.args.least c.args.greatest) (ap form c.in_ok-body.ensures.ok ∙ kept.0),
+      omega (arith, kept.1, height_repeat tree c.args.least c.args.greatest),
+      omega (arith, c.if-part-ge-MAX_HEIGHT.false),
+    )

@@ -76,9 +76,10 @@ piece-returns-in_err-token-clause-err t c =
 
 pub piece-group-requires : goal.piece-group-requires
 piece-group-requires t c =
-    let after = c.in_ok-token.ensures.after in
-    (omega (arith, after),
-     (subst (λ t. SpellsToken (drop c.args.at c.args.text.now) (drop c.in_ok-token.after c.args.text.now) (meaning t)) c.in-Opens.is c.in_ok-token.ensures.ok, (after.0, (after.1, c.requires.open_groups))))
+    let after = c.in_ok-token.ensures.after in (
+      omega (arith, after),
+      (subst (λ t. SpellsToken (drop c.args.at c.args.text.now) (drop c.in_ok-token.after c.args.text.now) (meaning t)) c.in-Opens.is c.in_ok-token.ensures.ok, (after.0, (after.1, c.requires.open_groups))),
+    )
 
 pub piece-returns-in_err-part-in-Opens-clause-err : goal.piece-returns-in_err-part-in-Opens-clause-err
 piece-returns-in_err-part-in-Opens-clause-err t c =
@@ -95,8 +96,8 @@ piece-returns-in-Times-clause-err t c = λ _. times_fail c.args.depth _ _ _ _ (s
 pub piece-returns-in-AtStart-clause-ok : goal.piece-returns-in-AtStart-clause-ok
 piece-returns-in-AtStart-clause-ok t c =
     if_ok_both c.anchor.result _ _ _ (λ r stays built.
-        leaf_piece c.args.depth _ _ token.at_start at_start r.0 (subst (λ k. SpellsToken (drop c.args.at c.args.text.now) (drop k c.args.text.now) token.at_start) (sym stays.0) (subst (λ t. SpellsToken (drop c.args.at c.args.text.now) (drop c.in_ok-token.after c.args.text.now) (meaning t)) c.in-AtStart.is c.in_ok-token.ensures.ok))
-        (λ rest. pieces_are.start) (built at_start form-Start height_start) (subst (λ k. NoDuplication (drop k c.args.text.now)) (sym stays.0) stays.1))
+    leaf_piece c.args.depth _ _ token.at_start at_start r.0 (subst (λ k. SpellsToken (drop c.args.at c.args.text.now) (drop k c.args.text.now) token.at_start) (sym stays.0) (subst (λ t. SpellsToken (drop c.args.at c.args.text.now) (drop c.in_ok-token.after c.args.text.now) (meaning t)) c.in-AtStart.is c.in_ok-token.ensures.ok))
+    (λ rest. pieces_are.start) (built at_start form-Start height_start) (subst (λ k. NoDuplication (drop k c.args.text.now)) (sym stays.0) stays.1))
     c.anchor.ensures.ok c.anchor.ensures.built
 
 pub piece-returns-in-AtStart-clause-err : goal.piece-returns-in-AtStart-clause-err
@@ -105,8 +106,8 @@ piece-returns-in-AtStart-clause-err t c = on_err_map c.anchor.result _ _ _ (star
 pub piece-returns-in-AtEnd-clause-ok : goal.piece-returns-in-AtEnd-clause-ok
 piece-returns-in-AtEnd-clause-ok t c =
     if_ok_both c.anchor-in-AtEnd.result _ _ _ (λ r stays built.
-        leaf_piece c.args.depth _ _ token.at_end at_end r.0 (subst (λ k. SpellsToken (drop c.args.at c.args.text.now) (drop k c.args.text.now) token.at_end) (sym stays.0) (subst (λ t. SpellsToken (drop c.args.at c.args.text.now) (drop c.in_ok-token.after c.args.text.now) (meaning t)) c.in-AtEnd.is c.in_ok-token.ensures.ok))
-        (λ rest. pieces_are.finish) (built at_end form-End height_end) (subst (λ k. NoDuplication (drop k c.args.text.now)) (sym stays.0) stays.1))
+    leaf_piece c.args.depth _ _ token.at_end at_end r.0 (subst (λ k. SpellsToken (drop c.args.at c.args.text.now) (drop k c.args.text.now) token.at_end) (sym stays.0) (subst (λ t. SpellsToken (drop c.args.at c.args.text.now) (drop c.in_ok-token.after c.args.text.now) (meaning t)) c.in-AtEnd.is c.in_ok-token.ensures.ok))
+    (λ rest. pieces_are.finish) (built at_end form-End height_end) (subst (λ k. NoDuplication (drop k c.args.text.now)) (sym stays.0) stays.1))
     c.anchor-in-AtEnd.ensures.ok c.anchor-in-AtEnd.ensures.built
 
 pub piece-returns-in-AtEnd-clause-err : goal.piece-returns-in-AtEnd-clause-err

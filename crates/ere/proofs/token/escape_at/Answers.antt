@@ -20,11 +20,12 @@ pub returns-clause-err : goal.returns-clause-err
 returns-clause-err c =
     escape_fails _ _ (Stands-begins c.args.text.now c.args.at 92 c.requires).from
     (λ b r e escapable. elim c.else-at-text.branch [
-      else-at-text-via-then-at-text+else-is_escapable w ↦
-        let same : get_or c.args.text.now (c.args.at + 1) 0 ≡ b = head_of (sym (front c.args.text.now (c.args.at + 1) w.if-at-text.true) ∙ e) in
-        let yes_it_is : IsTrue (is_escapable (get_or c.args.text.now (c.args.at + 1) 0)) = rw same escapable in
-        let no_it_is_not : false ≡ is_escapable (get_or c.args.text.now (c.args.at + 1) 0) = w.if-is_escapable.ensures in
-        absurd (let both : false ≡ true = no_it_is_not ∙ yes_it_is in cc)
-    | else-at-text-via-else-at-text w ↦
-        let none : [] ≡ b ∷ r = sym (drop_all (c.args.at + 1) c.args.text.now w.if-at-text.false) ∙ e in
-        absurd (cc) ])
+      | else-at-text-via-then-at-text+else-is_escapable w ↦
+          let same : get_or c.args.text.now (c.args.at + 1) 0 ≡ b = head_of (sym (front c.args.text.now (c.args.at + 1) w.if-at-text.true) ∙ e) in
+          let yes_it_is : IsTrue (is_escapable (get_or c.args.text.now (c.args.at + 1) 0)) = rw same escapable in
+          let no_it_is_not : false ≡ is_escapable (get_or c.args.text.now (c.args.at + 1) 0) = w.if-is_escapable.ensures in
+          absurd (let both : false ≡ true = no_it_is_not ∙ yes_it_is in cc)
+      | else-at-text-via-else-at-text w ↦
+          let none : [] ≡ b ∷ r = sym (drop_all (c.args.at + 1) c.args.text.now w.if-at-text.false) ∙ e in
+          absurd (cc)
+    ])

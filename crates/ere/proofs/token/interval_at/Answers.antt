@@ -33,8 +33,9 @@ returns-then-least-most-clause-err c =
     let q = subst (ReadsCount _ _) c.in-Some-high.is c.count_at-high.ensures.count in
     comma_fails _ _ _ _ (Some c.in-Some.least) (Some c.in-Some-high.most) r (Stands-begins c.args.text.now c.count_at-low.result.1 44 (sym c.if-not-stands_at.ensures)).from c.if-stands_at-2.ensures q
     (λ rest l m e count least order. elim c.then-least-most.branch [
-      then-least-most-via-then-least-most w ↦ let most = one_count q.digits m c.in-Some-high.most count q.counted in omega (arith, most, least, order, w.if-least-most.true)
-    | then-least-most-via-else-least-most+then-not-stands_at-2 w ↦ begins_not _ 125 rest e w.if-not-stands_at-2.ensures ])
+      | then-least-most-via-then-least-most w ↦ let most = one_count q.digits m c.in-Some-high.most count q.counted in omega (arith, most, least, order, w.if-least-most.true)
+      | then-least-most-via-else-least-most+then-not-stands_at-2 w ↦ begins_not _ 125 rest e w.if-not-stands_at-2.ensures
+    ])
 
 pub returns-clause-ok : goal.returns-clause-ok
 returns-clause-ok c =

@@ -24,6 +24,7 @@ pub returns-clause-ok : goal.returns-clause-ok
 returns-clause-ok c =
     spelled.byte (get_or c.args.text.now c.args.at 0) (front c.args.text.now c.args.at c.requires)
     (c.token_of_byte.ensures (drop (c.args.at + 1) c.args.text.now) (short_byte (get_or c.args.text.now c.args.at 0) (drop (c.args.at + 1) c.args.text.now) c.if-byte-eq91.false c.if-byte-eq92.false
-        (elim c.else-byte-eq123.branch [
-          else-byte-eq123-via-then-byte-eq123+else-is_digit_at w ↦ inl (sym w.if-is_digit_at.ensures)
-        | else-byte-eq123-via-else-byte-eq123 w ↦ inr w.if-byte-eq123.false ])))
+    (elim c.else-byte-eq123.branch [
+      | else-byte-eq123-via-then-byte-eq123+else-is_digit_at w ↦ inl (sym w.if-is_digit_at.ensures)
+      | else-byte-eq123-via-else-byte-eq123 w ↦ inr w.if-byte-eq123.false
+    ])))

@@ -8,16 +8,18 @@ pub loop-i-preserved : goal.loop-i-preserved
 loop-i-preserved g c =
     let v = c.if-is_line_byte.members in
     let tested : (t : Bool) × (v ≡ (is_line_byte c.loop-i.i && t)) =
-        elim c.if-is_line_byte.branch [
-          then-is_line_byte w ↦ (w.test.result, w.members-is ∙ and_at_true (is_line_byte c.loop-i.i) w.test.result (cc))
-        | else-is_line_byte w ↦ (false, w.members-is ∙ w.if-is_line_byte.false ∙ and_at_false (is_line_byte c.loop-i.i) false (cc)) ] in
+    elim c.if-is_line_byte.branch [
+      | then-is_line_byte w ↦ (w.test.result, w.members-is ∙ and_at_true (is_line_byte c.loop-i.i) w.test.result (cc))
+      | else-is_line_byte w ↦ (false, w.members-is ∙ w.if-is_line_byte.false ∙ and_at_false (is_line_byte c.loop-i.i) false (cc))
+    ] in
     record {
       whole = length-set c.loop-i.members c.loop-i.i v ∙ c.loop-i.invariant.whole;
       lines = set_more (λ k held. (t : Bool) × (held ≡ (is_line_byte k && t))) c.loop-i.members c.loop-i.i v (omega (arith, c.loop-i.invariant.whole)) c.loop-i.invariant.lines tested;
       passes = λ passes agree. set_more (λ k held. held ≡ (is_line_byte k && passes k)) c.loop-i.members c.loop-i.i v (omega (arith, c.loop-i.invariant.whole)) (c.loop-i.invariant.passes passes agree)
           (elim c.if-is_line_byte.branch [
-            then-is_line_byte w ↦ w.members-is ∙ agree _ _ w.test.ensures ∙ and_at_true (is_line_byte c.loop-i.i) (passes c.loop-i.i) (cc)
-          | else-is_line_byte w ↦ w.members-is ∙ w.if-is_line_byte.false ∙ and_at_false (is_line_byte c.loop-i.i) (passes c.loop-i.i) (cc) ]);
+            | then-is_line_byte w ↦ w.members-is ∙ agree _ _ w.test.ensures ∙ and_at_true (is_line_byte c.loop-i.i) (passes c.loop-i.i) (cc)
+            | else-is_line_byte w ↦ w.members-is ∙ w.if-is_line_byte.false ∙ and_at_false (is_line_byte c.loop-i.i) (passes c.loop-i.i) (cc)
+          ]);
     }
 
 pub invariant_of-result : goal.invariant_of-result
