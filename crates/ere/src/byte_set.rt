@@ -94,7 +94,8 @@ impl ByteSet {
         requires { IsTrue (is_line_byte byte) }
         ensures { self.new ≡ with_byte self.old byte }
     {
-        self.members[byte as usize] = true;
+        let place = byte as usize;
+        self.members[place] = true;
     }
 
     /// How many bytes are in the set, at most 254.
