@@ -2,8 +2,12 @@
 #![tactic(auto)]
 
 pub mod item;
+pub mod laws;
 pub mod reader;
 mod words;
+
+#[cfg(test)]
+mod tests;
 
 pub use item::{Item, Numbered};
 pub use reader::{MAX_SCRIPT, ScriptReader};
