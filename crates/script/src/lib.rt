@@ -4,10 +4,9 @@
 pub mod item;
 pub mod laws;
 pub mod reader;
-mod words;
-
 #[cfg(test)]
 mod tests;
+mod words;
 
 pub use item::{Item, Numbered};
 pub use reader::{MAX_SCRIPT, ScriptReader};
