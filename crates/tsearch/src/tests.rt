@@ -28,6 +28,8 @@ struct Table<'a> {
 }
 
 impl Source for Table<'_> {
+    ghost use Rattle.tsearch.specs.declared.tests.Row.{Row};
+
     ghost holds = { λ table path body. (row : Row) × Contains table.rows.now row × (row.path.now ≡ path) × (row.bytes.now ≡ body) };
 
     ghost failed = { λ table. table.failures };
