@@ -366,7 +366,15 @@ fn no_more_commands_than_may_be(rt: HostRuntime) -> Result<(), Fail> {
         b"put f 1\nx\nremove g\nput g 1\ny\nput h 1\nz\nremove f\npublish\nsearch [xyz]\n".as_slice();
     let want =
         b"line 3 refused: no such file\nline 6 refused: full\nline 8 refused: full\nsearch 1 version 2 lines 2\nf:1:x\ng:1:y\n".as_slice();
-    expect_text(&rt, alloc, &mut source_over(&[], b"", 0), form, script, want, 2)?;
+    expect_text(
+        &rt,
+        alloc,
+        &mut source_over(&[], b"", 0),
+        form,
+        script,
+        want,
+        2,
+    )?;
     Ok(())
 }
 
@@ -459,7 +467,15 @@ fn a_hostile_script(rt: HostRuntime) -> Result<(), Fail> {
     script.extend_from_slice(b"\nput h 10\nxyz")?;
     let want =
         b"search 1 version 1 lines 1\nf:1:abc\nline 5 refused: cannot load\nsearch 2 refused: pattern too long at 1024\nline 7 refused: truncated\n".as_slice();
-    expect_text(&rt, alloc, &mut source_over(&[], b"", 0), PLAIN, &script, want, 2)?;
+    expect_text(
+        &rt,
+        alloc,
+        &mut source_over(&[], b"", 0),
+        PLAIN,
+        &script,
+        want,
+        2,
+    )?;
     Ok(())
 }
 
@@ -537,10 +553,13 @@ fn writers(rt: HostRuntime) -> Result<(), Fail> {
 #[test]
 fn a_script_too_long(rt: HostRuntime) -> Result<(), Fail> {
     let alloc = rt.alloc();
-    let mut script = Vec::new(alloc);
-    for _ in 0..67_108_865u32 {
-        script.push(b'\n')?;
+    let mut script = Vec::from_slice(alloc, b"\n\n\n\n\n\n\n\n")?;
+    for _ in 0..23 {
+        let half = Vec::from_slice(alloc, &script)?;
+        script.extend_from_slice(&half)?;
     }
+    assert_eq!(rt; script.len(), 67_108_864);
+    script.push(b'\n')?;
     let options = Options {
         readers: 2,
         max_commands: 65_536,
