@@ -1,28 +1,11 @@
 -- The texts of refusals (this program's choice).
 use Rattle.std.specs.Prelude.{ℕ, List, codes}
-use Rattle.ere.specs.declared.error.EreErrorKind.{EreErrorKind}
-use Rattle.ere.specs.declared.error.EreErrorKind.TheVariants as pattern
 use Rattle.index.specs.declared.error.NameError.{NameError}
 use Rattle.index.specs.declared.error.NameError.TheVariants as name
 use Rattle.index.specs.declared.error.BodyErrorKind.{BodyErrorKind}
 use Rattle.index.specs.declared.error.BodyErrorKind.TheVariants as body
 use Rattle.tsearch.specs.declared.transcript.Reason.{Reason}
 use Rattle.tsearch.specs.declared.transcript.Reason.TheVariants as line
-
--- why a pattern is refused
-abbrev pub text_of_kind : EreErrorKind → List ℕ
-text_of_kind pattern.TooLong = codes "pattern too long"
-text_of_kind pattern.BadByte = codes "bad byte"
-text_of_kind pattern.BadEscape = codes "bad escape"
-text_of_kind pattern.BadBracket = codes "bracket not closed"
-text_of_kind pattern.BadRange = codes "bad range"
-text_of_kind pattern.BadClass = codes "unknown class"
-text_of_kind pattern.BadInterval = codes "bad interval"
-text_of_kind pattern.NothingToRepeat = codes "nothing to repeat"
-text_of_kind pattern.Unclosed = codes "group not closed"
-text_of_kind pattern.TooDeep = codes "too deep"
-text_of_kind pattern.TooLarge = codes "too large"
-text_of_kind pattern.OutOfMemory = codes "out of memory"
 
 abbrev pub text_of_name_error : NameError → List ℕ
 text_of_name_error name.Empty = codes "name empty"

@@ -8,10 +8,11 @@ use Rattle.tsearch.specs.declared.transcript.Entry.TheVariants.{Accepted, Refuse
 use Rattle.tsearch.specs.declared.transcript.Reason.{Reason}
 use Rattle.tsearch.specs.declared.transcript.SearchReason.{SearchReason}
 use Rattle.tsearch.specs.declared.transcript.SearchReason.TheVariants as search
-use Rattle.tsearch.specs.Reasons.{text_of_kind, text_of_reason}
+use Rattle.ere.specs.Faults.{reason_of}
+use Rattle.tsearch.specs.Reasons.{text_of_reason}
 
 abbrev pub text_of_fault : EreError → List ℕ
-text_of_fault error = text_of_kind error.kind ++ codes " at " ++ decimal error.at
+text_of_fault error = reason_of error.kind ++ codes " at " ++ decimal error.at
 
 abbrev pub text_of_search_reason : SearchReason → List ℕ
 text_of_search_reason (search.Pattern error) = text_of_fault error

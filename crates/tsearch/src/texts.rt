@@ -1,35 +1,15 @@
 //! The texts of entries.
 
 ghost use Rattle.std.specs.Prelude.{◌≡◌, ◌++◌, OnOk};
-ghost use Rattle.tsearch.specs.Reasons.{text_of_kind, text_of_name_error, text_of_body_error, text_of_reason};
+ghost use Rattle.tsearch.specs.Reasons.{text_of_name_error, text_of_body_error, text_of_reason};
 ghost use Rattle.tsearch.specs.Transcript.{text_of_entry, text_of_fault, text_of_search_reason, line_refusal, search_refusal};
 
 use crate::transcript::{Entry, Reason, SearchReason};
-use ere::{EreError, EreErrorKind};
+use ere::EreError;
 use index::{BodyErrorKind, NameError};
 use itoa::Buffer;
 use search::append_all;
 use std::alloc::AllocError;
-
-/// Why a pattern is refused.
-fn kind_text(kind: EreErrorKind) -> &'static str
-    ensures { result.now ≡ text_of_kind kind }
-{
-    match kind {
-        EreErrorKind::TooLong => "pattern too long",
-        EreErrorKind::BadByte => "bad byte",
-        EreErrorKind::BadEscape => "bad escape",
-        EreErrorKind::BadBracket => "bracket not closed",
-        EreErrorKind::BadRange => "bad range",
-        EreErrorKind::BadClass => "unknown class",
-        EreErrorKind::BadInterval => "bad interval",
-        EreErrorKind::NothingToRepeat => "nothing to repeat",
-        EreErrorKind::Unclosed => "group not closed",
-        EreErrorKind::TooDeep => "too deep",
-        EreErrorKind::TooLarge => "too large",
-        EreErrorKind::OutOfMemory => "out of memory",
-    }
-}
 
 fn name_text(error: NameError) -> &'static str
     ensures { result.now ≡ text_of_name_error error }
@@ -92,7 +72,7 @@ fn append_fault(out: &mut Vec<u8>, error: EreError) -> Result<(), AllocError>
     append_all(
         out,
         &[
-            kind_text(error.kind).as_bytes(),
+            error.kind.reason().as_bytes(),
             b" at ".as_slice(),
             at.format(error.at).as_bytes(),
         ],
