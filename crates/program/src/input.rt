@@ -1,6 +1,6 @@
 //! Files and standard input, read up to a limit.
 
-ghost use Rattle.std.specs.Prelude.{◌≡◌, ◌≤◌, IfOk, IfSome, length, take};
+ghost use Rattle.std.specs.Prelude.{◌≡◌, IfOk, IfSome, take};
 
 use crate::error::ProgramError;
 use script::MAX_SCRIPT;
@@ -11,8 +11,7 @@ use std::rt::Files;
 
 /// Reads the bytes of a reader to its end, or the first `most` of them where there are more.
 pub fn read_at_most<R: Read + Drop>(alloc: Global, reader: R, most: u64) -> io::Result<Vec<u8>>
-    ensures few { IfOk result (λ bytes. length bytes.items ≤ most) }
-    ensures bytes { IfSome (R.remaining reader) (λ all. IfOk result (λ bytes. bytes.items ≡ take most all)) }
+    ensures { IfSome (R.remaining reader) (λ all. IfOk result (λ bytes. bytes.items ≡ take most all)) }
 {
     let mut bytes = Vec::new(alloc);
     reader.take(most).read_to_end(&mut bytes)?;

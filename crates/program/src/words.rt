@@ -1,9 +1,10 @@
 //! The words of the program.
 
 ghost use Rattle.std.specs.Prelude.{◌≤◌, ◌<◌, IfOk};
+ghost use Rattle.program.specs.Options.{HasOptions};
 
 use clap::error::ErrorKind;
-use clap::{Arg, ArgAction, Command, Error};
+use clap::{Arg, ArgAction, Command, Error, value_parser};
 use std::alloc::{AllocError, Global};
 use tsearch::Options;
 
@@ -25,7 +26,11 @@ pub struct Settings<'a> {
 /// Reads the words, the program's name first.
 ///
 /// An `Err` says what is wrong with them, or has the help that they ask for, or says that memory ran out.
-pub fn read_words<'a>(alloc: Global, words: &'a [String]) -> Result<Settings<'a>, Error> {
+pub fn read_words<'a>(alloc: Global, words: &'a [String]) -> Result<Settings<'a>, Error>
+    ensures readers { IfOk result (λ settings. settings.options.readers ≤ 16) }
+    ensures some_commands { IfOk result (λ settings. 0 < settings.options.max_commands) }
+    ensures few_commands { IfOk result (λ settings. settings.options.max_commands ≤ 1000000) }
+{
     let matches = command(alloc)?.try_get_matches_from(words)?;
     let readers = matches.get_one::<u32>("readers");
     let max_commands = matches.get_one::<u32>("max-commands");
@@ -52,21 +57,23 @@ pub fn no_text(alloc: Global) -> Error {
     }
 }
 
-fn command<'a>(alloc: Global) -> Result<Command<'a>, AllocError> {
+fn command<'a>(alloc: Global) -> Result<Command<'a>, AllocError>
+    ensures { IfOk result HasOptions }
+{
     let readers = Arg::new(alloc, "readers")
         .long("readers")
         .value_name("N")
-        .value_parser(clap::value_parser!(u32).range(0..=16))
-        .help("How many reader threads answer the searches, 0 to 16 [default: 2]");
+        .help("How many reader threads answer the searches, 0 to 16 [default: 2]")
+        .value_parser(value_parser!(u32).range(0..=16));
     let stats = Arg::new(alloc, "stats")
         .long("stats")
-        .action(ArgAction::SetTrue)
-        .help("Tells of each answer how many documents its trigrams left to be searched");
+        .help("Tells of each answer how many documents its trigrams left to be searched")
+        .action(ArgAction::SetTrue);
     let max_commands = Arg::new(alloc, "max-commands")
         .long("max-commands")
         .value_name("N")
-        .value_parser(clap::value_parser!(u32).range(1..=1_000_000))
-        .help("How many puts, loads and removes are accepted, 1 to 1000000 [default: 65536]");
+        .help("How many puts, loads and removes are accepted, 1 to 1000000 [default: 65536]")
+        .value_parser(value_parser!(u32).range(1..=1_000_000));
     let file = Arg::new(alloc, "FILE").help("The script; without it standard input is read");
     Command::new(alloc, "tsearch")
         .about(ABOUT)
