@@ -134,17 +134,17 @@ takes_bad_put n text line rest others some first words none =
 not_digit : (byte d : ℕ) → byte < 48 → is_digit d ≡ true → d ≢ byte
 not_digit byte d small here = grind (arith, nat_tests)
 
-lacks_byte : (byte : ℕ) (digits : List ℕ) → byte < 48 → AllByRecursion (λ d. is_digit d ≡ true) digits → Lacks byte digits
+pub lacks_byte : (byte : ℕ) (digits : List ℕ) → byte < 48 → AllByRecursion (λ d. is_digit d ≡ true) digits → Lacks byte digits
 lacks_byte byte [] small pass = tt
 lacks_byte byte (d ∷ digits) small pass = (not_digit byte d small pass.0, lacks_byte byte digits small pass.1)
 
-in_back : (byte : ℕ) (front back whole : List ℕ) → whole ≡ front ++ byte ∷ back → Lacks byte whole → ⊥
+pub in_back : (byte : ℕ) (front back whole : List ℕ) → whole ≡ front ++ byte ∷ back → Lacks byte whole → ⊥
 in_back byte [] back whole e l = (subst (Lacks byte) e l).0 refl
 in_back byte (c ∷ front) back [] e l = cc
 in_back byte (c ∷ front) back (d ∷ whole) e l = in_back byte front back whole (cc) l.1
 
 -- A text is cut at its last such byte in one way.
-last_cut_once : (byte : ℕ) (front front' back back' : List ℕ) → front ++ byte ∷ back ≡ front' ++ byte ∷ back' → Lacks byte back → Lacks byte back' → back ≡ back'
+pub last_cut_once : (byte : ℕ) (front front' back back' : List ℕ) → front ++ byte ∷ back ≡ front' ++ byte ∷ back' → Lacks byte back → Lacks byte back' → back ≡ back'
 last_cut_once byte [] [] back back' e l l' = cc
 last_cut_once byte [] (c ∷ front') back back' e l l' = absurd (in_back byte front' back' back (cc) l)
 last_cut_once byte (c ∷ front) [] back back' e l l' = absurd (in_back byte front back back' (cc) l')

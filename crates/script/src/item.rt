@@ -1,14 +1,16 @@
-//! The items of a script.
+//! The items of a script. The language is this program's own: one space separates words, and `docs/SCRIPT.md`
+//! has its table of lines.
 
 /// An item of a script, with its words and bodies as they stand in the script.
 #[derive(Clone, Copy, Debug)]
 pub enum Item<'a> {
-    /// `put NAME N` and the N bytes behind its line.
+    /// `put NAME N` and the N bytes behind its line. Nothing is said yet of the name and the body: they may be
+    /// empty, or none that documents may have.
     Put {
         name: &'a [u8],
         body: &'a [u8],
     },
-    /// `load NAME PATH`.
+    /// `load NAME PATH`. The path isn't empty.
     Load {
         name: &'a [u8],
         path: &'a [u8],
@@ -19,7 +21,7 @@ pub enum Item<'a> {
     },
     /// `publish`.
     Publish,
-    /// `search ERE`.
+    /// `search ERE`. A line `search` alone has the empty pattern.
     Search {
         pattern: &'a [u8],
     },
@@ -40,9 +42,11 @@ pub enum Item<'a> {
     BodyNotClosed,
 }
 
-/// An item and the number of its line, from 1.
+/// An item and the number of its line.
 #[derive(Clone, Copy, Debug)]
 pub struct Numbered<'a> {
+    /// From 1. The lines of bodies count too.
     pub line: u32,
+    /// What the line says.
     pub item: Item<'a>,
 }

@@ -2,7 +2,10 @@
 #![tactic(auto)]
 
 pub mod item;
+pub mod laws;
 pub mod reader;
+#[cfg(test)]
+mod tests;
 mod words;
 
 pub use item::{Item, Numbered};

@@ -35,7 +35,7 @@ impl<'a> ScriptReader<'a> {
     ghost use Rattle.script.specs.Place.{place};
     ghost use Rattle.script.specs.Reading.{Takes};
 
-    /// A reader of the whole script.
+    /// A reader of the whole script, which has at most `MAX_SCRIPT` bytes. Its first line has the number 1.
     pub fn new(script: &'a [u8]) -> ScriptReader<'a>
         requires { length script.now ≤ MAX_SCRIPT }
         ensures { result ≡ place 1 script.now }
@@ -46,8 +46,9 @@ impl<'a> ScriptReader<'a> {
         }
     }
 
-    /// Takes the next item. `None`: there is none. Empty lines and comments are passed over, and a fault
-    /// that ends the reading leaves nothing.
+    /// Takes the next item, with the number of its line. `None`: there is none. Empty lines and comments are
+    /// passed over, and a fault that ends the reading leaves nothing. It takes no memory and never fails: a line
+    /// that is no item is an item of its own, such as `Item::BadLine`.
     pub fn next_item(&mut self) -> Option<Numbered<'a>>
         ensures item { MatchOption result
             (ItemsFrom self.old.line self.old.rest [])

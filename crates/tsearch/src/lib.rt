@@ -10,6 +10,8 @@ pub mod run;
 mod session;
 pub mod source;
 mod store;
+#[cfg(test)]
+mod tests;
 mod texts;
 pub mod transcript;
 

@@ -25,9 +25,11 @@ pub enum WriteError {
     OutOfMemory,
 }
 
-/// Writes the text of a transcript. After an `Err` what was written is a beginning of that text.
+/// Writes the text of a transcript, entry by entry: the lines of searches and of refusals (this program's
+/// choice; `NAME:LINE:TEXT` is grep's form). With `stats` each answer tells its candidates too.
 ///
-/// With `stats` each answer tells its candidates too.
+/// `Failed` comes where the writer failed, `Stopped` where it took no byte, and `OutOfMemory` where memory ran
+/// out for an entry's text. After an `Err` what was written is a beginning of the text.
 pub fn write_transcript<W: Write>(
     alloc: Global,
     transcript: &Transcript,

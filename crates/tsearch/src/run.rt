@@ -33,7 +33,11 @@ pub enum RunError {
 /// Runs a script, and says what became of each of its items.
 ///
 /// The transcript is legal for the script (`docs/DEFINITIONS.md`): each search is answered for the
-/// documents after some published list of commands, and lists exactly the lines with a match.
+/// documents after some published list of commands, and lists exactly the lines with a match. An item that is
+/// refused is an entry of the transcript, and the run goes on behind it.
+///
+/// `ScriptTooLong` is answered exactly where the script has over 67,108,864 bytes, and `OutOfMemory` where
+/// memory ran out for the transcript itself. After an `Err` there is no transcript.
 pub fn run<S: Source>(
     alloc: Global,
     script: &[u8],

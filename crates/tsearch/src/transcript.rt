@@ -77,13 +77,15 @@ pub enum Entry {
     },
 }
 
-/// The entries of a run, in the order of the script: one for each item but `sync`.
+/// What a run answered.
 #[derive(Debug, Drop)]
 pub struct Transcript {
+    /// In the order of the script, one for each item but `sync`.
     pub entries: Vec<Entry>,
 }
 
-/// The status of a run: 2 where anything was refused, else 0 where some search has a hit, else 1.
+/// The status of a run: 2 where anything was refused, a line or a search, else 0 where some search has a hit,
+/// else 1. So do grep's statuses, by POSIX.1-2017, XCU, grep, EXIT STATUS.
 pub fn status(transcript: &Transcript) -> u8
     ensures { result ≡ status_of transcript.now.entries.items }
 {
