@@ -7,6 +7,7 @@ use Rattle.std.specs.Borrow.{Bor}
 use Rattle.std.specs.Str.Parse.{ParsesUnsigned}
 use Rattle.std.proofs.lemmas.Slice.Eq.{bytes_eq-Decides}
 use Rattle.std.proofs.lemmas.List.Elements.{All-get_or}
+use Rattle.std.proofs.lemmas.List.{get_or-map, length-map}
 use Rattle.clap.specs.Lexer.{without_minus}
 use Rattle.clap.specs.Values.{Accepts, IsSignedIn}
 use Rattle.clap.specs.Facts.{args_of, groups_of, Entry, EntryPasses, HasReading, PassesArg, parser_of, parser_of_value}
@@ -60,7 +61,7 @@ module _ (old : Command) (m : ArgMatches) (p : IsParsedFrom old m) (options : Ha
       (value : (t : List ℕ) → one_text (found_of m) id ≡ Some t → ReadsOne G t r) where
 
     -- the option's number, where it is given
-    IsNumber : Type 0
+    abbrev pub IsNumber : Type 0
     IsNumber = (r ≡ None) ⊎ ((n : ℕ) × (r ≡ Some n) × (low ≤ n) × (n ≤ high))
 
     from_values : (x : MatchedArg) (vs : List (Bor (List ℕ))) → matched_of (found_of m) id ≡ Some x → x.vals.items ≡ vs → x.reading ≡ WithoutMinus
@@ -106,67 +107,62 @@ pub or_default : (r : Option ℕ) (low high d : ℕ) → ((r ≡ None) ⊎ ((n :
 or_default r low high d (inl none) above below = rw none (above, below)
 or_default r low high d (inr some) above below = rw some.1 (some.2, some.3)
 
--- four arguments, by their names
-four : (xs : List Arg) (a b c d : List ℕ) → map (λ x. x.id.now) xs ≡ a ∷ b ∷ c ∷ d ∷ []
-    → (x y z w : Arg) × (xs ≡ x ∷ y ∷ z ∷ w ∷ []) × (x.id.now ≡ a) × (y.id.now ≡ b) × (z.id.now ≡ c) × (w.id.now ≡ d)
-four [] a b c d h = cc
-four (x ∷ []) a b c d h = cc
-four (x ∷ y ∷ []) a b c d h = cc
-four (x ∷ y ∷ z ∷ []) a b c d h = cc
-four (x ∷ y ∷ z ∷ w ∷ []) a b c d h = (x, y, z, w, refl, cc, cc, cc, cc)
-four (x ∷ y ∷ z ∷ w ∷ v ∷ rest) a b c d h = cc
+abbrev option_names : List (List ℕ)
+option_names = codes "readers" ∷ codes "stats" ∷ codes "max-commands" ∷ codes "FILE" ∷ []
 
--- the place of a name that is met once among four
-place_of_four : (j : ℕ) (x y z w e : Arg) → j < 4 → (P : ℕ → Arg → Type 0) → P 0 x → P 1 y → P 2 z → P 3 w
-    → P j (slice_index_or (x ∷ y ∷ z ∷ w ∷ []) j e)
-place_of_four zero x y z w e lt P p0 p1 p2 p3 = p0
-place_of_four (suc zero) x y z w e lt P p0 p1 p2 p3 = p1
-place_of_four (suc (suc zero)) x y z w e lt P p0 p1 p2 p3 = p2
-place_of_four (suc (suc (suc zero))) x y z w e lt P p0 p1 p2 p3 = p3
-place_of_four (suc (suc (suc (suc n)))) x y z w e lt P p0 p1 p2 p3 = absurd (omega arith)
+four_options : (c : Command) → HasOptions c → length (args_of c) ≡ 4
+four_options c options = sym (length-map (args_of c) (λ (a : Arg). a.id.now)) ∙ ap length options.names
+
+name_at : (c : Command) → HasOptions c → (j : ℕ) (e : Arg) → j < length (args_of c)
+    → (slice_index_or (args_of c) j e).id.now ≡ slice_index_or option_names j []
+name_at c options j e lt =
+    sym (get_or-map (λ (a : Arg). a.id.now) (args_of c) j e [] lt) ∙ ap (λ (l : List (List ℕ)). slice_index_or l j []) options.names
+
+first_of : (xs : List Arg) → 0 < length xs → Arg
+first_of [] lt = absurd (omega arith)
+first_of (x ∷ xs) lt = x
+
+readers_alone : (j : ℕ) → j < 4 → bytes_eq (slice_index_or option_names j []) (codes "readers") ≡ true → j ≡ 0
+readers_alone zero lt same = refl
+readers_alone (suc zero) lt same = cc
+readers_alone (suc (suc zero)) lt same = cc
+readers_alone (suc (suc (suc zero))) lt same = cc
+readers_alone (suc (suc (suc (suc n)))) lt same = absurd (omega arith)
+
+max_commands_alone : (j : ℕ) → j < 4 → bytes_eq (slice_index_or option_names j []) (codes "max-commands") ≡ true → j ≡ 2
+max_commands_alone zero lt same = cc
+max_commands_alone (suc zero) lt same = cc
+max_commands_alone (suc (suc zero)) lt same = refl
+max_commands_alone (suc (suc (suc zero))) lt same = cc
+max_commands_alone (suc (suc (suc (suc n)))) lt same = absurd (omega arith)
+
+-- the option at a place below four, whose name is met once and begins with neither `h` nor `v`
+option_at : (c : Command) → HasOptions c → (k : ℕ) → k < 4 → (id : List ℕ) → slice_index_or option_names k [] ≡ id
+    → ((j : ℕ) → j < 4 → bytes_eq (slice_index_or option_names j []) id ≡ true → j ≡ k)
+    → (slice_index_or id 0 0 ≡ 0 → ⊥) → (slice_index_or id 0 0 ≡ 104 → ⊥) → (slice_index_or id 0 0 ≡ 118 → ⊥)
+    → IsOption c k id
+option_at c options k lt id at alone some no_h no_v =
+    let count = four_options c options in
+    let below : k < length (args_of c) = rw count lt in
+    let named : (d : Arg) → (slice_index_or (args_of c) k d).id.now ≡ id = λ d. name_at c options k d below ∙ at in
+    record {
+      any = first_of (args_of c) (rw count (omega arith));
+      below = below;
+      id_is = named;
+      only = λ d j e low same.
+          alone j (subst (λ (n : ℕ). j < n) count low) (subst (λ (t : List ℕ). bytes_eq t id ≡ true) (name_at c options j e low)
+          (subst (λ (t : List ℕ). bytes_eq (slice_index_or (args_of c) j e).id.now t ≡ true) (named d) same));
+      named = λ empty. some (ap (λ (t : List ℕ). slice_index_or t 0 0) empty);
+      own = λ d auto. elim auto [
+        | inl h ↦ no_h (ap (λ (t : List ℕ). slice_index_or t 0 0) (sym (named d) ∙ h))
+        | inr h ↦ no_v (ap (λ (t : List ℕ). slice_index_or t 0 0) (sym (named d) ∙ h))
+      ];
+    }
 
 pub readers_option : (c : Command) → HasOptions c → IsOption c 0 (codes "readers")
-readers_option c options = go (four (args_of c) _ _ _ _ options.names)
-  where
-    go : ((x y z w : Arg) × (args_of c ≡ x ∷ y ∷ z ∷ w ∷ []) × (x.id.now ≡ codes "readers") × (y.id.now ≡ codes "stats") × (z.id.now ≡ codes "max-commands") × (w.id.now ≡ codes "FILE"))
-        → IsOption c 0 (codes "readers")
-    go (x, y, z, w, list, ix, iy, iz, iw) = record {
-      any = x;
-      below = rw list (omega arith);
-      id_is = λ d. rw list ix;
-      only = λ d j e lt same.
-          let low : j < 4 = subst (λ l. j < length l) list lt in
-          let same2 : bytes_eq (slice_index_or (x ∷ y ∷ z ∷ w ∷ []) j e).id.now (codes "readers") ≡ true = rw (list, ix) at same in
-          place_of_four j x y z w e low (λ n a. bytes_eq a.id.now (codes "readers") ≡ true → n ≡ 0)
-          (λ s. refl) (λ s. let bad : false ≡ true = rw iy at s in cc) (λ s. let bad : false ≡ true = rw iz at s in cc) (λ s. let bad : false ≡ true = rw iw at s in cc) same2;
-      named = λ empty. cc;
-      own = λ d auto.
-          let is : (slice_index_or (args_of c) 0 d).id.now ≡ codes "readers" = rw list ix in
-          elim auto [
-            | inl h ↦ let bad : 114 ≡ 104 = ap (λ t. slice_index_or t 0 0) (sym is ∙ h) in absurd (omega arith)
-            | inr h ↦ let bad : 114 ≡ 118 = ap (λ t. slice_index_or t 0 0) (sym is ∙ h) in absurd (omega arith)
-          ];
-    }
+readers_option c options =
+    option_at c options 0 (omega arith) (codes "readers") refl readers_alone (λ e. absurd (omega arith)) (λ e. absurd (omega arith)) (λ e. absurd (omega arith))
 
 pub max_commands_option : (c : Command) → HasOptions c → IsOption c 2 (codes "max-commands")
-max_commands_option c options = go (four (args_of c) _ _ _ _ options.names)
-  where
-    go : ((x y z w : Arg) × (args_of c ≡ x ∷ y ∷ z ∷ w ∷ []) × (x.id.now ≡ codes "readers") × (y.id.now ≡ codes "stats") × (z.id.now ≡ codes "max-commands") × (w.id.now ≡ codes "FILE"))
-        → IsOption c 2 (codes "max-commands")
-    go (x, y, z, w, list, ix, iy, iz, iw) = record {
-      any = x;
-      below = rw list (omega arith);
-      id_is = λ d. rw list iz;
-      only = λ d j e lt same.
-          let low : j < 4 = subst (λ l. j < length l) list lt in
-          let same2 : bytes_eq (slice_index_or (x ∷ y ∷ z ∷ w ∷ []) j e).id.now (codes "max-commands") ≡ true = rw (list, iz) at same in
-          place_of_four j x y z w e low (λ n a. bytes_eq a.id.now (codes "max-commands") ≡ true → n ≡ 2)
-          (λ s. let bad : false ≡ true = rw ix at s in cc) (λ s. let bad : false ≡ true = rw iy at s in cc) (λ s. refl) (λ s. let bad : false ≡ true = rw iw at s in cc) same2;
-      named = λ empty. cc;
-      own = λ d auto.
-          let is : (slice_index_or (args_of c) 2 d).id.now ≡ codes "max-commands" = rw list iz in
-          elim auto [
-            | inl h ↦ let bad : 109 ≡ 104 = ap (λ t. slice_index_or t 0 0) (sym is ∙ h) in absurd (omega arith)
-            | inr h ↦ let bad : 109 ≡ 118 = ap (λ t. slice_index_or t 0 0) (sym is ∙ h) in absurd (omega arith)
-          ];
-    }
+max_commands_option c options =
+    option_at c options 2 (omega arith) (codes "max-commands") refl max_commands_alone (λ e. absurd (omega arith)) (λ e. absurd (omega arith)) (λ e. absurd (omega arith))
