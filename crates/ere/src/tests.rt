@@ -18,38 +18,12 @@ fn refuses(rt: &impl Abort, alloc: Global, pattern: &[u8], kind: EreErrorKind, a
 
 /// Tells that the pattern is one set, of exactly these bytes.
 fn is_set(rt: &impl Abort, alloc: Global, pattern: &[u8], bytes: &[u8]) {
-    match parse(alloc, pattern) {
-        Ok(Ere::Set(members)) => {
-            for i in 0..256 {
-                let byte = i as u8;
-                assert_eq!(rt;
-                    members.has(byte),
-                    bytes.contains(&byte),
-                    "{byte} in {pattern:?}"
-                );
-            }
-        }
-        Ok(tree) => assert!(rt; false, "{pattern:?} is read as {tree:?}"),
-        Err(error) => assert!(rt; false, "{pattern:?} is refused: {error:?}"),
-    }
-}
-
-/// Tells that the pattern is one set, of the bytes from `low` to `high`.
-fn is_range(rt: &impl Abort, alloc: Global, pattern: &[u8], low: u8, high: u8) {
-    match parse(alloc, pattern) {
-        Ok(Ere::Set(members)) => {
-            for i in 0..256 {
-                let byte = i as u8;
-                assert_eq!(rt;
-                    members.has(byte),
-                    low <= byte && byte <= high,
-                    "{byte} in {pattern:?}"
-                );
-            }
-        }
-        Ok(tree) => assert!(rt; false, "{pattern:?} is read as {tree:?}"),
-        Err(error) => assert!(rt; false, "{pattern:?} is refused: {error:?}"),
-    }
+    has_tree(
+        rt,
+        alloc,
+        pattern,
+        &Ere::Set(ByteSet::of(|b| bytes.contains(&b))),
+    );
 }
 
 fn has_tree(rt: &impl Abort, alloc: Global, pattern: &[u8], tree: &Ere) {
@@ -238,27 +212,38 @@ fn sets(rt: HostRuntime) {
     for (pattern, bytes) in sets {
         is_set(&rt, alloc, pattern, bytes);
     }
-    is_range(&rt, alloc, b"[%--]", 37, 45);
-    is_range(&rt, alloc, b"[--@]", 45, 64);
-    is_range(&rt, alloc, b"[[.-.]-0]", 45, 48);
-    is_range(&rt, alloc, b"[]-a]", 93, 97);
-    is_range(&rt, alloc, b"[[:digit:]]", 48, 57);
+    has_tree(&rt, alloc, b"[%--]", &Ere::Set(ByteSet::between(37, 45)));
+    has_tree(&rt, alloc, b"[--@]", &Ere::Set(ByteSet::between(45, 64)));
+    has_tree(
+        &rt,
+        alloc,
+        b"[[.-.]-0]",
+        &Ere::Set(ByteSet::between(45, 48)),
+    );
+    has_tree(&rt, alloc, b"[]-a]", &Ere::Set(ByteSet::between(93, 97)));
+    has_tree(
+        &rt,
+        alloc,
+        b"[[:digit:]]",
+        &Ere::Set(ByteSet::between(48, 57)),
+    );
 }
 
 #[test]
 fn whole_sets(rt: HostRuntime) {
     let alloc = rt.alloc();
-    match parse(alloc, b".") {
-        Ok(Ere::Set(members)) => assert_eq!(rt; members.len(), 254),
-        _ => assert!(rt; false),
-    }
-    match parse(alloc, b"[^]-]") {
-        Ok(Ere::Set(members)) => {
-            assert_eq!(rt; members.len(), 252);
-            assert!(rt; !members.has(b']') && !members.has(b'-') && !members.is_empty());
-        }
-        _ => assert!(rt; false),
-    }
+    has_tree(
+        &rt,
+        alloc,
+        b".",
+        &Ere::Set(ByteSet::of(|b| b != 0 && b != 10)),
+    );
+    has_tree(
+        &rt,
+        alloc,
+        b"[^]-]",
+        &Ere::Set(ByteSet::of(|b| b != b']' && b != b'-')),
+    );
 }
 
 #[test]
