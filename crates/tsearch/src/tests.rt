@@ -298,6 +298,7 @@ fn faults_of_puts(rt: HostRuntime) -> Result<(), Fail> {
 }
 
 #[test]
+#[ignore]
 fn candidates(rt: HostRuntime) -> Result<(), Fail> {
     let alloc = rt.alloc();
     let cases = [
