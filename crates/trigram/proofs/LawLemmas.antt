@@ -1,7 +1,7 @@
 -- The laws of the analysis, by induction on trees.
-use Rattle.std.proofs.Common.{◌≡◌, ℕ, zero, suc, ◌+◌, ◌<◌, ◌≤◌, Bool, true, false, cond, ◌==◌, nat_lt, nat_le, IsTrue, List, [], ◌∷◌, ◌++◌, length, map, filter, refl, sym, ap, subst, ◌∙◌, arith, ◌⊎◌, inl, inr, ⊎_elim, Option, Some, None, IfSome, Contains}
+use Rattle.std.proofs.Common.{◌≡◌, ℕ, zero, suc, ◌+◌, ◌<◌, ◌≤◌, Bool, true, false, cond, ◌==◌, nat_lt, nat_le, IsTrue, List, [], ◌∷◌, ◌++◌, length, map, filter, refl, sym, ap, subst, ◌∙◌, arith, ◌⊎◌, inl, inr, ⊎_elim, Option, Some, None, IfSome, Contains, IsFalse}
 use Rattle.std.specs.List.{range_with_len}
-use Rattle.std.proofs.lemmas.Bool.{or_cases, or_left, or_right, and_parts, and_from, false≢true, true≢false, cases_eq}
+use Rattle.std.proofs.lemmas.Bool.{or_cases, or_left, or_right, and_parts, and_from, false≢true, true≢false, cases_eq, cases_Bool}
 use Rattle.std.proofs.lemmas.Bool.Decides.{nat_tests}
 use Rattle.std.proofs.lemmas.List.{append_assoc, append-nil}
 use Rattle.std.proofs.lemmas.List.Folds.{list_any_at}
@@ -12,10 +12,10 @@ use Rattle.ere.specs.Limits.{IsProper, AreProper}
 use Rattle.ere.specs.LanguageLaws.{WordSet, IsWord, IsWordOfEach, IsWordOfSome, IsWord-from_language, IsWord-from_without_anchors, without_anchors-from_word}
 use Rattle.ere.specs.Lines.{lines_of}
 use Rattle.trigram.specs.Trigrams.{TrigramSet, trigram_of, front_trigram, holds_front, trigrams_of_text, trigrams_of_body, has_all_trigrams}
-use Rattle.trigram.specs.Texts.{Texts}
+use Rattle.trigram.specs.Texts.{Texts, has_text, with_text, with_texts, distinct}
 use Rattle.trigram.specs.Analysis.{Analysis, known, loose, either, both, repeated, bytes_in, one_byte, just_empty, analysis_of, both_all, either_all, condition_of}
-use Rattle.trigram.specs.Laws.{KnownTextsAreTheWords, MatchingLineMeetsCondition, TrigramsAreHeld}
-use Rattle.trigram.proofs.MemberLemmas.{IsIn, IsIn-has_text, has_text-IsIn}
+use Rattle.trigram.specs.Laws.{KnownTextsAreTheWords, MatchingLineMeetsCondition, TrigramsAreHeld, HasEachOnce, SetsHaveEachTextOnce}
+use Rattle.trigram.proofs.MemberLemmas.{IsIn, IsIn-has_text, has_text-IsIn, IsIn-distinct, IsIn-from_distinct, IsIn-append_cases}
 use Rattle.trigram.proofs.CoverLemmas.{Covers, Concat, Either, Repeated, covers_weaker, covers_either, covers_both, covers_at_least, covers_between, some_held, held_by_front, held_by_back}
 use Rattle.trigram.proofs.ExactLemmas.{IsExact, exact_wider, exact_either, exact_both, exact_at_least, exact_between}
 
@@ -194,3 +194,29 @@ matching_line t body line there hit =
     let whole = subst (λ l. IsTrue (has_all_trigrams l (trigrams_of_body body))) hit.is_line all in
     let word = held_by_front hit.word hit.after (trigrams_of_body body) (held_by_back hit.before (hit.word ++ hit.after) (trigrams_of_body body) whole) in
     meets_condition (analysis_of t) (IsWord t) (covers_tree t (IsWord t)) hit.word (IsWord-from_language t hit.before hit.word hit.after hit.in_language) (trigrams_of_body body) word
+
+not_in : (texts : Texts) (word : List ℕ) → (IsIn word texts → ⊥) → IsFalse (has_text texts word)
+not_in texts word n = ⊎_elim (λ yes. absurd (n (IsIn-has_text texts word yes))) (λ f. f) (cases_Bool (has_text texts word))
+
+once_push : (texts : Texts) (text : List ℕ) → HasEachOnce texts → (IsIn text texts → ⊥) → HasEachOnce (texts ++ text ∷ [])
+once_push [] text h n = (refl, tt)
+once_push (t ∷ texts) text h n = (
+  not_in (texts ++ text ∷ []) t (λ i. ⊎_elim (λ later. true≢false (sym (has_text-IsIn texts t later) ∙ h.0)) (λ last. ⊎_elim (λ same. n (inl (sym same))) (λ none. absurd none) last) (IsIn-append_cases texts (text ∷ []) t i)),
+  once_push texts text h.1 (λ i. n (inr i)),
+)
+
+once_with_text : (texts : Texts) (text : List ℕ) → HasEachOnce texts → HasEachOnce (with_text texts text)
+once_with_text texts text h = go (has_text texts text) refl
+  where
+    go : (b : Bool) → has_text texts text ≡ b → HasEachOnce (cond b texts (texts ++ text ∷ []))
+    go true e = h
+    go false e = once_push texts text h (λ i. true≢false (sym (has_text-IsIn texts text i) ∙ e))
+
+once_with_texts : (texts others : Texts) → HasEachOnce texts → HasEachOnce (with_texts texts others)
+unfolding with_texts
+once_with_texts texts [] h = h
+once_with_texts texts (text ∷ others) h = once_with_texts (with_text texts text) others (once_with_text texts text h)
+
+pub sets_once : SetsHaveEachTextOnce
+sets_once texts =
+    (once_with_texts [] texts tt, λ word. (λ h. has_text-IsIn texts word (IsIn-from_distinct texts word (IsIn-has_text (distinct texts) word h)), λ h. has_text-IsIn (distinct texts) word (IsIn-distinct texts word (IsIn-has_text texts word h))))

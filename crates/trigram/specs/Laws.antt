@@ -1,12 +1,12 @@
 -- The laws of the analysis: what a known set of texts is, and why a document may be passed over.
-use Rattle.std.specs.Prelude.{◌≡◌, ℕ, List, IsTrue, ◌↔◌, Contains}
+use Rattle.std.specs.Prelude.{◌≡◌, ℕ, List, [], ◌∷◌, IsTrue, IsFalse, ◌↔◌, Contains}
 use Rattle.ere.specs.Tree.{Tree}
 use Rattle.ere.specs.Limits.{IsProper}
 use Rattle.ere.specs.Language.{InLanguage, Hit}
 use Rattle.ere.specs.LanguageLaws.{without_anchors}
 use Rattle.ere.specs.Lines.{lines_of}
 use Rattle.trigram.specs.Trigrams.{TrigramSet, trigrams_of_text, trigrams_of_body, has_all_trigrams}
-use Rattle.trigram.specs.Texts.{Texts, has_text}
+use Rattle.trigram.specs.Texts.{Texts, has_text, distinct}
 use Rattle.trigram.specs.Analysis.{known, analysis_of, Condition}
 
 -- A known set is exactly the words of the tree with the empty text for each anchor.
@@ -23,3 +23,12 @@ MatchingLineMeetsCondition =
 abbrev pub TrigramsAreHeld : Type 0
 TrigramsAreHeld =
     (text : List ℕ) (set : TrigramSet) → IsTrue (has_all_trigrams text set) ↔ ((trigram : ℕ) → IsTrue (trigrams_of_text text trigram) → IsTrue (set trigram))
+
+abbrev pub HasEachOnce : Texts → Type 0
+HasEachOnce [] = Unit {0}
+HasEachOnce (text ∷ texts) = IsFalse (has_text texts text) × HasEachOnce texts
+
+-- A set that is made of a list has its texts and no others, each once: so its length is their number,
+-- whatever their order and however often the list has them.
+abbrev pub SetsHaveEachTextOnce : Type 0
+SetsHaveEachTextOnce = (texts : Texts) → HasEachOnce (distinct texts) × ((word : List ℕ) → IsTrue (has_text (distinct texts) word) ↔ IsTrue (has_text texts word))
