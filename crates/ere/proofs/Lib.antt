@@ -1,1 +1,11 @@
 pub mod SetLemmas
+pub mod Texts
+pub mod BracketLemmas
+pub mod BracketSteps
+pub mod TokenLemmas
+pub mod TokenSteps
+pub mod GrammarLemmas
+pub mod PartLemmas
+pub mod ReaderSteps
+pub mod TreeLaws
+pub mod Sizes

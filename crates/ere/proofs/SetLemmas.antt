@@ -1,8 +1,11 @@
 -- Sets made from a test, and 256 truth values as such a set.
-use Rattle.std.proofs.Common.{◌≡◌, ℕ, ◌<◌, Bool, true, false, ◌&&◌, ◌||◌, ◌==◌, nat_lt, IsTrue, List, length, get_or, set, refl, sym, ◌∙◌, arith, ◌≢◌, length-set}
+use Rattle.std.proofs.Common.{◌≡◌, ℕ, ◌+◌, ◌<◌, Bool, true, false, ◌&&◌, ◌||◌, ◌==◌, nat_lt, IsTrue, List, length, get_or, set, refl, sym, ◌∙◌, arith, ◌≢◌, ap, map, length-set}
 use Rattle.std.proofs.lemmas.List.{get_or-set_same, get_or-set_other}
 use Rattle.std.proofs.lemmas.List.FromFn.{get_or-map-range_with_len, length-map-range_with_len, fill_by_all}
+use Rattle.std.specs.List.{range_with_len}
 use Rattle.std.proofs.lemmas.Bool.Decides.{nat_tests}
+use native.Mathlib.Decide.{dec_lt}
+use mathlib.Core.Path.{fun_ext}
 use Rattle.ere.specs.ByteSet.{is_line_byte, has, set_of, with_byte, IsByteSet}
 
 pub length-set_of : (test : ℕ → Bool) → length (set_of test) ≡ 256
@@ -75,3 +78,39 @@ set-with_byte members byte h below line = set_of_all (λ b. has members b || b =
     at_byte b b_below false e =
         let other : b ≢ byte = grind (arith, nat_tests) in
         rw e (get_or-set_other members byte b true false other ∙ get_or-has members h b b_below ∙ stays_at (is_line_byte b) (get_or members b false))
+
+-- one truth value more: what holds of each below i, and of the new one at i, holds of each below i + 1
+pub set_more : (P : ℕ → Bool → Type 0) (members : List Bool) (i : ℕ) (v : Bool) → i < length members → ((k : ℕ) → k < i → P k (get_or members k false)) → P i v → (k : ℕ) → k < i + 1 → P k (get_or (set members i v) k false)
+set_more P members i v inside before here k below = go (dec_lt k i)
+  where
+    go : Dec (k < i) → P k (get_or (set members i v) k false)
+    go (yes less) =
+        let other : k ≢ i = omega arith in
+        rw (get_or-set_other members i k v false other) (before k less)
+    go (no same) =
+        let e : k ≡ i = omega arith in
+        rw e (rw (get_or-set_same members i v false inside) here)
+
+-- 256 truth values that hold only at line bytes
+pub IsByteSet-lines : (members : List Bool) → length members ≡ 256 → ((k : ℕ) → k < 256 → (t : Bool) × (get_or members k false ≡ (is_line_byte k && t))) → IsByteSet members
+IsByteSet-lines members whole lines = record {
+  whole = whole;
+  line_bytes = λ b below holds. left_of (is_line_byte b) (lines b below).0 (rw (lines b below).1 at holds);
+}
+  where
+    left_of : (a b : Bool) → IsTrue (a && b) → IsTrue a
+    left_of true b h = refl
+    left_of false b h = h
+
+pub and_at_true : (a t : Bool) → a ≡ true → t ≡ (a && t)
+and_at_true true t e = refl
+and_at_true false t e = absurd (cc)
+
+pub and_at_false : (a t : Bool) → a ≡ false → false ≡ (a && t)
+and_at_false true t e = absurd (cc)
+and_at_false false t e = refl
+
+-- two tests that agree on line bytes make one set
+pub set_of-ext : (p q : ℕ → Bool) → ((b : ℕ) → (is_line_byte b && p b) ≡ (is_line_byte b && q b)) → set_of p ≡ set_of q
+unfolding set_of
+set_of-ext p q h = ap (λ f. map f (range_with_len 0 256)) (fun_ext h)

@@ -8,3 +8,6 @@ pub mod Spelling
 pub mod Limits
 pub mod Language
 pub mod Lines
+pub mod Reading
+pub mod Faults
+pub mod LanguageLaws

@@ -1,7 +1,7 @@
 //! Sets of line bytes.
 
-ghost use Rattle.std.specs.Prelude.{◌≡◌, ◌↔◌, IsTrue, replicate};
-ghost use Rattle.ere.specs.ByteSet.{empty_set, has, is_line_byte, size_of, with_byte};
+ghost use Rattle.std.specs.Prelude.{◌≡◌, ◌↔◌, ℕ, Bool, IsTrue};
+ghost use Rattle.ere.specs.ByteSet.{all_line_bytes, bytes_between, complement, empty_set, has, is_line_byte, set_of, single, size_of, union, with_byte};
 
 use std::marker::Model;
 
@@ -31,9 +31,55 @@ impl ByteSet {
     pub fn empty() -> ByteSet
         ensures { result ≡ empty_set }
     {
-        ByteSet {
-            members: every(false),
+        ByteSet::of(|_| false)
+    }
+
+    /// The set of all 254 line bytes.
+    pub fn all() -> ByteSet
+        ensures { result ≡ all_line_bytes }
+    {
+        ByteSet::of(|_| true)
+    }
+
+    /// The set of this byte alone; of none, where it is no line byte.
+    pub fn single(byte: u8) -> ByteSet
+        ensures { result ≡ single byte }
+    {
+        ByteSet::of(|b| b == byte)
+    }
+
+    /// The line bytes from `low` to `high`, both among them.
+    pub fn between(low: u8, high: u8) -> ByteSet
+        ensures { result ≡ bytes_between low high }
+    {
+        ByteSet::of(|b| low <= b && b <= high)
+    }
+
+    /// The line bytes that pass a test.
+    pub fn of<F: Fn(u8) -> bool>(test: F) -> ByteSet
+        requires { F.IsAlwaysCallable test }
+        ensures { (passes : ℕ → Bool) → ((b : ℕ) (r : Bool) → F.post test b r → r ≡ passes b) → result ≡ set_of passes }
+    {
+        let mut members = [false; 256];
+        for i in 0..256 {
+            let byte = i as u8;
+            members[i] = is_line_byte(byte) && test(byte);
         }
+        ByteSet { members }
+    }
+
+    /// The bytes of either set.
+    pub fn union(&self, other: &ByteSet) -> ByteSet
+        ensures { result ≡ union self.now other.now }
+    {
+        ByteSet::of(|b| self.has(b) || other.has(b))
+    }
+
+    /// The line bytes that are not in the set.
+    pub fn complement(&self) -> ByteSet
+        ensures { result ≡ complement self.now }
+    {
+        ByteSet::of(|b| !self.has(b))
     }
 
     /// Whether the byte is in the set.
@@ -48,7 +94,8 @@ impl ByteSet {
         requires { IsTrue (is_line_byte byte) }
         ensures { self.new ≡ with_byte self.old byte }
     {
-        self.members[byte as usize] = true;
+        let place = byte as usize;
+        self.members[place] = true;
     }
 
     /// How many bytes are in the set, at most 254.
@@ -72,8 +119,9 @@ impl ByteSet {
     }
 }
 
-fn every(held: bool) -> [bool; 256]
-    ensures { result ≡ replicate 256 held }
+/// Whether the byte may stand in a line: any byte but 0 and the line feed (10).
+pub fn is_line_byte(byte: u8) -> bool
+    ensures { result ≡ is_line_byte byte }
 {
-    [held; 256]
+    byte != 0 && byte != 10
 }

@@ -1,6 +1,8 @@
 //! Why a pattern is refused.
 
-ghost use Rattle.std.specs.Prelude.{◌≡◌};
+ghost use Rattle.std.specs.Prelude.{◌≡◌, ◌<◌, ◌^◌};
+
+use std::alloc::AllocFailed;
 
 /// Why a pattern is refused, and where.
 #[derive(Clone, Copy, Debug, PartialEq, Eq)]
@@ -38,4 +40,52 @@ pub enum EreErrorKind {
     TooLarge,
     /// Memory ran out. Reported at 0.
     OutOfMemory,
+}
+
+impl EreError {
+    /// A fault at an offset; offsets past the greatest `u32`, which no pattern within the limits has, are
+    /// reported as that.
+    pub fn new(kind: EreErrorKind, at: usize) -> EreError
+        ensures kind { result.kind ≡ kind }
+        ensures at { at < 2 ^ 32 → result.at ≡ at }
+    {
+        EreError {
+            kind,
+            at: u32::try_from(at).unwrap_or(u32::MAX),
+        }
+    }
+}
+
+impl<T: Drop> From<AllocFailed<T>> for EreError {
+    ghost use Rattle.ere.specs.declared.error.EreErrorKind.TheVariants.{OutOfMemory};
+
+    ghost from_gives = { λ _ e. e.kind ≡ OutOfMemory };
+
+    fn from(_: AllocFailed<T>) -> EreError {
+        EreError::new(EreErrorKind::OutOfMemory, 0)
+    }
+}
+
+impl EreErrorKind {
+    ghost use Rattle.ere.specs.Faults.{reason_of};
+
+    /// The words with which a pattern is refused, such as `bad escape`.
+    pub fn reason(self) -> &'static str
+        ensures { result.now ≡ reason_of self }
+    {
+        match self {
+            EreErrorKind::TooLong => "pattern too long",
+            EreErrorKind::BadByte => "bad byte",
+            EreErrorKind::BadEscape => "bad escape",
+            EreErrorKind::BadBracket => "bracket not closed",
+            EreErrorKind::BadRange => "bad range",
+            EreErrorKind::BadClass => "unknown class",
+            EreErrorKind::BadInterval => "bad interval",
+            EreErrorKind::NothingToRepeat => "nothing to repeat",
+            EreErrorKind::Unclosed => "group not closed",
+            EreErrorKind::TooDeep => "too deep",
+            EreErrorKind::TooLarge => "too large",
+            EreErrorKind::OutOfMemory => "out of memory",
+        }
+    }
 }

@@ -4,9 +4,18 @@
 //! character is one byte. What POSIX leaves open is this program's choice, and `docs/PATTERNS.md` says it.
 #![tactic(auto)]
 
+pub mod brackets;
 pub mod byte_set;
+pub mod classes;
 pub mod error;
+pub mod language_laws;
+pub mod laws;
+pub mod limits;
+pub mod parts;
 pub mod reader;
+#[cfg(test)]
+mod tests;
+pub mod token;
 pub mod tree;
 
 pub use byte_set::ByteSet;

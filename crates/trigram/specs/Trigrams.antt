@@ -1,6 +1,6 @@
 -- Trigrams, three consecutive bytes of a text (Russ Cox, "Regular Expression Matching with a Trigram
 -- Index", 2012). A trigram is a number, and a set of trigrams is a test of numbers.
-use Rattle.std.specs.Prelude.{ℕ, ◌+◌, ◌*◌, Bool, false, ◌||◌, ◌==◌, IsTrue, ◌↔◌, List, [], ◌∷◌, Contains}
+use Rattle.std.specs.Prelude.{ℕ, ◌+◌, ◌*◌, Bool, true, false, ◌&&◌, ◌||◌, ◌==◌, IsTrue, ◌↔◌, List, [], ◌∷◌, Contains}
 use Rattle.std.specs.List.{list_any}
 use Rattle.std.specs.List.Sorted.{IsStrictlyIncreasing}
 use Rattle.ere.specs.Lines.{lines_of}
@@ -31,3 +31,13 @@ trigrams_of_body body trigram = list_any (λ line. trigrams_of_text line trigram
 pub record ListsTrigrams (body trigrams : List ℕ) : Type 0 where
   pub rising : IsStrictlyIncreasing trigrams
   pub members : (trigram : ℕ) → Contains trigrams trigram ↔ IsTrue (trigrams_of_body body trigram)
+
+-- whether the trigram at the front of the text, where it has three bytes, is in the set
+abbrev pub holds_front : List ℕ → TrigramSet → Bool
+holds_front (a ∷ b ∷ c ∷ text) set = set (trigram_of a b c)
+holds_front _ set = true
+
+-- whether all trigrams of the text are in the set; a text shorter than three bytes has none
+unfoldable pub has_all_trigrams : List ℕ → TrigramSet → Bool
+has_all_trigrams [] set = true
+has_all_trigrams (b ∷ text) set = holds_front (b ∷ text) set && has_all_trigrams text set

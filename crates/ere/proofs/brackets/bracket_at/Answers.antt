@@ -1,0 +1,11 @@
+use Rattle.std.proofs.Common.{◌≡◌, ◌+◌, arith, sym, drop}
+use Rattle.ere.specs.Brackets.{SpellsBracket as brackets}
+use Rattle.ere.proofs.Texts.{Stands-begins}
+use Rattle.ere.proofs.BracketSteps.{if_err, if_ok_map, if_err_map, hat_fails, no_hat_fails}
+use Rattle.ere.proofs.brackets.bracket_at.Goals as goal
+
+pub returns-in_err-items-clause-err : goal.returns-in_err-items-clause-err
+returns-in_err-items-clause-err c = if_err c.from_residual.result _ (hat_fails _ _ (Stands-begins c.args.text.now (c.args.opening + 1) 94 (sym c.if-stands_at.ensures)).from c.in_err-items.ensures.err)
+
+pub returns-then-stands_at-clause-ok : goal.returns-then-stands_at-clause-ok
+returns-then-stands_at-clause-ok c = brackets.non_matching _ _ (Stands-begins c.args.text.now (c.args.opening + 1) 94 (sym c.if-stands_at.ensures)).from c.in_ok-items.ensures.ok c.complement.ensures

@@ -1,0 +1,35 @@
+//! Laws of the definitions: each is the contract of a function that does nothing.
+
+ghost use Rattle.std.specs.Prelude.{◌≡◌, ◌↔◌, ℕ, Bool, None, ◌⊎◌, IsTrue, List, [], ◌∷◌, ◌++◌};
+ghost use Rattle.ere.specs.ByteSet.{has};
+ghost use Rattle.ere.specs.Language.{Hit, InLanguage};
+ghost use Rattle.ere.specs.Limits.{IsTreeOf, IsWithinLimits};
+ghost use Rattle.ere.specs.Spelling.{Spells};
+ghost use Rattle.ere.specs.Tree.{at_end, at_start, cat, empty, more, none, repeat, set, Tree};
+
+/// A text spells at most one tree, however many groups may be open.
+pub fn one_tree()
+    ensures { (limit other : ℕ) (text : List ℕ) (left right : Tree) → Spells limit text left → Spells other text right → left ≡ right }
+{}
+
+/// The tree of a pattern is within the limits.
+pub fn tree_within_limits()
+    ensures { (pattern : List ℕ) (tree : Tree) → IsTreeOf pattern tree → IsWithinLimits tree }
+{}
+
+/// The language of the empty tree is the empty word alone, wherever it stands.
+pub fn only_the_empty_word()
+    ensures { (before word after : List ℕ) → InLanguage empty before word after ↔ (word ≡ []) }
+{}
+
+/// Any number of copies are none, or any number and one more behind them.
+pub fn star_unrolls()
+    ensures { (body : Tree) (before word after : List ℕ) → InLanguage (repeat body 0 None) before word after
+        ↔ ((word ≡ []) ⊎ ((front back : List ℕ) × (word ≡ front ++ back) × InLanguage (repeat body 0 None) before front (back ++ after) × InLanguage body (before ++ front) back after)) }
+{}
+
+/// `^`, a set and `$` match exactly the lines of one byte of the set (POSIX.1-2017 XBD 9.4.9).
+pub fn anchored_set()
+    ensures { (members : List Bool) (line : List ℕ) → Hit (cat (more at_start (more (set members) (more at_end none)))) line
+        ↔ ((b : ℕ) × (line ≡ b ∷ []) × IsTrue (has members b)) }
+{}

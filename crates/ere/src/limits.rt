@@ -1,0 +1,125 @@
+//! The sizes of trees, and their limits.
+
+ghost use Rattle.std.specs.Prelude.{◌≡◌, ◌+◌, ◌*◌, ◌≤◌, ◌↔◌, IfSome, IsTrue, map, min};
+ghost use Rattle.ere.specs.Limits.{height, highest, leaves, leaves_in, copies_counted, AreProper, HasTwo, IsProper, IsWithinLimits};
+ghost use Rattle.ere.specs.Tree.{form, trees_of};
+
+use crate::tree::Ere;
+
+/// The greatest height of a pattern's tree.
+pub const MAX_HEIGHT: u8 = 64;
+
+/// The greatest number of leaves of a pattern's tree.
+pub const MAX_LEAVES: u32 = 4096;
+
+impl Ere {
+    /// Whether the tree is one that a pattern may have: each `Cat` and `Alt` has at least two members, no
+    /// `Repeat` has a least count above its greatest, the height is at most 64, and there are at most 4,096
+    /// leaves. (The limits are this program's choice.)
+    pub fn within_limits(&self) -> bool
+        ensures { IsTrue result ↔ IsWithinLimits (form self.now) }
+    {
+        is_proper(self) && capped_height(self) <= MAX_HEIGHT && capped_leaves(self) <= MAX_LEAVES
+    }
+}
+
+#[cycle(proper)]
+fn is_proper(tree: &Ere) -> bool
+    ensures { IsTrue result ↔ IsProper (form tree.now) }
+{
+    match tree {
+        Ere::Empty => true,
+        Ere::Set(_) => true,
+        Ere::Start => true,
+        Ere::End => true,
+        Ere::Cat(members) => members.len() >= 2 && are_proper(members),
+        Ere::Alt(members) => members.len() >= 2 && are_proper(members),
+        Ere::Repeat(body, least, greatest) => is_ordered(*least, *greatest) && is_proper(body),
+    }
+}
+
+#[cycle(proper)]
+fn are_proper(members: &[Ere]) -> bool
+    ensures { IsTrue result ↔ AreProper (trees_of (map form members.now)) }
+{
+    let mut proper = true;
+    for i in (0..members.len()).rev() {
+        proper = is_proper(&members[i]) && proper;
+    }
+    proper
+}
+
+fn is_ordered(least: u8, greatest: Option<u8>) -> bool
+    ensures { IsTrue result ↔ IfSome greatest (λ most. least ≤ most) }
+{
+    match greatest {
+        Some(most) => least <= most,
+        None => true,
+    }
+}
+
+/// The tree's height, or 65 where it is more.
+#[cycle(height)]
+pub fn capped_height(tree: &Ere) -> u8
+    ensures { result ≡ min (height (form tree.now)) 65 }
+{
+    match tree {
+        Ere::Empty => 1,
+        Ere::Set(_) => 1,
+        Ere::Start => 1,
+        Ere::End => 1,
+        Ere::Cat(members) => capped_highest(members).min(64) + 1,
+        Ere::Alt(members) => capped_highest(members).min(64) + 1,
+        Ere::Repeat(body, _, _) => capped_height(body).min(64) + 1,
+    }
+}
+
+#[cycle(height)]
+fn capped_highest(members: &[Ere]) -> u8
+    ensures { result ≡ min (highest (trees_of (map form members.now))) 65 }
+{
+    let mut most: u8 = 0;
+    for i in (0..members.len()).rev() {
+        most = most.max(capped_height(&members[i]));
+    }
+    most
+}
+
+/// The tree's leaves, or 4,097 where there are more.
+#[cycle(leaves)]
+pub fn capped_leaves(tree: &Ere) -> u32
+    ensures { result ≡ min (leaves (form tree.now)) 4097 }
+{
+    match tree {
+        Ere::Empty => 1,
+        Ere::Set(_) => 1,
+        Ere::Start => 1,
+        Ere::End => 1,
+        Ere::Cat(members) => capped_leaves_in(members),
+        Ere::Alt(members) => capped_leaves_in(members),
+        Ere::Repeat(body, least, greatest) => {
+            (counted(*least, *greatest) * capped_leaves(body)).min(4097)
+        }
+    }
+}
+
+#[cycle(leaves)]
+fn capped_leaves_in(members: &[Ere]) -> u32
+    ensures { result ≡ min (leaves_in (trees_of (map form members.now))) 4097 }
+{
+    let mut sum: u32 = 0;
+    for i in (0..members.len()).rev() {
+        sum = (sum + capped_leaves(&members[i])).min(4097);
+    }
+    sum
+}
+
+fn counted(least: u8, greatest: Option<u8>) -> u32
+    ensures counted { result ≡ copies_counted least greatest }
+    ensures within { result ≤ 255 }
+{
+    match greatest {
+        Some(most) => u32::from(most.max(1)),
+        None => u32::from(least.max(1)),
+    }
+}

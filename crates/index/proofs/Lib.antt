@@ -1,0 +1,5 @@
+pub mod DocumentLemmas
+pub mod LineLemmas
+pub mod PushLemmas
+pub mod PutLemmas
+pub mod OrderLemmas

@@ -1,0 +1,94 @@
+-- The lines of a text, one after another.
+use Rattle.std.proofs.Common.{◌≡◌, ◌≢◌, ℕ, zero, suc, ◌+◌, ◌-◌, ◌<◌, ◌≤◌, ◌==◌, ◌||◌, Bool, true, false, nat_lt, List, [], ◌∷◌, length, take, drop, get_or, Option, Some, None, refl, sym, ◌∙◌, ap, arith, is_some, add-one}
+use Rattle.std.specs.List.{list_any}
+use Rattle.std.proofs.lemmas.Bool.Decides.{nat_tests}
+use Rattle.std.proofs.lemmas.List.{length-take, length-drop, take_all}
+use Rattle.index.specs.Text.{has_byte_0, has_long_line}
+use Rattle.ere.specs.Lines.{lines_of, with_byte_in_front}
+use Rattle.memchr.specs.Find.{IsFirstByte, is_byte, Nowhere, NoneBefore, Passes}
+
+-- Up to the first line feed, which stands at a place, it is the first line.
+pub lines_of-first : (place : ℕ) (text : List ℕ) → place < length text → get_or text place 0 ≡ 10 → ((k : ℕ) → k < place → get_or text k 0 ≢ 10) → lines_of text ≡ take place text ∷ lines_of (drop (suc place) text)
+unfolding lines_of
+lines_of-first place [] below found before = absurd (omega arith)
+lines_of-first zero (b ∷ text) below found before =
+    let here : (b == 10) ≡ true = grind (arith, nat_tests) in
+    rw here refl
+lines_of-first (suc place) (b ∷ text) below found before =
+    let other = before 0 (omega arith) in
+    let apart : (b == 10) ≡ false = grind (arith, nat_tests) in
+    rw apart (ap (with_byte_in_front b) (lines_of-first place text (omega arith) found (λ k h. before (suc k) (omega arith))))
+
+-- the line that a text without a line feed is
+abbrev pub only_line : List ℕ → List (List ℕ)
+only_line [] = []
+only_line (b ∷ text) = (b ∷ text) ∷ []
+
+pub lines_of-last : (text : List ℕ) → ((k : ℕ) → k < length text → get_or text k 0 ≢ 10) → lines_of text ≡ only_line text
+unfolding lines_of
+lines_of-last [] none = refl
+lines_of-last (b ∷ text) none =
+    let other = none 0 (omega arith) in
+    let apart : (b == 10) ≡ false = grind (arith, nat_tests) in
+    rw (apart, lines_of-last text (λ k h. none (suc k) (omega arith))) (more text)
+  where
+    more : (text : List ℕ) → with_byte_in_front b (only_line text) ≡ (b ∷ text) ∷ []
+    more [] = refl
+    more (c ∷ text) = refl
+
+is_false : (t : Bool) → (t ≡ true → ⊥) → t ≡ false
+is_false true h = absurd (h refl)
+is_false false h = refl
+
+or_true : (a : Bool) → (a || true) ≡ true
+or_true true = refl
+or_true false = refl
+
+no_zero : (text : List ℕ) → ((k : ℕ) → k < length text → (get_or text k 0 == 0) ≡ true → ⊥) → has_byte_0 text ≡ false
+no_zero [] none = refl
+no_zero (b ∷ text) none = rw (is_false (b == 0) (none 0 (omega arith)), no_zero text (λ k h. none (suc k) (omega arith))) refl
+
+some_zero : (text : List ℕ) (place : ℕ) → place < length text → (get_or text place 0 == 0) ≡ true → has_byte_0 text ≡ true
+some_zero [] place below found = absurd (omega arith)
+some_zero (b ∷ text) zero below found = rw found refl
+some_zero (b ∷ text) (suc place) below found = rw (some_zero text place (omega arith) found) (or_true (b == 0))
+
+-- whether a list has a byte 0, by the first one
+pub has_byte_0-memchr : (text : List ℕ) (found : Option ℕ) → IsFirstByte (is_byte 0) text found → is_some found ≡ has_byte_0 text
+has_byte_0-memchr text None none = sym (no_zero text (λ k below. none k (omega arith) below))
+has_byte_0-memchr text (Some place) first = sym (some_zero text place first.0.high first.1)
+
+-- where memchr finds the first line feed
+pub lines_of-memchr : (text : List ℕ) (place : ℕ) → (NoneBefore (Passes (is_byte 10) text) 0 (length text) place × Passes (is_byte 10) text place) → lines_of text ≡ take place text ∷ lines_of (drop (suc place) text)
+lines_of-memchr text place first =
+    let found : (get_or text place 0 == 10) ≡ true = first.1 in
+    lines_of-first place text first.0.high (grind (arith, nat_tests)) (λ k below e. first.0.before k (omega arith) below (rw e refl))
+
+pub lines_of-none : (text : List ℕ) → Nowhere (Passes (is_byte 10) text) 0 (length text) → lines_of text ≡ only_line text
+lines_of-none text none = lines_of-last text (λ k below e. none k (omega arith) below (rw e refl))
+
+pub long-first : (text : List ℕ) (place : ℕ) → (NoneBefore (Passes (is_byte 10) text) 0 (length text) place × Passes (is_byte 10) text place) → (4096 < place → has_long_line text ≡ true) × (place ≤ 4096 → has_long_line text ≡ has_long_line (drop (suc place) text))
+long-first text place first =
+    let cut : lines_of text ≡ take place text ∷ lines_of (drop (suc place) text) = lines_of-memchr text place first in
+    let size : length (take place text) ≡ place = simp length-take (omega (arith, first.0.high)) in
+    let parts : has_long_line text ≡ (nat_lt 4096 place || has_long_line (drop (suc place) text)) = rw cut (rw size refl) in (
+      λ h. let long : nat_lt 4096 place ≡ true = grind (arith, nat_tests) in parts ∙ rw long refl,
+      λ h. let short : nat_lt 4096 place ≡ false = grind (arith, nat_tests) in parts ∙ rw short refl,
+    )
+
+or_none : (a : Bool) → (a || false) ≡ a
+or_none true = refl
+or_none false = refl
+
+pub long-last : (text : List ℕ) → Nowhere (Passes (is_byte 10) text) 0 (length text) → has_long_line text ≡ nat_lt 4096 (length text)
+long-last text none = ap (λ lines. list_any (λ line. nat_lt 4096 (length line)) lines) (lines_of-none text none) ∙ one text
+  where
+    one : (text : List ℕ) → list_any (λ line. nat_lt 4096 (length line)) (only_line text) ≡ nat_lt 4096 (length text)
+    one [] = refl
+    one (b ∷ text) = or_none (nat_lt 4096 (length (b ∷ text)))
+
+-- what `&text[place + 1..]` is
+pub rest-after : (text : List ℕ) (place : ℕ) → take (length text - (place + 1)) (drop (place + 1) text) ≡ drop (suc place) text
+rest-after text place =
+    let size : length (drop (place + 1) text) ≤ length text - (place + 1) = omega (arith, length-drop (place + 1) text) in
+    take_all (length text - (place + 1)) (drop (place + 1) text) size ∙ rw add-one refl

@@ -1,0 +1,103 @@
+//! Bodies of documents.
+
+ghost use Rattle.std.specs.Prelude.{◌≡◌, IfOk, IfErr, IfSome, IfNone};
+ghost use Rattle.index.specs.Text.{IsBody, IsBodyFault, has_byte_0, has_long_line};
+
+use crate::error::{BodyError, BodyErrorKind};
+use ere::MAX_LINE;
+use memchr::memchr;
+use std::alloc::AllocError;
+use std::marker::Model;
+
+/// The greatest length of a body, in bytes.
+pub const MAX_BODY: usize = 1048576;
+
+/// The text of a document: at most 1,048,576 bytes, none of them 0, in lines of at most `ere::MAX_LINE`
+/// bytes (this program's choice). A line ends at a line feed; a last part without one is a line if it is
+/// not empty.
+///
+/// Contracts see it as its bytes.
+#[derive(Debug, Drop)]
+pub struct Body {
+    bytes: Vec<u8>,
+}
+
+impl Model for Body {
+    ghost use Rattle.std.specs.Prelude.{List, ℕ};
+    ghost use Rattle.index.specs.Text.{IsBody};
+
+    ghost Value = { List ℕ };
+
+    ghost view = { λ b. b.bytes.items };
+
+    ghost invariant = { λ b. IsBody b.bytes.items };
+}
+
+impl Body {
+    /// The body of these bytes. It takes no memory. A refusal says the first cause, in the order of
+    /// `BodyErrorKind`, and hands the bytes back.
+    pub fn new(bytes: Vec<u8>) -> Result<Body, BodyError>
+        ensures body { IfOk result (λ body. (body ≡ bytes.items) × IsBody bytes.items) }
+        ensures fault { IfErr result (λ e. IsBodyFault e.kind bytes.items) }
+        ensures returned { IfErr result (λ e. e.bytes.items ≡ bytes.items) }
+    {
+        match fault_of(bytes.as_slice()) {
+            Some(kind) => Err(BodyError { kind, bytes }),
+            None => Ok(Body { bytes }),
+        }
+    }
+
+    /// The bytes of the body.
+    pub fn as_bytes(&self) -> &[u8]
+        ensures bytes { result.now ≡ self.now }
+        ensures body { IsBody self.now }
+    {
+        self.bytes.as_slice()
+    }
+
+    /// An equal body, in memory of its own.
+    pub fn copy(&self) -> Result<Body, AllocError>
+        ensures { IfOk result (λ body. body ≡ self.now) }
+    {
+        let bytes = Vec::from_slice(*self.bytes.allocator(), self.bytes.as_slice())?;
+        Ok(Body { bytes })
+    }
+}
+
+// Why the bytes are no body.
+#[tactic(auto, unfolding(crate::specs::Text::IsBodyFault))]
+fn fault_of(bytes: &[u8]) -> Option<BodyErrorKind>
+    ensures none { IfNone result (IsBody bytes.now) }
+    ensures some { IfSome result (λ kind. IsBodyFault kind bytes.now) }
+{
+    if bytes.len() > MAX_BODY {
+        return Some(BodyErrorKind::TooLong);
+    }
+    if has_byte_0(bytes) {
+        return Some(BodyErrorKind::NotText);
+    }
+    if has_long_line(bytes) {
+        return Some(BodyErrorKind::LineTooLong);
+    }
+    None
+}
+
+fn has_byte_0(bytes: &[u8]) -> bool
+    ensures { result ≡ has_byte_0 bytes.now }
+{
+    memchr(0, bytes).is_some()
+}
+
+// Whether some line has over MAX_LINE bytes.
+fn has_long_line(bytes: &[u8]) -> bool
+    ensures { result ≡ has_long_line bytes.now }
+{
+    let mut rest = bytes;
+    while let Some(end) = memchr(b'\n', rest) {
+        if end > MAX_LINE {
+            return true;
+        }
+        rest = &rest[end + 1..];
+    }
+    rest.len() > MAX_LINE
+}

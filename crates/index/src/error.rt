@@ -1,0 +1,46 @@
+//! Why a name, a body or a command is refused.
+
+use crate::command::Command;
+use std::alloc::AllocError;
+
+/// Why a text is no name, in the order in which the causes are looked for.
+#[derive(Clone, Copy, Debug, PartialEq, Eq)]
+pub enum NameError {
+    /// It has no bytes.
+    Empty,
+    /// It has over 255 bytes.
+    TooLong,
+    /// It has a byte of 0 to 32, or 127.
+    BadByte,
+    /// It is a name, and memory ran out.
+    OutOfMemory,
+}
+
+/// Why a text is no body, in the order in which the causes are looked for.
+#[derive(Clone, Copy, Debug, PartialEq, Eq)]
+pub enum BodyErrorKind {
+    /// It has over 1,048,576 bytes.
+    TooLong,
+    /// It has a byte 0.
+    NotText,
+    /// It has a line of over `ere::MAX_LINE` bytes.
+    LineTooLong,
+}
+
+/// A text that is no body, handed back.
+#[derive(Debug, Drop)]
+pub struct BodyError {
+    /// Why it is none.
+    pub kind: BodyErrorKind,
+    /// The bytes that were handed in.
+    pub bytes: Vec<u8>,
+}
+
+/// A command that was refused because memory ran out, handed back.
+#[derive(Debug, Drop)]
+pub struct ApplyError {
+    /// The command that was handed in.
+    pub command: Command,
+    /// The want of memory.
+    pub error: AllocError,
+}

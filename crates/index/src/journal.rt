@@ -1,0 +1,164 @@
+//! The index: a journal of commands, and the documents that it leaves.
+
+ghost use Rattle.std.specs.Prelude.{◌≡◌, ℕ, List, ◌+◌, ◌^◌, ◌<◌, [], ◌∷◌, ◌++◌, map, length, OnOk, OnErr, IfErr, IfOk, Option, option_map, Contains, ◌↔◌};
+ghost use Rattle.std.specs.Ordering.{nat_cmp};
+ghost use Rattle.std.specs.Cmp.Lexicographic.{slice_cmp};
+ghost use Rattle.std.specs.BTreeMap.{IsUnchanged, IsOrdered, values};
+ghost use Rattle.std.specs.List.Sorted.{IsStrictlyIncreasing};
+ghost use Rattle.index.specs.declared.command.Command.{Command as CommandValue};
+ghost use Rattle.index.specs.IndexParts.{Notes};
+ghost use Rattle.index.specs.Documents.{Document, documents_of, document_at, number_of, IsInNameOrder, IsDocument};
+
+use crate::body::Body;
+use crate::command::Command;
+use crate::error::ApplyError;
+use crate::name::Name;
+use std::alloc::{AllocError, Global};
+use std::collections::BTreeMap;
+use std::marker::Model;
+
+/// The documents that a journal of commands leaves.
+///
+/// A document is there where some `Put` named it and no later command names it. Its number is the place
+/// of that `Put` in the journal, counted from 1. Contracts see an index as its journal, the list of its
+/// commands from the first one on.
+#[derive(Debug, Drop)]
+pub struct Index {
+    // The journal.
+    commands: Vec<Command>,
+    // The number of each document, by its name.
+    numbers: BTreeMap<Name, u32>,
+}
+
+impl Model for Index {
+    ghost use Rattle.std.specs.Prelude.{List};
+    ghost use Rattle.index.specs.declared.command.Command.{Command};
+
+    ghost Value = { List Command };
+
+    ghost view = { λ i. i.commands.items };
+
+    ghost use Rattle.index.specs.IndexParts.{IsIndex};
+
+    ghost invariant = { λ i. IsIndex i.commands.items i.numbers };
+}
+
+impl Index {
+    /// The index with no commands. It takes no memory.
+    pub fn new(alloc: Global) -> Index
+        ensures { result ≡ [] }
+    {
+        Index {
+            commands: Vec::new(alloc),
+            numbers: BTreeMap::new(alloc),
+        }
+    }
+
+    /// Appends a command to the journal. An `Err` comes only where memory ran out; it hands the command
+    /// back, and the journal stays as it was.
+    pub fn apply(&mut self, command: Command) -> Result<(), ApplyError>
+        requires { length self.old + 1 < 2 ^ 32 }
+        ensures ok { OnOk result (self.new ≡ self.old ++ command ∷ []) }
+        ensures err { OnErr result (self.new ≡ self.old) }
+        ensures returned { IfErr result (λ e. e.command ≡ command) }
+    {
+        if let Err(error) = self.commands.reserve(1) {
+            return Err(ApplyError { command, error });
+        }
+        let place = self.commands.len() as u32 + 1;
+        if let Err(error) = note(&mut self.numbers, &command, place) {
+            return Err(ApplyError { command, error });
+        }
+        self.commands.push_reserved(command);
+        Ok(())
+    }
+
+    /// The number of commands.
+    pub fn version(&self) -> u32
+        ensures { result ≡ length self.now }
+    {
+        self.commands.len() as u32
+    }
+
+    /// The commands of the journal, from the first one on.
+    pub fn commands(&self) -> &[Command]
+        ensures { result.now ≡ self.now }
+    {
+        self.commands.as_slice()
+    }
+
+    /// The number of documents.
+    pub fn documents(&self) -> u32
+        ensures { result ≡ length (documents_of self.now) }
+    {
+        self.numbers.len() as u32
+    }
+
+    /// Name and body of the document with this number, where there is one.
+    pub fn document(&self, number: u32) -> Option<(&Name, &Body)>
+        ensures { option_map (λ d. (d.0.now, d.1.now)) result ≡ document_at number (documents_of self.now) }
+    {
+        if number == 0 {
+            return None;
+        }
+        let place = number as usize - 1;
+        if place >= self.commands.len() {
+            return None;
+        }
+        match &self.commands[place] {
+            Command::Put(name, body) => {
+                if self.number(name) != Some(number) {
+                    return None;
+                }
+                Some((name, body))
+            }
+            Command::Remove(_) => None,
+        }
+    }
+
+    /// The number of the document with this name, where there is one.
+    pub fn number(&self, name: &Name) -> Option<u32>
+        ensures { result ≡ number_of name.now (documents_of self.now) }
+    {
+        self.numbers.get(name).copied()
+    }
+
+    /// The numbers of all documents, in the order of the documents' names.
+    pub fn numbers_by_name(&self, alloc: Global) -> Result<Vec<u32>, AllocError>
+        ensures { IfOk result (λ numbers. (ordered : List Document) × IsInNameOrder (documents_of self.now) ordered
+            × (numbers.items ≡ map (λ d. d.number) ordered)) }
+    {
+        numbers_of(&self.numbers, alloc)
+    }
+}
+
+// Changes the numbers as the command at this place asks for.
+fn note(numbers: &mut BTreeMap<Name, u32>, command: &Command, place: u32) -> Result<(), AllocError>
+    ensures ok { OnOk result (Notes place command.now numbers.old numbers.new) }
+    ensures err { OnErr result (IsUnchanged numbers.old numbers.new) }
+{
+    match command {
+        Command::Put(name, _) => {
+            numbers.insert(name.copy()?, place)?;
+        }
+        Command::Remove(name) => {
+            numbers.remove(name);
+        }
+    }
+    Ok(())
+}
+
+// The numbers that stand under the names, in the order of the names.
+fn numbers_of(numbers: &BTreeMap<Name, u32>, alloc: Global) -> Result<Vec<u32>, AllocError>
+    ensures numbers { IfOk result (λ v. v.items ≡ values numbers.now) }
+    ensures ordered { IsOrdered (slice_cmp nat_cmp) numbers.now }
+{
+    numbers.values().copied().collect(alloc)
+}
+
+/// The documents are exactly the `Put`s that no later command names, each once.
+pub fn documents_are_puts()
+    ensures which { (commands : List CommandValue) (d : Document) →
+        Contains (documents_of commands) d ↔ IsDocument commands d }
+    ensures once { (commands : List CommandValue) → IsStrictlyIncreasing (map (λ d. d.number) (documents_of commands)) }
+{}

@@ -1,0 +1,141 @@
+//! Names of documents.
+
+ghost use Rattle.std.specs.Prelude.{◌≡◌, IfOk, IfErr, IfSome, IfNone};
+ghost use Rattle.index.specs.Text.{IsName, IsNameFault, has_bad_byte};
+
+use crate::error::NameError;
+use std::alloc::{AllocError, Global};
+use std::cmp::Ordering;
+use std::marker::Model;
+
+/// The greatest length of a name, in bytes.
+pub const MAX_NAME: usize = 255;
+
+/// The name of a document: 1 to 255 bytes, each of 33 to 126 or 128 to 255 (this program's choice). A
+/// space would end a word of a script, and a control byte would spoil the lines that are printed.
+///
+/// Contracts see it as its bytes. Names are compared byte by byte, as unsigned numbers.
+#[derive(Debug, Drop)]
+pub struct Name {
+    bytes: Vec<u8>,
+}
+
+impl Model for Name {
+    ghost use Rattle.std.specs.Prelude.{List, ℕ};
+    ghost use Rattle.index.specs.Text.{IsName};
+
+    ghost Value = { List ℕ };
+
+    ghost view = { λ n. n.bytes.items };
+
+    ghost invariant = { λ n. IsName n.bytes.items };
+}
+
+impl PartialEq for Name {
+    ghost use Rattle.std.specs.Prelude.{nat_eq};
+    ghost use Rattle.std.specs.Cmp.{partial_equiv_from_equiv};
+    ghost use Rattle.std.specs.Cmp.Lexicographic.{pointwise, nat_list_eq_equiv};
+
+    ghost eq = { pointwise nat_eq };
+
+    ghost laws = { partial_equiv_from_equiv nat_list_eq_equiv };
+
+    fn eq(&self, other: &Name) -> bool {
+        self.bytes == other.bytes
+    }
+}
+
+impl Eq for Name {
+    ghost use Rattle.std.specs.Cmp.Lexicographic.{nat_list_eq_equiv};
+
+    ghost laws = { nat_list_eq_equiv };
+}
+
+impl PartialOrd for Name {
+    ghost use Rattle.std.specs.Prelude.{Some};
+    ghost use Rattle.std.specs.Ordering.{nat_cmp};
+    ghost use Rattle.std.specs.Cmp.Lexicographic.{slice_cmp, texts_po};
+
+    ghost partial_cmp = { λ x y. Some (slice_cmp nat_cmp x y) };
+
+    ghost laws = { texts_po };
+
+    fn partial_cmp(&self, other: &Name) -> Option<Ordering> {
+        Some(self.cmp(other))
+    }
+}
+
+impl Ord for Name {
+    ghost use Rattle.std.specs.Prelude.{refl};
+    ghost use Rattle.std.specs.Ordering.{nat_cmp};
+    ghost use Rattle.std.specs.Cmp.Lexicographic.{slice_cmp, nat_list_cmp_total, texts_ties};
+
+    ghost cmp = { slice_cmp nat_cmp };
+
+    ghost total = { nat_list_cmp_total };
+
+    ghost matches_partial_cmp = { λ x y. refl };
+
+    ghost matches_eq = { texts_ties };
+
+    fn cmp(&self, other: &Name) -> Ordering {
+        self.bytes.cmp(&other.bytes)
+    }
+}
+
+impl Name {
+    /// The name of these bytes, copied. A refusal says the first cause, in the order of `NameError`.
+    #[tactic(auto, unfolding(crate::specs::Text::IsNameFault))]
+    pub fn new(alloc: Global, bytes: &[u8]) -> Result<Name, NameError>
+        ensures name { IfOk result (λ name. (name ≡ bytes.now) × IsName bytes.now) }
+        ensures fault { IfErr result (λ e. IsNameFault e bytes.now) }
+    {
+        if let Some(fault) = fault_of(bytes) {
+            return Err(fault);
+        }
+        match Vec::from_slice(alloc, bytes) {
+            Ok(bytes) => Ok(Name { bytes }),
+            Err(_) => Err(NameError::OutOfMemory),
+        }
+    }
+
+    /// The bytes of the name.
+    pub fn as_bytes(&self) -> &[u8]
+        ensures bytes { result.now ≡ self.now }
+        ensures name { IsName self.now }
+    {
+        self.bytes.as_slice()
+    }
+
+    /// An equal name, in memory of its own.
+    pub fn copy(&self) -> Result<Name, AllocError>
+        ensures { IfOk result (λ name. name ≡ self.now) }
+    {
+        let bytes = Vec::from_slice(*self.bytes.allocator(), self.bytes.as_slice())?;
+        Ok(Name { bytes })
+    }
+}
+
+// Why the bytes are no name.
+#[tactic(auto, unfolding(crate::specs::Text::IsNameFault))]
+fn fault_of(bytes: &[u8]) -> Option<NameError>
+    ensures none { IfNone result (IsName bytes.now) }
+    ensures some { IfSome result (λ fault. IsNameFault fault bytes.now) }
+{
+    if bytes.is_empty() {
+        return Some(NameError::Empty);
+    }
+    if bytes.len() > MAX_NAME {
+        return Some(NameError::TooLong);
+    }
+    if has_bad_byte(bytes) {
+        return Some(NameError::BadByte);
+    }
+    None
+}
+
+fn has_bad_byte(bytes: &[u8]) -> bool
+    ensures { result ≡ has_bad_byte bytes.now }
+{
+    bytes.iter().any(|b| *b < 33 || *b == 127)
+}

@@ -1,0 +1,4 @@
+pub mod Truths
+pub mod Shifts
+pub mod Meaning
+pub mod Walks

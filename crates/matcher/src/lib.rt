@@ -1,0 +1,33 @@
+//! Whether a line contains a match of an extended regular expression.
+//!
+//! The set of all positions of the line moves through the tree, as POSIX.1-2017 XBD 9.4 gives each form
+//! of tree its words, with anchors by 9.4.9. A search takes no memory.
+#![tactic(auto)]
+
+mod positions;
+mod walk;
+
+ghost use Rattle.std.specs.Prelude.{◌≤◌, ◌↔◌, IsTrue, length};
+ghost use Rattle.ere.specs.Limits.{IsWithinLimits};
+ghost use Rattle.ere.specs.Language.{Hit};
+ghost use Rattle.ere.specs.Tree.{form};
+
+use crate::positions::Positions;
+use crate::walk::advance;
+use ere::{Ere, MAX_LINE};
+
+/// Whether some part of the line is a match of the tree.
+///
+/// The tree is within the limits, and the line has at most `MAX_LINE` bytes.
+pub fn matches(tree: &Ere, line: &[u8]) -> bool
+    requires within_limits { IsWithinLimits (form tree.now) }
+    requires line { length line.now ≤ MAX_LINE }
+    ensures { IsTrue result ↔ Hit (form tree.now) line.now }
+{
+    let mut at = Positions::through(line.len());
+    advance(tree, line, &mut at);
+    !at.is_empty()
+}
+
+#[cfg(test)]
+mod tests;

@@ -1,0 +1,24 @@
+//! Why the program has no transcript written whole.
+
+use thiserror::Error;
+use tsearch::{RunError, WriteError};
+
+/// Why the program ends before its transcript is written whole. Its text is the line for standard error.
+#[derive(Debug, Drop, Error)]
+pub enum ProgramError {
+    /// The file or standard input could not be read.
+    #[error("tsearch: cannot read the script")]
+    CannotRead,
+    /// Memory ran out.
+    #[error("tsearch: out of memory")]
+    OutOfMemory,
+    /// The run has no transcript.
+    #[error(transparent)]
+    Run(RunError),
+    /// The transcript was not written whole.
+    #[error(transparent)]
+    Write(WriteError),
+    /// Standard output failed.
+    #[error("tsearch: cannot write")]
+    CannotWrite,
+}

@@ -1,0 +1,107 @@
+//! `tsearch`: searches named texts by extended regular expressions, as a script tells it.
+//!
+//! The program reads its words and the script, runs the script, and writes what the run answers.
+#![tactic(auto)]
+
+mod error;
+mod files;
+mod input;
+mod words;
+
+use clap::error::ErrorKind;
+use error::ProgramError;
+use files::FileSource;
+use std::env::{self, Env};
+use std::io::{self, BufWriter, Write};
+use std::process::ExitCode;
+use std::rt::Files;
+use tsearch::run::run;
+use tsearch::{Transcript, write_transcript};
+use words::Settings;
+
+/// The status where an argument is refused, or the program has no transcript to write or cannot write it.
+const REFUSED: u8 = 2;
+
+/// Output is written in parts of this many bytes.
+const OUTPUT_BUFFER: usize = 65536;
+
+fn main(rt: HostRuntime) -> ExitCode {
+    match answer(&rt) {
+        Ok(status) => ExitCode::from(status),
+        Err(error) => {
+            // Where standard error takes nothing either, the status alone says it.
+            let _ = rt.eprintln(error);
+            ExitCode::from(REFUSED)
+        }
+    }
+}
+
+/// Reads the words of the program and does what they ask for, and gives the status.
+fn answer<R: Env + Files + Input + Print + Eprint + AllocGlobal>(
+    rt: &R,
+) -> Result<u8, ProgramError> {
+    let words = match env::args(rt) {
+        Ok(words) => words,
+        Err(error) if error.kind() == io::ErrorKind::OutOfMemory => {
+            return Err(ProgramError::OutOfMemory);
+        }
+        Err(_) => return explain(rt, &words::no_text(rt.alloc())),
+    };
+    let words: Vec<String> = match words.collect(rt.alloc()) {
+        Ok(words) => words,
+        Err(_) => return Err(ProgramError::OutOfMemory),
+    };
+    match words::read_words(rt.alloc(), &words) {
+        Ok(settings) => run_script(rt, &settings),
+        Err(error) => explain(rt, &error),
+    }
+}
+
+/// Writes why the words are refused, or the help that they ask for, and gives the status.
+fn explain<R: Print + Eprint>(rt: &R, error: &clap::Error) -> Result<u8, ProgramError> {
+    if error.kind() == ErrorKind::OutOfMemory {
+        return Err(ProgramError::OutOfMemory);
+    }
+    let printed = error.print(rt);
+    if error.use_stderr() {
+        return Ok(REFUSED);
+    }
+    match printed {
+        Ok(()) => Ok(0),
+        Err(_) => Err(ProgramError::CannotWrite),
+    }
+}
+
+/// Reads the script, runs it and writes its transcript, and gives the status of the run.
+fn run_script<R: Files + Input + Print + AllocGlobal>(
+    rt: &R,
+    settings: &Settings<'_>,
+) -> Result<u8, ProgramError> {
+    let script = input::read_script(rt, settings.file)?;
+    let mut source = FileSource::new(rt);
+    let transcript = match run(rt.alloc(), &script, settings.options, &mut source) {
+        Ok(transcript) => transcript,
+        Err(error) => return Err(ProgramError::Run(error)),
+    };
+    write_out(rt, &transcript, settings.stats)?;
+    Ok(tsearch::status(&transcript))
+}
+
+fn write_out<R: Print + AllocGlobal>(
+    rt: &R,
+    transcript: &Transcript,
+    stats: bool,
+) -> Result<(), ProgramError> {
+    let writer = io::writer(rt);
+    let mut out = match BufWriter::with_capacity(rt.alloc(), OUTPUT_BUFFER, writer) {
+        Ok(out) => out,
+        Err(_) => return Err(ProgramError::OutOfMemory),
+    };
+    if let Err(error) = write_transcript(rt.alloc(), transcript, stats, &mut out) {
+        return Err(ProgramError::Write(error));
+    }
+    match out.flush() {
+        Ok(()) => Ok(()),
+        Err(_) => Err(ProgramError::CannotWrite),
+    }
+}

@@ -1,0 +1,111 @@
+-- The items of a script (this program's own language). An item is a line, up to a line feed or the
+-- script's end; a `put` has a body behind its line.
+use Rattle.std.specs.Prelude.{◌≡◌, ◌≢◌, ℕ, ◌+◌, ◌<◌, ◌==◌, if◌then◌else◌, List, [], ◌∷◌, ◌++◌, length, count_by, Option, Some, None, Bool, true, IsTrue, IsFalse, codes}
+use Rattle.std.specs.List.{AllByRecursion}
+use Rattle.std.specs.Str.{bytes_eq}
+use Rattle.script.specs.Words.{words_of, IsPutHeader}
+
+pub data Item : Type 0 where
+  put : (name body : List ℕ) → Item
+  load : (name path : List ℕ) → Item
+  remove : (name : List ℕ) → Item
+  publish : Item
+  search : (pattern : List ℕ) → Item
+  search_in : (name_pattern pattern : List ℕ) → Item
+  sync : Item
+  -- any other line
+  bad_line : Item
+  -- The faults that end the reading: a put without its form; without its bytes; with a byte other than a line feed behind them.
+  bad_put : Item
+  truncated : Item
+  body_not_closed : Item
+
+-- An item and the number of its line: one more than the line feeds before it.
+pub record Numbered : Type 0 where
+  pub line : ℕ
+  pub item : Item
+
+abbrev pub numbered : ℕ → Item → Numbered
+numbered line item = record { line = line; item = item }
+
+-- an empty line, or a comment
+abbrev pub is_blank : List ℕ → Bool
+is_blank [] = true
+is_blank (b ∷ line) = b == 35
+
+abbrev pub is_word : List ℕ → List ℕ → Bool
+is_word word text = bytes_eq word text
+
+-- a line `put`, or one that begins with `put `
+abbrev pub is_put : List ℕ → Bool
+is_put line = is_word (words_of line).first (codes "put")
+
+-- a name up to the next space, and the rest, which isn't empty
+abbrev pub load_of : List ℕ → Option (List ℕ) → Item
+load_of name None = bad_line
+load_of name (Some []) = bad_line
+load_of name (Some (b ∷ path)) = load name (b ∷ path)
+
+-- a name pattern up to the next space, and the rest
+abbrev pub search_in_of : List ℕ → Option (List ℕ) → Item
+search_in_of name_pattern None = bad_line
+search_in_of name_pattern (Some pattern) = search_in name_pattern pattern
+
+-- the item of a line with a first word and nothing behind it
+abbrev pub item_of_word : List ℕ → Item
+item_of_word word =
+    if is_word word (codes "publish") then publish
+    else (if is_word word (codes "sync") then sync
+    else (if is_word word (codes "search") then search []
+    else bad_line))
+
+-- the item of a line with a first word, a space and more behind it
+abbrev pub item_of_words : List ℕ → List ℕ → Item
+item_of_words word others =
+    if is_word word (codes "search") then search others
+    else (if is_word word (codes "searchin") then search_in_of (words_of others).first (words_of others).others
+    else (if is_word word (codes "remove") then remove others
+    else (if is_word word (codes "load") then load_of (words_of others).first (words_of others).others
+    else bad_line)))
+
+-- the item of a line with these words
+abbrev pub item_of : List ℕ → Option (List ℕ) → Item
+item_of word None = item_of_word word
+item_of word (Some others) = item_of_words word others
+
+-- the item of a line that is neither blank nor a put
+abbrev pub item_of_line : List ℕ → Item
+item_of_line line = item_of (words_of line).first (words_of line).others
+
+abbrev pub IsLine : List ℕ → Type 0
+IsLine line = AllByRecursion (λ b. b ≢ 10) line
+
+abbrev pub line_feeds : List ℕ → ℕ
+line_feeds text = count_by (λ b. b == 10) text
+
+-- A text begins with a line: up to its first line feed, or all of a text that has none and isn't empty.
+pub data BeginsWithLine (text line rest : List ℕ) : Type 0 where
+  ended : text ≡ line ++ 10 ∷ rest → IsLine line → BeginsWithLine text line rest
+  last : text ≡ line → IsLine line → line ≢ [] → rest ≡ [] → BeginsWithLine text line rest
+
+-- The line of a put of this name, for a body of this many bytes.
+abbrev pub IsPutLine : List ℕ → List ℕ → ℕ → Type 0
+IsPutLine line name size = IsLine line × (words : List ℕ) × (line ≡ codes "put " ++ words) × IsPutHeader words name size
+
+-- The items of a text whose first line has this number.
+pub data ItemsFrom : ℕ → List ℕ → List Numbered → Type 0 where
+  done : {n : ℕ} → ItemsFrom n [] []
+  blank_line : {n : ℕ} {text : List ℕ} {items : List Numbered} (line rest : List ℕ) → BeginsWithLine text line rest → IsTrue (is_blank line) → ItemsFrom (n + 1) rest items → ItemsFrom n text items
+  other_line : {n : ℕ} {text : List ℕ} {items : List Numbered} (line rest : List ℕ) → BeginsWithLine text line rest → IsFalse (is_blank line) → IsFalse (is_put line) → ItemsFrom (n + 1) rest items → ItemsFrom n text (numbered n (item_of_line line) ∷ items)
+  -- a put whose body ends at a line feed, and one whose body ends with the script
+  closed_put : {n : ℕ} {text name body : List ℕ} {items : List Numbered} (line rest : List ℕ) → text ≡ line ++ 10 ∷ (body ++ 10 ∷ rest) → IsPutLine line name (length body) → ItemsFrom (n + 2 + line_feeds body) rest items → ItemsFrom n text (numbered n (put name body) ∷ items)
+  last_put : {n : ℕ} {text name body : List ℕ} (line : List ℕ) → text ≡ line ++ 10 ∷ body → IsPutLine line name (length body) → ItemsFrom n text (numbered n (put name body) ∷ [])
+  malformed_put : {n : ℕ} {text : List ℕ} (line rest : List ℕ) → BeginsWithLine text line rest → IsTrue (is_put line) → ((name : List ℕ) (size : ℕ) → IsPutLine line name size → ⊥) → ItemsFrom n text (numbered n bad_put ∷ [])
+  -- the script ends with the put's line, or within its body
+  missing_body : {n : ℕ} {line : List ℕ} (name : List ℕ) (size : ℕ) → IsPutLine line name size → ItemsFrom n line (numbered n truncated ∷ [])
+  short_body : {n : ℕ} {text : List ℕ} (line name left : List ℕ) (size : ℕ) → text ≡ line ++ 10 ∷ left → IsPutLine line name size → length left < size → ItemsFrom n text (numbered n truncated ∷ [])
+  open_body : {n : ℕ} {text : List ℕ} (line name body rest : List ℕ) (b : ℕ) → text ≡ line ++ 10 ∷ (body ++ b ∷ rest) → IsPutLine line name (length body) → b ≢ 10 → ItemsFrom n text (numbered n body_not_closed ∷ [])
+
+-- The script has these items.
+abbrev pub IsItemsOf : List ℕ → List Numbered → Type 0
+IsItemsOf script items = ItemsFrom 1 script items

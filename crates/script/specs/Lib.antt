@@ -1,0 +1,5 @@
+pub mod Words
+pub mod Items
+pub mod Cuts
+pub mod Place
+pub mod Reading

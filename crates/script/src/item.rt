@@ -1,0 +1,52 @@
+//! The items of a script. The language is this program's own: one space separates words, and `docs/SCRIPT.md`
+//! has its table of lines.
+
+/// An item of a script, with its words and bodies as they stand in the script.
+#[derive(Clone, Copy, Debug)]
+pub enum Item<'a> {
+    /// `put NAME N` and the N bytes behind its line. Nothing is said yet of the name and the body: they may be
+    /// empty, or none that documents may have.
+    Put {
+        name: &'a [u8],
+        body: &'a [u8],
+    },
+    /// `load NAME PATH`. The path isn't empty.
+    Load {
+        name: &'a [u8],
+        path: &'a [u8],
+    },
+    /// `remove NAME`.
+    Remove {
+        name: &'a [u8],
+    },
+    /// `publish`.
+    Publish,
+    /// `search ERE`. A line `search` alone has the empty pattern.
+    Search {
+        pattern: &'a [u8],
+    },
+    /// `searchin NAME-ERE ERE`.
+    SearchIn {
+        name_pattern: &'a [u8],
+        pattern: &'a [u8],
+    },
+    /// `sync`.
+    Sync,
+    /// Any other line.
+    BadLine,
+    /// A put without its form. Nothing is read after it.
+    BadPut,
+    /// A put without its bytes. Nothing is read after it.
+    Truncated,
+    /// A put with a byte other than a line feed behind its bytes. Nothing is read after it.
+    BodyNotClosed,
+}
+
+/// An item and the number of its line.
+#[derive(Clone, Copy, Debug)]
+pub struct Numbered<'a> {
+    /// From 1. The lines of bodies count too.
+    pub line: u32,
+    /// What the line says.
+    pub item: Item<'a>,
+}

@@ -1,0 +1,73 @@
+//! Lines, and the words of a line.
+
+ghost use Rattle.std.specs.Prelude.{◌≡◌, ◌≢◌, ℕ, ◌+◌, ◌<◌, ◌^◌, List, [], ◌∷◌, ◌++◌, length, MatchOption, IsTrue, option_map};
+ghost use Rattle.script.specs.Words.{SpellsSize, words_of};
+ghost use Rattle.script.specs.Cuts.{Cuts, CutsLast, Lacks, FirstLineOf, shown_words};
+
+use memchr::{memchr, memrchr};
+
+/// What stands before the first such byte, and what stands behind it.
+pub fn cut_at(byte: u8, text: &[u8]) -> Option<(&[u8], &[u8])>
+    ensures { MatchOption result (Lacks byte text.now) (λ parts. Cuts byte text.now parts.0.now parts.1.now) }
+{
+    let at = memchr(byte, text)?;
+    Some((&text[..at], &text[at + 1..]))
+}
+
+/// What stands before the last such byte, and what stands behind it.
+pub fn cut_at_last(byte: u8, text: &[u8]) -> Option<(&[u8], &[u8])>
+    ensures { MatchOption result (Lacks byte text.now) (λ parts. CutsLast byte text.now parts.0.now parts.1.now) }
+{
+    let at = memrchr(byte, text)?;
+    Some((&text[..at], &text[at + 1..]))
+}
+
+/// The first line of a text that isn't empty.
+#[derive(Clone, Copy, Debug)]
+pub struct FirstLine<'a> {
+    pub line: &'a [u8],
+    /// What follows the line's line feed, where it has one.
+    pub rest: Option<&'a [u8]>,
+}
+
+pub fn first_line(text: &[u8]) -> FirstLine<'_>
+    ensures { FirstLineOf text.now result.line.now (option_map (λ rest. rest.now) result.rest) }
+{
+    match cut_at(b'\n', text) {
+        Some((line, rest)) => FirstLine {
+            line,
+            rest: Some(rest),
+        },
+        None => FirstLine {
+            line: text,
+            rest: None,
+        },
+    }
+}
+
+/// The first word of a line, and what follows the space behind it.
+pub fn split_word(line: &[u8]) -> (&[u8], Option<&[u8]>)
+    ensures { words_of line.now ≡ shown_words result.0.now (option_map (λ rest. rest.now) result.1) }
+{
+    match cut_at(b' ', line) {
+        Some((word, others)) => (word, Some(others)),
+        None => (line, None),
+    }
+}
+
+/// The number that 1 to 9 decimal digits spell.
+pub fn size_of(digits: &[u8]) -> Option<u32>
+    ensures size { MatchOption result ((size : ℕ) → SpellsSize digits.now size → ⊥) (SpellsSize digits.now) }
+{
+    if digits.is_empty() || digits.len() > 9 {
+        return None;
+    }
+    let mut size: u32 = 0;
+    for digit in digits {
+        if !digit.is_ascii_digit() {
+            return None;
+        }
+        size = size * 10 + u32::from(*digit - b'0');
+    }
+    Some(size)
+}

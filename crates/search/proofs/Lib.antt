@@ -1,0 +1,4 @@
+pub mod SelectsLemmas
+pub mod ScanLemmas
+pub mod TextLemmas
+pub mod LineLemmas

@@ -1,0 +1,7 @@
+pub mod Pattern
+pub mod Prepared
+pub mod Scan
+pub mod Found
+pub mod Text
+pub mod Limited
+pub mod Selects

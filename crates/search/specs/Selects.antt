@@ -1,0 +1,44 @@
+-- The lines of documents, one after another, and those of them that a search keeps.
+use Rattle.std.specs.Prelude.{◌≡◌, ℕ, suc, List, [], ◌∷◌, ◌++◌, Option, Some, None, IfSome}
+use Rattle.ere.specs.Language.{Hit}
+use Rattle.ere.specs.Lines.{lines_of}
+use Rattle.index.specs.Documents.{Document, document_at}
+use Rattle.search.specs.Pattern.{Pattern}
+use Rattle.search.specs.Scan.{Found}
+
+abbrev pub found : List ℕ → ℕ → List ℕ → Found
+found name line text = record { name = name; line = line; text = text }
+
+-- lines of the document with a name, where the first has a number
+unfoldable pub numbered : List ℕ → ℕ → List (List ℕ) → List Found
+numbered name line [] = []
+numbered name line (text ∷ texts) = found name line text ∷ numbered name (suc line) texts
+
+-- the lines of a body, from number 1 on
+abbrev pub lines_found : List ℕ → List ℕ → List Found
+lines_found name body = numbered name 1 (lines_of body)
+
+-- the lines of the document with a number
+abbrev pub lines_shown : Option (List ℕ × List ℕ) → List Found
+lines_shown None = []
+lines_shown (Some d) = lines_found d.0 d.1
+
+abbrev pub lines_at : List Document → ℕ → List Found
+lines_at documents number = lines_shown (document_at number documents)
+
+-- The kept ones are those of all that have a property, in their order.
+pub data Selects (Has : Found → Type 0) : List Found → List Found → Type 0 where
+  done : Selects Has [] []
+  keep : {f : Found} {all kept : List Found} → Has f → Selects Has all kept → Selects Has (f ∷ all) (f ∷ kept)
+  skip : {f : Found} {all kept : List Found} → (Has f → ⊥) → Selects Has all kept → Selects Has (f ∷ all) kept
+
+-- At the end of the old ones the new have those of all that have a property.
+pub record Adds (Has : Found → Type 0) (all old new : List Found) : Type 0 where
+  pub added : List Found
+  pub appended : new ≡ old ++ added
+  pub selected : Selects Has all added
+
+-- the pattern asks for this line of a document that is there
+pub record IsWanted (pattern : Pattern) (f : Found) : Type 0 where
+  pub hit : Hit pattern.tree f.text
+  pub name_hit : IfSome pattern.name_tree (λ tree. Hit tree f.name)

@@ -1,0 +1,191 @@
+//! Answers of searches, and their text.
+
+ghost use Rattle.std.specs.Prelude.{◌≡◌, ◌++◌, flat_map, OnOk, OnErr};
+ghost use Rattle.search.specs.Found.{found_of, found_all};
+ghost use Rattle.search.specs.Text.{text_of_found, Begins};
+
+use index::Name;
+use itoa::Buffer;
+use std::alloc::AllocError;
+use std::marker::Model;
+
+/// A line that a search found.
+#[derive(Debug, Drop)]
+pub struct Hit {
+    /// The name of the line's document.
+    pub name: Name,
+    /// The number of the line in its document, from 1.
+    pub line: u32,
+    /// The bytes of the line, without its line feed.
+    pub text: Vec<u8>,
+}
+
+/// The answer of a search.
+///
+/// Contracts see it as its version, its hits, the number of documents, and that of the candidates.
+#[derive(Debug, Drop)]
+pub struct Answer {
+    pub(crate) version: u32,
+    pub(crate) hits: Vec<Hit>,
+    pub(crate) documents: u32,
+    pub(crate) candidates: u32,
+}
+
+impl Model for Answer {
+    ghost use Rattle.search.specs.Scan.{Reply};
+
+    ghost Value = { Reply };
+
+    ghost use Rattle.search.specs.Found.{found_all};
+
+    ghost view = { λ a. record { version = a.version; hits = found_all a.hits.items; documents = a.documents; candidates = a.candidates } };
+}
+
+impl Answer {
+    ghost use Rattle.std.specs.Prelude.{◌≡◌, ◌++◌, OnOk, OnErr};
+    ghost use Rattle.search.specs.Found.{found_all};
+    ghost use Rattle.search.specs.Text.{text_of_answer, text_of_head, text_of_stats, Begins};
+
+    /// The number of commands that the answer rests on.
+    pub fn version(&self) -> u32
+        ensures { result ≡ self.now.version }
+    {
+        self.version
+    }
+
+    /// The lines that match, rising by the bytes of their names and then by line.
+    pub fn hits(&self) -> &[Hit]
+        ensures { found_all result.now ≡ self.now.hits }
+    {
+        self.hits.as_slice()
+    }
+
+    /// The number of documents that were there.
+    pub fn documents(&self) -> u32
+        ensures { result ≡ self.now.documents }
+    {
+        self.documents
+    }
+
+    /// The number of documents that the trigrams of the pattern left to look at. A name pattern has no
+    /// part in it.
+    pub fn candidates(&self) -> u32
+        ensures { result ≡ self.now.candidates }
+    {
+        self.candidates
+    }
+
+    /// Appends the text of the answer of the search with this number: a line
+    /// `search K version V lines L`, with `stats` followed by ` candidates C of D`, and then a line
+    /// `NAME:LINE:TEXT` for each hit. An `Err` comes only where memory ran out, and `out` stays as it was.
+    pub fn write_to(&self, search: u32, stats: bool, out: &mut Vec<u8>) -> Result<(), AllocError>
+        ensures ok { OnOk result (out.new.items ≡ out.old.items ++ text_of_answer search stats self.now) }
+        ensures err { OnErr result (out.new.items ≡ out.old.items) }
+    {
+        let before = out.len();
+        match self.append_to(search, stats, out) {
+            Ok(()) => Ok(()),
+            Err(error) => {
+                out.truncate(before);
+                Err(error)
+            }
+        }
+    }
+
+    // Appends the text, or a beginning of it.
+    fn append_to(&self, search: u32, stats: bool, out: &mut Vec<u8>) -> Result<(), AllocError>
+        ensures ok { OnOk result (out.new.items ≡ out.old.items ++ text_of_answer search stats self.now) }
+        ensures err { OnErr result (Begins out.old.items out.new.items) }
+    {
+        self.append_head(search, stats, out)?;
+        append_hits(out, self.hits.as_slice())
+    }
+
+    // Appends the line of the search, or a beginning of it.
+    fn append_head(&self, search: u32, stats: bool, out: &mut Vec<u8>) -> Result<(), AllocError>
+        ensures ok { OnOk result (out.new.items ≡ out.old.items ++ text_of_head search stats self.now) }
+        ensures err { OnErr result (Begins out.old.items out.new.items) }
+    {
+        let mut number = Buffer::new();
+        let mut version = Buffer::new();
+        let mut lines = Buffer::new();
+        append_all(
+            out,
+            &[
+                b"search ".as_slice(),
+                number.format(search).as_bytes(),
+                b" version ".as_slice(),
+                version.format(self.version).as_bytes(),
+                b" lines ".as_slice(),
+                lines.format(self.hits.len()).as_bytes(),
+            ],
+        )?;
+        if stats {
+            self.append_stats(out)?;
+        }
+        append_all(out, &[b"\n".as_slice()])
+    }
+
+    // Appends the counts of documents.
+    fn append_stats(&self, out: &mut Vec<u8>) -> Result<(), AllocError>
+        ensures ok { OnOk result (out.new.items ≡ out.old.items ++ text_of_stats self.now) }
+        ensures err { OnErr result (out.new.items ≡ out.old.items) }
+    {
+        let mut candidates = Buffer::new();
+        let mut documents = Buffer::new();
+        append_all(
+            out,
+            &[
+                b" candidates ".as_slice(),
+                candidates.format(self.candidates).as_bytes(),
+                b" of ".as_slice(),
+                documents.format(self.documents).as_bytes(),
+            ],
+        )
+    }
+}
+
+// Appends a line for each hit, or a beginning of them.
+fn append_hits(out: &mut Vec<u8>, hits: &[Hit]) -> Result<(), AllocError>
+    ensures ok { OnOk result (out.new.items ≡ out.old.items ++ flat_map text_of_found (found_all hits.now)) }
+    ensures err { OnErr result (Begins out.old.items out.new.items) }
+{
+    for hit in hits {
+        append_hit(out, hit)?;
+    }
+    Ok(())
+}
+
+// Appends the line of a hit.
+fn append_hit(out: &mut Vec<u8>, hit: &Hit) -> Result<(), AllocError>
+    ensures ok { OnOk result (out.new.items ≡ out.old.items ++ text_of_found (found_of hit.now)) }
+    ensures err { OnErr result (out.new.items ≡ out.old.items) }
+{
+    let mut line = Buffer::new();
+    append_all(
+        out,
+        &[
+            hit.name.as_bytes(),
+            b":".as_slice(),
+            line.format(hit.line).as_bytes(),
+            b":".as_slice(),
+            hit.text.as_slice(),
+            b"\n".as_slice(),
+        ],
+    )
+}
+
+/// Appends the parts, one after another. An `Err` comes only where memory ran out, and `out` stays as it was.
+pub fn append_all(out: &mut Vec<u8>, parts: &[&[u8]]) -> Result<(), AllocError>
+    ensures ok { OnOk result (out.new.items ≡ out.old.items ++ flat_map (λ part. part.now) parts.now) }
+    ensures err { OnErr result (out.new.items ≡ out.old.items) }
+{
+    let before = out.len();
+    for part in parts {
+        if let Err(error) = out.extend_from_slice(part) {
+            out.truncate(before);
+            return Err(error);
+        }
+    }
+    Ok(())
+}

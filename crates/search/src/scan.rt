@@ -1,0 +1,122 @@
+//! Searches of an index.
+
+ghost use Rattle.std.specs.Prelude.{◌≡◌, ◌≤◌, [], ◌∷◌, length, flat_map, IfOk, OnOk};
+ghost use Rattle.ere.specs.Tree.{form};
+ghost use Rattle.ere.specs.Limits.{IsWithinLimits};
+ghost use Rattle.ere.specs.Language.{Hit as HitIn};
+ghost use Rattle.ere.specs.Lines.{lines_of};
+ghost use Rattle.index.specs.Documents.{documents_of};
+ghost use Rattle.search.specs.Scan.{IsAnswerOf};
+ghost use Rattle.search.specs.Found.{found_all};
+ghost use Rattle.search.specs.Prepared.{pattern_of};
+ghost use Rattle.search.specs.Selects.{Adds, Selects, IsWanted, found, lines_found, lines_at};
+
+use crate::answer::{Answer, Hit};
+use crate::pattern::Prepared;
+use ere::{Ere, MAX_LINE};
+use index::{Body, Index, Name};
+use matcher::matches;
+use memchr::memchr;
+use std::alloc::{AllocError, Global};
+
+/// The lines of the index's documents in which the pattern matches. It changes nothing. An `Err` comes
+/// only where memory ran out.
+pub fn find(alloc: Global, index: &Index, prepared: &Prepared) -> Result<Answer, AllocError>
+    ensures { IfOk result (λ answer. IsAnswerOf index.now (pattern_of prepared.now) answer) }
+{
+    let numbers = index.numbers_by_name(alloc)?;
+    let hits = scan_documents(alloc, index, prepared, numbers.as_slice())?;
+    Ok(Answer {
+        version: index.version(),
+        hits,
+        documents: index.documents(),
+        candidates: index.documents(),
+    })
+}
+
+// The hits in the documents with these numbers, document after document.
+fn scan_documents(
+    alloc: Global,
+    index: &Index,
+    prepared: &Prepared,
+    numbers: &[u32],
+) -> Result<Vec<Hit>, AllocError>
+    ensures { IfOk result (λ hits. Selects (IsWanted (pattern_of prepared.now))
+        (flat_map (lines_at (documents_of index.now)) numbers.now) (found_all hits.items)) }
+{
+    let mut hits = Vec::new(alloc);
+    for number in numbers {
+        if let Some((name, body)) = index.document(*number) {
+            scan_document(alloc, prepared, name, body, &mut hits)?;
+        }
+    }
+    Ok(hits)
+}
+
+// Adds the hits in one document.
+fn scan_document(
+    alloc: Global,
+    prepared: &Prepared,
+    name: &Name,
+    body: &Body,
+    hits: &mut Vec<Hit>,
+) -> Result<(), AllocError>
+    ensures { OnOk result (Adds (IsWanted (pattern_of prepared.now)) (lines_found name.now body.now)
+        (found_all hits.old.items) (found_all hits.new.items)) }
+{
+    if !prepared.takes_name(name) {
+        return Ok(());
+    }
+    scan_lines(alloc, &prepared.tree, name, body, hits)
+}
+
+// Adds the hits in the lines of a body.
+fn scan_lines(
+    alloc: Global,
+    tree: &Ere,
+    name: &Name,
+    body: &Body,
+    hits: &mut Vec<Hit>,
+) -> Result<(), AllocError>
+    requires { IsWithinLimits (form tree.now) }
+    ensures { OnOk result (Adds (λ f. HitIn (form tree.now) f.text) (lines_found name.now body.now)
+        (found_all hits.old.items) (found_all hits.new.items)) }
+{
+    let mut rest = body.as_bytes();
+    let mut line = 1;
+    while let Some(end) = memchr(b'\n', rest) {
+        scan_line(alloc, tree, name, line, &rest[..end], hits)?;
+        rest = &rest[end + 1..];
+        line += 1;
+    }
+    if rest.is_empty() {
+        return Ok(());
+    }
+    scan_line(alloc, tree, name, line, rest, hits)
+}
+
+// Adds a line where it is a hit.
+fn scan_line(
+    alloc: Global,
+    tree: &Ere,
+    name: &Name,
+    line: u32,
+    text: &[u8],
+    hits: &mut Vec<Hit>,
+) -> Result<(), AllocError>
+    requires limits { IsWithinLimits (form tree.now) }
+    requires short { length text.now ≤ MAX_LINE }
+    ensures { OnOk result (Adds (λ f. HitIn (form tree.now) f.text) (found name.now line text.now ∷ [])
+        (found_all hits.old.items) (found_all hits.new.items)) }
+{
+    if !matches(tree, text) {
+        return Ok(());
+    }
+    let hit = Hit {
+        name: name.copy()?,
+        line,
+        text: Vec::from_slice(alloc, text)?,
+    };
+    hits.push(hit)?;
+    Ok(())
+}

@@ -1,0 +1,126 @@
+-- Which item an entry can belong to: only a publish is published, and only a search is found.
+use Rattle.std.proofs.Common.{◌≡◌, ℕ, ◌+◌, List, Option, sym, ap, ◌∙◌, length}
+use Rattle.index.specs.declared.command.Command.{Command}
+use Rattle.search.specs.Pattern.{Pattern}
+use Rattle.search.specs.Scan.{Reply}
+use Rattle.script.specs.Items.{Item, put, load, remove, publish, search, search_in, sync, bad_line, bad_put, truncated, body_not_closed}
+use Rattle.tsearch.specs.declared.items.Counts.{Counts}
+use Rattle.tsearch.specs.declared.transcript.Entry.{Entry}
+use Rattle.tsearch.specs.declared.transcript.Entry.TheVariants.{Published, Found}
+use Rattle.tsearch.specs.Legal.{IsNamed, bad_name, no_memory, named, HasBody, bad_body, with_body, IsRoomFor, full, accepted, IsPut, HasLoaded, failed, loaded_body, IsRemove, no_such_file, is_there, IsPublish}
+use Rattle.tsearch.specs.Legal as legal
+use Rattle.tsearch.specs.Shelf.{Shelf}
+use Rattle.tsearch.specs.Steps.{IsSearchedNow, IsSearchNow, IsSearchInNow, IsEntryNow, HasEntryNow}
+use Rattle.tsearch.specs.Steps as now
+
+-- The answers of two equal entries have one version.
+same_answer : {number number' reader reader' turn turn' : ℕ} {answer answer' : Reply} → Found number reader turn answer ≡ Found number' reader' turn' answer' → answer.version ≡ answer'.version
+same_answer {answer = answer} {answer' = answer'} e = let same : answer ≡ answer' = cc in ap (λ a. a.version) same
+
+-- an entry that is published
+module _ (entry : Entry) (at version : ℕ) (is : entry ≡ Published at version) where
+  room : (most : ℕ) (commands : List Command) (line : ℕ) → IsRoomFor most commands line entry → ⊥
+  room most commands line (full all e) = let both = sym is ∙ e in cc
+  room most commands line (accepted few e) = let both = sym is ∙ e in cc
+
+  has_body : (most : ℕ) (commands : List Command) (body : List ℕ) (line : ℕ) → HasBody most commands body line entry → ⊥
+  has_body most commands body line (bad_body fault is_fault e) = let both = sym is ∙ e in cc
+  has_body most commands body line (with_body is_body fits) = room most commands line fits
+
+  is_named : (name : List ℕ) (line : ℕ) (Else : Type 0) → (Else → ⊥) → IsNamed name line entry Else → ⊥
+  is_named name line Else never (bad_name fault other is_fault e) = let both = sym is ∙ e in cc
+  is_named name line Else never (no_memory is_name e) = let both = sym is ∙ e in cc
+  is_named name line Else never (named is_name else) = never else
+
+  has_loaded : (Holds : List ℕ → List ℕ → Type 0) (most : ℕ) (commands : List Command) (path : List ℕ) (loaded : Option (List ℕ)) (line : ℕ) → HasLoaded Holds most commands path loaded line entry → ⊥
+  has_loaded Holds most commands path loaded line (failed none e) = let both = sym is ∙ e in cc
+  has_loaded Holds most commands path loaded line (loaded_body body some held fits) = has_body most commands body line fits
+
+  is_remove : (most : ℕ) (commands : List Command) (name : List ℕ) (line : ℕ) → IsRemove most commands name line entry → ⊥
+  is_remove most commands name line (no_such_file none e) = let both = sym is ∙ e in cc
+  is_remove most commands name line (is_there some fits) = room most commands line fits
+
+  is_searched : (published : List Command) (number turn : ℕ) (IsIt : Pattern → Type 0) → IsSearchedNow published number turn IsIt entry → ⊥
+  is_searched published number turn IsIt (now.no_memory e) = let both = sym is ∙ e in cc
+  is_searched published number turn IsIt (now.found pattern answer is_it e answered) = let both = sym is ∙ e in cc
+
+  is_search : (published : List Command) (number turn : ℕ) (text : List ℕ) → IsSearchNow published number turn text entry → ⊥
+  is_search published number turn text (now.bad_pattern fault other none e) = let both = sym is ∙ e in cc
+  is_search published number turn text (now.searched searched) = is_searched published number turn _ searched
+
+  is_search_in : (published : List Command) (number turn : ℕ) (name_text text : List ℕ) → IsSearchInNow published number turn name_text text entry → ⊥
+  is_search_in published number turn name_text text (now.bad_name_pattern fault other none e) = let both = sym is ∙ e in cc
+  is_search_in published number turn name_text text (now.bad_pattern fault other some none e) = let both = sym is ∙ e in cc
+  is_search_in published number turn name_text text (now.searched searched) = is_searched published number turn _ searched
+
+  is_publish : (commands : List Command) (line : ℕ) → IsPublish commands line entry → version ≡ length commands
+  is_publish commands line (legal.published e) = let both = sym is ∙ e in cc
+  is_publish commands line (legal.no_memory e) = let both = sym is ∙ e in cc
+
+  pub published_entry : (Holds : List ℕ → List ℕ → Type 0) (shelf : Shelf) (counts : Counts) (loaded : Option (List ℕ)) (line : ℕ) (item : Item) → IsEntryNow Holds shelf counts loaded line item entry → version ≡ length shelf.accepted
+  unfolding IsEntryNow
+  published_entry Holds shelf counts loaded line (put name body) h = absurd (is_named name line _ (has_body shelf.most shelf.accepted body line) h)
+  published_entry Holds shelf counts loaded line (load name path) h = absurd (is_named name line _ (has_loaded Holds shelf.most shelf.accepted path loaded line) h)
+  published_entry Holds shelf counts loaded line (remove name) h = absurd (is_named name line _ (is_remove shelf.most shelf.accepted name line) h)
+  published_entry Holds shelf counts loaded line publish h = is_publish shelf.accepted line h
+  published_entry Holds shelf counts loaded line (search text) h = absurd (is_search shelf.published _ _ text h)
+  published_entry Holds shelf counts loaded line (search_in name_text text) h = absurd (is_search_in shelf.published _ _ name_text text h)
+  published_entry Holds shelf counts loaded line sync h = absurd h
+  published_entry Holds shelf counts loaded line bad_line h = absurd (let both = sym is ∙ h in cc)
+  published_entry Holds shelf counts loaded line bad_put h = absurd (let both = sym is ∙ h in cc)
+  published_entry Holds shelf counts loaded line truncated h = absurd (let both = sym is ∙ h in cc)
+  published_entry Holds shelf counts loaded line body_not_closed h = absurd (let both = sym is ∙ h in cc)
+
+-- an entry that is found
+module _ (entry : Entry) (number' reader turn' : ℕ) (answer' : Reply) (is : entry ≡ Found number' reader turn' answer') where
+  found_room : (most : ℕ) (commands : List Command) (line : ℕ) → IsRoomFor most commands line entry → ⊥
+  found_room most commands line (full all e) = let both = sym is ∙ e in cc
+  found_room most commands line (accepted few e) = let both = sym is ∙ e in cc
+
+  found_body : (most : ℕ) (commands : List Command) (body : List ℕ) (line : ℕ) → HasBody most commands body line entry → ⊥
+  found_body most commands body line (bad_body fault is_fault e) = let both = sym is ∙ e in cc
+  found_body most commands body line (with_body is_body fits) = found_room most commands line fits
+
+  found_named : (name : List ℕ) (line : ℕ) (Else : Type 0) → (Else → ⊥) → IsNamed name line entry Else → ⊥
+  found_named name line Else never (bad_name fault other is_fault e) = let both = sym is ∙ e in cc
+  found_named name line Else never (no_memory is_name e) = let both = sym is ∙ e in cc
+  found_named name line Else never (named is_name else) = never else
+
+  found_loaded : (Holds : List ℕ → List ℕ → Type 0) (most : ℕ) (commands : List Command) (path : List ℕ) (loaded : Option (List ℕ)) (line : ℕ) → HasLoaded Holds most commands path loaded line entry → ⊥
+  found_loaded Holds most commands path loaded line (failed none e) = let both = sym is ∙ e in cc
+  found_loaded Holds most commands path loaded line (loaded_body body some held fits) = found_body most commands body line fits
+
+  found_remove : (most : ℕ) (commands : List Command) (name : List ℕ) (line : ℕ) → IsRemove most commands name line entry → ⊥
+  found_remove most commands name line (no_such_file none e) = let both = sym is ∙ e in cc
+  found_remove most commands name line (is_there some fits) = found_room most commands line fits
+
+  found_searched : (published : List Command) (number turn : ℕ) (IsIt : Pattern → Type 0) → IsSearchedNow published number turn IsIt entry → (turn' ≡ turn) × (answer'.version ≡ length published)
+  found_searched published number turn IsIt (now.no_memory e) = let both = sym is ∙ e in cc
+  found_searched published number turn IsIt (now.found pattern answer is_it e answered) = let both = sym is ∙ e in (cc, same_answer both ∙ answered.version)
+
+  found_search : (published : List Command) (number turn : ℕ) (text : List ℕ) → IsSearchNow published number turn text entry → (turn' ≡ turn) × (answer'.version ≡ length published)
+  found_search published number turn text (now.bad_pattern fault other none e) = let both = sym is ∙ e in cc
+  found_search published number turn text (now.searched searched) = found_searched published number turn _ searched
+
+  found_search_in : (published : List Command) (number turn : ℕ) (name_text text : List ℕ) → IsSearchInNow published number turn name_text text entry → (turn' ≡ turn) × (answer'.version ≡ length published)
+  found_search_in published number turn name_text text (now.bad_name_pattern fault other none e) = let both = sym is ∙ e in cc
+  found_search_in published number turn name_text text (now.bad_pattern fault other some none e) = let both = sym is ∙ e in cc
+  found_search_in published number turn name_text text (now.searched searched) = found_searched published number turn _ searched
+
+  found_publish : (commands : List Command) (line : ℕ) → IsPublish commands line entry → ⊥
+  found_publish commands line (legal.published e) = let both = sym is ∙ e in cc
+  found_publish commands line (legal.no_memory e) = let both = sym is ∙ e in cc
+
+  pub found_entry : (Holds : List ℕ → List ℕ → Type 0) (shelf : Shelf) (counts : Counts) (loaded : Option (List ℕ)) (line : ℕ) (item : Item) → IsEntryNow Holds shelf counts loaded line item entry → (turn' ≡ counts.turns + 1) × (answer'.version ≡ length shelf.published)
+  unfolding IsEntryNow
+  found_entry Holds shelf counts loaded line (put name body) h = absurd (found_named name line _ (found_body shelf.most shelf.accepted body line) h)
+  found_entry Holds shelf counts loaded line (load name path) h = absurd (found_named name line _ (found_loaded Holds shelf.most shelf.accepted path loaded line) h)
+  found_entry Holds shelf counts loaded line (remove name) h = absurd (found_named name line _ (found_remove shelf.most shelf.accepted name line) h)
+  found_entry Holds shelf counts loaded line publish h = absurd (found_publish shelf.accepted line h)
+  found_entry Holds shelf counts loaded line (search text) h = found_search shelf.published _ _ text h
+  found_entry Holds shelf counts loaded line (search_in name_text text) h = found_search_in shelf.published _ _ name_text text h
+  found_entry Holds shelf counts loaded line sync h = absurd h
+  found_entry Holds shelf counts loaded line bad_line h = absurd (let both = sym is ∙ h in cc)
+  found_entry Holds shelf counts loaded line bad_put h = absurd (let both = sym is ∙ h in cc)
+  found_entry Holds shelf counts loaded line truncated h = absurd (let both = sym is ∙ h in cc)
+  found_entry Holds shelf counts loaded line body_not_closed h = absurd (let both = sym is ∙ h in cc)

@@ -1,0 +1,139 @@
+-- The entries of single items are legal.
+use Rattle.std.proofs.Common.{◌≡◌, ℕ, ◌≤◌, ◌<◌, ◌⊎◌, inl, inr, Bool, true, false, List, Some, refl, ap, ◌∙◌, subst, arith, MatchBool}
+use Rattle.ere.specs.declared.error.EreError.{EreError}
+use Rattle.ere.specs.declared.error.EreErrorKind.{EreErrorKind}
+use Rattle.ere.specs.declared.error.EreErrorKind.TheVariants as kind
+use Rattle.ere.specs.Limits.{HasNoTree}
+use Rattle.index.specs.declared.command.Command.{Command}
+use Rattle.index.specs.declared.error.NameError.{NameError}
+use Rattle.index.specs.declared.error.NameError.TheVariants as name
+use Rattle.index.specs.declared.error.BodyErrorKind.TheVariants as body
+use Rattle.std.proofs.Common.{length, ◌^◌}
+use Rattle.tsearch.specs.Rows.{failures_in}
+use Rattle.index.specs.Text.{greatest_body, IsName, IsNameFault, IsBodyFault}
+use Rattle.search.specs.Pattern.{Pattern, HasTree}
+use Rattle.search.specs.Scan.{IsAnswerOf}
+use Rattle.tsearch.specs.declared.transcript.Entry.{Entry}
+use Rattle.tsearch.specs.declared.transcript.Entry.TheVariants.{Refused, SearchRefused}
+use Rattle.tsearch.specs.declared.transcript.SearchReason.TheVariants as search_reason
+use Rattle.tsearch.specs.Legal.{IsNamed, bad_name, no_memory, named, bad_body, with_body, full, accepted, IsPut, HasLoaded, loaded_body}
+use Rattle.tsearch.specs.Entries.{reason_of_name, reason_of_fault, reason_of_fault_of, HasBodyOrNoMemory}
+use Rattle.tsearch.specs.Steps.{IsSearchedNow, IsSearchNow, IsSearchInNow, found, IsCounted}
+use Rattle.tsearch.specs.Steps as now
+
+pub named_fault : (error : NameError) (bytes : List ℕ) (line : ℕ) (entry : Entry) (Else : Type 0) → IsNameFault error bytes → entry ≡ Refused line (reason_of_name error) → IsNamed bytes line entry Else
+unfolding IsNameFault
+named_fault name.Empty bytes line entry Else fault is = bad_name name.Empty (λ e. cc) fault is
+named_fault name.TooLong bytes line entry Else fault is = bad_name name.TooLong (λ e. cc) fault is
+named_fault name.BadByte bytes line entry Else fault is = bad_name name.BadByte (λ e. cc) fault is
+named_fault name.OutOfMemory bytes line entry Else fault is = no_memory fault is
+
+pub named_body : (most : ℕ) (commands : List Command) (bytes bytes' : List ℕ) (line : ℕ) (entry : Entry) → IsName bytes → HasBodyOrNoMemory most commands bytes' line entry → IsPut most commands bytes bytes' line entry
+named_body most commands bytes bytes' line entry is (inl body_is) = named is body_is
+named_body most commands bytes bytes' line entry is (inr ran_out) = no_memory is ran_out
+
+pub named_loaded : (Holds : List ℕ → List ℕ → Type 0) (most : ℕ) (commands : List Command) (bytes path bytes' : List ℕ) (line : ℕ) (entry : Entry) → IsName bytes → Holds path bytes' → HasBodyOrNoMemory most commands bytes' line entry → IsNamed bytes line entry (HasLoaded Holds most commands path (Some bytes') line entry)
+named_loaded Holds most commands bytes path bytes' line entry is held (inl body_is) = named is (loaded_body bytes' refl held body_is)
+named_loaded Holds most commands bytes path bytes' line entry is held (inr ran_out) = no_memory is ran_out
+
+-- What is found for a pattern is found for each text that spells it.
+pub searched_by : (published : List Command) (number turn : ℕ) (pattern : Pattern) (IsIt : Pattern → Type 0) (entry : Entry) → IsIt pattern → IsSearchedNow published number turn (λ p. p ≡ pattern) entry → IsSearchedNow published number turn IsIt entry
+searched_by published number turn pattern IsIt entry is (now.no_memory ran_out) = now.no_memory ran_out
+searched_by published number turn pattern IsIt entry is (found p answer same entry_is answered) = found pattern answer is entry_is (subst (λ q. IsAnswerOf published q answer) same answered)
+
+-- A kind of fault is want of memory, or it is not.
+memory_or_not : (k : EreErrorKind) → (k ≡ kind.OutOfMemory) ⊎ (k ≡ kind.OutOfMemory → ⊥)
+memory_or_not kind.TooLong = inr (λ e. cc)
+memory_or_not kind.BadByte = inr (λ e. cc)
+memory_or_not kind.BadEscape = inr (λ e. cc)
+memory_or_not kind.BadBracket = inr (λ e. cc)
+memory_or_not kind.BadRange = inr (λ e. cc)
+memory_or_not kind.BadClass = inr (λ e. cc)
+memory_or_not kind.BadInterval = inr (λ e. cc)
+memory_or_not kind.NothingToRepeat = inr (λ e. cc)
+memory_or_not kind.Unclosed = inr (λ e. cc)
+memory_or_not kind.TooDeep = inr (λ e. cc)
+memory_or_not kind.TooLarge = inr (λ e. cc)
+memory_or_not kind.OutOfMemory = inl refl
+
+reason_of_memory : (in_name : Bool) (k : EreErrorKind) (error : EreError) → k ≡ kind.OutOfMemory → reason_of_fault_of in_name k error ≡ search_reason.OutOfMemory
+reason_of_memory in_name k error e = ap (λ j. reason_of_fault_of in_name j error) e
+
+reason_in_name : (k : EreErrorKind) (error : EreError) → (k ≡ kind.OutOfMemory → ⊥) → reason_of_fault_of true k error ≡ search_reason.NamePattern error
+reason_in_name kind.TooLong error h = refl
+reason_in_name kind.BadByte error h = refl
+reason_in_name kind.BadEscape error h = refl
+reason_in_name kind.BadBracket error h = refl
+reason_in_name kind.BadRange error h = refl
+reason_in_name kind.BadClass error h = refl
+reason_in_name kind.BadInterval error h = refl
+reason_in_name kind.NothingToRepeat error h = refl
+reason_in_name kind.Unclosed error h = refl
+reason_in_name kind.TooDeep error h = refl
+reason_in_name kind.TooLarge error h = refl
+reason_in_name kind.OutOfMemory error h = absurd (h refl)
+
+reason_in_pattern : (k : EreErrorKind) (error : EreError) → (k ≡ kind.OutOfMemory → ⊥) → reason_of_fault_of false k error ≡ search_reason.Pattern error
+reason_in_pattern kind.TooLong error h = refl
+reason_in_pattern kind.BadByte error h = refl
+reason_in_pattern kind.BadEscape error h = refl
+reason_in_pattern kind.BadBracket error h = refl
+reason_in_pattern kind.BadRange error h = refl
+reason_in_pattern kind.BadClass error h = refl
+reason_in_pattern kind.BadInterval error h = refl
+reason_in_pattern kind.NothingToRepeat error h = refl
+reason_in_pattern kind.Unclosed error h = refl
+reason_in_pattern kind.TooDeep error h = refl
+reason_in_pattern kind.TooLarge error h = refl
+reason_in_pattern kind.OutOfMemory error h = absurd (h refl)
+
+pub search_refused : (published : List Command) (number turn : ℕ) (text : List ℕ) (entry : Entry) (error : EreError) → ((error.kind ≡ kind.OutOfMemory → ⊥) → HasNoTree text) → entry ≡ SearchRefused number (reason_of_fault false error) → IsSearchNow published number turn text entry
+search_refused published number turn text entry error none is = by_kind (memory_or_not error.kind)
+  where
+    by_kind : (error.kind ≡ kind.OutOfMemory) ⊎ (error.kind ≡ kind.OutOfMemory → ⊥) → IsSearchNow published number turn text entry
+    by_kind (inl memory) = now.searched (now.no_memory (is ∙ ap (SearchRefused number) (reason_of_memory false error.kind error memory)))
+    by_kind (inr fault) = now.bad_pattern error fault (none fault) (is ∙ ap (SearchRefused number) (reason_in_pattern error.kind error fault))
+
+pub search_in_refused : (published : List Command) (number turn : ℕ) (name_text text : List ℕ) (entry : Entry) (in_name : Bool) (error : EreError) → ((error.kind ≡ kind.OutOfMemory → ⊥) → MatchBool in_name (HasNoTree name_text) (HasTree name_text × HasNoTree text)) → entry ≡ SearchRefused number (reason_of_fault in_name error) → IsSearchInNow published number turn name_text text entry
+search_in_refused published number turn name_text text entry true error none is = by_kind (memory_or_not error.kind)
+  where
+    by_kind : (error.kind ≡ kind.OutOfMemory) ⊎ (error.kind ≡ kind.OutOfMemory → ⊥) → IsSearchInNow published number turn name_text text entry
+    by_kind (inl memory) = now.searched (now.no_memory (is ∙ ap (SearchRefused number) (reason_of_memory true error.kind error memory)))
+    by_kind (inr fault) = now.bad_name_pattern error fault (none fault) (is ∙ ap (SearchRefused number) (reason_in_name error.kind error fault))
+search_in_refused published number turn name_text text entry false error none is = by_kind (memory_or_not error.kind)
+  where
+    by_kind : (error.kind ≡ kind.OutOfMemory) ⊎ (error.kind ≡ kind.OutOfMemory → ⊥) → IsSearchInNow published number turn name_text text entry
+    by_kind (inl memory) = now.searched (now.no_memory (is ∙ ap (SearchRefused number) (reason_of_memory false error.kind error memory)))
+    by_kind (inr fault) = now.bad_pattern error fault (none fault).0 (none fault).1 (is ∙ ap (SearchRefused number) (reason_in_pattern error.kind error fault))
+
+pub too_long_body : (bytes : List ℕ) → greatest_body < length bytes → IsBodyFault body.TooLong bytes
+unfolding IsBodyFault
+too_long_body bytes h = h
+
+-- Only a source that failed counts as a failure.
+pub no_failure_in_name : (error : NameError) (line : ℕ) → failures_in (Some (Refused line (reason_of_name error))) ≡ 0
+no_failure_in_name name.Empty line = refl
+no_failure_in_name name.TooLong line = refl
+no_failure_in_name name.BadByte line = refl
+no_failure_in_name name.OutOfMemory line = refl
+
+no_failure_at : {entry entry' : Entry} → entry ≡ entry' → failures_in (Some entry') ≡ 0 → failures_in (Some entry) ≡ 0
+no_failure_at is none = ap (λ e. failures_in (Some e)) is ∙ none
+
+pub no_failure_in_body : (most : ℕ) (commands : List Command) (bytes : List ℕ) (line : ℕ) (entry : Entry) → HasBodyOrNoMemory most commands bytes line entry → failures_in (Some entry) ≡ 0
+no_failure_in_body most commands bytes line entry (inl (bad_body fault is_fault is)) = no_failure_at is refl
+no_failure_in_body most commands bytes line entry (inl (with_body is_body (full all is))) = no_failure_at is refl
+no_failure_in_body most commands bytes line entry (inl (with_body is_body (accepted room is))) = no_failure_at is refl
+no_failure_in_body most commands bytes line entry (inr is) = no_failure_at is refl
+
+pub counted_none : (entry : Entry) (failed failed' : ℕ) → failures_in (Some entry) ≡ 0 → failed ≤ failed' → failed' < 2 ^ 64 → IsCounted (failures_in (Some entry)) failed failed'
+counted_none entry failed failed' none grows below = record {
+  rises = inl (rw none (omega arith));
+  stays = λ e. omega arith;
+}
+
+pub counted_same : (entry : Entry) (failed : ℕ) → failures_in (Some entry) ≡ 0 → IsCounted (failures_in (Some entry)) failed failed
+counted_same entry failed none = record {
+  rises = inl (rw none (omega arith));
+  stays = λ e. e;
+}

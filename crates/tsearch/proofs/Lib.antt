@@ -1,0 +1,7 @@
+pub mod ItemLemmas
+pub mod CarryLemmas
+pub mod RowLemmas
+pub mod EntryLemmas
+pub mod RunLemmas
+pub mod LegalLemmas
+pub mod WriteLemmas

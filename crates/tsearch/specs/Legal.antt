@@ -1,0 +1,151 @@
+-- Which transcripts are legal for a script: what a run may answer, whatever its readers and their timing.
+use Rattle.std.specs.Prelude.{◌≡◌, ◌≢◌, ℕ, ◌+◌, ◌-◌, ◌^◌, ◌<◌, ◌≤◌, ◌⊎◌, List, ◌∷◌, ◌++◌, length, take, Option, Some, None, option_map, IfSome, Contains, if◌then◌else◌, ◌==◌}
+use Rattle.ere.specs.Limits.{HasNoTree}
+use Rattle.ere.specs.declared.error.EreError.{EreError}
+use Rattle.ere.specs.declared.error.EreErrorKind.TheVariants as kind
+use Rattle.index.specs.declared.command.Command.{Command}
+use Rattle.index.specs.declared.error.NameError.{NameError}
+use Rattle.index.specs.declared.error.NameError.TheVariants as name_error
+use Rattle.index.specs.declared.error.BodyErrorKind.{BodyErrorKind}
+use Rattle.index.specs.Documents.{documents_of, number_of}
+use Rattle.index.specs.Text.{IsName, IsNameFault, IsBody, IsBodyFault}
+use Rattle.search.specs.Pattern.{Pattern, IsPatternOf, IsPatternWithin, HasTree}
+use Rattle.search.specs.Scan.{Reply, IsAnswerOf}
+use Rattle.script.specs.Items.{Item, IsItemsOf, put, load, remove, publish, search, search_in, sync, bad_line, bad_put, truncated, body_not_closed}
+use Rattle.tsearch.specs.declared.transcript.Entry.{Entry}
+use Rattle.tsearch.specs.declared.transcript.Entry.TheVariants.{Accepted, Refused, Published, Found, SearchRefused}
+use Rattle.tsearch.specs.declared.transcript.Reason.TheVariants as reason
+use Rattle.tsearch.specs.declared.transcript.SearchReason.TheVariants as search_reason
+use Rattle.tsearch.specs.declared.run.Options.{Options}
+use Rattle.tsearch.specs.Rows.{Row, items_of, entries_of, commands_of, published_in, published_last, before_sync, count_searches, count_failures}
+
+-- What becomes of a command whose name is a name, once nothing else is wrong with it.
+pub data IsRoomFor (most : ℕ) (commands : List Command) (line : ℕ) (entry : Entry) : Type 0 where
+  full : length commands ≡ most → entry ≡ Refused line reason.Full → IsRoomFor most commands line entry
+  accepted : length commands < most → entry ≡ Accepted line (length commands + 1) → IsRoomFor most commands line entry
+
+-- Faults of a name come first; memory may run out only for a name.
+pub data IsNamed (name : List ℕ) (line : ℕ) (entry : Entry) (Else : Type 0) : Type 0 where
+  bad_name : (fault : NameError) → (fault ≡ name_error.OutOfMemory → ⊥) → IsNameFault fault name → entry ≡ Refused line (reason.Name fault) → IsNamed name line entry Else
+  no_memory : IsName name → entry ≡ Refused line reason.OutOfMemory → IsNamed name line entry Else
+  named : IsName name → Else → IsNamed name line entry Else
+
+-- then those of the body, then the room
+pub data HasBody (most : ℕ) (commands : List Command) (body : List ℕ) (line : ℕ) (entry : Entry) : Type 0 where
+  bad_body : (fault : BodyErrorKind) → IsBodyFault fault body → entry ≡ Refused line (reason.Body fault) → HasBody most commands body line entry
+  with_body : IsBody body → IsRoomFor most commands line entry → HasBody most commands body line entry
+
+abbrev pub IsPut : ℕ → List Command → List ℕ → List ℕ → ℕ → Entry → Type 0
+IsPut most commands name body line entry = IsNamed name line entry (HasBody most commands body line entry)
+
+-- A load asks the source once; what it answers, the source held under the path.
+pub data HasLoaded (Holds : List ℕ → List ℕ → Type 0) (most : ℕ) (commands : List Command) (path : List ℕ) (loaded : Option (List ℕ)) (line : ℕ) (entry : Entry) : Type 0 where
+  failed : loaded ≡ None → entry ≡ Refused line reason.CannotLoad → HasLoaded Holds most commands path loaded line entry
+  loaded_body : (body : List ℕ) → loaded ≡ Some body → Holds path body → HasBody most commands body line entry → HasLoaded Holds most commands path loaded line entry
+
+-- A remove wants a document of that name after all accepted commands.
+pub data IsRemove (most : ℕ) (commands : List Command) (name : List ℕ) (line : ℕ) (entry : Entry) : Type 0 where
+  no_such_file : number_of name (documents_of commands) ≡ None → entry ≡ Refused line reason.NoSuchFile → IsRemove most commands name line entry
+  is_there : number_of name (documents_of commands) ≢ None → IsRoomFor most commands line entry → IsRemove most commands name line entry
+
+pub data IsPublish (commands : List Command) (line : ℕ) (entry : Entry) : Type 0 where
+  published : entry ≡ Published line (length commands) → IsPublish commands line entry
+  no_memory : entry ≡ Refused line reason.OutOfMemory → IsPublish commands line entry
+
+-- The rows round a search, and how many readers there are.
+pub record Place : Type 0 where
+  pub readers : ℕ
+  pub before : List Row
+  pub row : Row
+  pub after : List Row
+
+abbrev pub all_rows : Place → List Row
+all_rows place = place.before ++ place.row ∷ place.after
+
+-- No answer is of a version that was published only after the first sync behind the search; without
+-- readers, after the search itself.
+abbrev pub newest_allowed : Place → Option ℕ
+newest_allowed place =
+    if place.readers == 0 then Some (published_last place.before)
+    else option_map (λ rows. published_last (place.before ++ place.row ∷ rows)) (before_sync place.after)
+
+-- An answer of a published version, no older than what was published before the search, which lists
+-- exactly what the documents after that version's commands hold.
+pub record IsAnswered (place : Place) (pattern : Pattern) (reader : ℕ) (answer : Reply) : Type 0 where
+  pub published : (answer.version ≡ 0) ⊎ Contains (published_in (all_rows place)) answer.version
+  pub not_older : published_last place.before ≤ answer.version
+  pub exact : IsAnswerOf (take answer.version (commands_of (all_rows place))) pattern answer
+  pub one_of_them : reader ≤ place.readers
+  pub not_newer : IfSome (newest_allowed place) (λ version. answer.version ≤ version)
+
+-- the number of a search, from 1
+abbrev pub search_number : Place → ℕ
+search_number place = count_searches place.before + 1
+
+-- What becomes of a search: refused for memory, or answered for its pattern, which some texts spell.
+pub data IsSearched (place : Place) (IsIt : Pattern → Type 0) (entry : Entry) : Type 0 where
+  no_memory : entry ≡ SearchRefused (search_number place) search_reason.OutOfMemory → IsSearched place IsIt entry
+  found : (pattern : Pattern) (reader turn : ℕ) (answer : Reply) → IsIt pattern → entry ≡ Found (search_number place) reader turn answer → IsAnswered place pattern reader answer → IsSearched place IsIt entry
+
+pub data IsSearch (place : Place) (text : List ℕ) (entry : Entry) : Type 0 where
+  bad_pattern : (fault : EreError) → fault.kind ≢ kind.OutOfMemory → HasNoTree text → entry ≡ SearchRefused (search_number place) (search_reason.Pattern fault) → IsSearch place text entry
+  searched : IsSearched place (IsPatternOf text) entry → IsSearch place text entry
+
+-- The name pattern is looked at first.
+pub data IsSearchIn (place : Place) (name_text text : List ℕ) (entry : Entry) : Type 0 where
+  bad_name_pattern : (fault : EreError) → fault.kind ≢ kind.OutOfMemory → HasNoTree name_text → entry ≡ SearchRefused (search_number place) (search_reason.NamePattern fault) → IsSearchIn place name_text text entry
+  bad_pattern : (fault : EreError) → fault.kind ≢ kind.OutOfMemory → HasTree name_text → HasNoTree text → entry ≡ SearchRefused (search_number place) (search_reason.Pattern fault) → IsSearchIn place name_text text entry
+  searched : IsSearched place (IsPatternWithin name_text text) entry → IsSearchIn place name_text text entry
+
+-- The entry of an item, where these rows stand round it.
+unfoldable pub IsEntryOf : (List ℕ → List ℕ → Type 0) → ℕ → Place → ℕ → Item → Entry → Type 0
+IsEntryOf Holds most place line (put name body) entry = IsPut most (commands_of place.before) name body line entry
+IsEntryOf Holds most place line (load name path) entry = IsNamed name line entry (HasLoaded Holds most (commands_of place.before) path place.row.loaded line entry)
+IsEntryOf Holds most place line (remove name) entry = IsNamed name line entry (IsRemove most (commands_of place.before) name line entry)
+IsEntryOf Holds most place line publish entry = IsPublish (commands_of place.before) line entry
+IsEntryOf Holds most place line (search text) entry = IsSearch place text entry
+IsEntryOf Holds most place line (search_in name_text text) entry = IsSearchIn place name_text text entry
+IsEntryOf Holds most place line sync entry = ⊥
+IsEntryOf Holds most place line bad_line entry = entry ≡ Refused line reason.BadLine
+IsEntryOf Holds most place line bad_put entry = entry ≡ Refused line reason.BadPut
+IsEntryOf Holds most place line truncated entry = entry ≡ Refused line reason.Truncated
+IsEntryOf Holds most place line body_not_closed entry = entry ≡ Refused line reason.BodyNotClosed
+
+-- A sync has no entry, and every other item has one.
+abbrev pub HasEntry : (List ℕ → List ℕ → Type 0) → ℕ → Place → Item → Option Entry → Type 0
+HasEntry Holds most place sync None = Unit {0}
+HasEntry Holds most place sync (Some entry) = ⊥
+HasEntry Holds most place item None = ⊥
+HasEntry Holds most place item (Some entry) = IsEntryOf Holds most place place.row.numbered.line item entry
+
+abbrev pub IsLegalRow : (List ℕ → List ℕ → Type 0) → ℕ → Place → Type 0
+IsLegalRow Holds most place = HasEntry Holds most place place.row.numbered.item place.row.entry
+
+-- The turns of one reader are distinct, and its versions never fall as they rise.
+pub record IsInTurn (first second : ℕ) (first_version second_version : ℕ) : Type 0 where
+  pub distinct : first ≢ second
+  pub rises : first < second → first_version ≤ second_version
+  pub falls : second < first → second_version ≤ first_version
+
+abbrev pub AreInTurn : List Row → Type 0
+AreInTurn rows =
+    (before middle after : List Row) (row row' : Row) (reader number turn number' turn' : ℕ) (answer answer' : Reply)
+    → rows ≡ before ++ row ∷ (middle ++ row' ∷ after)
+    → row.entry ≡ Some (Found number reader turn answer)
+    → row'.entry ≡ Some (Found number' reader turn' answer')
+    → IsInTurn turn turn' answer.version answer'.version
+
+-- The greatest count of failures that a source can answer.
+abbrev pub greatest_failures : ℕ
+greatest_failures = 2 ^ 64 - 1
+
+-- The transcript is legal. Holds: what the source held. failed, failed': how often the source had failed
+-- before the run and after it.
+pub record IsLegal (script : List ℕ) (options : Options) (Holds : List ℕ → List ℕ → Type 0) (failed failed' : ℕ) (entries : List Entry) : Type 0 where
+  pub rows : List Row
+  pub items : IsItemsOf script (items_of rows)
+  pub whole : entries ≡ entries_of rows
+  pub each : (before : List Row) (row : Row) (after : List Row) → rows ≡ before ++ row ∷ after
+      → IsLegalRow Holds options.max_commands (record { readers = options.readers; before = before; row = row; after = after })
+  pub turns : AreInTurn rows
+  pub failures : (count_failures rows + failed ≤ failed') ⊎ (failed' ≡ greatest_failures)

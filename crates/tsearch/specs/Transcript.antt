@@ -1,0 +1,55 @@
+-- The text and the status of a transcript (this program's choice; the statuses follow grep's).
+use Rattle.std.specs.Prelude.{ℕ, Bool, true, false, nat_lt, length, if◌then◌else◌, List, [], ◌++◌, flat_map, codes, decimal}
+use Rattle.std.specs.List.{list_any}
+use Rattle.search.specs.Text.{text_of_answer, line_end}
+use Rattle.ere.specs.declared.error.EreError.{EreError}
+use Rattle.tsearch.specs.declared.transcript.Entry.{Entry}
+use Rattle.tsearch.specs.declared.transcript.Entry.TheVariants.{Accepted, Refused, Published, Found, SearchRefused}
+use Rattle.tsearch.specs.declared.transcript.Reason.{Reason}
+use Rattle.tsearch.specs.declared.transcript.SearchReason.{SearchReason}
+use Rattle.tsearch.specs.declared.transcript.SearchReason.TheVariants as search
+use Rattle.ere.specs.Faults.{reason_of}
+use Rattle.tsearch.specs.Reasons.{text_of_reason}
+
+abbrev pub text_of_fault : EreError → List ℕ
+text_of_fault error = reason_of error.kind ++ codes " at " ++ decimal error.at
+
+abbrev pub text_of_search_reason : SearchReason → List ℕ
+text_of_search_reason (search.Pattern error) = text_of_fault error
+text_of_search_reason (search.NamePattern error) = codes "name pattern: " ++ text_of_fault error
+text_of_search_reason search.OutOfMemory = codes "out of memory"
+
+abbrev pub line_refusal : ℕ → Reason → List ℕ
+line_refusal line reason = codes "line " ++ decimal line ++ codes " refused: " ++ text_of_reason reason ++ line_end
+
+abbrev pub search_refusal : ℕ → SearchReason → List ℕ
+search_refusal number reason = codes "search " ++ decimal number ++ codes " refused: " ++ text_of_search_reason reason ++ line_end
+
+-- Accepted commands and publishes print nothing.
+abbrev pub text_of_entry : Bool → Entry → List ℕ
+text_of_entry stats (Accepted line commands) = []
+text_of_entry stats (Refused line reason) = line_refusal line reason
+text_of_entry stats (Published line version) = []
+text_of_entry stats (Found number reader turn answer) = text_of_answer number stats answer
+text_of_entry stats (SearchRefused number reason) = search_refusal number reason
+
+abbrev pub text_of_transcript : Bool → List Entry → List ℕ
+text_of_transcript stats entries = flat_map (text_of_entry stats) entries
+
+abbrev pub is_refusal : Entry → Bool
+is_refusal (Accepted line commands) = false
+is_refusal (Refused line reason) = true
+is_refusal (Published line version) = false
+is_refusal (Found number reader turn answer) = false
+is_refusal (SearchRefused number reason) = true
+
+abbrev pub has_hit : Entry → Bool
+has_hit (Accepted line commands) = false
+has_hit (Refused line reason) = false
+has_hit (Published line version) = false
+has_hit (Found number reader turn answer) = nat_lt 0 (length answer.hits)
+has_hit (SearchRefused number reason) = false
+
+-- 2 where anything was refused, else 0 where some search has a hit, else 1
+abbrev pub status_of : List Entry → ℕ
+status_of entries = if list_any is_refusal entries then 2 else (if list_any has_hit entries then 0 else 1)

@@ -1,0 +1,21 @@
+//! `tsearch`: runs a script of commands and searches, and writes what it answers.
+//!
+//! `run` carries out a script and returns its transcript; `write_transcript` writes the transcript's text,
+//! and `status` says how it ended.
+#![tactic(auto)]
+
+mod items;
+pub mod output;
+pub mod run;
+mod session;
+pub mod source;
+mod store;
+#[cfg(test)]
+mod tests;
+mod texts;
+pub mod transcript;
+
+pub use output::{WriteError, write_transcript};
+pub use run::{Options, RunError};
+pub use source::{Fault, Source};
+pub use transcript::{Entry, Reason, SearchReason, Transcript, status};

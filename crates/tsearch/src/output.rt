@@ -1,0 +1,69 @@
+//! Transcripts, written.
+
+ghost use Rattle.std.specs.Prelude.{◌≡◌, ◌++◌, OnOk, OnErr, List, ℕ};
+ghost use Rattle.std.specs.Io.KnownBytes.{Appends};
+ghost use Rattle.tsearch.specs.Transcript.{text_of_transcript};
+ghost use Rattle.tsearch.specs.Written.{AppendsFront};
+
+use crate::texts::append_entry;
+use crate::transcript::Transcript;
+use std::alloc::Global;
+use std::io::Write;
+use thiserror::Error;
+
+/// Why a transcript is not written whole.
+#[derive(Debug, Drop, Error)]
+pub enum WriteError {
+    /// The writer failed.
+    #[error("tsearch: cannot write")]
+    Failed,
+    /// The writer took no byte.
+    #[error("tsearch: cannot write")]
+    Stopped,
+    /// Memory ran out.
+    #[error("tsearch: out of memory")]
+    OutOfMemory,
+}
+
+/// Writes the text of a transcript, entry by entry: the lines of searches and of refusals (this program's
+/// choice; `NAME:LINE:TEXT` is grep's form). With `stats` each answer tells its candidates too.
+///
+/// `Failed` comes where the writer failed, `Stopped` where it took no byte, and `OutOfMemory` where memory ran
+/// out for an entry's text. After an `Err` what was written is a beginning of the text.
+pub fn write_transcript<W: Write>(
+    alloc: Global,
+    transcript: &Transcript,
+    stats: bool,
+    out: &mut W,
+) -> Result<(), WriteError>
+    ensures ok { OnOk result (Appends (W.contents out.old) (W.contents out.new) (text_of_transcript stats transcript.now.entries.items)) }
+    ensures err { OnErr result (AppendsFront (W.contents out.old) (W.contents out.new) (text_of_transcript stats transcript.now.entries.items)) }
+{
+    let mut text = Vec::new(alloc);
+    for entry in &transcript.entries {
+        text.clear();
+        match append_entry(entry, stats, &mut text) {
+            Ok(()) => {}
+            Err(_) => return Err(WriteError::OutOfMemory),
+        }
+        if let Err(error) = write_whole(out, &text) {
+            return Err(error);
+        }
+    }
+    Ok(())
+}
+
+fn write_whole<W: Write>(out: &mut W, bytes: &[u8]) -> Result<(), WriteError>
+    ensures ok { OnOk result (Appends (W.contents out.old) (W.contents out.new) bytes.now) }
+    ensures err { OnErr result (AppendsFront (W.contents out.old) (W.contents out.new) bytes.now) }
+{
+    let mut rest = bytes;
+    while !rest.is_empty() {
+        match out.write(rest) {
+            Ok(0) => return Err(WriteError::Stopped),
+            Ok(count) => rest = &rest[count..],
+            Err(_) => return Err(WriteError::Failed),
+        }
+    }
+    Ok(())
+}

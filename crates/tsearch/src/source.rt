@@ -1,0 +1,39 @@
+//! Where a script's loads come from.
+
+ghost use Rattle.std.specs.Prelude.{◌≡◌, ℕ, ◌-◌, ◌^◌, ◌<◌, ◌≤◌, ◌⊎◌, List, IfOk, IsErrOf};
+
+use std::alloc::Global;
+
+/// Why a source gives nothing for a path. A load is then refused, and the run goes on.
+#[derive(Clone, Copy, Debug, PartialEq, Eq)]
+pub enum Fault {
+    /// The source has no bytes for the path, or could not read them. It counts such failures.
+    Failed,
+    /// Memory ran out.
+    OutOfMemory,
+}
+
+/// What a script's loads are read from.
+/// What a run reads the bodies of its loads from.
+pub trait Source {
+    /// The bytes may be read under the path. No read changes it.
+    ghost holds: { Self → List ℕ → List ℕ → Type 0 };
+
+    /// How often the source has failed.
+    ghost failed: { Self → ℕ };
+
+    /// Reads what the source holds under the path, whose bytes it takes as they stand in the script.
+    ///
+    /// `Failed` comes only where `failures` rises in this call, or stands at the greatest `u64` after it, and
+    /// `OutOfMemory` where memory ran out for the bytes.
+    fn read(&mut self, alloc: Global, path: &[u8]) -> Result<Vec<u8>, Fault>
+        ensures read { IfOk result (λ bytes. holds self.old path.now bytes.items) }
+        ensures same { (path body : List ℕ) → (holds self.new path body → holds self.old path body) × (holds self.old path body → holds self.new path body) }
+        ensures counted { failed self.old ≤ failed self.new }
+        ensures bound { failed self.new < 2 ^ 64 }
+        ensures failure { IsErrOf result Fault.Failed → (failed self.old < failed self.new) ⊎ (failed self.new ≡ 2 ^ 64 - 1) };
+
+    /// How often the source has failed, up to the greatest `u64`.
+    fn failures(&self) -> u64
+        ensures { result ≡ failed self.now };
+}

@@ -1,0 +1,130 @@
+//! Transcripts of runs.
+
+ghost use Rattle.std.specs.Prelude.{◌≡◌, ◌++◌, OnOk, OnErr};
+ghost use Rattle.std.specs.List.{list_any};
+ghost use Rattle.tsearch.specs.Transcript.{status_of, is_refusal, has_hit};
+
+use ere::EreError;
+use index::{BodyErrorKind, NameError};
+use search::Answer;
+use std::alloc::AllocError;
+
+/// Why a line of a script is refused.
+#[derive(Clone, Copy, Debug, PartialEq, Eq)]
+pub enum Reason {
+    /// The line is no item.
+    BadLine,
+    /// A put without its form.
+    BadPut,
+    /// A put without its bytes.
+    Truncated,
+    /// A byte other than a line feed behind the bytes of a put.
+    BodyNotClosed,
+    /// The name is none.
+    Name(NameError),
+    /// The body is none.
+    Body(BodyErrorKind),
+    /// The source failed.
+    CannotLoad,
+    /// No document of that name is there after all accepted commands.
+    NoSuchFile,
+    /// As many commands as the run takes are accepted.
+    Full,
+    /// Memory ran out.
+    OutOfMemory,
+}
+
+/// Why a search is refused.
+#[derive(Clone, Copy, Debug, PartialEq, Eq)]
+pub enum SearchReason {
+    /// The pattern has a fault.
+    Pattern(EreError),
+    /// The name pattern has a fault.
+    NamePattern(EreError),
+    /// Memory ran out.
+    OutOfMemory,
+}
+
+/// What became of an item of a script.
+#[derive(Debug, Drop)]
+pub enum Entry {
+    /// A command was accepted: the number of its line, and how many commands are accepted with it.
+    Accepted {
+        line: u32,
+        commands: u32,
+    },
+    /// A line was refused.
+    Refused {
+        line: u32,
+        reason: Reason,
+    },
+    /// All accepted commands were published; the version is their number.
+    Published {
+        line: u32,
+        version: u32,
+    },
+    /// A search was answered: its number, the reader that answered, and that reader's turn, from 1.
+    Found {
+        search: u32,
+        reader: u32,
+        turn: u32,
+        answer: Answer,
+    },
+    /// A search was refused: its number, and why.
+    SearchRefused {
+        search: u32,
+        reason: SearchReason,
+    },
+}
+
+/// What a run answered.
+#[derive(Debug, Drop)]
+pub struct Transcript {
+    /// In the order of the script, one for each item but `sync`.
+    pub entries: Vec<Entry>,
+}
+
+/// The status of a run: 2 where anything was refused, a line or a search, else 0 where some search has a hit,
+/// else 1. So do grep's statuses, by POSIX.1-2017, XCU, grep, EXIT STATUS.
+pub fn status(transcript: &Transcript) -> u8
+    ensures { result ≡ status_of transcript.now.entries.items }
+{
+    if any_refused(&transcript.entries) {
+        2
+    } else if any_hit(&transcript.entries) {
+        0
+    } else {
+        1
+    }
+}
+
+fn any_refused(entries: &[Entry]) -> bool
+    ensures { result ≡ list_any is_refusal entries.now }
+{
+    entries.iter().any(|entry| is_refusal(entry))
+}
+
+fn any_hit(entries: &[Entry]) -> bool
+    ensures { result ≡ list_any has_hit entries.now }
+{
+    entries.iter().any(|entry| has_hit(entry))
+}
+
+fn is_refusal(entry: &Entry) -> bool
+    ensures { result ≡ is_refusal entry.now }
+{
+    match entry {
+        Entry::Refused { .. } => true,
+        Entry::SearchRefused { .. } => true,
+        _ => false,
+    }
+}
+
+fn has_hit(entry: &Entry) -> bool
+    ensures { result ≡ has_hit entry.now }
+{
+    match entry {
+        Entry::Found { answer, .. } => !answer.hits().is_empty(),
+        _ => false,
+    }
+}

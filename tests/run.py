@@ -1,0 +1,133 @@
+#!/usr/bin/env python3
+"""Runs the cases of tests/cases and the scripts of examples/ on the built program.
+
+A case NAME of tests/cases has some of these files:
+
+    NAME.script       the script, on standard input, or as FILE where an argument is {script}
+    NAME.args         the arguments, one a line
+    NAME.run          a bash script that is run instead, with the paths PROGRAM and SCRIPT
+    NAME.setup        a bash script that is run before, in the case's own new folder
+    NAME.stdout       what must be written to standard output; no file: nothing
+    NAME.stdout-has   instead, lines each of which must stand somewhere in it
+    NAME.stderr       what must be written to standard error; no file: nothing
+    NAME.stderr-has   instead, lines each of which must stand somewhere in it
+    NAME.status       the status; no file: 0
+
+A case whose arguments say nothing of readers is run with each of several numbers of readers too, and must
+give the same. An example NAME.script of examples/ is run from the top of the repository, as FILE, and must
+write NAME.stdout and end with NAME.status.
+
+Usage: tests/run.py [NAME..]   The last line counts: N passed, M failed.
+"""
+
+import os
+import pathlib
+import subprocess
+import sys
+import tempfile
+
+TOP = pathlib.Path(__file__).resolve().parent.parent
+PROGRAM = TOP / "crates/program/out/program"
+CASES = TOP / "tests/cases"
+EXAMPLES = TOP / "examples"
+READERS = ["0", "1", "2", "16"]
+SECONDS = 120
+
+
+class Wrong(Exception):
+    """A case gave something else than it should."""
+
+
+def read_bytes(path):
+    return path.read_bytes() if path.exists() else b""
+
+
+def run(command, folder, stdin, env=None):
+    """Runs a command in a folder, and gives its status, standard output and standard error."""
+    try:
+        done = subprocess.run(
+            command, cwd=folder, input=stdin, capture_output=True, timeout=SECONDS, env=env
+        )
+    except subprocess.TimeoutExpired:
+        raise Wrong(f"did not end in {SECONDS} seconds") from None
+    return done.returncode, done.stdout, done.stderr
+
+
+def compare_stream(base, stream, text):
+    """Compares what was written to a stream with the case's file."""
+    has = base.with_suffix(f".{stream}-has")
+    if has.exists():
+        for line in has.read_bytes().splitlines():
+            if line not in text:
+                raise Wrong(f"{stream} lacks {line!r}, and is {text[:2000]!r}")
+        return
+    wanted = read_bytes(base.with_suffix(f".{stream}"))
+    if text != wanted:
+        raise Wrong(f"{stream} is {text[:2000]!r}, and should be {wanted[:2000]!r}")
+
+
+def compare(base, result):
+    status, stdout, stderr = result
+    wanted = int(read_bytes(base.with_suffix(".status")) or b"0")
+    compare_stream(base, "stdout", stdout)
+    compare_stream(base, "stderr", stderr)
+    if status != wanted:
+        raise Wrong(f"the status is {status}, and should be {wanted}")
+
+
+def run_case(base):
+    script = base.with_suffix(".script")
+    args = base.with_suffix(".args")
+    own_run = base.with_suffix(".run")
+    setup = base.with_suffix(".setup")
+    words = args.read_text().splitlines() if args.exists() else []
+    with tempfile.TemporaryDirectory() as folder:
+        env = dict(os.environ, PROGRAM=str(PROGRAM), SCRIPT=str(script), LC_ALL="C")
+        if setup.exists():
+            made = run(["bash", "-eu", str(setup)], folder, b"", env)
+            if made[0] != 0:
+                raise Wrong(f"its setup failed: {made[2]!r}")
+        if own_run.exists():
+            compare(base, run(["bash", "-u", str(own_run)], folder, b"", env))
+            return
+        stdin = b"" if "{script}" in words else read_bytes(script)
+        command = [str(PROGRAM)] + [str(script) if word == "{script}" else word for word in words]
+        compare(base, run(command, folder, stdin, env))
+        if any(word.startswith("--readers") or word == "--help" for word in words):
+            return
+        for readers in READERS:
+            try:
+                compare(base, run(command[:1] + ["--readers", readers] + command[1:], folder, stdin, env))
+            except Wrong as wrong:
+                raise Wrong(f"with {readers} readers {wrong}") from None
+
+
+def run_example(base):
+    script = base.with_suffix(".script").relative_to(TOP)
+    compare(base, run([str(PROGRAM), str(script)], TOP, b""))
+
+
+def main():
+    if not PROGRAM.exists():
+        sys.exit("tests/run.py: the program is not built; ./tsearch builds it")
+    cases = sorted({path.with_suffix("") for path in CASES.iterdir() if path.is_file()})
+    examples = sorted(path.with_suffix("") for path in EXAMPLES.glob("*.script"))
+    jobs = [(run_case, base) for base in cases] + [(run_example, base) for base in examples]
+    wanted = sys.argv[1:]
+    passed = failed = 0
+    for job, base in jobs:
+        if wanted and base.name not in wanted:
+            continue
+        try:
+            job(base)
+        except Wrong as wrong:
+            failed += 1
+            print(f"FAILED {base.relative_to(TOP)}: {wrong}")
+        else:
+            passed += 1
+    print(f"{passed} passed, {failed} failed")
+    sys.exit(1 if failed else 0)
+
+
+if __name__ == "__main__":
+    main()
