@@ -14,10 +14,10 @@ use Rattle.std.proofs.lemmas.Option.{slice_get-get_or, slice_get_read, slice_get
 use Rattle.trigram.specs.Trigrams.{TrigramSet}
 use Rattle.trigram.specs.declared.query.Query.{Query}
 use Rattle.trigram.specs.declared.query.Query.TheVariants as query
-use Rattle.trigram.specs.Query.{formula_of, formulas_of, is_met, are_all_met, is_one_met}
+use Rattle.trigram.specs.Query.{all_of, one_of, formula_of, formulas_of, is_met, are_all_met, is_one_met}
 use Rattle.trigram.specs.Forms.{formula_of-Any, formula_of-None, formula_of-Has, formula_of-And, formula_of-Or}
 use Rattle.posting.specs.NumberSet.{NumberSet, has}
-use Rattle.posting.specs.Postings.{set_of, trigrams_with}
+use Rattle.posting.specs.Postings.{set_of, trigrams_with, selected}
 use Rattle.posting.specs.Laws.{has-filter}
 use Rattle.posting.proofs.Members.{filter_all, filter_none, same_rising}
 
@@ -37,14 +37,6 @@ pub met-Has : (t : ℕ) (set : TrigramSet) → is_met (formula_of (query.Has t))
 unfolding is_met
 met-Has t set = rw (formula_of-Has t) refl
 
-pub met-And : (members : Vec Query Global) (set : TrigramSet) → is_met (formula_of (query.And members)) set ≡ are_all_met (formulas_of (map formula_of members.items)) set
-unfolding is_met
-met-And members set = rw (formula_of-And members) refl
-
-pub met-Or : (members : Vec Query Global) (set : TrigramSet) → is_met (formula_of (query.Or members)) set ≡ is_one_met (formulas_of (map formula_of members.items)) set
-unfolding is_met
-met-Or members set = rw (formula_of-Or members) refl
-
 -- by each query
 pub chosen-Any : (table : List NumberSet) (xs : List ℕ) → filter (λ n. is_met (formula_of query.Any) (trigrams_with table n)) xs ≡ xs
 chosen-Any table xs = filter_all (λ n. is_met (formula_of query.Any) (trigrams_with table n)) xs (λ k d inside. met-Any (trigrams_with table (get_or xs k d)))
@@ -59,25 +51,23 @@ chosen-Has table t xs = filter_agree (λ n. is_met (formula_of (query.Has t)) (t
 pub chosen-Has_empty : (table : List NumberSet) (t : ℕ) (xs : List ℕ) → (set_of table t).members ≡ [] → filter (λ n. is_met (formula_of (query.Has t)) (trigrams_with table n)) xs ≡ []
 chosen-Has_empty table t xs empty = chosen-Has table t xs ∙ filter_none (has (set_of table t).members) xs (λ k d inside. rw empty refl)
 
-pub chosen-And : (table : List NumberSet) (members : Vec Query Global) (xs : List ℕ) → filter (λ n. is_met (formula_of (query.And members)) (trigrams_with table n)) xs ≡ filter (λ n. are_all_met (formulas_of (map formula_of members.items)) (trigrams_with table n)) xs
-chosen-And table members xs =
-    filter_agree (λ n. is_met (formula_of (query.And members)) (trigrams_with table n)) (λ n. are_all_met (formulas_of (map formula_of members.items)) (trigrams_with table n)) (λ n. met-And members (trigrams_with table n)) xs
+pub chosen-And : (table : List NumberSet) (members : Vec Query Global) (xs : List ℕ) → selected table (formula_of (query.And members)) xs ≡ selected table (all_of (formulas_of (map formula_of members.items))) xs
+chosen-And table members xs = ap (λ formula. selected table formula xs) (formula_of-And members)
 
-pub chosen-Or : (table : List NumberSet) (members : Vec Query Global) (xs : List ℕ) → filter (λ n. is_met (formula_of (query.Or members)) (trigrams_with table n)) xs ≡ filter (λ n. is_one_met (formulas_of (map formula_of members.items)) (trigrams_with table n)) xs
-chosen-Or table members xs =
-    filter_agree (λ n. is_met (formula_of (query.Or members)) (trigrams_with table n)) (λ n. is_one_met (formulas_of (map formula_of members.items)) (trigrams_with table n)) (λ n. met-Or members (trigrams_with table n)) xs
+pub chosen-Or : (table : List NumberSet) (members : Vec Query Global) (xs : List ℕ) → selected table (formula_of (query.Or members)) xs ≡ selected table (one_of (formulas_of (map formula_of members.items))) xs
+chosen-Or table members xs = ap (λ formula. selected table formula xs) (formula_of-Or members)
 
 -- the set meets the query
 abbrev pub meets : TrigramSet → Query → Bool
 meets set q = is_met (formula_of q) set
 
-pub all_met-list : (members : List Query) (set : TrigramSet) → are_all_met (formulas_of (map formula_of members)) set ≡ list_all (meets set) members
-unfolding are_all_met
+pub all_met-list : (members : List Query) (set : TrigramSet) → is_met (all_of (formulas_of (map formula_of members))) set ≡ list_all (meets set) members
+unfolding is_met are_all_met
 all_met-list [] set = refl
 all_met-list (q ∷ members) set = ap (λ b. meets set q && b) (all_met-list members set)
 
-pub one_met-list : (members : List Query) (set : TrigramSet) → is_one_met (formulas_of (map formula_of members)) set ≡ list_any (meets set) members
-unfolding is_one_met
+pub one_met-list : (members : List Query) (set : TrigramSet) → is_met (one_of (formulas_of (map formula_of members))) set ≡ list_any (meets set) members
+unfolding is_met is_one_met
 one_met-list [] set = refl
 one_met-list (q ∷ members) set = ap (λ b. meets set q || b) (one_met-list members set)
 
@@ -167,11 +157,11 @@ first_of_all (q ∷ members) (suc first) set fails = rw (first_of_all members fi
     and_false true = refl
     and_false false = refl
 
-pub narrowed_ends : (table : List NumberSet) (members : List Query) (first i : ℕ) (numbers : List ℕ) → length members ≤ i → narrowed table members first i numbers ≡ filter (λ n. are_all_met (formulas_of (map formula_of members)) (trigrams_with table n)) numbers
+pub narrowed_ends : (table : List NumberSet) (members : List Query) (first i : ℕ) (numbers : List ℕ) → length members ≤ i → narrowed table members first i numbers ≡ filter (λ n. is_met (all_of (formulas_of (map formula_of members))) (trigrams_with table n)) numbers
 narrowed_ends table members first i numbers end =
-    filter_agree (λ n. first_meets (trigrams_with table n) (slice_get members first) && list_all (meets (trigrams_with table n)) (take i members)) (λ n. are_all_met (formulas_of (map formula_of members)) (trigrams_with table n)) step numbers
+    filter_agree (λ n. first_meets (trigrams_with table n) (slice_get members first) && list_all (meets (trigrams_with table n)) (take i members)) (λ n. is_met (all_of (formulas_of (map formula_of members))) (trigrams_with table n)) step numbers
   where
-    step : (n : ℕ) → (first_meets (trigrams_with table n) (slice_get members first) && list_all (meets (trigrams_with table n)) (take i members)) ≡ are_all_met (formulas_of (map formula_of members)) (trigrams_with table n)
+    step : (n : ℕ) → (first_meets (trigrams_with table n) (slice_get members first) && list_all (meets (trigrams_with table n)) (take i members)) ≡ is_met (all_of (formulas_of (map formula_of members))) (trigrams_with table n)
     step n =
         ap (λ qs. first_meets (trigrams_with table n) (slice_get members first) && list_all (meets (trigrams_with table n)) qs) (take_all i members end)
         ∙ implied (first_meets (trigrams_with table n) (slice_get members first)) (list_all (meets (trigrams_with table n)) members) (first_of_all members first (trigrams_with table n))
@@ -201,7 +191,7 @@ joined_more table members i member numbers chosen more both rising inside is h h
         ∙ ap (λ b. has numbers n && b) (ap (λ q. list_any (meets (trigrams_with table n)) (take i members) || meets (trigrams_with table n) q) is ∙ sym (list_any_more (meets (trigrams_with table n)) members i member inside))
         ∙ sym (has-filter (λ m. list_any (meets (trigrams_with table m)) (take (i + 1) members)) numbers n)
 
-pub joined_ends : (table : List NumberSet) (members : List Query) (i : ℕ) (numbers : List ℕ) → length members ≤ i → joined table members i numbers ≡ filter (λ n. is_one_met (formulas_of (map formula_of members)) (trigrams_with table n)) numbers
+pub joined_ends : (table : List NumberSet) (members : List Query) (i : ℕ) (numbers : List ℕ) → length members ≤ i → joined table members i numbers ≡ filter (λ n. is_met (one_of (formulas_of (map formula_of members))) (trigrams_with table n)) numbers
 joined_ends table members i numbers end =
-    filter_agree (λ n. list_any (meets (trigrams_with table n)) (take i members)) (λ n. is_one_met (formulas_of (map formula_of members)) (trigrams_with table n))
+    filter_agree (λ n. list_any (meets (trigrams_with table n)) (take i members)) (λ n. is_met (one_of (formulas_of (map formula_of members))) (trigrams_with table n))
     (λ n. ap (list_any (meets (trigrams_with table n))) (take_all i members end) ∙ sym (one_met-list members (trigrams_with table n))) numbers

@@ -1,7 +1,8 @@
 -- One set of numbers for each trigram (the posting lists of Russ Cox's "Regular Expression Matching with a
 -- Trigram Index", 2012), as a table by the trigrams' numbers.
-use Rattle.std.specs.Prelude.{◌≡◌, ◌≢◌, ℕ, ◌<◌, Bool, IsTrue, List, [], All, AllPairs, slice_index_or}
+use Rattle.std.specs.Prelude.{◌≡◌, ◌≢◌, ℕ, ◌<◌, Bool, not, ◌&&◌, ◌||◌, ◌==◌, IsTrue, List, [], All, AllPairs, filter, slice_index_or}
 use Rattle.trigram.specs.Trigrams.{TrigramSet}
+use Rattle.trigram.specs.Query.{Formula, is_met}
 use Rattle.posting.specs.NumberSet.{NumberSet, has, HasRoom}
 
 -- a set with no number and no room
@@ -39,3 +40,15 @@ SameSets old new = (trigram n : ℕ) → holds new trigram n ≡ holds old trigr
 -- Where a set had room for one more number it has it still.
 abbrev pub KeepsRoom : List NumberSet → List NumberSet → Type 0
 KeepsRoom old new = (trigram : ℕ) → HasRoom (set_of old trigram) → HasRoom (set_of new trigram)
+
+-- The number came into the sets of these trigrams, and nothing else changed.
+abbrev pub AddsNumber : List NumberSet → List NumberSet → List ℕ → ℕ → Type 0
+AddsNumber old new trigrams number = (trigram n : ℕ) → holds new trigram n ≡ (holds old trigram n || (has trigrams trigram && number == n))
+
+-- The number went out of the sets of these trigrams, and nothing else changed.
+abbrev pub WithdrawsNumber : List NumberSet → List NumberSet → List ℕ → ℕ → Type 0
+WithdrawsNumber old new trigrams number = (trigram n : ℕ) → holds new trigram n ≡ (holds old trigram n && not (has trigrams trigram && n == number))
+
+-- the numbers of a list whose trigrams meet the formula
+abbrev pub selected : List NumberSet → Formula → List ℕ → List ℕ
+selected table formula numbers = filter (λ n. is_met formula (trigrams_with table n)) numbers

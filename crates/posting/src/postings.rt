@@ -1,10 +1,10 @@
 //! The sets of all trigrams.
 
-ghost use Rattle.std.specs.Prelude.{◌≡◌, ◌≢◌, ℕ, ◌<◌, ◌||◌, ◌&&◌, ◌==◌, not, false, ◌∷◌, [], ◌++◌, All, map, filter, length, IfOk, IfSome, IfNone, OnOk};
+ghost use Rattle.std.specs.Prelude.{◌≡◌, ◌≢◌, ℕ, ◌<◌, false, ◌∷◌, [], ◌++◌, All, map, IfOk, IfSome, IfNone, OnOk};
 ghost use Rattle.std.specs.List.Sorted.{IsStrictlyIncreasing};
-ghost use Rattle.trigram.specs.Query.{formula_of, formulas_of, is_met, are_all_met, is_one_met};
-ghost use Rattle.posting.specs.NumberSet.{has, without, HasRoom};
-ghost use Rattle.posting.specs.Postings.{set_of, holds, trigrams_with, IsPrepared, IsAbove, AllDiffer, SameSets, KeepsRoom};
+ghost use Rattle.trigram.specs.Query.{formula_of, formulas_of, all_of, one_of};
+ghost use Rattle.posting.specs.NumberSet.{without, HasRoom};
+ghost use Rattle.posting.specs.Postings.{set_of, holds, IsPrepared, IsAbove, AllDiffer, SameSets, KeepsRoom, AddsNumber, WithdrawsNumber, selected};
 
 use crate::list::List;
 use crate::pages;
@@ -65,8 +65,7 @@ impl Postings {
         requires prepared { IsPrepared self.old trigrams.now }
         requires above { IsAbove self.old trigrams.now number }
         requires once { AllDiffer trigrams.now }
-        ensures { (trigram n : ℕ)
-            → holds self.new trigram n ≡ (holds self.old trigram n || (has trigrams.now trigram && number == n)) }
+        ensures { AddsNumber self.old self.new trigrams.now number }
     {
         for trigram in trigrams {
             self.push(*trigram, number);
@@ -76,8 +75,7 @@ impl Postings {
     /// Takes the number out of the sets of these trigrams; a set that hasn't got it stays as it is. It takes
     /// no memory.
     pub fn withdraw(&mut self, number: u32, trigrams: &[Trigram])
-        ensures sets { (trigram n : ℕ)
-            → holds self.new trigram n ≡ (holds self.old trigram n && not (has trigrams.now trigram && n == number)) }
+        ensures sets { WithdrawsNumber self.old self.new trigrams.now number }
         ensures room { KeepsRoom self.old self.new }
     {
         for trigram in trigrams {
@@ -90,7 +88,7 @@ impl Postings {
     /// The error is that there is no memory for them.
     pub fn select(&self, alloc: Global, query: &Query, live: &List) -> Result<List, AllocError>
         ensures { IfOk result (λ chosen. chosen.members
-            ≡ filter (λ n. is_met (formula_of query.now) (trigrams_with self.now n)) live.now.members) }
+            ≡ selected self.now (formula_of query.now) live.now.members) }
     {
         if live.is_empty() {
             return Ok(List::new(alloc));
@@ -146,7 +144,7 @@ impl Postings {
     fn narrow(&self, alloc: Global, query: &Query, within: &List) -> Result<List, AllocError>
         requires { IsStrictlyIncreasing within.now.members }
         ensures { IfOk result (λ chosen. chosen.members
-            ≡ filter (λ n. is_met (formula_of query.now) (trigrams_with self.now n)) within.now.members) }
+            ≡ selected self.now (formula_of query.now) within.now.members) }
     {
         match query {
             Query::Any => within.copy(),
@@ -170,7 +168,7 @@ impl Postings {
     ) -> Result<List, AllocError>
         requires { IsStrictlyIncreasing within.now.members }
         ensures { IfOk result (λ chosen. chosen.members
-            ≡ filter (λ n. are_all_met (formulas_of (map formula_of members.now)) (trigrams_with self.now n)) within.now.members) }
+            ≡ selected self.now (all_of (formulas_of (map formula_of members.now))) within.now.members) }
     {
         let (first, _) = self.fewest(members);
         let mut chosen = match members.get(first) {
@@ -194,7 +192,7 @@ impl Postings {
     ) -> Result<List, AllocError>
         requires { IsStrictlyIncreasing within.now.members }
         ensures { IfOk result (λ chosen. chosen.members
-            ≡ filter (λ n. is_one_met (formulas_of (map formula_of members.now)) (trigrams_with self.now n)) within.now.members) }
+            ≡ selected self.now (one_of (formulas_of (map formula_of members.now))) within.now.members) }
     {
         let mut chosen = List::new(alloc);
         for member in members {
