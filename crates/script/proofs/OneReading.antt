@@ -1,13 +1,13 @@
 -- A script has at most one list of items: the text decides what is taken from its front.
-use Rattle.std.proofs.Common.{◌≡◌, ◌≢◌, ℕ, ◌+◌, ◌<◌, ◌≤◌, length, take, drop, Bool, true, false, nat_lt, if◌then◌else◌, ◌==◌, List, [], ◌∷◌, ◌++◌, Option, Some, None, unwrap_or, refl, sym, ap, ◌∙◌, subst, arith, IsTrue, IsFalse, codes, length-append}
+use Rattle.std.proofs.Common.{◌≡◌, ◌≢◌, ℕ, ◌+◌, ◌<◌, length, take, drop, Bool, true, false, nat_lt, if◌then◌else◌, ◌==◌, List, [], ◌∷◌, ◌++◌, Option, Some, None, unwrap_or, refl, sym, ap, ◌∙◌, subst, arith, IsTrue, IsFalse, length-append}
 use Rattle.std.proofs.lemmas.List.{append-nil}
 use Rattle.std.proofs.lemmas.Bool.Decides.{nat_tests}
 use Rattle.std.proofs.Math.Seq.{take-append_seam, drop-append_seam}
 use Rattle.std.proofs.lemmas.List.Elements.{recursion_from_All}
 use Rattle.ere.specs.Classes.{is_digit}
-use Rattle.script.specs.Words.{words_of, SpellsSize, IsPutHeader}
+use Rattle.script.specs.Words.{words_of, SpellsSize}
 use Rattle.script.specs.Cuts.{Lacks, FirstLineOf}
-use Rattle.script.specs.Items.{Item, Numbered, numbered, ItemsFrom, done, blank_line, other_line, closed_put, last_put, malformed_put, missing_body, short_body, open_body, BeginsWithLine, ended, last, IsLine, IsPutLine, is_put, is_blank, item_of_line, line_feeds, put, bad_put, truncated, body_not_closed}
+use Rattle.script.specs.Items.{Numbered, numbered, ItemsFrom, done, blank_line, other_line, closed_put, last_put, malformed_put, missing_body, short_body, open_body, BeginsWithLine, ended, last, IsPutLine, is_put, is_blank, item_of_line, line_feeds, put, bad_put, truncated, body_not_closed}
 use Rattle.script.proofs.ReaderLemmas.{in_back, last_cut_once, lacks_byte}
 
 -- What the front of a text leads to.
