@@ -8,3 +8,4 @@ pub mod Spelling
 pub mod Limits
 pub mod Language
 pub mod Lines
+pub mod LanguageLaws

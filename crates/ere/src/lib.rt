@@ -6,6 +6,7 @@
 
 pub mod byte_set;
 pub mod error;
+pub mod language_laws;
 pub mod limits;
 pub mod reader;
 pub mod tree;

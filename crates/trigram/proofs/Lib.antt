@@ -1,0 +1,8 @@
+pub mod BodyLemmas
+pub mod QueryLemmas
+pub mod TextsLemmas
+pub mod AnalysisLemmas
+pub mod MemberLemmas
+pub mod CoverLemmas
+pub mod ExactLemmas
+pub mod LawLemmas

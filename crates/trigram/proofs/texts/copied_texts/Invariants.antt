@@ -1,0 +1,6 @@
+use Rattle.std.proofs.Common.{◌≡◌, ◌++◌, drop}
+use Rattle.trigram.specs.Texts.{texts_of}
+use Rattle.trigram.proofs.texts.copied_texts.Given as goal
+
+abbrev pub invariant-loop-text : goal.invariant-loop-text
+invariant-loop-text l = texts_of l.copies.items ++ texts_of (drop l.text-index l.texts) ≡ texts_of l.texts

@@ -1,0 +1,6 @@
+use Rattle.std.proofs.Common.{◌≡◌, map, drop}
+use Rattle.trigram.specs.Texts.{texts_of, with_texts, cuts, cut_at}
+use Rattle.trigram.proofs.texts.cuts.Given as goal
+
+abbrev pub invariant-loop-text : goal.invariant-loop-text
+invariant-loop-text l = with_texts (texts_of l.ends.items) (map (cut_at l.side l.count) (texts_of (drop l.text-index l.texts))) ≡ cuts (cut_at l.side) l.count (texts_of l.texts)

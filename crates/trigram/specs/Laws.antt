@@ -1,0 +1,25 @@
+-- The laws of the analysis: what a known set of texts is, and why a document may be passed over.
+use Rattle.std.specs.Prelude.{◌≡◌, ℕ, List, IsTrue, ◌↔◌, Contains}
+use Rattle.ere.specs.Tree.{Tree}
+use Rattle.ere.specs.Limits.{IsProper}
+use Rattle.ere.specs.Language.{InLanguage, Hit}
+use Rattle.ere.specs.LanguageLaws.{without_anchors}
+use Rattle.ere.specs.Lines.{lines_of}
+use Rattle.trigram.specs.Trigrams.{TrigramSet, trigrams_of_text, trigrams_of_body, has_all_trigrams}
+use Rattle.trigram.specs.Texts.{Texts, has_text}
+use Rattle.trigram.specs.Analysis.{known, analysis_of, Condition}
+
+-- A known set is exactly the words of the tree with the empty text for each anchor.
+abbrev pub KnownTextsAreTheWords : Type 0
+KnownTextsAreTheWords =
+    (tree : Tree) (texts : Texts) → IsProper tree → analysis_of tree ≡ known texts → (before word after : List ℕ) → IsTrue (has_text texts word) ↔ InLanguage (without_anchors tree) before word after
+
+-- The trigrams of a body with a line that contains a word of the tree meet the condition of the tree.
+abbrev pub MatchingLineMeetsCondition : Type 0
+MatchingLineMeetsCondition =
+    (tree : Tree) (body line : List ℕ) → Contains (lines_of body) line → Hit tree line → Condition tree (trigrams_of_body body)
+
+-- A set has all trigrams of a text where it has each of them.
+abbrev pub TrigramsAreHeld : Type 0
+TrigramsAreHeld =
+    (text : List ℕ) (set : TrigramSet) → IsTrue (has_all_trigrams text set) ↔ ((trigram : ℕ) → IsTrue (trigrams_of_text text trigram) → IsTrue (set trigram))

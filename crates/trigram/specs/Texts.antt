@@ -1,0 +1,83 @@
+-- Sets of texts. A set is a list, and what is said of it is said of its members: each set that is made has
+-- each text once, in the order of first appearance.
+use Rattle.std.specs.Prelude.{ℕ, ◌-◌, Bool, not, ◌&&◌, nat_lt, nat_le, List, [], ◌∷◌, ◌++◌, length, map, filter, take, drop, if◌then◌else◌}
+use Rattle.std.specs.List.{list_any, flat_map}
+use Rattle.std.specs.Str.{bytes_eq}
+use Rattle.std.specs.declared.alloc.Global.{Global}
+use Rattle.std.specs.declared.vec.Vec.{Vec}
+use Rattle.trigram.specs.declared.texts.Side.{Side}
+use Rattle.trigram.specs.declared.texts.Side.TheVariants.{Front, Back}
+use Rattle.trigram.specs.Trigrams.{TrigramSet, has_all_trigrams}
+
+-- the texts of a program's set
+abbrev pub texts_of : List (Vec ℕ Global) → List (List ℕ)
+texts_of texts = map (λ text. text.items) texts
+
+abbrev pub Texts : Type 0
+Texts = List (List ℕ)
+
+abbrev pub has_text : Texts → List ℕ → Bool
+has_text texts text = list_any (λ other. bytes_eq other text) texts
+
+-- one more text, where it isn't there
+abbrev pub with_text : Texts → List ℕ → Texts
+with_text texts text = if has_text texts text then texts else texts ++ text ∷ []
+
+unfoldable pub with_texts : Texts → Texts → Texts
+with_texts texts [] = texts
+with_texts texts (text ∷ others) = with_texts (with_text texts text) others
+
+-- the texts of a list, each once
+abbrev pub distinct : Texts → Texts
+distinct texts = with_texts [] texts
+
+abbrev pub union : Texts → Texts → Texts
+union left right = distinct (left ++ right)
+
+-- every text of the first with every text of the second behind it
+abbrev pub joins : Texts → Texts → Texts
+joins left right = distinct (flat_map (λ front. map (λ back. front ++ back) right) left)
+
+-- whether all trigrams of one of the texts are in the set
+abbrev pub has_all_of_one : Texts → TrigramSet → Bool
+has_all_of_one texts set = list_any (λ text. has_all_trigrams text set) texts
+
+-- the last bytes of a text, or the whole text where it is shorter
+abbrev pub ending : ℕ → List ℕ → List ℕ
+ending count text = drop (length text - count) text
+
+-- how many bytes of a text are cut out at its one end: by `take` from the front, by `ending` from the back
+abbrev pub Cut : Type 0
+Cut = ℕ → List ℕ → List ℕ
+
+abbrev pub cut_at : Side → Cut
+cut_at Front = take
+cut_at Back = ending
+
+abbrev pub cuts : Cut → ℕ → Texts → Texts
+cuts cut count texts = distinct (map (cut count) texts)
+
+-- the most texts that are kept
+abbrev pub most_texts : ℕ
+most_texts = 16
+
+-- how many bytes are kept: the most of 2, 1 and 0 that leave at most 16 texts
+abbrev pub kept_bytes : Cut → Texts → ℕ
+kept_bytes cut texts =
+    if nat_le (length (cuts cut 2 texts)) most_texts then 2
+    else (if nat_le (length (cuts cut 1 texts)) most_texts then 1 else 0)
+
+-- whether the one text is the end of the other, and shorter
+abbrev pub is_shorter_end : Cut → List ℕ → List ℕ → Bool
+is_shorter_end cut part text = nat_lt (length part) (length text) && bytes_eq (cut (length part) text) part
+
+abbrev pub has_shorter_end : Cut → Texts → List ℕ → Bool
+has_shorter_end cut texts text = list_any (λ part. is_shorter_end cut part text) texts
+
+-- those with no shorter text of the set as their end
+abbrev pub shortest : Cut → Texts → Texts
+shortest cut texts = filter (λ text. not (has_shorter_end cut texts text)) texts
+
+-- the ends that are kept of the texts
+abbrev pub kept_ends : Cut → Texts → Texts
+kept_ends cut texts = shortest cut (cuts cut (kept_bytes cut texts) texts)

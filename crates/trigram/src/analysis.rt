@@ -1,0 +1,489 @@
+//! The analysis of a pattern into the condition that the document of every matching line meets.
+
+ghost use Rattle.std.specs.Prelude.{◌≡◌, IfOk, List, ℕ, map, ◌∷◌, [], None, Some, if◌then◌else◌};
+ghost use Rattle.ere.specs.Limits.{IsWithinLimits};
+ghost use Rattle.ere.specs.Tree.{form, trees_of};
+ghost use Rattle.ere.specs.Tree as tree;
+ghost use Rattle.trigram.specs.Query.{formula_of, is_met, IsPlain, IsPlainFor};
+ghost use Rattle.trigram.specs.Texts.{texts_of, union};
+ghost use Rattle.trigram.specs.Analysis.{just_empty, anything, settle_loose, settle_known, are_kept, loosen, either, both, copies_of, optional, repeated, bytes_in, one_byte, analysis_of, condition, known, words_analysis, ends_analysis, ArePlain, StandFor, EndsStandFor};
+
+use crate::query::{Connective, Query, copied, join};
+use crate::texts::{
+    MOST_TEXTS, Side, copied_texts, has_text, joins, kept_ends, query_of_texts, union,
+};
+use ere::{ByteSet, Ere};
+use std::alloc::{AllocError, Global};
+
+/// The length of the longest text that is kept whole, in bytes.
+const LONGEST_TEXT: usize = 64;
+
+/// What is known of the words of a pattern.
+#[derive(Drop)]
+pub(crate) enum Words {
+    /// They are these texts.
+    Known(Vec<Vec<u8>>),
+    /// Only their ends are known, and a condition.
+    Loose(Ends),
+}
+
+/// The ends of words.
+#[derive(Drop)]
+pub(crate) struct Ends {
+    /// Whether a word can be empty.
+    nullable: bool,
+    /// Texts of which each word has one at its front.
+    fronts: Vec<Vec<u8>>,
+    /// Texts of which each word has one at its back.
+    backs: Vec<Vec<u8>>,
+    /// What every set with all trigrams of a word meets.
+    condition: Query,
+}
+
+/// The query that holds at exactly those sets of trigrams that meet the condition of the pattern, and is
+/// plain (`simplify` says what that is). The document of every line that contains a match meets it.
+/// (Russ Cox, "Regular Expression Matching with a Trigram Index", 2012; `docs/ANALYSIS.md` has the table.)
+///
+/// An `Err` comes where memory runs out.
+pub fn analyse(alloc: Global, tree: &Ere) -> Result<Query, AllocError>
+    requires { IsWithinLimits (form tree.now) }
+    ensures { IfOk result (λ query. IsPlainFor (condition (form tree.now)) (formula_of query)) }
+{
+    match words_of(alloc, tree)? {
+        Words::Known(texts) => query_of_texts(alloc, texts.as_slice()),
+        Words::Loose(ends) => Ok(condition_of(ends)),
+    }
+}
+
+fn condition_of(ends: Ends) -> Query
+    ensures { formula_of result ≡ formula_of ends.condition }
+{
+    let Ends {
+        nullable: _,
+        fronts: _,
+        backs: _,
+        condition,
+    } = ends;
+    condition
+}
+
+fn just_empty(alloc: Global) -> Result<Vec<Vec<u8>>, AllocError>
+    ensures { IfOk result (λ texts. texts_of texts.items ≡ just_empty) }
+{
+    let mut texts = Vec::new(alloc);
+    texts.push(Vec::new(alloc))?;
+    Ok(texts)
+}
+
+fn settle_loose(alloc: Global, ends: Ends) -> Result<Ends, AllocError>
+    requires { IsPlain (formula_of ends.condition) }
+    ensures { IfOk result (EndsStandFor (settle_loose ends.nullable (texts_of ends.fronts.items) (texts_of ends.backs.items) (is_met (formula_of ends.condition)))) }
+{
+    let Ends {
+        nullable,
+        fronts,
+        backs,
+        condition,
+    } = ends;
+    let at_front = query_of_texts(alloc, fronts.as_slice())?;
+    let at_back = query_of_texts(alloc, backs.as_slice())?;
+    let at_ends = join(alloc, Connective::And, at_front, at_back)?;
+    let condition = join(alloc, Connective::And, condition, at_ends)?;
+    let fronts = kept_ends(alloc, Side::Front, fronts.as_slice())?;
+    let backs = kept_ends(alloc, Side::Back, backs.as_slice())?;
+    Ok(Ends {
+        nullable,
+        fronts,
+        backs,
+        condition,
+    })
+}
+
+fn loosen_known(alloc: Global, texts: Vec<Vec<u8>>) -> Result<Ends, AllocError>
+    ensures { IfOk result (EndsStandFor (loosen (known (texts_of texts.items)))) }
+{
+    let nullable = has_text(texts.as_slice(), &[]);
+    let condition = query_of_texts(alloc, texts.as_slice())?;
+    let backs = copied_texts(alloc, texts.as_slice())?;
+    settle_loose(
+        alloc,
+        Ends {
+            nullable,
+            fronts: texts,
+            backs,
+            condition,
+        },
+    )
+}
+
+fn loosen(alloc: Global, words: Words) -> Result<Ends, AllocError>
+    requires { ArePlain words }
+    ensures { IfOk result (EndsStandFor (loosen (words_analysis words))) }
+{
+    match words {
+        Words::Known(texts) => loosen_known(alloc, texts),
+        Words::Loose(ends) => Ok(ends),
+    }
+}
+
+fn settle_known(alloc: Global, texts: Vec<Vec<u8>>) -> Result<Words, AllocError>
+    ensures { IfOk result (StandFor (settle_known (texts_of texts.items))) }
+{
+    if are_kept(texts.as_slice()) {
+        return Ok(Words::Known(texts));
+    }
+    Ok(Words::Loose(loosen_known(alloc, texts)?))
+}
+
+fn are_kept(texts: &[Vec<u8>]) -> bool
+    ensures { result ≡ are_kept (texts_of texts.now) }
+{
+    if texts.len() > MOST_TEXTS {
+        return false;
+    }
+    for text in texts {
+        if text.len() > LONGEST_TEXT {
+            return false;
+        }
+    }
+    true
+}
+
+/// Two alternatives.
+fn either(alloc: Global, left: Words, right: Words) -> Result<Words, AllocError>
+    requires left { ArePlain left }
+    requires right { ArePlain right }
+    ensures { IfOk result (StandFor (either (words_analysis left) (words_analysis right))) }
+{
+    match left {
+        Words::Known(texts) => match right {
+            Words::Known(others) => settle_known(alloc, union(alloc, texts, others)?),
+            Words::Loose(ends) => {
+                let front = loosen_known(alloc, texts)?;
+                Ok(Words::Loose(either_loose(alloc, front, ends)?))
+            }
+        },
+        Words::Loose(ends) => {
+            let other = loosen(alloc, right)?;
+            Ok(Words::Loose(either_loose(alloc, ends, other)?))
+        }
+    }
+}
+
+fn either_loose(alloc: Global, left: Ends, right: Ends) -> Result<Ends, AllocError>
+    requires left { IsPlain (formula_of left.condition) }
+    requires right { IsPlain (formula_of right.condition) }
+    ensures { IfOk result (EndsStandFor (either (ends_analysis left) (ends_analysis right))) }
+{
+    settle_loose(
+        alloc,
+        Ends {
+            nullable: left.nullable || right.nullable,
+            fronts: union(alloc, left.fronts, right.fronts)?,
+            backs: union(alloc, left.backs, right.backs)?,
+            condition: join(alloc, Connective::Or, left.condition, right.condition)?,
+        },
+    )
+}
+
+/// Two neighbours, one behind the other.
+fn both(alloc: Global, left: Words, right: Words) -> Result<Words, AllocError>
+    requires left { ArePlain left }
+    requires right { ArePlain right }
+    ensures { IfOk result (StandFor (both (words_analysis left) (words_analysis right))) }
+{
+    match left {
+        Words::Known(fronts) => match right {
+            Words::Known(backs) => {
+                let texts = joins(alloc, fronts.as_slice(), backs.as_slice())?;
+                settle_known(alloc, texts)
+            }
+            Words::Loose(ends) => Ok(Words::Loose(known_before(alloc, fronts, ends)?)),
+        },
+        Words::Loose(ends) => match right {
+            Words::Known(backs) => Ok(Words::Loose(known_behind(alloc, ends, backs)?)),
+            Words::Loose(others) => Ok(Words::Loose(both_loose(alloc, ends, others)?)),
+        },
+    }
+}
+
+fn known_before(alloc: Global, texts: Vec<Vec<u8>>, ends: Ends) -> Result<Ends, AllocError>
+    requires { IsPlain (formula_of ends.condition) }
+    ensures { IfOk result (EndsStandFor (both (known (texts_of texts.items)) (ends_analysis ends))) }
+{
+    let Ends {
+        nullable,
+        fronts,
+        backs,
+        condition,
+    } = ends;
+    let all_nullable = has_text(texts.as_slice(), &[]) & nullable;
+    let fronts = joins(alloc, texts.as_slice(), fronts.as_slice())?;
+    let backs = widened(alloc, nullable, backs, texts)?;
+    settle_loose(
+        alloc,
+        Ends {
+            nullable: all_nullable,
+            fronts,
+            backs,
+            condition,
+        },
+    )
+}
+
+fn known_behind(alloc: Global, ends: Ends, texts: Vec<Vec<u8>>) -> Result<Ends, AllocError>
+    requires { IsPlain (formula_of ends.condition) }
+    ensures { IfOk result (EndsStandFor (both (ends_analysis ends) (known (texts_of texts.items)))) }
+{
+    let Ends {
+        nullable,
+        fronts,
+        backs,
+        condition,
+    } = ends;
+    let all_nullable = nullable & has_text(texts.as_slice(), &[]);
+    let backs = joins(alloc, backs.as_slice(), texts.as_slice())?;
+    let fronts = widened(alloc, nullable, fronts, texts)?;
+    settle_loose(
+        alloc,
+        Ends {
+            nullable: all_nullable,
+            fronts,
+            backs,
+            condition,
+        },
+    )
+}
+
+fn both_loose(alloc: Global, left: Ends, right: Ends) -> Result<Ends, AllocError>
+    requires left { IsPlain (formula_of left.condition) }
+    requires right { IsPlain (formula_of right.condition) }
+    ensures { IfOk result (EndsStandFor (both (ends_analysis left) (ends_analysis right))) }
+{
+    let Ends {
+        nullable: left_nullable,
+        fronts: left_fronts,
+        backs: left_backs,
+        condition: left_condition,
+    } = left;
+    let Ends {
+        nullable: right_nullable,
+        fronts: right_fronts,
+        backs: right_backs,
+        condition: right_condition,
+    } = right;
+    let border = joins(alloc, left_backs.as_slice(), right_fronts.as_slice())?;
+    let across = query_of_texts(alloc, border.as_slice())?;
+    let behind = join(alloc, Connective::And, right_condition, across)?;
+    let condition = join(alloc, Connective::And, left_condition, behind)?;
+    let fronts = widened(alloc, left_nullable, left_fronts, right_fronts)?;
+    let backs = widened(alloc, right_nullable, right_backs, left_backs)?;
+    settle_loose(
+        alloc,
+        Ends {
+            nullable: left_nullable & right_nullable,
+            fronts,
+            backs,
+            condition,
+        },
+    )
+}
+
+/// The ends of one neighbour, with those of the other where the one can be empty.
+fn widened(
+    alloc: Global,
+    nullable: bool,
+    own: Vec<Vec<u8>>,
+    other: Vec<Vec<u8>>,
+) -> Result<Vec<Vec<u8>>, AllocError>
+    ensures { IfOk result (λ ends. texts_of ends.items ≡ (if nullable then union (texts_of own.items) (texts_of other.items) else texts_of own.items)) }
+{
+    if nullable {
+        return union(alloc, own, other);
+    }
+    Ok(own)
+}
+
+fn copied_words(alloc: Global, words: &Words) -> Result<Words, AllocError>
+    requires { ArePlain words.now }
+    ensures { IfOk result (StandFor (words_analysis words.now)) }
+{
+    match words {
+        Words::Known(texts) => Ok(Words::Known(copied_texts(alloc, texts.as_slice())?)),
+        Words::Loose(ends) => Ok(Words::Loose(Ends {
+            nullable: ends.nullable,
+            fronts: copied_texts(alloc, ends.fronts.as_slice())?,
+            backs: copied_texts(alloc, ends.backs.as_slice())?,
+            condition: copied(alloc, &ends.condition)?,
+        })),
+    }
+}
+
+/// One copy, and so many others, one behind the other.
+fn copies_of(alloc: Global, one: &Words, others: u8) -> Result<Words, AllocError>
+    requires { ArePlain one.now }
+    ensures { IfOk result (StandFor (copies_of (words_analysis one.now) others)) }
+{
+    let mut whole = copied_words(alloc, one)?;
+    for _made in 0..others {
+        let next = copied_words(alloc, one)?;
+        whole = both(alloc, whole, next)?;
+    }
+    Ok(whole)
+}
+
+fn anything(alloc: Global) -> Result<Words, AllocError>
+    ensures { IfOk result (StandFor anything) }
+{
+    Ok(Words::Loose(Ends {
+        nullable: true,
+        fronts: just_empty(alloc)?,
+        backs: just_empty(alloc)?,
+        condition: Query::Any,
+    }))
+}
+
+/// No copy, or up to the most.
+fn optional(alloc: Global, one: Words, most: u8) -> Result<Words, AllocError>
+    requires { ArePlain one }
+    ensures { IfOk result (StandFor (optional (words_analysis one) most)) }
+{
+    if most == 0 {
+        return Ok(Words::Known(just_empty(alloc)?));
+    }
+    if most > 1 {
+        return anything(alloc);
+    }
+    match one {
+        Words::Known(texts) => settle_known(alloc, union(alloc, texts, just_empty(alloc)?)?),
+        Words::Loose(_) => anything(alloc),
+    }
+}
+
+fn repeated(alloc: Global, one: Words, least: u8, greatest: Option<u8>) -> Result<Words, AllocError>
+    requires { ArePlain one }
+    ensures { IfOk result (StandFor (repeated (words_analysis one) least greatest)) }
+{
+    match greatest {
+        None => at_least(alloc, one, least),
+        Some(most) => between(alloc, one, least, most),
+    }
+}
+
+fn at_least(alloc: Global, one: Words, least: u8) -> Result<Words, AllocError>
+    requires { ArePlain one }
+    ensures { IfOk result (StandFor (repeated (words_analysis one) least None)) }
+{
+    if least == 0 {
+        return anything(alloc);
+    }
+    if least == 1 {
+        return Ok(Words::Loose(loosen(alloc, one)?));
+    }
+    let front = copies_of(alloc, &one, least - 2)?;
+    let back = Words::Loose(loosen(alloc, one)?);
+    both(alloc, front, back)
+}
+
+fn between(alloc: Global, one: Words, least: u8, most: u8) -> Result<Words, AllocError>
+    requires { ArePlain one }
+    ensures { IfOk result (StandFor (repeated (words_analysis one) least (Some most))) }
+{
+    if least == 0 {
+        return optional(alloc, one, most);
+    }
+    let front = copies_of(alloc, &one, least - 1)?;
+    if least == most {
+        return Ok(front);
+    }
+    let back = optional(alloc, one, most.saturating_sub(least))?;
+    both(alloc, front, back)
+}
+
+fn one_byte(alloc: Global, set: &ByteSet) -> Result<Words, AllocError>
+    ensures { IfOk result (StandFor (one_byte set.now)) }
+{
+    let bytes = bytes_in(alloc, set)?;
+    if bytes.len() <= MOST_TEXTS {
+        return Ok(Words::Known(texts_of_bytes(alloc, bytes.as_slice())?));
+    }
+    Ok(Words::Loose(Ends {
+        nullable: false,
+        fronts: just_empty(alloc)?,
+        backs: just_empty(alloc)?,
+        condition: Query::Any,
+    }))
+}
+
+fn bytes_in(alloc: Global, set: &ByteSet) -> Result<Vec<u8>, AllocError>
+    ensures { IfOk result (λ bytes. bytes.items ≡ bytes_in set.now) }
+{
+    let mut bytes = Vec::new(alloc);
+    for i in 0..256usize {
+        let byte = i as u8;
+        if set.has(byte) {
+            bytes.push(byte)?;
+        }
+    }
+    Ok(bytes)
+}
+
+fn texts_of_bytes(alloc: Global, bytes: &[u8]) -> Result<Vec<Vec<u8>>, AllocError>
+    ensures { IfOk result (λ texts. texts_of texts.items ≡ map (λ b. b ∷ []) bytes.now) }
+{
+    let mut texts = Vec::new(alloc);
+    for byte in bytes {
+        let mut text = Vec::new(alloc);
+        text.push(*byte)?;
+        texts.push(text)?;
+    }
+    Ok(texts)
+}
+
+#[cycle(words)]
+fn words_of(alloc: Global, tree: &Ere) -> Result<Words, AllocError>
+    ensures { IfOk result (StandFor (analysis_of (form tree.now))) }
+{
+    match tree {
+        Ere::Empty => Ok(Words::Known(just_empty(alloc)?)),
+        Ere::Start => Ok(Words::Known(just_empty(alloc)?)),
+        Ere::End => Ok(Words::Known(just_empty(alloc)?)),
+        Ere::Set(set) => one_byte(alloc, set),
+        Ere::Cat(members) => words_of_neighbours(alloc, members.as_slice()),
+        Ere::Alt(members) => words_of_alternatives(alloc, members.as_slice()),
+        Ere::Repeat(body, least, greatest) => {
+            let one = words_of(alloc, body)?;
+            repeated(alloc, one, *least, *greatest)
+        }
+    }
+}
+
+#[cycle(words)]
+fn words_of_neighbours(alloc: Global, members: &[Ere]) -> Result<Words, AllocError>
+    ensures { IfOk result (StandFor (analysis_of (tree.cat (trees_of (map form members.now))))) }
+{
+    if members.is_empty() {
+        return Ok(Words::Known(just_empty(alloc)?));
+    }
+    let mut whole = words_of(alloc, &members[0])?;
+    for i in 1..members.len() {
+        let next = words_of(alloc, &members[i])?;
+        whole = both(alloc, whole, next)?;
+    }
+    Ok(whole)
+}
+
+#[cycle(words)]
+fn words_of_alternatives(alloc: Global, members: &[Ere]) -> Result<Words, AllocError>
+    ensures { IfOk result (StandFor (analysis_of (tree.alt (trees_of (map form members.now))))) }
+{
+    if members.is_empty() {
+        return Ok(Words::Known(Vec::new(alloc)));
+    }
+    let mut whole = words_of(alloc, &members[0])?;
+    for i in 1..members.len() {
+        let next = words_of(alloc, &members[i])?;
+        whole = either(alloc, whole, next)?;
+    }
+    Ok(whole)
+}

@@ -1,0 +1,216 @@
+//! Sets of texts: each text once, in the order of first appearance.
+
+ghost use Rattle.std.specs.Prelude.{◌≡◌, ◌++◌, IfOk, OnOk, map};
+ghost use Rattle.trigram.specs.Trigrams.{has_all_trigrams};
+ghost use Rattle.trigram.specs.Query.{formula_of, IsPlainFor};
+ghost use Rattle.trigram.specs.Texts.{texts_of, has_text, with_text, with_texts, union, joins, kept_ends, cuts, shortest, has_shorter_end, cut_at, has_all_of_one};
+
+use crate::number::Trigram;
+use crate::query::{Connective, Query, join};
+use std::alloc::{AllocError, Global};
+
+/// The most texts that are kept.
+pub(crate) const MOST_TEXTS: usize = 16;
+
+/// One end of a text.
+#[derive(Clone, Copy)]
+pub(crate) enum Side {
+    Front,
+    Back,
+}
+
+/// Whether the text is in the set.
+pub(crate) fn has_text(texts: &[Vec<u8>], text: &[u8]) -> bool
+    ensures { result ≡ has_text (texts_of texts.now) text.now }
+{
+    for other in texts {
+        if other.as_slice() == text {
+            return true;
+        }
+    }
+    false
+}
+
+/// Puts the text into the set.
+fn add(texts: &mut Vec<Vec<u8>>, text: Vec<u8>) -> Result<(), AllocError>
+    ensures { OnOk result (texts_of texts.new.items ≡ with_text (texts_of texts.old.items) text.items) }
+{
+    if has_text(texts.as_slice(), text.as_slice()) {
+        return Ok(());
+    }
+    texts.push(text)?;
+    Ok(())
+}
+
+/// Puts the other texts into the set.
+#[tactic(auto, unfolding(crate::specs::Texts::with_texts))]
+fn add_all(texts: &mut Vec<Vec<u8>>, others: Vec<Vec<u8>>) -> Result<(), AllocError>
+    ensures { OnOk result (texts_of texts.new.items ≡ with_texts (texts_of texts.old.items) (texts_of others.items)) }
+{
+    for text in others {
+        add(texts, text)?;
+    }
+    Ok(())
+}
+
+/// The texts of either set.
+#[tactic(auto, unfolding(crate::specs::Texts::with_texts))]
+pub(crate) fn union(
+    alloc: Global,
+    left: Vec<Vec<u8>>,
+    right: Vec<Vec<u8>>,
+) -> Result<Vec<Vec<u8>>, AllocError>
+    ensures { IfOk result (λ whole. texts_of whole.items ≡ union (texts_of left.items) (texts_of right.items)) }
+{
+    let mut whole = Vec::new(alloc);
+    add_all(&mut whole, left)?;
+    add_all(&mut whole, right)?;
+    Ok(whole)
+}
+
+/// A copy of the set.
+pub(crate) fn copied_texts(alloc: Global, texts: &[Vec<u8>]) -> Result<Vec<Vec<u8>>, AllocError>
+    ensures { IfOk result (λ copies. texts_of copies.items ≡ texts_of texts.now) }
+{
+    let mut copies = Vec::new(alloc);
+    for text in texts {
+        copies.push(Vec::from_slice(alloc, text.as_slice())?)?;
+    }
+    Ok(copies)
+}
+
+/// Every text of the first set with every text of the second behind it.
+#[tactic(auto, unfolding(crate::specs::Texts::with_texts))]
+pub(crate) fn joins(
+    alloc: Global,
+    left: &[Vec<u8>],
+    right: &[Vec<u8>],
+) -> Result<Vec<Vec<u8>>, AllocError>
+    ensures { IfOk result (λ whole. texts_of whole.items ≡ joins (texts_of left.now) (texts_of right.now)) }
+{
+    let mut whole = Vec::new(alloc);
+    for front in left {
+        add_joins(alloc, &mut whole, front.as_slice(), right)?;
+    }
+    Ok(whole)
+}
+
+#[tactic(auto, unfolding(crate::specs::Texts::with_texts))]
+fn add_joins(
+    alloc: Global,
+    whole: &mut Vec<Vec<u8>>,
+    front: &[u8],
+    backs: &[Vec<u8>],
+) -> Result<(), AllocError>
+    ensures { OnOk result (texts_of whole.new.items ≡ with_texts (texts_of whole.old.items) (map (λ back. front.now ++ back) (texts_of backs.now))) }
+{
+    for back in backs {
+        add(whole, joined(alloc, front, back.as_slice())?)?;
+    }
+    Ok(())
+}
+
+fn joined(alloc: Global, front: &[u8], back: &[u8]) -> Result<Vec<u8>, AllocError>
+    ensures { IfOk result (λ text. text.items ≡ front.now ++ back.now) }
+{
+    let mut text = Vec::from_slice(alloc, front)?;
+    text.extend_from_slice(back)?;
+    Ok(text)
+}
+
+/// The ends that are kept of the texts at one side: as many bytes of each, up to two, as leave at most 16
+/// texts, and of these only texts that have no shorter one as their own end.
+pub(crate) fn kept_ends(
+    alloc: Global,
+    side: Side,
+    texts: &[Vec<u8>],
+) -> Result<Vec<Vec<u8>>, AllocError>
+    ensures { IfOk result (λ ends. texts_of ends.items ≡ kept_ends (cut_at side) (texts_of texts.now)) }
+{
+    let two = cuts(alloc, side, 2, texts)?;
+    if two.len() <= MOST_TEXTS {
+        return shortest(alloc, side, two.as_slice());
+    }
+    let one = cuts(alloc, side, 1, texts)?;
+    if one.len() <= MOST_TEXTS {
+        return shortest(alloc, side, one.as_slice());
+    }
+    let none = cuts(alloc, side, 0, texts)?;
+    shortest(alloc, side, none.as_slice())
+}
+
+#[tactic(auto, unfolding(crate::specs::Texts::with_texts))]
+fn cuts(
+    alloc: Global,
+    side: Side,
+    count: usize,
+    texts: &[Vec<u8>],
+) -> Result<Vec<Vec<u8>>, AllocError>
+    ensures { IfOk result (λ ends. texts_of ends.items ≡ cuts (cut_at side) count (texts_of texts.now)) }
+{
+    let mut ends = Vec::new(alloc);
+    for text in texts {
+        add(
+            &mut ends,
+            Vec::from_slice(alloc, cut(side, count, text.as_slice()))?,
+        )?;
+    }
+    Ok(ends)
+}
+
+fn cut<'a>(side: Side, count: usize, text: &'a [u8]) -> &'a [u8]
+    ensures { result.now ≡ cut_at side count text.now }
+{
+    let kept = count.min(text.len());
+    let dropped = text.len() - kept;
+    match side {
+        Side::Front => &text[..kept],
+        Side::Back => &text[dropped..],
+    }
+}
+
+fn shortest(alloc: Global, side: Side, texts: &[Vec<u8>]) -> Result<Vec<Vec<u8>>, AllocError>
+    ensures { IfOk result (λ ends. texts_of ends.items ≡ shortest (cut_at side) (texts_of texts.now)) }
+{
+    let mut ends = Vec::new(alloc);
+    for text in texts {
+        if !has_shorter_end(side, text.as_slice(), texts) {
+            ends.push(Vec::from_slice(alloc, text.as_slice())?)?;
+        }
+    }
+    Ok(ends)
+}
+
+fn has_shorter_end(side: Side, text: &[u8], texts: &[Vec<u8>]) -> bool
+    ensures { result ≡ has_shorter_end (cut_at side) (texts_of texts.now) text.now }
+{
+    for part in texts {
+        if part.len() < text.len() && cut(side, part.len(), text) == part.as_slice() {
+            return true;
+        }
+    }
+    false
+}
+
+/// The query that a set of trigrams meets where it has all trigrams of one of the texts.
+pub(crate) fn query_of_texts(alloc: Global, texts: &[Vec<u8>]) -> Result<Query, AllocError>
+    ensures { IfOk result (λ query. IsPlainFor (has_all_of_one (texts_of texts.now)) (formula_of query)) }
+{
+    let mut query = Query::None;
+    for text in texts {
+        let next = query_of_text(alloc, text.as_slice())?;
+        query = join(alloc, Connective::Or, query, next)?;
+    }
+    Ok(query)
+}
+
+fn query_of_text(alloc: Global, text: &[u8]) -> Result<Query, AllocError>
+    ensures { IfOk result (λ query. IsPlainFor (has_all_trigrams text.now) (formula_of query)) }
+{
+    let mut query = Query::Any;
+    for i in 0..text.len().saturating_sub(2) {
+        let trigram = Trigram::of([text[i], text[i + 1], text[i + 2]]);
+        query = join(alloc, Connective::And, query, Query::Has(trigram))?;
+    }
+    Ok(query)
+}
