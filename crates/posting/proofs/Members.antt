@@ -1,0 +1,144 @@
+-- Which numbers are in a list.
+use Rattle.std.proofs.Common.{◌≡◌, ◌≢◌, ℕ, zero, suc, ◌+◌, ◌<◌, ◌≤◌, Bool, true, false, not, ◌||◌, ◌&&◌, ◌==◌, cond, ◌⊎◌, inl, inr, List, [], ◌∷◌, ◌++◌, length, get_or, take, drop, refl, sym, ap, ◌∙◌, arith, Result, Ok, Err, MatchResult, is_ok, IsTrue}
+use Rattle.std.specs.Prelude.{All, Any, filter}
+use Rattle.std.specs.List.{list_any, remove}
+use Rattle.std.specs.List.Sorted.{IsStrictlyIncreasing, IsBinarySearchResult}
+use Rattle.std.specs.Ordering.{nat_cmp}
+use Rattle.std.proofs.lemmas.List.Sorted.{searched}
+use Rattle.std.proofs.lemmas.Bool.{eq-eqb, false≢true, cases_lt}
+use Rattle.std.proofs.lemmas.Bool.Decides.{nat_tests}
+use Rattle.std.proofs.lemmas.List.{take-append-drop, drop_more, get_or-take, get_or-drop, length-take-le}
+use Rattle.std.proofs.lemmas.List.Folds.{list_any_at, list_any_none, Any-from_list_any, list_any-append}
+use Rattle.std.proofs.lemmas.List.Elements.{All-nil, All-cons, All-head, All-tail, All-weaker, filter-append, All-from_get_or}
+use Rattle.posting.specs.NumberSet.{has, without}
+use Rattle.posting.proofs.Rising.{rising-head, rising-tail, rising-left, rising-right, rising-across, rising_far}
+
+pub has_at : (xs : List ℕ) (i n : ℕ) → i < length xs → get_or xs i 0 ≡ n → has xs n ≡ true
+has_at xs i n inside is = list_any_at (λ m. m == n) xs i 0 inside (eq-eqb (get_or xs i 0) n is)
+
+-- a number that differs from each one is not among them
+pub lacks_from_all : (xs : List ℕ) (n : ℕ) → All (λ m. m ≢ n) xs → has xs n ≡ false
+lacks_from_all xs n h = list_any_none (λ m. m == n) xs (All-weaker (λ m. m ≢ n) (λ m. (m == n) ≡ false) (λ m ne. grind (arith, nat_tests)) xs h)
+
+pub lacks_below : (xs : List ℕ) (n : ℕ) → All (λ m. n < m) xs → has xs n ≡ false
+lacks_below xs n h = lacks_from_all xs n (All-weaker (λ m. n < m) (λ m. m ≢ n) (λ m lt e. omega arith) xs h)
+
+pub lacks_above : (xs : List ℕ) (n : ℕ) → All (λ m. m < n) xs → has xs n ≡ false
+lacks_above xs n h = lacks_from_all xs n (All-weaker (λ m. m < n) (λ m. m ≢ n) (λ m lt e. omega arith) xs h)
+
+-- a number that a place among rising numbers has to hold is not there
+pub lacks_at : (xs : List ℕ) (i n : ℕ) → IsStrictlyIncreasing xs → ((k : ℕ) → k < i → k < length xs → get_or xs k 0 < n) → (i < length xs → n < get_or xs i 0) → has xs n ≡ false
+lacks_at xs i n rising below at = lacks_from_all xs n (All-from_get_or (λ m. m ≢ n) xs 0 differs)
+  where
+    differs : (k : ℕ) → k < length xs → get_or xs k 0 ≢ n
+    differs k inside e = grind (arith, below, at, rising_far xs rising i k)
+
+-- what holds of all holds of each number that is there
+pub All-has : (P : ℕ → Type 0) (xs : List ℕ) (n : ℕ) → All P xs → has xs n ≡ true → P n
+All-has P [] n all there = absurd (false≢true there)
+All-has P (x ∷ xs) n all there = cases (x == n) refl (All-has P xs n (All-tail P x xs all))
+  where
+    cases : (t : Bool) → (x == n) ≡ t → (has xs n ≡ true → P n) → P n
+    cases true e later = let same : x ≡ n = grind (arith, nat_tests) in rw same at (All-head P x xs all)
+    cases false e later = later (rw e at there)
+
+pub filter_all : (p : ℕ → Bool) (xs : List ℕ) → All (λ m. p m ≡ true) xs → filter p xs ≡ xs
+filter_all p [] h = refl
+filter_all p (x ∷ xs) h = rw (All-head (λ m. p m ≡ true) x xs h) (ap (λ ys. x ∷ ys) (filter_all p xs (All-tail (λ m. p m ≡ true) x xs h)))
+
+pub filter_none : (p : ℕ → Bool) (xs : List ℕ) → All (λ m. p m ≡ false) xs → filter p xs ≡ []
+filter_none p [] h = refl
+filter_none p (x ∷ xs) h = rw (All-head (λ m. p m ≡ false) x xs h) (filter_none p xs (All-tail (λ m. p m ≡ false) x xs h))
+
+and-false : (b : Bool) → (b && false) ≡ false
+and-false true = refl
+and-false false = refl
+
+and-true : (b : Bool) → (b && true) ≡ b
+and-true true = refl
+and-true false = refl
+
+pub has-filter : (p : ℕ → Bool) (xs : List ℕ) (n : ℕ) → has (filter p xs) n ≡ (has xs n && p n)
+has-filter p [] n = refl
+has-filter p (x ∷ xs) n = cases (p x) (x == n) refl refl (has-filter p xs n)
+  where
+    cases : (keeps same : Bool) → p x ≡ keeps → (x == n) ≡ same → has (filter p xs) n ≡ (has xs n && p n) → has (filter p (x ∷ xs)) n ≡ (has (x ∷ xs) n && p n)
+    cases true true e f later = let is : x ≡ n = grind (arith, nat_tests) in rw e (rw f (sym (rw is at e)))
+    cases true false e f later = rw e (rw f later)
+    cases false true e f later =
+        let is : x ≡ n = grind (arith, nat_tests) in
+        let fails : p n ≡ false = rw is at e in
+        rw e (rw f (later ∙ ap (λ b. has xs n && b) fails ∙ and-false (has xs n) ∙ sym fails))
+    cases false false e f later = rw e (rw f later)
+
+pub without_absent : (xs : List ℕ) (n : ℕ) → All (λ m. m ≢ n) xs → without n xs ≡ xs
+without_absent xs n h = filter_all (λ m. not (m == n)) xs (All-weaker (λ m. m ≢ n) (λ m. not (m == n) ≡ true) (λ m ne. grind (arith, nat_tests)) xs h)
+
+-- the number at a place of rising numbers, taken out
+pub without-found : (xs : List ℕ) (n i : ℕ) → IsStrictlyIncreasing xs → i < length xs → get_or xs i 0 ≡ n → remove xs i ≡ without n xs
+without-found [] n i rising inside is = absurd (omega arith)
+without-found (x ∷ xs) n zero rising inside is =
+    let same : (x == n) ≡ true = eq-eqb x n is in
+    rw same (sym (without_absent xs n (All-weaker (λ m. x < m) (λ m. m ≢ n) (λ m lt e. omega arith) xs (rising-head x xs rising))))
+without-found (x ∷ xs) n (suc i) rising inside is =
+    let within : i < length xs = omega arith in
+    let before : x < n = rw is at (rising_far (x ∷ xs) rising zero (suc i) (omega arith) inside) in
+    let other : (x == n) ≡ false = grind (arith, nat_tests) in
+    rw other (ap (λ ys. x ∷ ys) (without-found xs n i (rising-tail x xs rising) within is))
+
+pub has-append : (xs ys : List ℕ) (n : ℕ) → has (xs ++ ys) n ≡ (has xs n || has ys n)
+has-append xs ys n = list_any-append (λ m. m == n) xs ys
+
+-- Rising lists with the same numbers are the same.
+pub same_rising : (xs ys : List ℕ) → IsStrictlyIncreasing xs → IsStrictlyIncreasing ys → ((n : ℕ) → has xs n ≡ has ys n) → xs ≡ ys
+same_rising [] [] up up' same = refl
+same_rising [] (y ∷ ys) up up' same = absurd (false≢true (same y ∙ has_at (y ∷ ys) zero y (omega arith) refl))
+same_rising (x ∷ xs) [] up up' same = absurd (false≢true (sym (same x) ∙ has_at (x ∷ xs) zero x (omega arith) refl))
+same_rising (x ∷ xs) (y ∷ ys) up up' same =
+    let heads : x ≡ y = same_heads in
+    rw heads (ap (λ zs. y ∷ zs) (same_rising xs ys (rising-tail x xs up) (rising-tail y ys up') (λ n. same_tails n heads)))
+  where
+    above : (a : ℕ) (others : List ℕ) → IsStrictlyIncreasing (a ∷ others) → All (λ m. a ≤ m) (a ∷ others)
+    above a others rises = All-cons (λ m. a ≤ m) a others (omega arith) (All-weaker (λ m. a < m) (λ m. a ≤ m) (λ m lt. omega arith) others (rising-head a others rises))
+
+    same_heads : x ≡ y
+    same_heads =
+        let low : x ≤ y = All-has (λ m. x ≤ m) (x ∷ xs) y (above x xs up) (same y ∙ has_at (y ∷ ys) zero y (omega arith) refl) in
+        let high : y ≤ x = All-has (λ m. y ≤ m) (y ∷ ys) x (above y ys up') (sym (same x) ∙ has_at (x ∷ xs) zero x (omega arith) refl) in
+        omega arith
+
+    same_tails : (n : ℕ) → x ≡ y → has xs n ≡ has ys n
+    same_tails n heads = cases (x == n) refl
+      where
+        cases : (t : Bool) → (x == n) ≡ t → has xs n ≡ has ys n
+        cases true e =
+            let is : x ≡ n = grind (arith, nat_tests) in
+            let is' : y ≡ n = omega arith in
+            lacks_below xs n (rw is at (rising-head x xs up)) ∙ sym (lacks_below ys n (rw is' at (rising-head y ys up')))
+        cases false e =
+            let e' : (y == n) ≡ false = rw heads at e in
+            rw e' at (rw e at (same n))
+
+non_falling : (xs : List ℕ) → IsStrictlyIncreasing xs → (i j : ℕ) → i ≤ j → j < length xs → get_or xs i 0 ≤ get_or xs j 0
+non_falling xs rising i j before inside = cases (cases_lt i j)
+  where
+    cases : (i < j) ⊎ (j ≤ i) → get_or xs i 0 ≤ get_or xs j 0
+    cases (inl lt) = omega (arith, rising_far xs rising i j lt inside)
+    cases (inr ge) = let e : i ≡ j = omega arith in rw e (omega arith)
+
+-- what `binary_search` says of rising numbers
+abbrev pub SearchedFor : List ℕ → ℕ → Result ℕ ℕ → Type 0
+SearchedFor xs n r = MatchResult r (λ i. (i < length xs) × (get_or xs i 0 ≡ n)) (λ i. (i ≤ length xs) × ((k : ℕ) → k < i → get_or xs k 0 < n) × ((k : ℕ) → i ≤ k → k < length xs → n < get_or xs k 0))
+
+pub searched_for : (xs : List ℕ) (n : ℕ) (r : Result ℕ ℕ) → IsStrictlyIncreasing xs → IsBinarySearchResult (λ y. nat_cmp y n) xs r → SearchedFor xs n r
+searched_for xs n r rising h = searched xs n r h (non_falling xs rising)
+
+pub has-searched : (xs : List ℕ) (n : ℕ) (r : Result ℕ ℕ) → IsStrictlyIncreasing xs → SearchedFor xs n r → has xs n ≡ is_ok r
+has-searched xs n (Ok i) rising found = has_at xs i n found.0 found.1
+has-searched xs n (Err i) rising absent = lacks_at xs i n rising (λ k before _. absent.1 k before) (λ inside. absent.2 i (omega arith) inside)
+
+has_not : (xs : List ℕ) (n : ℕ) → has xs n ≡ false → All (λ m. m ≢ n) xs
+has_not xs n lacks = All-from_get_or (λ m. m ≢ n) xs 0 (λ i inside e. false≢true (sym lacks ∙ has_at xs i n inside e))
+
+pub without-lacking : (xs : List ℕ) (n : ℕ) → has xs n ≡ false → without n xs ≡ xs
+without-lacking xs n lacks = without_absent xs n (has_not xs n lacks)

@@ -1,0 +1,3 @@
+pub mod NumberSet
+pub mod Postings
+pub mod Pages

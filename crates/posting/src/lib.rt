@@ -1,0 +1,13 @@
+//! Posting lists: for each trigram the set of the documents that have it, as in Russ Cox's "Regular
+//! Expression Matching with a Trigram Index" (2012).
+#![tactic(auto)]
+
+pub mod list;
+mod pages;
+pub mod postings;
+
+pub use list::{List, Numbers};
+pub use postings::Postings;
+
+#[cfg(test)]
+mod tests;

@@ -1,0 +1,83 @@
+//! Where the list of each trigram stands.
+
+ghost use Rattle.std.specs.Prelude.{◌≡◌, ℕ, ◌+◌, ◌<◌, ◌≤◌, ◌/◌, if◌then◌else◌, ◌==◌, length, IfOk, OnOk, IsOk};
+ghost use Rattle.posting.specs.NumberSet.{HasRoom};
+ghost use Rattle.posting.specs.Pages.{IsSound, page_at, page_size, set_behind, slot_of, trigram_count};
+
+use crate::list::List;
+use std::alloc::AllocError;
+use trigram::Trigram;
+
+// How many trigrams have their slots on a page.
+const PAGE: usize = 1024;
+
+/// The slot of a trigram: 0, or one more than the place of its list.
+pub(crate) fn slot(pages: &[Vec<u32>], trigram: Trigram) -> usize
+    ensures value { result ≡ slot_of pages.now trigram }
+    ensures bound { trigram < trigram_count }
+{
+    let number = trigram.number() as usize;
+    match pages.get(number / PAGE) {
+        Some(page) => match page.get(number % PAGE) {
+            Some(slot) => *slot as usize,
+            None => 0,
+        },
+        None => 0,
+    }
+}
+
+// Makes the page of a trigram, where it isn't there, with no list for its trigrams.
+fn make_page(pages: &mut Vec<Vec<u32>>, trigram: Trigram) -> Result<(), AllocError>
+    ensures slots { (t : ℕ) → slot_of pages.new.items t ≡ slot_of pages.old.items t }
+    ensures ok { OnOk result (page_size ≤ length (page_at pages.new.items (trigram / page_size))) }
+{
+    let page = trigram.number() as usize / PAGE;
+    let alloc = *pages.allocator();
+    while pages.len() <= page {
+        pages.push(Vec::new(alloc))?;
+    }
+    let slots = &mut pages[page];
+    if slots.len() < PAGE {
+        slots.resize(PAGE, 0)?;
+    }
+    Ok(())
+}
+
+fn set_slot(pages: &mut Vec<Vec<u32>>, trigram: Trigram, slot: u32)
+    requires { page_size ≤ length (page_at pages.old.items (trigram / page_size)) }
+    ensures { (t : ℕ)
+        → slot_of pages.new.items t ≡ (if t == trigram then slot else slot_of pages.old.items t) }
+{
+    let number = trigram.number() as usize;
+    let slots = &mut pages[number / PAGE];
+    slots[number % PAGE] = slot;
+}
+
+/// The place of the trigram's list, which is made where there is none. All sets stay as they are.
+///
+/// The error is that there is no memory for it.
+pub(crate) fn make_list(
+    pages: &mut Vec<Vec<u32>>,
+    lists: &mut Vec<List>,
+    trigram: Trigram,
+) -> Result<usize, AllocError>
+    requires { IsSound pages.old.items lists.old.items }
+    ensures sound { IsSound pages.new.items lists.new.items }
+    ensures members { (t : ℕ) → (set_behind lists.new.items (slot_of pages.new.items t)).members
+        ≡ (set_behind lists.old.items (slot_of pages.old.items t)).members }
+    ensures room { (t : ℕ) → HasRoom (set_behind lists.old.items (slot_of pages.old.items t))
+        → HasRoom (set_behind lists.new.items (slot_of pages.new.items t)) }
+    ensures place { IfOk result (λ place. slot_of pages.new.items trigram ≡ place + 1) }
+    ensures bound { trigram < trigram_count }
+{
+    let slot = slot(pages, trigram);
+    if slot > 0 {
+        return Ok(slot - 1);
+    }
+    make_page(pages, trigram)?;
+    let place = lists.len();
+    let alloc = *lists.allocator();
+    lists.push(List::new(alloc))?;
+    set_slot(pages, trigram, (place + 1) as u32);
+    Ok(place)
+}

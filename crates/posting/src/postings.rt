@@ -1,0 +1,248 @@
+//! The sets of all trigrams.
+
+ghost use Rattle.std.specs.Prelude.{◌≡◌, ◌≢◌, ℕ, ◌<◌, ◌||◌, ◌&&◌, ◌==◌, not, false, ◌∷◌, [], ◌++◌, All, map, filter, length, IfOk, IfSome, IfNone, OnOk};
+ghost use Rattle.std.specs.List.Sorted.{IsStrictlyIncreasing};
+ghost use Rattle.trigram.specs.Query.{formula_of, formulas_of, is_met, are_all_met, is_one_met};
+ghost use Rattle.posting.specs.NumberSet.{has, without, HasRoom};
+ghost use Rattle.posting.specs.Postings.{set_of, holds, trigrams_with, IsPrepared, IsAbove, AllDiffer, SameSets, KeepsRoom};
+
+use crate::list::List;
+use crate::pages;
+use std::alloc::{AllocError, Global};
+use std::marker::Model;
+use trigram::{Query, Trigram};
+
+/// A set of numbers for each trigram.
+///
+/// Contracts see it as a table of sets by the trigrams' numbers. A set has its numbers, and room for some
+/// more: `prepare` makes it, and `add` takes it.
+#[derive(Drop)]
+pub struct Postings {
+    pages: Vec<Vec<u32>>,
+    lists: Vec<List>,
+}
+
+impl Model for Postings {
+    ghost use Rattle.std.specs.Prelude.{List};
+    ghost use Rattle.posting.specs.NumberSet.{NumberSet};
+    ghost use Rattle.posting.specs.Pages.{IsSound, table_of};
+
+    ghost Value = { List NumberSet };
+
+    ghost view = { λ p. table_of p.pages.items p.lists.items };
+
+    ghost invariant = { λ p. IsSound p.pages.items p.lists.items };
+}
+
+impl Postings {
+    /// All sets without a number.
+    pub fn new(alloc: Global) -> Postings
+        ensures { (trigram n : ℕ) → holds result trigram n ≡ false }
+    {
+        Postings {
+            pages: Vec::new(alloc),
+            lists: Vec::new(alloc),
+        }
+    }
+
+    /// Makes room for the number in the sets of these trigrams, so that `add` of it takes no memory. The
+    /// sets stay as they are.
+    ///
+    /// The error is that there is no memory for it; empty lists and some of the room may then be new.
+    pub fn prepare(&mut self, number: u32, trigrams: &[Trigram]) -> Result<(), AllocError>
+        ensures sets { SameSets self.old self.new }
+        ensures room { KeepsRoom self.old self.new }
+        ensures ok { OnOk result (IsPrepared self.new trigrams.now) }
+    {
+        for trigram in trigrams {
+            self.make_room(*trigram, number)?;
+        }
+        Ok(())
+    }
+
+    /// Puts the number into the sets of these trigrams, which were prepared for it. It takes no memory.
+    pub fn add(&mut self, number: u32, trigrams: &[Trigram])
+        requires prepared { IsPrepared self.old trigrams.now }
+        requires above { IsAbove self.old trigrams.now number }
+        requires once { AllDiffer trigrams.now }
+        ensures { (trigram n : ℕ)
+            → holds self.new trigram n ≡ (holds self.old trigram n || (has trigrams.now trigram && number == n)) }
+    {
+        for trigram in trigrams {
+            self.push(*trigram, number);
+        }
+    }
+
+    /// Takes the number out of the sets of these trigrams; a set that hasn't got it stays as it is. It takes
+    /// no memory.
+    pub fn withdraw(&mut self, number: u32, trigrams: &[Trigram])
+        ensures sets { (trigram n : ℕ)
+            → holds self.new trigram n ≡ (holds self.old trigram n && not (has trigrams.now trigram && n == number)) }
+        ensures room { KeepsRoom self.old self.new }
+    {
+        for trigram in trigrams {
+            self.remove(*trigram, number);
+        }
+    }
+
+    /// The numbers of `live` for which the set of the trigrams that have them meets the query.
+    ///
+    /// The error is that there is no memory for them.
+    pub fn select(&self, alloc: Global, query: &Query, live: &List) -> Result<List, AllocError>
+        ensures { IfOk result (λ chosen. chosen.members
+            ≡ filter (λ n. is_met (formula_of query.now) (trigrams_with self.now n)) live.now.members) }
+    {
+        if live.is_empty() {
+            return Ok(List::new(alloc));
+        }
+        self.narrow(alloc, query, live)
+    }
+
+    fn make_room(&mut self, trigram: Trigram, number: u32) -> Result<(), AllocError>
+        ensures members { (t : ℕ) → (set_of self.new t).members ≡ (set_of self.old t).members }
+        ensures room { KeepsRoom self.old self.new }
+        ensures ok { OnOk result (HasRoom (set_of self.new trigram)) }
+    {
+        let place = pages::make_list(&mut self.pages, &mut self.lists, trigram)?;
+        let list = &mut self.lists[place];
+        list.room_for(number)
+    }
+
+    fn push(&mut self, trigram: Trigram, number: u32)
+        requires room { HasRoom (set_of self.old trigram) }
+        requires above { All (λ m. m < number) (set_of self.old trigram).members }
+        ensures at { (set_of self.new trigram).members ≡ (set_of self.old trigram).members ++ number ∷ [] }
+        ensures others { (t : ℕ) → t ≢ trigram → set_of self.new t ≡ set_of self.old t }
+    {
+        let place = pages::slot(&self.pages, trigram) - 1;
+        let list = &mut self.lists[place];
+        list.push(number);
+    }
+
+    fn remove(&mut self, trigram: Trigram, number: u32)
+        ensures at { (set_of self.new trigram).members ≡ without number (set_of self.old trigram).members }
+        ensures others { (t : ℕ) → t ≢ trigram → set_of self.new t ≡ set_of self.old t }
+        ensures room { KeepsRoom self.old self.new }
+    {
+        let slot = pages::slot(&self.pages, trigram);
+        if slot > 0 {
+            let list = &mut self.lists[slot - 1];
+            list.remove(number);
+        }
+    }
+
+    // The list of a trigram, where it has one.
+    fn list(&self, trigram: Trigram) -> Option<&List>
+        ensures some { IfSome result (λ list. list.now ≡ set_of self.now trigram) }
+        ensures none { IfNone result ((set_of self.now trigram).members ≡ []) }
+    {
+        match pages::slot(&self.pages, trigram) {
+            0 => None,
+            slot => Some(&self.lists[slot - 1]),
+        }
+    }
+
+    #[cycle(narrow)]
+    fn narrow(&self, alloc: Global, query: &Query, within: &List) -> Result<List, AllocError>
+        requires { IsStrictlyIncreasing within.now.members }
+        ensures { IfOk result (λ chosen. chosen.members
+            ≡ filter (λ n. is_met (formula_of query.now) (trigrams_with self.now n)) within.now.members) }
+    {
+        match query {
+            Query::Any => within.copy(),
+            Query::None => Ok(List::new(alloc)),
+            Query::Has(trigram) => match self.list(*trigram) {
+                Some(list) => within.intersect(list),
+                None => Ok(List::new(alloc)),
+            },
+            Query::And(members) => self.narrow_by_all(alloc, members, within),
+            Query::Or(members) => self.narrow_by_one(alloc, members, within),
+        }
+    }
+
+    // By the member with the fewest numbers first, so that the longer lists are looked at in few places.
+    #[cycle(narrow)]
+    fn narrow_by_all(
+        &self,
+        alloc: Global,
+        members: &[Query],
+        within: &List,
+    ) -> Result<List, AllocError>
+        requires { IsStrictlyIncreasing within.now.members }
+        ensures { IfOk result (λ chosen. chosen.members
+            ≡ filter (λ n. are_all_met (formulas_of (map formula_of members.now)) (trigrams_with self.now n)) within.now.members) }
+    {
+        let (first, _) = self.fewest(members);
+        let mut chosen = match members.get(first) {
+            Some(member) => self.narrow(alloc, member, within)?,
+            None => within.copy()?,
+        };
+        for (i, member) in members.iter().enumerate() {
+            if i != first {
+                chosen = self.narrow(alloc, member, &chosen)?;
+            }
+        }
+        Ok(chosen)
+    }
+
+    #[cycle(narrow)]
+    fn narrow_by_one(
+        &self,
+        alloc: Global,
+        members: &[Query],
+        within: &List,
+    ) -> Result<List, AllocError>
+        requires { IsStrictlyIncreasing within.now.members }
+        ensures { IfOk result (λ chosen. chosen.members
+            ≡ filter (λ n. is_one_met (formulas_of (map formula_of members.now)) (trigrams_with self.now n)) within.now.members) }
+    {
+        let mut chosen = List::new(alloc);
+        for member in members {
+            let more = self.narrow(alloc, member, within)?;
+            chosen = chosen.union(&more)?;
+        }
+        Ok(chosen)
+    }
+
+    // No more numbers than this meet the query.
+    #[cycle(most)]
+    fn most(&self, query: &Query) -> usize {
+        match query {
+            Query::Any => usize::MAX,
+            Query::None => 0,
+            Query::Has(trigram) => match self.list(*trigram) {
+                Some(list) => list.len(),
+                None => 0,
+            },
+            Query::And(members) => {
+                let (_, most) = self.fewest(members);
+                most
+            }
+            Query::Or(members) => self.most_of_all(members),
+        }
+    }
+
+    // The first of the members that the fewest numbers meet, and at most how many.
+    #[cycle(most)]
+    fn fewest(&self, members: &[Query]) -> (usize, usize) {
+        let mut first = 0;
+        let mut fewest = usize::MAX;
+        for (i, member) in members.iter().enumerate() {
+            let most = self.most(member);
+            if most < fewest {
+                first = i;
+                fewest = most;
+            }
+        }
+        (first, fewest)
+    }
+
+    #[cycle(most)]
+    fn most_of_all(&self, members: &[Query]) -> usize {
+        let mut sum: usize = 0;
+        for member in members {
+            sum = sum.saturating_add(self.most(member));
+        }
+        sum
+    }
+}
