@@ -134,7 +134,7 @@ All-numbers : (P : ℕ → Type 0) (ds : List Document) → ((d : Document) → 
 All-numbers P [] each = All-nil P
 All-numbers P (d ∷ ds) each = All-cons P d.number (map (λ d. d.number) ds) (each d (Contains-head d ds)) (All-numbers P ds (λ x there. each x (Contains-tail d ds x there)))
 
-document_at-found_in : (number : ℕ) (ds : List Document) (d : List ℕ × List ℕ) → document_at number ds ≡ Some d → (x : Document) × Contains ds x × (x.number ≡ number)
+pub document_at-found_in : (number : ℕ) (ds : List Document) (d : List ℕ × List ℕ) → document_at number ds ≡ Some d → (x : Document) × Contains ds x × (x.number ≡ number)
 unfolding document_at
 document_at-found_in number [] d e = cc
 document_at-found_in number (first ∷ others) d e = go (first.number == number) refl (document_at-found_in number others d) e

@@ -3,11 +3,12 @@
 ghost use Rattle.std.specs.Prelude.{◌≡◌, ℕ, List, ◌+◌, ◌^◌, ◌<◌, [], ◌∷◌, ◌++◌, map, length, OnOk, OnErr, IfErr, IfOk, Option, option_map, filter, Contains, ◌↔◌};
 ghost use Rattle.std.specs.Ordering.{nat_cmp};
 ghost use Rattle.std.specs.Cmp.Lexicographic.{slice_cmp};
-ghost use Rattle.std.specs.BTreeMap.{IsUnchanged, IsOrdered, values};
+ghost use Rattle.std.specs.BTreeMap.{IsUnchanged, IsOrdered, get, values};
 ghost use Rattle.std.specs.List.Sorted.{IsStrictlyIncreasing};
 ghost use Rattle.index.specs.declared.command.Command.{Command as CommandValue};
 ghost use Rattle.trigram.specs.Query.{formula_of};
-ghost use Rattle.index.specs.IndexParts.{Notes};
+ghost use Rattle.posting.specs.NumberSet.{has};
+ghost use Rattle.index.specs.IndexParts.{Notes, kept_if};
 ghost use Rattle.index.specs.SetParts.{IsGone, IsChange};
 ghost use Rattle.index.specs.Documents.{Document, documents_of, document_at, number_of, meets, IsInNameOrder, IsDocument};
 
@@ -20,6 +21,10 @@ use std::alloc::{AllocError, Global};
 use std::collections::BTreeMap;
 use std::marker::Model;
 use trigram::Query;
+
+/// A list of fewer numbers than this part of all documents is sorted by name; from there on the names of
+/// all documents are gone through.
+const FEW: usize = 8;
 
 /// The documents that a journal of commands leaves.
 ///
@@ -198,6 +203,39 @@ impl Index {
     {
         numbers_of(&self.numbers, alloc)
     }
+
+    /// The numbers of those documents that the list has, in the order of the documents' names. Where the
+    /// list has few numbers its cost grows with them, and not with the number of documents. An `Err` comes
+    /// only where memory ran out.
+    pub fn chosen_by_name(
+        &self,
+        alloc: Global,
+        chosen: &posting::List,
+    ) -> Result<Vec<u32>, AllocError>
+        ensures { IfOk result (λ numbers. (ordered : List Document)
+            × IsInNameOrder (filter (λ d. has chosen.now.members d.number) (documents_of self.now)) ordered
+            × (numbers.items ≡ map (λ d. d.number) ordered)) }
+    {
+        if chosen.len() < self.numbers.len() / FEW {
+            numbers_of(&self.few(alloc, chosen)?, alloc)
+        } else {
+            numbers_among(&self.numbers, alloc, chosen)
+        }
+    }
+
+    // The numbers of those documents that the list has, under their names.
+    fn few(&self, alloc: Global, chosen: &posting::List) -> Result<BTreeMap<Name, u32>, AllocError>
+        ensures { IfOk result (λ few. (name : List ℕ) → get (slice_cmp nat_cmp) few name
+            ≡ kept_if (has chosen.now.members) (number_of name (documents_of self.now))) }
+    {
+        let mut few = BTreeMap::new(alloc);
+        for number in chosen.numbers() {
+            if let Some((name, _)) = self.document(number) {
+                few.insert(name.copy()?, number)?;
+            }
+        }
+        Ok(few)
+    }
 }
 
 // Changes the numbers as the command at this place asks for.
@@ -222,6 +260,22 @@ fn numbers_of(numbers: &BTreeMap<Name, u32>, alloc: Global) -> Result<Vec<u32>, 
     ensures ordered { IsOrdered (slice_cmp nat_cmp) numbers.now }
 {
     numbers.values().copied().collect(alloc)
+}
+
+// Those of these numbers that the list has.
+fn numbers_among(
+    numbers: &BTreeMap<Name, u32>,
+    alloc: Global,
+    chosen: &posting::List,
+) -> Result<Vec<u32>, AllocError>
+    ensures numbers { IfOk result (λ v. v.items ≡ filter (has chosen.now.members) (values numbers.now)) }
+    ensures ordered { IsOrdered (slice_cmp nat_cmp) numbers.now }
+{
+    numbers
+        .values()
+        .copied()
+        .filter(|number| chosen.has(*number))
+        .collect(alloc)
 }
 
 /// The documents are exactly the `Put`s that no later command names, each once.
