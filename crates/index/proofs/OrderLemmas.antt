@@ -19,7 +19,7 @@ use Rattle.index.specs.declared.command.Command.{Command}
 use Rattle.index.specs.Documents.{Document, document, documents_of, document_at, number_of, IsInNameOrder, RisesByName}
 use Rattle.index.specs.IndexParts.{IsIndex, kept_if}
 use Rattle.index.proofs.DocumentLemmas.{same_name, bytes_eq-refl}
-use Rattle.index.proofs.SetLemmas.{document_at-found_in, named_is_shown}
+use Rattle.index.proofs.SetLemmas.{document_at-found_in, named_is_shown, filter_same, same_bool}
 use Rattle.index.proofs.PutLemmas.{Contains-cons, Contains-head, Contains-tail, document_at-Contains, number_of-Contains, Contains-number_of}
 
 abbrev body_of : Option (List ℕ × List ℕ) → List ℕ
@@ -245,3 +245,38 @@ few-more c done number name body at q = go (bytes_eq name q) refl
 pub inserted : (old new : BTreeMap (List ℕ) ℕ) (name key : List ℕ) (number : ℕ) → key ≡ name → ((q : List ℕ) → get (slice_cmp nat_cmp) new q ≡ cond (is_at (slice_cmp nat_cmp key) q) (Some number) (get (slice_cmp nat_cmp) old q)) → (q : List ℕ) → get (slice_cmp nat_cmp) new q ≡ cond (bytes_eq name q) (Some number) (get (slice_cmp nat_cmp) old q)
 inserted old new name key number same updates q =
     updates q ∙ (ap (λ t. cond t (Some number) (get (slice_cmp nat_cmp) old q)) (sym (texts_ties key q)) ∙ ap (λ n. cond (bytes_eq n q) (Some number) (get (slice_cmp nat_cmp) old q)) same)
+
+-- ---- documents by a list of their numbers
+
+number_among : (ds : List Document) (number : ℕ) → has (map (λ d. d.number) ds) number ≡ true → (x : Document) × Contains ds x × (x.number ≡ number)
+number_among [] number e = absurd (false≢true e)
+number_among (d ∷ ds) number e = go (d.number == number) refl e (number_among ds number)
+  where
+    go : (t : Bool) → (d.number == number) ≡ t → (t || has (map (λ d. d.number) ds) number) ≡ true → (has (map (λ d. d.number) ds) number ≡ true → (x : Document) × Contains ds x × (x.number ≡ number)) → (x : Document) × Contains (d ∷ ds) x × (x.number ≡ number)
+    go true same h deeper = (d, Contains-head d ds, grind (arith, nat_tests))
+    go false same h deeper = let at = deeper h in (at.0, Contains-tail d ds at.0 at.1, at.2)
+
+has_number : (ds : List Document) (d : Document) → Contains ds d → has (map (λ x. x.number) ds) d.number ≡ true
+has_number [] d h = absurd (omega (arith, h.1))
+has_number (x ∷ ds) d h = go (Contains-cons x ds d h) (has_number ds d)
+  where
+    go : (x ≡ d) ⊎ Contains ds d → (Contains ds d → has (map (λ x. x.number) ds) d.number ≡ true) → (x.number == d.number || has (map (λ x. x.number) ds) d.number) ≡ true
+    go (inl is) deeper =
+        let same : x.number ≡ d.number = ap (λ y. y.number) is in
+        let here : (x.number == d.number) ≡ true = grind (arith, nat_tests) in
+        rw here refl
+    go (inr rest) deeper = rw (deeper rest) (or_yes (x.number == d.number))
+
+pub chosen_are : (c : List Command) (p : Document → Bool) → filter (λ d. has (map (λ x. x.number) (filter p (documents_of c))) d.number) (documents_of c) ≡ filter p (documents_of c)
+chosen_are c p = filter_same (λ d. has (map (λ x. x.number) (filter p (documents_of c))) d.number) p (documents_of c) (λ d there. same_bool (has (map (λ x. x.number) (filter p (documents_of c))) d.number) (p d) (forth d there) (λ passes. has_number (filter p (documents_of c)) d (Contains-filter p (documents_of c) d there passes)))
+  where
+    pair_or : List ℕ × List ℕ → Option (List ℕ × List ℕ) → List ℕ × List ℕ
+    pair_or d None = d
+    pair_or d (Some e) = e
+
+    forth : (d : Document) → Contains (documents_of c) d → has (map (λ x. x.number) (filter p (documents_of c))) d.number ≡ true → p d ≡ true
+    forth d there h =
+        let x = number_among (filter p (documents_of c)) d.number h in
+        let at = filter-Contains p (documents_of c) x.0 x.1 in
+        let texts : (x.0.name, x.0.body) ≡ (d.name, d.body) = ap (pair_or (x.0.name, x.0.body)) (sym (document_at-Contains c x.0 at.0) ∙ (ap (λ n. document_at n (documents_of c)) x.2 ∙ document_at-Contains c d there)) in
+        sym (ap (λ n. p (document n x.0.name x.0.body)) x.2 ∙ ap (λ t. p (document d.number t.0 t.1)) texts) ∙ at.1

@@ -28,7 +28,7 @@ not_true : (b : Bool) → (b ≡ true → ⊥) → b ≡ false
 not_true true h = absurd (h refl)
 not_true false h = refl
 
-same_bool : (a b : Bool) → (a ≡ true → b ≡ true) → (b ≡ true → a ≡ true) → a ≡ b
+pub same_bool : (a b : Bool) → (a ≡ true → b ≡ true) → (b ≡ true → a ≡ true) → a ≡ b
 same_bool true b h g = sym (h refl)
 same_bool false b h g = sym (not_true b (λ e. false≢true (g e)))
 
@@ -95,7 +95,7 @@ is_gone c name (Some entry) h d there = same_bool (bytes_eq name d.name) (d.numb
         first_or None = name
         first_or (Some p) = p.0
 
-filter_same : (p q : Document → Bool) (ds : List Document) → ((d : Document) → Contains ds d → p d ≡ q d) → filter p ds ≡ filter q ds
+pub filter_same : (p q : Document → Bool) (ds : List Document) → ((d : Document) → Contains ds d → p d ≡ q d) → filter p ds ≡ filter q ds
 filter_same p q [] each = refl
 filter_same p q (d ∷ ds) each =
     let rest = filter_same p q ds (λ x there. each x (Contains-tail d ds x there)) in
