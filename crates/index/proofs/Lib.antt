@@ -3,3 +3,4 @@ pub mod LineLemmas
 pub mod PushLemmas
 pub mod PutLemmas
 pub mod OrderLemmas
+pub mod SetLemmas

@@ -3,6 +3,8 @@ use Rattle.std.specs.Prelude.{◌≡◌, ℕ, suc, ◌+◌, ◌==◌, ◌||◌, 
 use Rattle.std.specs.Ordering.{nat_cmp}
 use Rattle.std.specs.Cmp.Lexicographic.{slice_cmp}
 use Rattle.std.specs.List.Sorted.{IsStrictlySortedBy}
+use Rattle.trigram.specs.Trigrams.{trigrams_of_body}
+use Rattle.trigram.specs.Query.{Formula, is_met}
 use Rattle.index.specs.declared.command.Command.{Command}
 use Rattle.index.specs.declared.command.Command.TheVariants.{Put, Remove}
 
@@ -46,6 +48,10 @@ document_at number (first ∷ others) =
 unfoldable pub number_of : List ℕ → List Document → Option ℕ
 number_of name [] = None
 number_of name (first ∷ others) = if bytes_eq first.name name then Some first.number else number_of name others
+
+-- whether the trigrams of the document's body satisfy the formula
+abbrev pub meets : Formula → Document → Bool
+meets formula d = is_met formula (trigrams_of_body d.body)
 
 -- names rise by their bytes, as unsigned numbers
 abbrev pub RisesByName : List Document → Type 0

@@ -32,3 +32,8 @@ pub record Notes (place : ℕ) (command : Command) (old new : BTreeMap (List ℕ
       ≡ (if bytes_eq (name_of command) name then number_left place command else get (slice_cmp nat_cmp) old name)
   pub count : btree_map_len new + count_if (is_some (get (slice_cmp nat_cmp) old (name_of command)))
       ≡ btree_map_len old + puts command
+
+-- a number that passes the test
+abbrev pub kept_if : (ℕ → Bool) → Option ℕ → Option ℕ
+kept_if test None = None
+kept_if test (Some number) = if test number then Some number else None

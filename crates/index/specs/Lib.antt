@@ -1,3 +1,4 @@
 pub mod Text
 pub mod Documents
 pub mod IndexParts
+pub mod SetParts

@@ -1,33 +1,44 @@
 //! The index: a journal of commands, and the documents that it leaves.
 
-ghost use Rattle.std.specs.Prelude.{◌≡◌, ℕ, List, ◌+◌, ◌^◌, ◌<◌, [], ◌∷◌, ◌++◌, map, length, OnOk, OnErr, IfErr, IfOk, Option, option_map, Contains, ◌↔◌};
+ghost use Rattle.std.specs.Prelude.{◌≡◌, ℕ, List, ◌+◌, ◌^◌, ◌<◌, [], ◌∷◌, ◌++◌, map, length, OnOk, OnErr, IfErr, IfOk, Option, option_map, filter, Contains, ◌↔◌};
 ghost use Rattle.std.specs.Ordering.{nat_cmp};
 ghost use Rattle.std.specs.Cmp.Lexicographic.{slice_cmp};
-ghost use Rattle.std.specs.BTreeMap.{IsUnchanged, IsOrdered, values};
+ghost use Rattle.std.specs.BTreeMap.{IsUnchanged, IsOrdered, get, values};
 ghost use Rattle.std.specs.List.Sorted.{IsStrictlyIncreasing};
 ghost use Rattle.index.specs.declared.command.Command.{Command as CommandValue};
-ghost use Rattle.index.specs.IndexParts.{Notes};
-ghost use Rattle.index.specs.Documents.{Document, documents_of, document_at, number_of, IsInNameOrder, IsDocument};
+ghost use Rattle.trigram.specs.Query.{formula_of};
+ghost use Rattle.posting.specs.NumberSet.{has};
+ghost use Rattle.index.specs.IndexParts.{Notes, kept_if};
+ghost use Rattle.index.specs.SetParts.{IsGone, IsChange};
+ghost use Rattle.index.specs.Documents.{Document, documents_of, document_at, number_of, meets, IsInNameOrder, IsDocument};
 
 use crate::body::Body;
 use crate::command::Command;
 use crate::error::ApplyError;
 use crate::name::Name;
+use crate::sets::{Change, Entry, Sets, entry_of};
 use std::alloc::{AllocError, Global};
 use std::collections::BTreeMap;
 use std::marker::Model;
+use trigram::Query;
+
+/// A list of fewer numbers than this part of all documents is sorted by name; from there on the names of
+/// all documents are gone through.
+const FEW: usize = 8;
 
 /// The documents that a journal of commands leaves.
 ///
 /// A document is there where some `Put` named it and no later command names it. Its number is the place
 /// of that `Put` in the journal, counted from 1. Contracts see an index as its journal, the list of its
 /// commands from the first one on.
-#[derive(Debug, Drop)]
+#[derive(Drop)]
 pub struct Index {
     // The journal.
     commands: Vec<Command>,
     // The number of each document, by its name.
     numbers: BTreeMap<Name, u32>,
+    // The numbers of the documents, and those of each trigram.
+    sets: Sets,
 }
 
 impl Model for Index {
@@ -38,9 +49,11 @@ impl Model for Index {
 
     ghost view = { λ i. i.commands.items };
 
+    ghost use Rattle.index.specs.Documents.{documents_of};
     ghost use Rattle.index.specs.IndexParts.{IsIndex};
+    ghost use Rattle.index.specs.SetParts.{AreSetsOf};
 
-    ghost invariant = { λ i. IsIndex i.commands.items i.numbers };
+    ghost invariant = { λ i. IsIndex i.commands.items i.numbers × AreSetsOf (documents_of i.commands.items) i.sets };
 }
 
 impl Index {
@@ -51,6 +64,7 @@ impl Index {
         Index {
             commands: Vec::new(alloc),
             numbers: BTreeMap::new(alloc),
+            sets: Sets::new(alloc),
         }
     }
 
@@ -62,15 +76,58 @@ impl Index {
         ensures err { OnErr result (self.new ≡ self.old) }
         ensures returned { IfErr result (λ e. e.command ≡ command) }
     {
+        let change = match self.change(&command) {
+            Ok(change) => change,
+            Err(error) => return Err(ApplyError { command, error }),
+        };
         if let Err(error) = self.commands.reserve(1) {
+            return Err(ApplyError { command, error });
+        }
+        if let Err(error) = self.sets.make_room(&change) {
             return Err(ApplyError { command, error });
         }
         let place = self.commands.len() as u32 + 1;
         if let Err(error) = note(&mut self.numbers, &command, place) {
             return Err(ApplyError { command, error });
         }
+        self.sets.carry_out(change);
         self.commands.push_reserved(command);
         Ok(())
+    }
+
+    // What one more command changes in the sets.
+    fn change(&self, command: &Command) -> Result<Change, AllocError>
+        requires { length self.now + 1 < 2 ^ 32 }
+        ensures { IfOk result (λ change. IsChange self.now command.now change) }
+    {
+        let alloc = *self.commands.allocator();
+        match command {
+            Command::Put(name, body) => {
+                let gone = self.entry(alloc, name)?;
+                let come = entry_of(alloc, self.version() + 1, body)?;
+                Ok(Change {
+                    gone,
+                    come: Some(come),
+                })
+            }
+            Command::Remove(name) => {
+                let gone = self.entry(alloc, name)?;
+                Ok(Change { gone, come: None })
+            }
+        }
+    }
+
+    // The entry of the document with this name, where there is one.
+    fn entry(&self, alloc: Global, name: &Name) -> Result<Option<Entry>, AllocError>
+        ensures { IfOk result (λ gone. IsGone (documents_of self.now) name.now gone) }
+    {
+        match self.number(name) {
+            None => Ok(None),
+            Some(number) => match self.document(number) {
+                None => Ok(None),
+                Some((_, body)) => Ok(Some(entry_of(alloc, number, body)?)),
+            },
+        }
     }
 
     /// The number of commands.
@@ -123,12 +180,61 @@ impl Index {
         self.numbers.get(name).copied()
     }
 
+    /// The numbers of the documents, rising.
+    pub fn live(&self) -> &posting::List
+        ensures { result.now.members ≡ map (λ d. d.number) (documents_of self.now) }
+    {
+        &self.sets.live
+    }
+
+    /// The numbers of the documents whose trigrams satisfy the query, rising. An `Err` comes only where
+    /// memory ran out.
+    pub fn candidates(&self, alloc: Global, query: &Query) -> Result<posting::List, AllocError>
+        ensures { IfOk result (λ chosen. chosen.members
+            ≡ map (λ d. d.number) (filter (meets (formula_of query.now)) (documents_of self.now))) }
+    {
+        self.sets.postings.select(alloc, query, &self.sets.live)
+    }
+
     /// The numbers of all documents, in the order of the documents' names.
     pub fn numbers_by_name(&self, alloc: Global) -> Result<Vec<u32>, AllocError>
         ensures { IfOk result (λ numbers. (ordered : List Document) × IsInNameOrder (documents_of self.now) ordered
             × (numbers.items ≡ map (λ d. d.number) ordered)) }
     {
         numbers_of(&self.numbers, alloc)
+    }
+
+    /// The numbers of those documents that the list has, in the order of the documents' names. Where the
+    /// list has few numbers its cost grows with them, and not with the number of documents. An `Err` comes
+    /// only where memory ran out.
+    pub fn chosen_by_name(
+        &self,
+        alloc: Global,
+        chosen: &posting::List,
+    ) -> Result<Vec<u32>, AllocError>
+        ensures { IfOk result (λ numbers. (ordered : List Document)
+            × IsInNameOrder (filter (λ d. has chosen.now.members d.number) (documents_of self.now)) ordered
+            × (numbers.items ≡ map (λ d. d.number) ordered)) }
+    {
+        if chosen.len() < self.numbers.len() / FEW {
+            numbers_of(&self.few(alloc, chosen)?, alloc)
+        } else {
+            numbers_among(&self.numbers, alloc, chosen)
+        }
+    }
+
+    // The numbers of those documents that the list has, under their names.
+    fn few(&self, alloc: Global, chosen: &posting::List) -> Result<BTreeMap<Name, u32>, AllocError>
+        ensures { IfOk result (λ few. (name : List ℕ) → get (slice_cmp nat_cmp) few name
+            ≡ kept_if (has chosen.now.members) (number_of name (documents_of self.now))) }
+    {
+        let mut few = BTreeMap::new(alloc);
+        for number in chosen.numbers() {
+            if let Some((name, _)) = self.document(number) {
+                few.insert(name.copy()?, number)?;
+            }
+        }
+        Ok(few)
     }
 }
 
@@ -154,6 +260,22 @@ fn numbers_of(numbers: &BTreeMap<Name, u32>, alloc: Global) -> Result<Vec<u32>, 
     ensures ordered { IsOrdered (slice_cmp nat_cmp) numbers.now }
 {
     numbers.values().copied().collect(alloc)
+}
+
+// Those of these numbers that the list has.
+fn numbers_among(
+    numbers: &BTreeMap<Name, u32>,
+    alloc: Global,
+    chosen: &posting::List,
+) -> Result<Vec<u32>, AllocError>
+    ensures numbers { IfOk result (λ v. v.items ≡ filter (has chosen.now.members) (values numbers.now)) }
+    ensures ordered { IsOrdered (slice_cmp nat_cmp) numbers.now }
+{
+    numbers
+        .values()
+        .copied()
+        .filter(|number| chosen.has(*number))
+        .collect(alloc)
 }
 
 /// The documents are exactly the `Put`s that no later command names, each once.

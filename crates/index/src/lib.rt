@@ -9,12 +9,15 @@ pub mod command;
 pub mod error;
 pub mod journal;
 pub mod name;
+mod sets;
 
 pub use body::Body;
 pub use command::Command;
 pub use error::{ApplyError, BodyError, BodyErrorKind, NameError};
 pub use journal::{Index, documents_are_puts};
 pub use name::Name;
+pub use posting::List;
+pub use trigram::Query;
 
 #[cfg(test)]
 mod tests;

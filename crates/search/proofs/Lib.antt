@@ -2,3 +2,4 @@ pub mod SelectsLemmas
 pub mod ScanLemmas
 pub mod TextLemmas
 pub mod LineLemmas
+pub mod CandidateLemmas

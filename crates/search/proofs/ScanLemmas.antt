@@ -191,9 +191,9 @@ Adds-absent Has documents number now e = subst (λ d. Adds Has (lines_shown d) n
 
 -- ---- the scan
 
-pub IsScanOf-Selects : (c : List Command) (pattern : Pattern) (ordered : List Document) (hits : List Found) → IsInNameOrder (documents_of c) ordered → Selects (IsWanted pattern) (flat_map (lines_at (documents_of c)) (map (λ d. d.number) ordered)) hits → IsScanOf c pattern hits
-IsScanOf-Selects c pattern ordered hits order given =
-    let numbers = lines-numbers (documents_of c) ordered (λ d h. document_at-Contains c d ((order.same d).0 h)) in
+pub IsScanOf-Selects : (c : List Command) (pattern : Pattern) (chosen ordered : List Document) (hits : List Found) → IsInNameOrder chosen ordered → ((d : Document) → Contains chosen d → Contains (documents_of c) d) → ((d : Document) → Contains (documents_of c) d → (i : ℕ) (text : List ℕ) → slice_get (lines_of d.body) i ≡ Some text → Hit pattern.tree text → Contains chosen d) → Selects (IsWanted pattern) (flat_map (lines_at (documents_of c)) (map (λ d. d.number) ordered)) hits → IsScanOf c pattern hits
+IsScanOf-Selects c pattern chosen ordered hits order within law given =
+    let numbers = lines-numbers (documents_of c) ordered (λ d h. document_at-Contains c d (within d ((order.same d).0 h))) in
     let s = subst (λ all. Selects (IsWanted pattern) all hits) numbers given in
     record {
       rises = sorted-Selects found_cmp s (all_lines-sorted ordered order.rises);
@@ -207,7 +207,7 @@ IsScanOf-Selects c pattern ordered hits order given =
         let place : at.i ≡ f.line - 1 = omega (arith, at.at) in
         record {
           document = line.0;
-          there = (order.same line.0).0 line.1;
+          there = within line.0 ((order.same line.0).0 line.1);
           named = at.named;
           counted = omega (arith, at.at);
           line = ap (λ n. slice_get (lines_of line.0.body) n) (sym place) ∙ at.text;
@@ -221,4 +221,4 @@ IsScanOf-Selects c pattern ordered hits order given =
         let number : 1 + (f.line - 1) ≡ f.line = omega (arith, h.counted) in
         let moved = subst (λ n. Contains (lines_found h.document.name h.document.body) (found h.document.name n f.text)) number at in
         let named = subst (λ n. Contains (lines_found h.document.name h.document.body) (found n f.line f.text)) (sym h.named) moved in
-        kept-Contains f s (Contains-all_lines ordered h.document f ((order.same h.document).1 h.there) named) (record { hit = h.hit; name_hit = h.name_hit })
+        kept-Contains f s (Contains-all_lines ordered h.document f ((order.same h.document).1 (law h.document h.there (f.line - 1) f.text h.line h.hit)) named) (record { hit = h.hit; name_hit = h.name_hit })

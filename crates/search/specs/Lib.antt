@@ -3,5 +3,6 @@ pub mod Prepared
 pub mod Scan
 pub mod Found
 pub mod Text
+pub mod Queries
 pub mod Limited
 pub mod Selects

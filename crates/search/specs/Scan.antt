@@ -1,11 +1,14 @@
 -- The lines that a search finds, and its answer.
-use Rattle.std.specs.Prelude.{◌≡◌, ℕ, ◌-◌, ◌<◌, List, length, Some, slice_get, IfSome, Contains, ◌↔◌}
+use Rattle.std.specs.Prelude.{◌≡◌, ℕ, ◌-◌, ◌<◌, List, length, Some, slice_get, filter, IfSome, Contains, ◌↔◌}
 use Rattle.std.specs.Ordering.{nat_cmp, then_cmp, on}
 use Rattle.std.specs.Cmp.Lexicographic.{slice_cmp}
 use Rattle.std.specs.List.Sorted.{IsStrictlySortedBy}
 use Rattle.std.specs.declared.cmp.Ordering.{Ordering}
 use Rattle.ere.specs.Language.{Hit}
+use Rattle.ere.specs.Tree.{Tree}
 use Rattle.ere.specs.Lines.{lines_of}
+use Rattle.trigram.specs.Trigrams.{trigrams_of_body}
+use Rattle.trigram.specs.Analysis.{condition}
 use Rattle.index.specs.declared.command.Command.{Command}
 use Rattle.index.specs.Documents.{Document, documents_of}
 use Rattle.search.specs.Pattern.{Pattern}
@@ -35,8 +38,12 @@ pub record IsScanOf (commands : List Command) (pattern : Pattern) (scan : List F
   pub rises : IsStrictlySortedBy found_cmp scan
   pub exact : (found : Found) → Contains scan found ↔ IsFound commands pattern found
 
+-- the documents whose trigrams meet the condition of the tree
+abbrev pub candidates_of : List Command → Tree → List Document
+candidates_of commands tree = filter (λ d. condition tree (trigrams_of_body d.body)) (documents_of commands)
+
 -- an answer: the number of commands that it rests on, the lines found, and how many documents there are,
--- and how many were looked at
+-- and how many of them are candidates
 pub record Reply : Type 0 where
   pub version : ℕ
   pub hits : List Found
@@ -47,4 +54,4 @@ pub record IsAnswerOf (commands : List Command) (pattern : Pattern) (answer : Re
   pub version : answer.version ≡ length commands
   pub hits : IsScanOf commands pattern answer.hits
   pub documents : answer.documents ≡ length (documents_of commands)
-  pub candidates : answer.candidates ≡ length (documents_of commands)
+  pub candidates : answer.candidates ≡ length (candidates_of commands pattern.tree)

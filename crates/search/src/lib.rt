@@ -7,7 +7,7 @@ pub mod scan;
 
 pub use answer::{Answer, Hit, append_all};
 pub use pattern::{Prepared, WithinError};
-pub use scan::find;
+pub use scan::{Watch, find, find_watched};
 
 #[cfg(test)]
 mod tests;

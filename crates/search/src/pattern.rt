@@ -3,13 +3,15 @@
 ghost use Rattle.std.specs.Prelude.{◌≢◌, IfOk, IfErr, MatchBool};
 ghost use Rattle.std.specs.Option.{ForSome};
 ghost use Rattle.ere.specs.Tree.{form};
-ghost use Rattle.ere.specs.Limits.{IsWithinLimits, HasNoTree};
-ghost use Rattle.search.specs.Limited.{IsWithinLimits-prop, ForSome-prop};
+ghost use Rattle.ere.specs.Limits.{IsWithinLimits, HasNoTree, IsTreeOf};
+ghost use Rattle.search.specs.Limited.{IsWithinLimits-prop, ForSome-prop, IsQueryOf-prop};
+ghost use Rattle.search.specs.Queries.{IsQueryOf};
 
 use ere::{Ere, EreError, EreErrorKind, parse};
 use index::Name;
 use matcher::matches;
 use std::alloc::Global;
+use trigram::{Query, analyse};
 
 /// A pattern, and where there is one a pattern for names, read and ready to search.
 ///
@@ -18,8 +20,11 @@ use std::alloc::Global;
 pub struct Prepared {
     pub(crate) tree: Ere,
     name_tree: Option<Ere>,
+    // What the trigrams of a document with a hit satisfy.
+    pub(crate) query: Query,
     pub ghost limits: { IsWithinLimits (form tree) } by { IsWithinLimits-prop (form tree) },
     pub ghost name_limits: { ForSome name_tree (λ e. IsWithinLimits (form e)) } by { ForSome-prop name_tree },
+    pub ghost filter: { IsQueryOf tree query } by { IsQueryOf-prop tree query },
 }
 
 /// Why a search with a name pattern is refused.
@@ -43,10 +48,11 @@ impl Prepared {
         ensures pattern { IfOk result (λ p. IsPatternOf pattern.now (pattern_of p)) }
         ensures refused { IfErr result (λ e. e.kind ≢ EreErrorKind.OutOfMemory → HasNoTree pattern.now) }
     {
-        let tree = parse(alloc, pattern)?;
+        let (tree, query) = analysed(alloc, pattern)?;
         Ok(Prepared {
             tree,
             name_tree: None,
+            query,
         })
     }
 
@@ -70,10 +76,11 @@ impl Prepared {
                 });
             }
         };
-        match parse(alloc, pattern) {
-            Ok(tree) => Ok(Prepared {
+        match analysed(alloc, pattern) {
+            Ok((tree, query)) => Ok(Prepared {
                 tree,
                 name_tree: Some(name_tree),
+                query,
             }),
             Err(error) => Err(WithinError {
                 in_name: false,
@@ -91,5 +98,22 @@ impl Prepared {
             None => true,
             Some(tree) => matches(tree, name.as_bytes()),
         }
+    }
+}
+
+// The tree of a pattern, and the query of its condition.
+fn analysed(alloc: Global, pattern: &[u8]) -> Result<(Ere, Query), EreError>
+    ensures tree { IfOk result (λ both. IsTreeOf pattern.now (form both.0)) }
+    ensures limits { IfOk result (λ both. IsWithinLimits (form both.0)) }
+    ensures query { IfOk result (λ both. IsQueryOf both.0 both.1) }
+    ensures refused { IfErr result (λ e. e.kind ≢ EreErrorKind.OutOfMemory → HasNoTree pattern.now) }
+{
+    let tree = parse(alloc, pattern)?;
+    match analyse(alloc, &tree) {
+        Ok(query) => Ok((tree, query)),
+        Err(_) => Err(EreError {
+            kind: EreErrorKind::OutOfMemory,
+            at: 0,
+        }),
     }
 }

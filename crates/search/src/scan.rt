@@ -19,27 +19,56 @@ use matcher::matches;
 use memchr::memchr;
 use std::alloc::{AllocError, Global};
 
-/// The lines of the index's documents in which the pattern matches. It changes nothing. An `Err` comes
-/// only where memory ran out.
+/// What is told of the documents that a search looks at.
+pub trait Watch {
+    /// The lines of the document with this number are now matched.
+    fn reads(&mut self, number: u32);
+}
+
+// A watch that does nothing.
+#[derive(Drop)]
+struct NoWatch;
+
+impl Watch for NoWatch {
+    fn reads(&mut self, _number: u32) {}
+}
+
+/// The lines of the index's documents in which the pattern matches. It changes nothing, and looks at the
+/// documents alone whose trigrams satisfy the condition of the pattern. An `Err` comes only where memory
+/// ran out.
 pub fn find(alloc: Global, index: &Index, prepared: &Prepared) -> Result<Answer, AllocError>
     ensures { IfOk result (λ answer. IsAnswerOf index.now (pattern_of prepared.now) answer) }
 {
-    let numbers = index.numbers_by_name(alloc)?;
-    let hits = scan_documents(alloc, index, prepared, numbers.as_slice())?;
+    find_watched(alloc, index, prepared, &mut NoWatch)
+}
+
+/// The same as `find`. The watch is told of each document whose lines are matched.
+pub fn find_watched<W: Watch>(
+    alloc: Global,
+    index: &Index,
+    prepared: &Prepared,
+    watch: &mut W,
+) -> Result<Answer, AllocError>
+    ensures { IfOk result (λ answer. IsAnswerOf index.now (pattern_of prepared.now) answer) }
+{
+    let candidates = index.candidates(alloc, &prepared.query)?;
+    let numbers = index.chosen_by_name(alloc, &candidates)?;
+    let hits = scan_documents(alloc, index, prepared, numbers.as_slice(), watch)?;
     Ok(Answer {
         version: index.version(),
         hits,
         documents: index.documents(),
-        candidates: index.documents(),
+        candidates: candidates.len() as u32,
     })
 }
 
 // The hits in the documents with these numbers, document after document.
-fn scan_documents(
+fn scan_documents<W: Watch>(
     alloc: Global,
     index: &Index,
     prepared: &Prepared,
     numbers: &[u32],
+    watch: &mut W,
 ) -> Result<Vec<Hit>, AllocError>
     ensures { IfOk result (λ hits. Selects (IsWanted (pattern_of prepared.now))
         (flat_map (lines_at (documents_of index.now)) numbers.now) (found_all hits.items)) }
@@ -47,19 +76,20 @@ fn scan_documents(
     let mut hits = Vec::new(alloc);
     for number in numbers {
         if let Some((name, body)) = index.document(*number) {
-            scan_document(alloc, prepared, name, body, &mut hits)?;
+            scan_document(prepared, *number, name, body, &mut hits, watch)?;
         }
     }
     Ok(hits)
 }
 
-// Adds the hits in one document.
-fn scan_document(
-    alloc: Global,
+// Adds the hits in one document, of which the watch is told.
+fn scan_document<W: Watch>(
     prepared: &Prepared,
+    number: u32,
     name: &Name,
     body: &Body,
     hits: &mut Vec<Hit>,
+    watch: &mut W,
 ) -> Result<(), AllocError>
     ensures { OnOk result (Adds (IsWanted (pattern_of prepared.now)) (lines_found name.now body.now)
         (found_all hits.old.items) (found_all hits.new.items)) }
@@ -67,6 +97,8 @@ fn scan_document(
     if !prepared.takes_name(name) {
         return Ok(());
     }
+    watch.reads(number);
+    let alloc = *hits.allocator();
     scan_lines(alloc, &prepared.tree, name, body, hits)
 }
 

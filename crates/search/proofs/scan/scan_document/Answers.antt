@@ -9,12 +9,12 @@ use Rattle.search.proofs.ScanLemmas.{Selects-named, Selects-unnamed}
 use Rattle.search.proofs.scan.scan_document.Goals as goal
 
 pub returns-then-not-takes_name : goal.returns-then-not-takes_name
-returns-then-not-takes_name c =
+returns-then-not-takes_name g c =
     let pattern = pattern_of c.args.prepared.now in
     Adds-none (IsWanted pattern) (lines_found c.args.name.now c.args.body.now) (found_all c.args.hits.now.items) (Selects-unnamed pattern c.args.name.now c.args.body.now (λ h. false≢true (sym c.if-not-takes_name.true ∙ c.takes_name.ensures.1 h)))
 
 pub returns : goal.returns
-returns c =
+returns g c =
     let pattern = pattern_of c.args.prepared.now in
     let named = c.takes_name.ensures.0 c.if-not-takes_name.false in
     on_ok_weaker c.scan_lines.result (λ a. record { added = a.added; appended = a.appended; selected = Selects-named pattern c.args.name.now c.args.body.now a.added named a.selected }) c.scan_lines.ensures

@@ -10,7 +10,7 @@ use Rattle.search.proofs.scan.scan_documents.Goals as goal
 use Rattle.search.proofs.scan.scan_documents.Goals.{in-Some+in_ok-scan_document, in_default}
 
 pub loop-number-preserved : goal.loop-number-preserved
-loop-number-preserved c =
+loop-number-preserved g c =
     let Has = IsWanted (pattern_of c.args.prepared.now) in
     let documents = documents_of c.args.index.now in
     let numbers = c.args.numbers.now in
@@ -23,4 +23,4 @@ loop-number-preserved c =
     ]
 
 pub returns : goal.returns
-returns c = documents-end (IsWanted (pattern_of c.args.prepared.now)) (documents_of c.args.index.now) c.args.numbers.now c.loop-number.number-index (flat_map (lines_at (documents_of c.args.index.now)) c.args.numbers.now) (found_all c.loop-number.hits.items) c.loop-number-test.false c.loop-number.invariant
+returns g c = documents-end (IsWanted (pattern_of c.args.prepared.now)) (documents_of c.args.index.now) c.args.numbers.now c.loop-number.number-index (flat_map (lines_at (documents_of c.args.index.now)) c.args.numbers.now) (found_all c.loop-number.hits.items) c.loop-number-test.false c.loop-number.invariant

@@ -8,5 +8,5 @@ use Rattle.search.specs.Selects.{Selects, IsWanted, lines_at}
 use Rattle.search.proofs.scan.scan_documents.Given as goal
 
 abbrev pub invariant-loop-number : goal.invariant-loop-number
-invariant-loop-number l =
+invariant-loop-number g l =
     (more : List Found) → Selects (IsWanted (pattern_of l.prepared)) (flat_map (lines_at (documents_of l.index)) (drop l.number-index l.numbers)) more → Selects (IsWanted (pattern_of l.prepared)) (flat_map (lines_at (documents_of l.index)) l.numbers) (found_all l.hits.items ++ more)

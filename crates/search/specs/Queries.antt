@@ -1,0 +1,12 @@
+-- The query of a pattern.
+use Rattle.std.specs.Prelude.{◌≡◌}
+use Rattle.ere.specs.declared.tree.Ere.{Ere}
+use Rattle.ere.specs.Tree.{form}
+use Rattle.trigram.specs.declared.query.Query.{Query}
+use Rattle.trigram.specs.Trigrams.{TrigramSet}
+use Rattle.trigram.specs.Query.{formula_of, is_met}
+use Rattle.trigram.specs.Analysis.{condition}
+
+-- The query is met exactly by the sets of trigrams that meet the condition of the tree.
+abbrev pub IsQueryOf : Ere → Query → Type 0
+IsQueryOf tree query = (set : TrigramSet) → is_met (formula_of query) set ≡ condition (form tree) set
