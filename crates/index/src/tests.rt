@@ -2,6 +2,7 @@ use super::*;
 use std::alloc::Global;
 use std::process::Abort;
 use std::test::Fail;
+use trigram::Trigram;
 
 fn repeated(alloc: Global, byte: u8, count: usize) -> Result<Vec<u8>, Fail> {
     Ok(vec![in alloc; byte; count]?)
@@ -166,5 +167,57 @@ fn commands_are_copied(rt: HostRuntime) -> Result<(), Fail> {
         Command::Put(_, _) => assert!(rt; false),
     }
     documents_are_puts();
+    Ok(())
+}
+
+fn expect_numbers(rt: &impl Abort, found: &posting::List, want: &[u32]) {
+    assert_eq!(rt; found.len(), want.len());
+    for number in want {
+        assert!(rt; found.has(*number), "without {number}");
+    }
+}
+
+fn query(bytes: [u8; 3]) -> Query {
+    Query::Has(Trigram::of(bytes))
+}
+
+#[test]
+fn candidates_of_trigrams(rt: HostRuntime) -> Result<(), Fail> {
+    let alloc = rt.alloc();
+    let mut index = Index::new(alloc);
+    put(&rt, alloc, &mut index, b"f", b"abc")?;
+    put(&rt, alloc, &mut index, b"g", b"abcd")?;
+    expect_numbers(&rt, index.live(), &[1, 2]);
+    let abc = query(*b"abc");
+    let bcd = query(*b"bcd");
+    expect_numbers(&rt, &index.candidates(alloc, &abc)?, &[1, 2]);
+    expect_numbers(&rt, &index.candidates(alloc, &bcd)?, &[2]);
+    expect_numbers(&rt, &index.candidates(alloc, &Query::Any)?, &[1, 2]);
+    put(&rt, alloc, &mut index, b"g", b"abc")?;
+    expect_numbers(&rt, index.live(), &[1, 3]);
+    expect_numbers(&rt, &index.candidates(alloc, &abc)?, &[1, 3]);
+    expect_numbers(&rt, &index.candidates(alloc, &bcd)?, &[]);
+    remove(&rt, alloc, &mut index, b"f")?;
+    expect_numbers(&rt, index.live(), &[3]);
+    expect_numbers(&rt, &index.candidates(alloc, &abc)?, &[3]);
+    Ok(())
+}
+
+#[test]
+fn chosen_numbers_by_name(rt: HostRuntime) -> Result<(), Fail> {
+    let alloc = rt.alloc();
+    let mut index = Index::new(alloc);
+    put(&rt, alloc, &mut index, b"z", b"xyz")?;
+    for i in 0..30u8 {
+        put(&rt, alloc, &mut index, &[b'a', b'0' + i], b"hay")?;
+    }
+    put(&rt, alloc, &mut index, b"a", b"xyz")?;
+    let few = index.candidates(alloc, &query(*b"xyz"))?;
+    assert_eq!(rt;
+        index.chosen_by_name(alloc, &few)?.as_slice(),
+        [32, 1].as_slice()
+    );
+    let most = index.candidates(alloc, &query(*b"hay"))?;
+    assert_eq!(rt; index.chosen_by_name(alloc, &most)?.len(), 30);
     Ok(())
 }

@@ -104,7 +104,7 @@ fn a_replaced_body_is_not_searched(rt: HostRuntime) -> Result<(), Fail> {
     )?;
     put(&rt, alloc, &mut index, b"f", b"new")?;
     let want =
-        b"search 1 version 2 lines 0 candidates 1 of 1\nsearch 2 version 2 lines 1 candidates 1 of 1\nf:1:new\n";
+        b"search 1 version 2 lines 0 candidates 0 of 1\nsearch 2 version 2 lines 1 candidates 1 of 1\nf:1:new\n";
     expect_text(
         &rt,
         alloc,
@@ -183,4 +183,121 @@ fn two_documents(rt: HostRuntime) -> Result<(), Fail> {
         b"search 1 version 2 lines 2\ne:1:abd\nf:1:abc\n".as_slice()
     );
     Ok(())
+}
+
+/// The numbers of the documents that a search looked at.
+#[derive(Drop)]
+struct Kept {
+    numbers: [u32; 4],
+    count: usize,
+}
+
+impl Watch for Kept {
+    fn reads(&mut self, number: u32) {
+        if self.count < 4 {
+            self.numbers[self.count] = number;
+            self.count += 1;
+        }
+    }
+}
+
+#[test]
+fn all_trigrams_without_a_match(rt: HostRuntime) -> Result<(), Fail> {
+    let alloc = rt.alloc();
+    let mut index = Index::new(alloc);
+    put(&rt, alloc, &mut index, b"a", b"Google Code Search")?;
+    put(&rt, alloc, &mut index, b"b", b"Search Google")?;
+    put(&rt, alloc, &mut index, b"c", b"Goo")?;
+    let prepared = Prepared::new(alloc, b"Google.*Search")?;
+    let mut kept = Kept {
+        numbers: [0; 4],
+        count: 0,
+    };
+    let answer = find_watched(alloc, &index, &prepared, &mut kept)?;
+    assert_eq!(rt; kept.count, 2);
+    assert_eq!(rt; kept.numbers, [1, 2, 0, 0]);
+    let mut text = Vec::new(alloc);
+    answer.write_to(1, true, &mut text)?;
+    assert_eq!(rt;
+        text.as_slice(),
+        b"search 1 version 3 lines 1 candidates 2 of 3\na:1:Google Code Search\n".as_slice()
+    );
+    Ok(())
+}
+
+#[test]
+fn trigrams_stop_at_lines(rt: HostRuntime) -> Result<(), Fail> {
+    let alloc = rt.alloc();
+    let mut index = Index::new(alloc);
+    put(&rt, alloc, &mut index, b"f", b"abc\ndef")?;
+    expect_text(
+        &rt,
+        alloc,
+        &index,
+        &[b"abc.def".as_slice(), b"cde".as_slice()],
+        b"search 1 version 1 lines 0 candidates 1 of 1\nsearch 2 version 1 lines 0 candidates 0 of 1\n",
+    )
+}
+
+#[test]
+fn the_empty_set_has_no_candidates(rt: HostRuntime) -> Result<(), Fail> {
+    let alloc = rt.alloc();
+    let mut index = Index::new(alloc);
+    put(&rt, alloc, &mut index, b"f", b"a")?;
+    expect_text(
+        &rt,
+        alloc,
+        &index,
+        &[b"[^\x01-\xff]".as_slice()],
+        b"search 1 version 1 lines 0 candidates 0 of 1\n",
+    )
+}
+
+#[test]
+fn a_repeated_byte_between_trigrams(rt: HostRuntime) -> Result<(), Fail> {
+    let alloc = rt.alloc();
+    let mut index = Index::new(alloc);
+    put(&rt, alloc, &mut index, b"a", b"abbcdd")?;
+    put(&rt, alloc, &mut index, b"b", b"abcd")?;
+    put(&rt, alloc, &mut index, b"c", b"abcxbd")?;
+    expect_text(
+        &rt,
+        alloc,
+        &index,
+        &[b"ab+cd+".as_slice()],
+        b"search 1 version 3 lines 2 candidates 2 of 3\na:1:abbcdd\nb:1:abcd\n",
+    )
+}
+
+#[test]
+fn sets_of_16_and_17_bytes(rt: HostRuntime) -> Result<(), Fail> {
+    let alloc = rt.alloc();
+    let mut index = Index::new(alloc);
+    put(&rt, alloc, &mut index, b"f", b"zzz")?;
+    expect_text(
+        &rt,
+        alloc,
+        &index,
+        &[b"[a-p]bc".as_slice(), b"[a-q]bc".as_slice()],
+        b"search 1 version 1 lines 0 candidates 0 of 1\nsearch 2 version 1 lines 0 candidates 1 of 1\n",
+    )
+}
+
+// Names of few among many: they are sorted, and not met on the way through all names.
+#[test]
+fn few_candidates_among_many(rt: HostRuntime) -> Result<(), Fail> {
+    let alloc = rt.alloc();
+    let mut index = Index::new(alloc);
+    put(&rt, alloc, &mut index, b"z", b"needle")?;
+    for i in 0..30u8 {
+        put(&rt, alloc, &mut index, &[b'a', b'0' + i], b"hay")?;
+    }
+    put(&rt, alloc, &mut index, b"a", b"needle")?;
+    expect_text(
+        &rt,
+        alloc,
+        &index,
+        &[b"needle".as_slice()],
+        b"search 1 version 32 lines 2 candidates 2 of 32\na:1:needle\nz:1:needle\n",
+    )
 }
