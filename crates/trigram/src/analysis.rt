@@ -42,7 +42,7 @@ pub(crate) struct Ends {
 
 /// The query that holds at exactly those sets of trigrams that meet the condition of the pattern, and is
 /// plain (`simplify` says what that is). The document of every line that contains a match meets it.
-/// (Russ Cox, "Regular Expression Matching with a Trigram Index", 2012; `docs/ANALYSIS.md` has the table.)
+/// (Russ Cox, "Regular Expression Matching with a Trigram Index", 2012; `docs/DEFINITIONS.md` has the table.)
 ///
 /// An `Err` comes where memory runs out.
 pub fn analyse(alloc: Global, tree: &Ere) -> Result<Query, AllocError>
