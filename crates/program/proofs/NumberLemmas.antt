@@ -37,7 +37,6 @@ pub record IsOption (c : Command) (k : ℕ) (id : List ℕ) : Type 0 where
 
 module _ (old : Command) (m : ArgMatches) (p : IsParsedFrom old m) (options : HasOptions old) (k : ℕ) (id : List ℕ) (is : IsOption old k id)
     (low high : ℕ) (takes : TakesNumber old k low high) where
-
   -- an argument of the built command with this name is the option
   rules : (j : ℕ) (x : Arg) → j < length (args_of p.built) → slice_index_or (args_of p.built) j x ≡ x → bytes_eq x.id.now id ≡ true
       → x.value_parser ≡ Some (Signed (pos low) (pos high))
@@ -59,7 +58,6 @@ module _ (old : Command) (m : ArgMatches) (p : IsParsedFrom old m) (options : Ha
   module _ (E : Type 0) (G : List ℕ → Result ℕ E → Type 0) (only : (u : List ℕ) (x : Result ℕ E) → G u x → ParsesUnsigned 32 10 u x) (fits : high < 2 ^ 32)
       (r : Option ℕ) (none : one_text (found_of m) id ≡ None → r ≡ None)
       (value : (t : List ℕ) → one_text (found_of m) id ≡ Some t → ReadsOne G t r) where
-
     -- the option's number, where it is given
     abbrev pub IsNumber : Type 0
     IsNumber = (r ≡ None) ⊎ ((n : ℕ) × (r ≡ Some n) × (low ≤ n) × (n ≤ high))

@@ -1,6 +1,6 @@
 //! Loads, from files.
 
-ghost use Rattle.std.specs.Prelude.{◌≡◌, ⊤};
+ghost use Rattle.std.specs.Prelude.{◌≡◌, ◌≤◌, ◌<◌, ◌⊎◌, ◌^◌, ◌-◌, ⊤, IsErrOf};
 
 use crate::input::read_at_most;
 use index::body::MAX_BODY;
@@ -25,9 +25,31 @@ impl<'a, R: Files> FileSource<'a, R> {
     }
 
     /// Reads a file. Of one that is longer than a body may be it reads one byte more than that.
-    fn read_file(&self, alloc: Global, path: &str) -> io::Result<Vec<u8>> {
-        let file = fs::open(self.files, path)?;
-        read_at_most(alloc, file, MAX_BODY as u64 + 1)
+    fn read_file(&self, alloc: Global, path: &[u8]) -> Result<Vec<u8>, Fault> {
+        let Ok(path) = str::from_utf8(path) else {
+            return Err(Fault::Failed);
+        };
+        let read = match fs::open(self.files, path) {
+            Ok(file) => read_at_most(alloc, file, MAX_BODY as u64 + 1),
+            Err(error) => Err(error),
+        };
+        match read {
+            Ok(bytes) => Ok(bytes),
+            Err(error) if error.kind() == io::ErrorKind::OutOfMemory => Err(Fault::OutOfMemory),
+            Err(_) => Err(Fault::Failed),
+        }
+    }
+}
+
+/// How many failures there are after a read, up to the greatest `u64`.
+fn failures_after(failures: u64, read: &Result<Vec<u8>, Fault>) -> u64
+    ensures counted { failures ≤ result }
+    ensures bound { result < 2 ^ 64 }
+    ensures failure { IsErrOf read.now Fault.Failed → (failures < result) ⊎ (result ≡ 2 ^ 64 - 1) }
+{
+    match read {
+        Err(Fault::Failed) => failures.saturating_add(1),
+        _ => failures,
     }
 }
 
@@ -37,18 +59,9 @@ impl<R: Files> Source for FileSource<'_, R> {
     ghost failed = { λ source. source.failures };
 
     fn read(&mut self, alloc: Global, path: &[u8]) -> Result<Vec<u8>, Fault> {
-        let read = match str::from_utf8(path) {
-            Ok(path) => self.read_file(alloc, path),
-            Err(_) => Err(io::Error::from(io::ErrorKind::InvalidData)),
-        };
-        match read {
-            Ok(bytes) => Ok(bytes),
-            Err(error) if error.kind() == io::ErrorKind::OutOfMemory => Err(Fault::OutOfMemory),
-            Err(_) => {
-                self.failures = self.failures.saturating_add(1);
-                Err(Fault::Failed)
-            }
-        }
+        let read = self.read_file(alloc, path);
+        self.failures = failures_after(self.failures, &read);
+        read
     }
 
     fn failures(&self) -> u64 {

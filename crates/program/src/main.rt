@@ -3,6 +3,8 @@
 //! The program reads its words and the script, runs the script, and writes what the run answers.
 #![tactic(auto)]
 
+ghost use Rattle.std.specs.Prelude.{◌≤◌, ◌<◌};
+
 mod error;
 mod files;
 mod input;
@@ -76,7 +78,11 @@ fn explain<R: Print + Eprint>(rt: &R, error: &clap::Error) -> Result<u8, Program
 fn run_script<R: Files + Input + Print + AllocGlobal>(
     rt: &R,
     settings: &Settings<'_>,
-) -> Result<u8, ProgramError> {
+) -> Result<u8, ProgramError>
+    requires readers { settings.now.options.readers ≤ 16 }
+    requires some_commands { 0 < settings.now.options.max_commands }
+    requires few_commands { settings.now.options.max_commands ≤ 1000000 }
+{
     let script = input::read_script(rt, settings.file)?;
     let mut source = FileSource::new(rt);
     let transcript = match run(rt.alloc(), &script, settings.options, &mut source) {
@@ -105,3 +111,6 @@ fn write_out<R: Print + AllocGlobal>(
         Err(_) => Err(ProgramError::CannotWrite),
     }
 }
+
+#[cfg(test)]
+mod tests;

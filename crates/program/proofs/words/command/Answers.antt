@@ -1,5 +1,5 @@
 use Rattle.std.proofs.Common.{rules, ◌≡◌, [], refl, codes, subst, sym, false}
-use Rattle.std.specs.Prelude.{Some, pos, IfOk}
+use Rattle.std.specs.Prelude.{Some, pos}
 use Rattle.std.proofs.lemmas.List.Elements.{All-nil}
 use Rattle.std.proofs.lemmas.Result.{IfOk-weaker}
 use Rattle.std.specs.List.{All}
@@ -7,7 +7,6 @@ use Rattle.clap.specs.Facts.{args_of, groups_of}
 use Rattle.clap.specs.Built.{IsPlain, IsPlainArg}
 use Rattle.clap.specs.declared.builder.command.Command.TheViews.{out-Command}
 use Rattle.clap.specs.declared.builder.value_parser.ValueParser.TheVariants as vp
-use Rattle.program.specs.Options.{HasOptions}
 use Rattle.program.proofs.OptionLemmas.{options_added}
 use Rattle.program.proofs.words.command.Goals as goal
 

@@ -1,4 +1,4 @@
-use Rattle.std.proofs.Common.{rules, ◌≡◌, ◌<◌, ℕ, List, codes, arith, ◌^◌}
+use Rattle.std.proofs.Common.{codes, arith}
 use Rattle.std.specs.Str.Parse.{ParsesUnsigned, ExplainsUnsignedError, HasUnsignedDigitsIfOk}
 use Rattle.program.specs.Options.{HasOptions}
 use Rattle.program.proofs.NumberLemmas.{max_commands_option, number_given, or_default, readers_option}
