@@ -298,7 +298,6 @@ fn faults_of_puts(rt: HostRuntime) -> Result<(), Fail> {
 }
 
 #[test]
-#[ignore]
 fn candidates(rt: HostRuntime) -> Result<(), Fail> {
     let alloc = rt.alloc();
     let cases = [
