@@ -21,12 +21,18 @@ import tempfile
 TOP = pathlib.Path(__file__).resolve().parent.parent
 PROGRAM = TOP / "crates/program/out/program"
 SEARCHES_OF_A_RUN = 1000
+# Some patterns keep grep busy for minutes; those are counted and passed over.
+SECONDS_OF_GREP = 10
 CLASSES = "upper lower alpha digit alnum xdigit punct graph print blank space cntrl".split()
 BYTES = b"aaabbbccAB01 .-]^$_\t\xff"
 # Pieces of which texts are made that need not be patterns.
 PIECES = [b"a", b"b", b"c", b".", b"*", b"+", b"?", b"|", b"(", b")", b"[", b"]", b"^", b"$", b"\\", b"{", b"}"]
 PIECES += [b"-", b",", b"0", b"1", b"2", b"{1}", b"{2,}", b"{,2}", b"{1,2}", b"[a-c]", b"[^a]", b"[[:alpha:]]"]
 PIECES += [b"[:", b":]", b"[.", b".]", b"[=a=]", b"\xff", b" "]
+
+
+class TooSlow(Exception):
+    """grep did not end in its time."""
 
 
 class Patterns:
@@ -119,12 +125,15 @@ def answers(lines, patterns):
 
 def grep(path, pattern):
     """grep's answer: a set of line numbers, or None where it refuses the pattern."""
-    done = subprocess.run(
-        ["grep", "-E", "-a", "-n", "-e", pattern, str(path)],
-        capture_output=True,
-        timeout=60,
-        env=dict(os.environ, LC_ALL="C"),
-    )
+    try:
+        done = subprocess.run(
+            ["grep", "-E", "-a", "-n", "-e", pattern, str(path)],
+            capture_output=True,
+            timeout=SECONDS_OF_GREP,
+            env=dict(os.environ, LC_ALL="C"),
+        )
+    except subprocess.TimeoutExpired:
+        raise TooSlow from None
     if done.returncode > 1:
         return None
     return {int(line.split(b":", 1)[0]) for line in done.stdout.splitlines()}
@@ -166,7 +175,11 @@ def main():
         for start in range(0, len(patterns), SEARCHES_OF_A_RUN):
             part = patterns[start : start + SEARCHES_OF_A_RUN]
             for (pattern, repeated), ours in zip(part, answers(lines, [p[0] for p in part])):
-                theirs = grep(path, pattern)
+                try:
+                    theirs = grep(path, pattern)
+                except TooSlow:
+                    kinds["grep took too long"].append((pattern, ours, None))
+                    continue
                 kind, known = kind_of(pattern, repeated, ours, theirs)
                 unknown += not known
                 kinds[kind].append((pattern, ours, theirs))

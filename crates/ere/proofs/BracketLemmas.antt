@@ -1,12 +1,12 @@
 -- Bracket expressions: each text has at most one at its front.
-use Rattle.std.proofs.Common.{◌≡◌, ◌≢◌, ℕ, suc, ◌+◌, ◌<◌, ◌≤◌, Bool, true, false, not, ◌&&◌, ◌||◌, ◌==◌, cond, IsTrue, IsFalse, List, [], ◌∷◌, ◌++◌, length, get_or, drop, Option, Some, None, refl, sym, ap, ◌∙◌, subst, arith, codes, inl, inr, ◌⊎◌}
+use Rattle.std.proofs.Common.{◌≡◌, ◌≢◌, ℕ, ◌≤◌, Bool, true, false, ◌&&◌, ◌||◌, ◌==◌, cond, IsTrue, IsFalse, List, [], ◌∷◌, ◌++◌, get_or, Option, Some, refl, sym, ap, ◌∙◌, subst, arith, codes, inl, inr, ◌⊎◌}
 use Rattle.std.specs.List.{AllByRecursion}
 use Rattle.std.specs.Str.{bytes_eq}
 use Rattle.std.proofs.lemmas.Slice.Eq.{bytes_eq-Decides}
 use Rattle.std.proofs.lemmas.Bool.Decides.{nat_tests}
-use Rattle.ere.specs.ByteSet.{set_of, has, single, bytes_between, union, complement, is_line_byte}
+use Rattle.ere.specs.ByteSet.{has, single, bytes_between, union, complement, is_line_byte}
 use Rattle.ere.specs.Classes.{class_named}
-use Rattle.ere.specs.Brackets.{begins_with, range_ahead, opens_symbol, StandsForItself, IsCollatingSymbol, IsEquivalenceClass, IsCharacterClass, IsRangeStart, IsRangeEnd, SpellsItem, SpellsItems, SpellsBracket}
+use Rattle.ere.specs.Brackets.{begins_with, range_ahead, opens_symbol, IsEquivalenceClass, IsCharacterClass, IsRangeStart, IsRangeEnd, SpellsItem, SpellsItems, SpellsBracket}
 use Rattle.ere.specs.Brackets.{IsRangeStart as range_start}
 use Rattle.ere.specs.Brackets.{IsRangeEnd as range_end}
 use Rattle.ere.specs.Brackets.{SpellsItem as item}
@@ -14,7 +14,7 @@ use Rattle.ere.specs.Brackets.{SpellsItems as items}
 use Rattle.ere.specs.Brackets.{SpellsBracket as brackets}
 use Rattle.ere.specs.Reading.{opens_with, IsByteOrSymbol}
 use Rattle.ere.specs.Reading.{IsByteOrSymbol as byte_or_symbol}
-use Rattle.ere.proofs.Texts.{first_is, first_begins}
+use Rattle.ere.proofs.Texts.{first_begins}
 use Rattle.ere.proofs.SetLemmas.{has-set_of, set_of-ext}
 
 -- neither a class nor an equivalence class begins here

@@ -1,16 +1,16 @@
 -- What the steps of the reader of bracket expressions find at an offset of a text.
-use Rattle.std.proofs.Common.{◌≡◌, ◌≢◌, ℕ, zero, suc, ◌+◌, ◌-◌, ◌<◌, ◌≤◌, Bool, true, false, not, ◌&&◌, ◌||◌, ◌==◌, IsTrue, IsFalse, List, [], ◌∷◌, ◌++◌, length, get_or, take, drop, Option, Some, None, Result, Ok, Err, IfErr, IfOk, refl, sym, ap, ◌∙◌, subst, arith, inl, inr, ◌⊎◌}
+use Rattle.std.proofs.Common.{◌≡◌, ◌≢◌, ℕ, zero, suc, ◌+◌, ◌-◌, ◌<◌, ◌≤◌, Bool, true, false, not, ◌&&◌, ◌||◌, ◌==◌, IsTrue, IsFalse, List, [], ◌∷◌, ◌++◌, length, get_or, take, drop, Some, None, Result, Ok, Err, IfErr, IfOk, refl, sym, ap, ◌∙◌, subst, arith, inl, inr, ◌⊎◌}
 use Rattle.std.proofs.lemmas.List.{take-append-drop, drop-drop, drop_all, take_at}
 use Rattle.std.proofs.lemmas.Bool.Decides.{nat_tests}
-use native.Mathlib.Decide.{dec_lt, ℕ_discrete}
-use Rattle.ere.specs.ByteSet.{single, bytes_between, union, complement}
+use native.Mathlib.Decide.{dec_lt}
+use Rattle.ere.specs.ByteSet.{single, bytes_between}
 use Rattle.ere.specs.Classes.{class_named}
-use Rattle.ere.specs.Brackets.{begins_with, range_ahead, opens_symbol, StandsForItself, IsCharacterClass, IsRangeStart, IsRangeEnd, SpellsItem, SpellsItems, SpellsBracket}
+use Rattle.ere.specs.Brackets.{begins_with, range_ahead, IsCharacterClass, IsRangeEnd, SpellsItem, SpellsItems, SpellsBracket}
 use Rattle.ere.specs.Brackets.{IsRangeStart as range_start, IsRangeEnd as range_end, SpellsItem as item, SpellsItems as items, SpellsBracket as brackets}
 use Rattle.ere.specs.Reading.{opens_with, IsSymbol, IsSymbolEnd, IsByteOrSymbol}
 use Rattle.ere.specs.Reading.{IsByteOrSymbol as byte_or_symbol}
 use Rattle.ere.proofs.Texts.{front, Stands, Stands-read, Stands-begins, read_at, first_begins, eqb_is}
-use Rattle.ere.proofs.BracketLemmas.{head_of, ItemView, ItemView as view, item_view, IsPlain, NoColon, no_colon, range_end_is, one_byte_or_symbol, mark_clash, items_left, no_item, ends_plain, plain_opens}
+use Rattle.ere.proofs.BracketLemmas.{head_of, ItemView, ItemView as view, item_view, IsPlain, NoColon, no_colon, one_byte_or_symbol, mark_clash, items_left, ends_plain, plain_opens}
 
 -- what holds whatever the error is
 pub if_err : {T E : Type 0} (r : Result T E) (P : Type 0) → P → IfErr r (λ _. P)

@@ -1,6 +1,5 @@
 -- The grammar: tokens spell at most one tree, however many groups may be open.
-use Rattle.std.proofs.Common.{◌≡◌, ℕ, zero, suc, ◌<◌, List, [], ◌∷◌, Option, Bool, refl, sym, ap, ◌∙◌, subst}
-use Rattle.ere.specs.ByteSet.{single}
+use Rattle.std.proofs.Common.{◌≡◌, ℕ, zero, suc, List, [], ◌∷◌, Option, refl, sym, ap, ◌∙◌, subst}
 use Rattle.ere.specs.Tree.{Tree, Trees, none, more, repeat}
 use Rattle.ere.specs.Tokens.{Token}
 use Rattle.ere.specs.Tokens as token

@@ -1,7 +1,7 @@
 -- Trees and members as they are kept.
-use Rattle.std.proofs.Common.{◌≡◌, ◌≢◌, ℕ, suc, ◌+◌, ◌<◌, ◌≤◌, max, List, [], ◌∷◌, ◌++◌, length, map, Option, Some, None, refl, sym, ap, ◌∙◌, subst, arith}
+use Rattle.std.proofs.Common.{◌≡◌, ◌≢◌, ℕ, ◌+◌, ◌<◌, max, List, [], ◌∷◌, ◌++◌, length, Option, refl, sym, ap, ◌∙◌, arith}
 use Rattle.ere.specs.declared.tree.Ere.{Ere}
-use Rattle.ere.specs.Tree.{Tree, Trees, none, more, empty, cat, alt, repeat, trees_of, form}
+use Rattle.ere.specs.Tree.{Tree, Trees, none, more, empty, cat, alt, repeat, form}
 use Rattle.ere.specs.Limits.{height, highest, greatest_height}
 use Rattle.ere.specs.Spelling.{branch_of, alternatives_of}
 use Rattle.ere.specs.Reading.{join}

@@ -1,5 +1,5 @@
 -- The steps of the reader of patterns: what is read together spells so, and what fails is spelled by nothing.
-use Rattle.std.proofs.Common.{◌≡◌, ◌≢◌, ℕ, zero, suc, ◌+◌, ◌<◌, ◌≤◌, Bool, true, false, ◌&&◌, ◌||◌, ◌==◌, nat_lt, cond, IsTrue, IsFalse, List, [], ◌∷◌, length, get_or, drop, Option, Some, None, refl, sym, ap, ◌∙◌, subst, arith, inl, inr, ◌⊎◌}
+use Rattle.std.proofs.Common.{◌≡◌, ◌≢◌, ℕ, zero, suc, ◌<◌, Bool, true, false, ◌&&◌, ◌||◌, ◌==◌, nat_lt, cond, IsTrue, IsFalse, List, [], ◌∷◌, Option, Some, refl, sym, ap, ◌∙◌, subst, arith, inl, inr, ◌⊎◌}
 use Rattle.std.proofs.lemmas.Bool.Decides.{nat_tests}
 use native.Mathlib.Decide.{ℕ_discrete}
 use Rattle.ere.specs.ByteSet.{single}
@@ -10,16 +10,16 @@ use Rattle.ere.specs.Tokens.{Token, Tokens, SpellsToken, token_of_byte, digit_ah
 use Rattle.ere.specs.Tokens as token
 use Rattle.ere.specs.Tokens.{Tokens as tokens, SpellsToken as spelled}
 use Rattle.ere.specs.Spelling.{SpellsDuplications, SpellsAtom, SpellsPiece, SpellsBranch, SpellsAlternatives, branch_of, alternatives_of}
-use Rattle.ere.specs.Spelling.{SpellsDuplications as duplications, SpellsAtom as atoms, SpellsPiece as pieces_are, SpellsBranch as branches_are, SpellsAlternatives as alternatives_are}
+use Rattle.ere.specs.Spelling.{SpellsAtom as atoms, SpellsPiece as pieces_are, SpellsBranch as branches_are, SpellsAlternatives as alternatives_are}
 use Rattle.std.specs.Result.{IsErrAnd, OnErr}
 use Rattle.std.specs.Prelude.{Result, Ok, Err, IfErr, IfOk}
 use Rattle.ere.specs.declared.parts.Part.{Part}
 use Rattle.ere.specs.declared.parts.Members.{Members}
 use Rattle.ere.specs.Reading.{Ends, EndsBranch, NoTimes, NoDuplication, ends_branch, join, Reads, IsBuilt, AreBuilt, ReadsDuplications, ReadsAtom, ReadsPiece, ReadsBranch, ReadsAlternatives, HasNoTokens, NoAtom, NoPiece, NoBranch, NoAlternatives}
-use Rattle.ere.proofs.Texts.{eqb_is, first_begins}
+use Rattle.ere.proofs.Texts.{eqb_is}
 use Rattle.ere.proofs.BracketSteps.{eqb_differs}
 use Rattle.ere.proofs.TokenLemmas.{one_token, no_token}
-use Rattle.ere.proofs.GrammarLemmas.{piece_no_end, piece_begins, branch_begins, one_alternatives, one_branch, duplications_push, branch_push, alternatives_push, alternatives_left, alternatives_begin, branch_left, ends_branch_of, ends_no_times}
+use Rattle.ere.proofs.GrammarLemmas.{piece_begins, branch_begins, one_alternatives, duplications_push, branch_push, alternatives_push, alternatives_left, alternatives_begin, branch_left, ends_no_times}
 
 pub no_tokens : (ts : List Token) → Tokens [] ts → ts ≡ []
 no_tokens [] a = refl

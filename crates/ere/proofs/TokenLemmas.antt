@@ -1,18 +1,13 @@
 -- Tokens: each text has at most one at its front, and a text is made of tokens in one way at most.
-use Rattle.std.proofs.Common.{◌≡◌, ◌≢◌, ℕ, zero, suc, ◌+◌, ◌-◌, ◌*◌, ◌<◌, ◌≤◌, min, Bool, true, false, not, ◌&&◌, ◌||◌, ◌==◌, cond, IsTrue, IsFalse, List, [], ◌∷◌, ◌++◌, length, get_or, take, drop, Option, Some, None, refl, sym, ap, ◌∙◌, subst, arith, append_assoc, length-append, inl, inr, ◌⊎◌}
-use Rattle.std.specs.Prelude.{fold}
+use Rattle.std.proofs.Common.{◌≡◌, ℕ, ◌≤◌, true, IsTrue, IsFalse, List, [], ◌∷◌, ◌++◌, length, drop, Option, Some, None, refl, sym, ap, ◌∙◌, subst, arith}
 use Rattle.std.specs.List.{AllPass, AllByRecursion}
-use Rattle.std.proofs.lemmas.List.Elements.{recursion_from_All, All-push, All-nil}
-use Rattle.std.proofs.lemmas.List.Sums.{fold-append}
-use Rattle.std.proofs.lemmas.Bool.Decides.{nat_tests}
-use Rattle.ere.specs.ByteSet.{single, all_line_bytes}
+use Rattle.std.proofs.lemmas.List.Elements.{recursion_from_All}
+use Rattle.ere.specs.ByteSet.{single}
 use Rattle.ere.specs.Classes.{is_digit}
-use Rattle.ere.specs.Brackets.{begins_with, SpellsBracket}
-use Rattle.ere.specs.Tokens.{Token, set, opens, closes, bar, at_start, at_end, times, Tokens, SpellsToken, SpellsInterval, SpellsCount, digit_ahead, decimal_value, token_of_byte, is_escapable, greatest_count}
+use Rattle.ere.specs.Brackets.{SpellsBracket}
+use Rattle.ere.specs.Tokens.{Token, set, times, Tokens, SpellsToken, SpellsInterval, SpellsCount, digit_ahead, token_of_byte}
 use Rattle.ere.specs.Tokens.{SpellsToken as spelled, SpellsInterval as interval, Tokens as tokens}
-use Rattle.ere.specs.Reading.{begins_longer, NoDuplication, ReadsCount}
 use Rattle.ere.proofs.BracketLemmas.{head_of, one_bracket}
-use Rattle.ere.proofs.Texts.{eqb_is, first_begins}
 
 abbrev pub AllDigits : List ℕ → Type 0
 AllDigits digits = AllByRecursion (λ b. is_digit b ≡ true) digits

@@ -1,22 +1,20 @@
 -- What the steps of the reader of tokens find at an offset of a text.
-use Rattle.std.proofs.Common.{◌≡◌, ◌≢◌, ℕ, zero, suc, ◌+◌, ◌-◌, ◌*◌, ◌<◌, ◌≤◌, min, Bool, true, false, not, ◌&&◌, ◌||◌, ◌==◌, cond, IsTrue, IsFalse, List, [], ◌∷◌, ◌++◌, length, get_or, take, drop, Option, Some, None, IfSome, IfNone, MatchOption, refl, sym, ap, ◌∙◌, subst, arith, append_assoc, length-append, inl, inr, ◌⊎◌}
-use Rattle.std.specs.Prelude.{fold}
+use Rattle.std.proofs.Common.{◌≡◌, ◌≢◌, ℕ, ◌+◌, ◌-◌, ◌*◌, ◌<◌, ◌≤◌, min, Bool, true, false, ◌&&◌, ◌||◌, ◌==◌, cond, IsTrue, IsFalse, List, [], ◌∷◌, ◌++◌, length, get_or, drop, Option, Some, None, MatchOption, refl, sym, ap, ◌∙◌, subst, arith, append_assoc, length-append, inl, inr, ◌⊎◌}
 use Rattle.std.specs.List.{AllPass, list_any}
 use Rattle.std.proofs.lemmas.List.Elements.{All-push, All-nil}
 use Rattle.std.proofs.lemmas.List.Sums.{fold-append}
 use Rattle.std.proofs.lemmas.List.{drop_all}
 use native.Mathlib.Decide.{dec_lt}
-use Rattle.std.proofs.lemmas.Bool.Decides.{nat_tests}
-use Rattle.ere.specs.ByteSet.{single, all_line_bytes}
+use Rattle.ere.specs.ByteSet.{single}
 use Rattle.ere.specs.Classes.{is_digit}
 use Rattle.ere.specs.Brackets.{begins_with, SpellsBracket}
-use Rattle.ere.specs.Tokens.{Token, set, opens, closes, bar, at_start, at_end, times, SpellsToken, SpellsInterval, SpellsCount, digit_ahead, decimal_value, token_of_byte, is_escapable, greatest_count}
+use Rattle.ere.specs.Tokens.{Token, set, times, SpellsToken, SpellsInterval, SpellsCount, digit_ahead, decimal_value, token_of_byte, is_escapable}
 use Rattle.ere.specs.Tokens.{SpellsToken as spelled, SpellsInterval as interval}
 use Rattle.ere.specs.Reading.{begins_longer, NoDuplication, ReadsCount}
 use Rattle.ere.proofs.BracketLemmas.{head_of}
 use Rattle.ere.proofs.BracketSteps.{eqb_differs}
-use Rattle.ere.proofs.Texts.{eqb_is, first_begins, front, Stands, Stands-begins}
-use Rattle.ere.proofs.TokenLemmas.{tail_of, at_byte, no_bracket_byte, no_escape_byte, no_brace_byte, no_token, one_token, IntervalView, IntervalView as view, interval_view, one_run, all_digits, one_count, no_empty_count}
+use Rattle.ere.proofs.Texts.{first_begins, front}
+use Rattle.ere.proofs.TokenLemmas.{tail_of, at_byte, no_bracket_byte, no_escape_byte, no_brace_byte, no_token, one_token, IntervalView, IntervalView as view, interval_view, one_run, all_digits, one_count}
 
 -- No token stands at the front.
 abbrev pub NoToken : List ℕ → Type 0

@@ -1,22 +1,19 @@
 -- A text spells at most one tree, and no repeat in it has a least count above its greatest.
-use Rattle.std.proofs.Common.{◌≡◌, ◌≢◌, ℕ, zero, suc, ◌+◌, ◌<◌, ◌≤◌, Bool, true, false, ◌&&◌, ◌||◌, ◌==◌, cond, IsTrue, IsFalse, List, [], ◌∷◌, length, drop, Option, Some, None, IfSome, refl, sym, ap, ◌∙◌, subst, arith, inl, inr, ◌⊎◌}
-use Rattle.std.proofs.lemmas.Bool.Decides.{nat_tests}
+use Rattle.std.proofs.Common.{◌≡◌, ◌≢◌, ℕ, zero, ◌<◌, ◌≤◌, Bool, true, false, ◌&&◌, ◌||◌, ◌==◌, cond, IsTrue, IsFalse, List, [], ◌∷◌, length, Option, Some, None, IfSome, refl, sym, ap, ◌∙◌, subst, arith, inl, inr, ◌⊎◌}
 use Rattle.std.specs.List.{AllByRecursion}
-use Rattle.std.proofs.lemmas.List.Elements.{All-from_recursion, recursion_from_All}
 use Rattle.ere.specs.declared.parts.Part.{Part}
-use Rattle.ere.specs.ByteSet.{single, all_line_bytes, is_line_byte}
+use Rattle.ere.specs.ByteSet.{single}
 use Rattle.ere.specs.Brackets.{begins_with}
-use Rattle.ere.specs.Tree.{Tree, Trees, none, more, empty, cat, alt, set, repeat, at_start, at_end, form}
+use Rattle.ere.specs.Tree.{Tree, Trees, none, more, set, repeat, at_start, at_end, form}
 use Rattle.ere.specs.Limits.{IsProper, AreProper, HasTwo, IsTreeOf, IsWithinLimits, HasNoTree, height, leaves, greatest_height, greatest_leaves, greatest_open, greatest_pattern}
 use Rattle.ere.specs.Tokens.{Token, Tokens, SpellsToken, token_of_byte, digit_ahead}
 use Rattle.ere.specs.Tokens as token
 use Rattle.ere.specs.Tokens.{Tokens as tokens, SpellsToken as spelled, SpellsInterval as interval, SpellsInterval}
 use Rattle.ere.specs.Spelling.{Spells, SpellsDuplications, SpellsAtom, SpellsPiece, SpellsBranch, SpellsAlternatives, branch_of, alternatives_of}
 use Rattle.ere.specs.Spelling.{SpellsDuplications as duplications, SpellsAtom as atoms, SpellsPiece as pieces_are, SpellsBranch as branches_are, SpellsAlternatives as alternatives_are}
-use Rattle.ere.specs.Reading.{IsBuilt, ReadsAlternatives, NoAlternatives, ends_branch}
+use Rattle.ere.specs.Reading.{ReadsAlternatives, NoAlternatives, ends_branch}
 use Rattle.ere.proofs.TokenLemmas.{one_tokens}
 use Rattle.ere.proofs.GrammarLemmas.{one_alternatives}
-use Rattle.ere.proofs.ReaderSteps.{no_tokens}
 
 pub one_tree : (limit other : ℕ) (text : List ℕ) (s t : Tree) → Spells limit text s → Spells other text t → s ≡ t
 one_tree limit other text s t a b =

@@ -30,6 +30,7 @@ pub struct FirstLine<'a> {
     pub rest: Option<&'a [u8]>,
 }
 
+/// The first line, without its line feed, and what follows that.
 pub fn first_line(text: &[u8]) -> FirstLine<'_>
     ensures { FirstLineOf text.now result.line.now (option_map (λ rest. rest.now) result.rest) }
 {

@@ -24,6 +24,8 @@ impl Session {
     ghost use Rattle.tsearch.specs.Shelf.{empty_shelf};
     ghost use Rattle.tsearch.specs.Steps.{TakesItem};
 
+    /// A run before its first item, which accepts at most this many commands, up to 1,000,000. It takes no
+    /// memory.
     pub fn new(alloc: Global, most: u32) -> Session
         requires { most ≤ 1000000 }
         ensures store { result.store ≡ empty_shelf most }

@@ -1,7 +1,7 @@
-use Rattle.std.proofs.Common.{◌≡◌, ◌+◌, arith, sym, drop}
+use Rattle.std.proofs.Common.{◌+◌, sym}
 use Rattle.ere.specs.Brackets.{SpellsBracket as brackets}
 use Rattle.ere.proofs.Texts.{Stands-begins}
-use Rattle.ere.proofs.BracketSteps.{if_err, if_ok_map, if_err_map, hat_fails, no_hat_fails}
+use Rattle.ere.proofs.BracketSteps.{if_err, hat_fails}
 use Rattle.ere.proofs.brackets.bracket_at.Goals as goal
 
 pub returns-in_err-items-clause-err : goal.returns-in_err-items-clause-err

@@ -1,4 +1,4 @@
-use Rattle.std.proofs.Common.{◌≡◌, ◌+◌, ◌≤◌, arith, sym, ◌∙◌, length, drop}
+use Rattle.std.proofs.Common.{◌+◌, ◌≤◌, arith, sym, ◌∙◌, length, drop}
 use Rattle.std.proofs.lemmas.Bool.Decides.{nat_tests}
 use Rattle.ere.proofs.BracketSteps.{ahead_last, ahead_no_dash}
 use Rattle.ere.proofs.brackets.is_range_ahead.Goals as goal

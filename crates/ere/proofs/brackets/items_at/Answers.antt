@@ -1,4 +1,4 @@
-use Rattle.std.proofs.Common.{◌≡◌, ◌+◌, ◌∷◌, true, List, ℕ, arith, sym, subst, drop, ap, ◌∙◌}
+use Rattle.std.proofs.Common.{true, arith, sym, subst, drop}
 use Rattle.ere.specs.Brackets.{SpellsItems}
 use Rattle.ere.specs.Brackets.{SpellsItems as items}
 use Rattle.ere.proofs.Texts.{Stands-begins}

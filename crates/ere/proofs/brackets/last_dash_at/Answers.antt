@@ -1,4 +1,4 @@
-use Rattle.std.proofs.Common.{◌≡◌, sym, ◌∙◌, subst, drop, false}
+use Rattle.std.proofs.Common.{sym, subst, false}
 use Rattle.ere.specs.Brackets.{SpellsItem}
 use Rattle.ere.proofs.Texts.{Stands-begins}
 use Rattle.ere.proofs.BracketSteps.{last_dash, no_dash}

@@ -1,4 +1,4 @@
-use Rattle.std.proofs.Common.{◌≡◌, ◌+◌, arith, drop}
+use Rattle.std.proofs.Common.{◌+◌, arith, drop}
 use Rattle.ere.proofs.BracketLemmas.{range_end_is}
 use Rattle.ere.proofs.BracketSteps.{IsAhead-range_ahead, if_err, end_found, plain_from, open_end_begins}
 use Rattle.ere.proofs.brackets.range_at.Goals as goal

@@ -1,7 +1,7 @@
-use Rattle.std.proofs.Common.{◌≡◌, ℕ, List, [], ◌∷◌, ◌++◌, Bool, IsTrue, refl, sym, ap, ◌∙◌, subst}
+use Rattle.std.proofs.Common.{◌≡◌, ℕ, List, [], ◌∷◌, ◌++◌, Bool, IsTrue, refl, sym, ap, ◌∙◌}
 use Rattle.ere.specs.ByteSet.{has}
 use Rattle.ere.specs.Language.{Hit, InLanguage, InEach}
-use Rattle.ere.specs.Tree.{Tree, at_start, at_end, cat, set, more, none}
+use Rattle.ere.specs.Tree.{at_start, at_end, cat, set, more, none}
 use Rattle.ere.proofs.laws.anchored_set.Goals as goal
 
 one_byte : (line before word after f1 b1 f2 b2 f3 b3 : List ℕ) (b : ℕ) → line ≡ before ++ (word ++ after) → before ≡ [] → word ≡ f1 ++ b1 → f1 ≡ [] → b1 ≡ f2 ++ b2 → f2 ≡ b ∷ [] → b2 ≡ f3 ++ b3 → f3 ≡ [] → b3 ≡ [] → b3 ++ after ≡ [] → line ≡ b ∷ []

@@ -1,4 +1,4 @@
-use Rattle.std.proofs.Common.{◌≡◌, ◌≤◌, ℕ, zero, suc, List, [], ◌∷◌, ◌++◌, None, ◌⊎◌, inl, inr, arith}
+use Rattle.std.proofs.Common.{◌≡◌, ℕ, zero, suc, List, [], ◌++◌, None, ◌⊎◌, inl, inr, arith}
 use Rattle.ere.specs.Language.{InLanguage, InCopies}
 use Rattle.ere.specs.Tree.{Tree, repeat}
 use Rattle.ere.proofs.laws.star_unrolls.Goals as goal

@@ -1,10 +1,10 @@
-use Rattle.std.proofs.Common.{◌≡◌, ◌<◌, ap, arith, sym, ◌∙◌, subst, None, Some, length}
-use Rattle.ere.specs.Forms.{form-Empty, form-Alt}
-use Rattle.ere.specs.Tree.{form, empty, alt, more, none}
+use Rattle.std.proofs.Common.{ap, arith, sym, ◌∙◌, subst, Some}
+use Rattle.ere.specs.Forms.{form-Alt}
+use Rattle.ere.specs.Tree.{alt}
 use Rattle.ere.specs.Limits.{height}
 use Rattle.ere.specs.Spelling.{alternatives_of}
 use Rattle.ere.specs.Reading.{AreBuilt, IsBuilt}
-use Rattle.ere.proofs.PartLemmas.{branch_none, just_one, alternatives_alt, high_alternatives, height_empty, height_alt}
+use Rattle.ere.proofs.PartLemmas.{just_one, alternatives_alt, high_alternatives, height_alt}
 use Rattle.ere.proofs.parts.alternatives_of.Goals as goal
 
 pub returns-in_default : goal.returns-in_default

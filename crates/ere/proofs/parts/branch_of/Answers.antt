@@ -1,6 +1,6 @@
-use Rattle.std.proofs.Common.{◌≡◌, ◌<◌, ap, arith, sym, ◌∙◌, subst, None, Some, length}
+use Rattle.std.proofs.Common.{ap, arith, sym, ◌∙◌, subst, Some}
 use Rattle.ere.specs.Forms.{form-Empty, form-Cat}
-use Rattle.ere.specs.Tree.{form, empty, cat, more, none}
+use Rattle.ere.specs.Tree.{cat}
 use Rattle.ere.specs.Limits.{height}
 use Rattle.ere.specs.Spelling.{branch_of}
 use Rattle.ere.specs.Reading.{AreBuilt, IsBuilt}

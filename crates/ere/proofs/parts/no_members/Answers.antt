@@ -1,4 +1,4 @@
-use Rattle.std.proofs.Common.{ap, map, arith, refl}
+use Rattle.std.proofs.Common.{ap, map, arith}
 use Rattle.ere.specs.Tree.{trees_of, form}
 use Rattle.ere.proofs.PartLemmas.{highest_none}
 use Rattle.ere.proofs.parts.no_members.Goals as goal

@@ -1,6 +1,6 @@
-use Rattle.std.proofs.Common.{◌≡◌, ap, map, arith, refl, sym, ◌∙◌, List, [], ◌∷◌, ◌++◌, length}
+use Rattle.std.proofs.Common.{◌≡◌, ap, sym, ◌∙◌, List, [], ◌∷◌, ◌++◌}
 use Rattle.ere.specs.declared.tree.Ere.{Ere}
-use Rattle.ere.specs.Tree.{Tree, none, more, trees_of, form}
+use Rattle.ere.specs.Tree.{Tree, none, more, form}
 use Rattle.ere.proofs.Sizes.{forms}
 use Rattle.ere.proofs.PartLemmas.{highest_one}
 use Rattle.ere.proofs.parts.only.Goals as goal

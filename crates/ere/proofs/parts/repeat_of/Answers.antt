@@ -1,4 +1,4 @@
-use Rattle.std.proofs.Common.{◌≡◌, ◌<◌, ap, arith, sym, ◌∙◌, subst, None, Some}
+use Rattle.std.proofs.Common.{ap, arith, ◌∙◌, subst}
 use Rattle.ere.specs.Forms.{form-Repeat}
 use Rattle.ere.specs.Tree.{form, repeat}
 use Rattle.ere.specs.Reading.{IsBuilt}

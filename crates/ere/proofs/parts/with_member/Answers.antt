@@ -1,5 +1,5 @@
-use Rattle.std.proofs.Common.{◌≡◌, ◌<◌, max, ap, map, arith, sym, ◌∙◌, subst, None, Some}
-use Rattle.ere.specs.Tree.{none, more, trees_of, form}
+use Rattle.std.proofs.Common.{ap, arith, ◌∙◌, subst}
+use Rattle.ere.specs.Tree.{none, more, form}
 use Rattle.ere.specs.Reading.{join, AreBuilt, IsBuilt}
 use Rattle.ere.proofs.Sizes.{forms}
 use Rattle.ere.proofs.PartLemmas.{join-forms, highest-join}

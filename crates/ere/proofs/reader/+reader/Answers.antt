@@ -1,4 +1,4 @@
-use Rattle.std.proofs.Common.{◌≡◌, ◌+◌, ◌≤◌, suc, ◌∷◌, [], add-one, arith, sym, subst, ap, drop, length, ◌∙◌, refl, Some}
+use Rattle.std.proofs.Common.{suc, add-one, arith, sym, subst, ap, drop, ◌∙◌, Some}
 use Rattle.std.proofs.lemmas.List.{drop_all}
 use Rattle.ere.specs.Spelling.{SpellsPiece as pieces_are, SpellsAtom as atoms}
 use Rattle.ere.specs.ByteSet.{single}
@@ -9,7 +9,7 @@ use Rattle.ere.specs.Forms.{form-Start, form-End, form-Set}
 use Rattle.ere.specs.Reading.{meaning, ReadsAlternatives, NoAlternatives, NoDuplication}
 use Rattle.ere.proofs.Texts.{front, Stands-begins}
 use Rattle.ere.proofs.BracketSteps.{if_err_but, if_err_map, if_ok_map}
-use Rattle.ere.proofs.ReaderSteps.{alternatives_done, alternatives_start, alternatives_step, branch_end, branch_fails, branch_start, branch_step, closing, first_branch_fails, full_fails, group_reads, inner_fails, next_branch_fails, pass_on, unclosed_fails, group_fails, start_fails, end_fails, times_fail, tokenless, lexing_fails, back_fails, leaf_atom, leaf_piece, piece_of_atom, Reads-token, lone_close_atom, no_bar_begins, on_err_map, if_ok_both, height_set, height_start, height_end}
+use Rattle.ere.proofs.ReaderSteps.{alternatives_start, alternatives_step, branch_fails, branch_start, branch_step, closing, full_fails, group_reads, inner_fails, next_branch_fails, pass_on, unclosed_fails, group_fails, start_fails, end_fails, times_fail, tokenless, lexing_fails, back_fails, leaf_atom, leaf_piece, piece_of_atom, Reads-token, lone_close_atom, no_bar_begins, on_err_map, if_ok_both, height_set, height_start, height_end}
 use Rattle.ere.proofs.reader.+reader.Goals as goal
 
 pub alternatives-loop-alloc-init : goal.alternatives-loop-alloc-init

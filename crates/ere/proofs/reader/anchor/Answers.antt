@@ -1,4 +1,4 @@
-use Rattle.std.proofs.Common.{◌≡◌, subst, drop, IfSome}
+use Rattle.std.proofs.Common.{subst, drop, IfSome}
 use Rattle.ere.specs.Tokens.{SpellsToken, times}
 use Rattle.ere.proofs.Texts.{front}
 use Rattle.ere.proofs.ReaderSteps.{lexing_fails, on_err, times_first}

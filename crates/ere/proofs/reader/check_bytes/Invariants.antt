@@ -1,5 +1,4 @@
-use Rattle.std.proofs.Common.{◌≢◌, ℕ, ◌<◌, ◌≤◌, get_or, length}
-use Rattle.ere.specs.Limits.{greatest_pattern}
+use Rattle.std.proofs.Common.{◌≢◌, ℕ, ◌<◌, get_or}
 use Rattle.ere.proofs.reader.check_bytes.Given as goal
 
 abbrev pub invariant-loop-i : goal.invariant-loop-i

@@ -1,4 +1,4 @@
-use Rattle.std.proofs.Common.{◌<◌, ◌≤◌, arith, refl, subst, drop, length, IfSome}
+use Rattle.std.proofs.Common.{◌<◌, ◌≤◌, arith, subst, drop, length, IfSome}
 use Rattle.ere.specs.Tokens.{SpellsToken, times}
 use Rattle.ere.specs.Tree.{repeat}
 use Rattle.ere.specs.Spelling.{SpellsDuplications as duplications}

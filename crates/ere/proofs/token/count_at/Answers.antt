@@ -1,7 +1,6 @@
-use Rattle.std.proofs.Common.{◌≡◌, ◌+◌, ◌-◌, ◌*◌, min, arith, sym, subst, ap, drop, ◌∙◌, get_or, length, ◌<◌, ◌∷◌}
-use Rattle.ere.specs.Tokens.{digit_ahead}
+use Rattle.std.proofs.Common.{◌+◌, ◌-◌, ◌*◌, min, arith, sym, subst, ap, drop, ◌∙◌, get_or}
 use Rattle.ere.proofs.Texts.{front}
-use Rattle.ere.proofs.TokenSteps.{CountedTo, counted_more, counted_none, counted_all, counted_no, digit_inside}
+use Rattle.ere.proofs.TokenSteps.{CountedTo, counted_more, digit_inside}
 use Rattle.ere.proofs.token.count_at.Goals as goal
 
 pub loop-value-preserved : goal.loop-value-preserved

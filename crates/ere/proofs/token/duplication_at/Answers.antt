@@ -1,4 +1,4 @@
-use Rattle.std.proofs.Common.{◌≡◌, ℕ, Option, sym, subst, refl, drop}
+use Rattle.std.proofs.Common.{◌≡◌, ℕ, Option, subst, refl, drop}
 use Rattle.ere.specs.Tokens.{SpellsToken, times}
 use Rattle.ere.specs.Reading.{meaning}
 use Rattle.ere.specs.declared.token.Token.{Token}

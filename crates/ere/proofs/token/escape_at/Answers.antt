@@ -1,6 +1,5 @@
-use Rattle.std.proofs.Common.{◌≡◌, ◌+◌, ◌∷◌, arith, drop, sym, ◌∙◌, ap, subst, IsTrue, get_or, true, false, []}
+use Rattle.std.proofs.Common.{◌≡◌, ◌+◌, ◌∷◌, arith, sym, ◌∙◌, ap, IsTrue, get_or, true, false, []}
 use Rattle.std.proofs.lemmas.List.{drop_all}
-use Rattle.ere.specs.ByteSet.{single}
 use Rattle.ere.specs.Tokens.{is_escapable, set}
 use Rattle.ere.specs.Tokens.{SpellsToken as spelled}
 use Rattle.ere.proofs.Texts.{Stands-begins, front}

@@ -1,4 +1,4 @@
-use Rattle.std.proofs.Common.{◌≡◌, ◌+◌, ◌∷◌, arith, sym, subst, ap, drop, ◌∙◌, Option, Some, None, ℕ}
+use Rattle.std.proofs.Common.{◌+◌, ◌∷◌, arith, sym, subst, ap, drop, ◌∙◌, Some, None}
 use Rattle.ere.specs.Reading.{ReadsCount}
 use Rattle.ere.proofs.Texts.{Stands-begins}
 use Rattle.ere.proofs.TokenLemmas.{one_count}

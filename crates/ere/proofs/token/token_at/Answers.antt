@@ -1,7 +1,5 @@
-use Rattle.std.proofs.Common.{◌≡◌, ◌+◌, ◌∷◌, arith, sym, subst, ap, drop, ◌∙◌, refl, IsFalse, false, ◌==◌, ◌||◌, ◌&&◌, get_or, inl, inr}
-use Rattle.ere.specs.Tokens.{digit_ahead}
+use Rattle.std.proofs.Common.{◌+◌, sym, drop, refl, get_or, inl, inr}
 use Rattle.ere.specs.Tokens.{SpellsToken as spelled}
-use Rattle.ere.specs.Reading.{begins_longer}
 use Rattle.ere.proofs.Texts.{front, Stands-read}
 use Rattle.ere.proofs.BracketSteps.{if_err}
 use Rattle.ere.proofs.TokenSteps.{bracket_fails, interval_fails, short_byte}

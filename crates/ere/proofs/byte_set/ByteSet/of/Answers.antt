@@ -1,5 +1,5 @@
-use Rattle.std.proofs.Common.{◌≡◌, ℕ, arith, Bool, true, false, ◌&&◌, refl, ◌∙◌, ap, length-set}
-use Rattle.ere.specs.ByteSet.{is_line_byte, set_of}
+use Rattle.std.proofs.Common.{◌≡◌, arith, Bool, false, ◌&&◌, ◌∙◌, length-set}
+use Rattle.ere.specs.ByteSet.{is_line_byte}
 use Rattle.ere.proofs.SetLemmas.{set_of_all, set_more, IsByteSet-lines, and_at_true, and_at_false}
 use Rattle.ere.proofs.byte_set.ByteSet.of.Goals as goal
 use Rattle.ere.proofs.byte_set.ByteSet.of.Goals.{then-is_line_byte, else-is_line_byte}
