@@ -13,8 +13,6 @@ pub mod laws;
 pub mod limits;
 pub mod parts;
 pub mod reader;
-#[cfg(test)]
-mod tests;
 pub mod token;
 pub mod tree;
 

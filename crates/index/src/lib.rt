@@ -18,6 +18,3 @@ pub use journal::{Index, documents_are_puts};
 pub use name::Name;
 pub use posting::List;
 pub use trigram::Query;
-
-#[cfg(test)]
-mod tests;

@@ -28,6 +28,3 @@ pub fn matches(tree: &Ere, line: &[u8]) -> bool
     advance(tree, line, &mut at);
     !at.is_empty()
 }
-
-#[cfg(test)]
-mod tests;

@@ -8,6 +8,3 @@ pub mod postings;
 
 pub use list::{List, Numbers};
 pub use postings::Postings;
-
-#[cfg(test)]
-mod tests;

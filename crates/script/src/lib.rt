@@ -4,8 +4,6 @@
 pub mod item;
 pub mod laws;
 pub mod reader;
-#[cfg(test)]
-mod tests;
 mod words;
 
 pub use item::{Item, Numbered};

@@ -8,6 +8,3 @@ pub mod scan;
 pub use answer::{Answer, Hit, append_all};
 pub use pattern::{Prepared, WithinError};
 pub use scan::{Watch, find, find_watched};
-
-#[cfg(test)]
-mod tests;

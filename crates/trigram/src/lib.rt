@@ -13,6 +13,3 @@ pub use analysis::analyse;
 pub use body::trigrams_of;
 pub use number::Trigram;
 pub use query::{Query, simplify};
-
-#[cfg(test)]
-mod tests;

@@ -10,8 +10,6 @@ pub mod run;
 mod session;
 pub mod source;
 mod store;
-#[cfg(test)]
-mod tests;
 mod texts;
 pub mod transcript;
 

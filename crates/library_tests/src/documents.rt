@@ -1,4 +1,5 @@
-use super::*;
+use crate::fixtures::put;
+use index::{Body, BodyErrorKind, Command, Index, Name, NameError, Query, documents_are_puts};
 use std::alloc::Global;
 use std::process::Abort;
 use std::test::Fail;
@@ -6,22 +7,6 @@ use trigram::Trigram;
 
 fn repeated(alloc: Global, byte: u8, count: usize) -> Result<Vec<u8>, Fail> {
     Ok(vec![in alloc; byte; count]?)
-}
-
-fn put(
-    rt: &impl Abort,
-    alloc: Global,
-    index: &mut Index,
-    name: &[u8],
-    body: &[u8],
-) -> Result<(), Fail> {
-    let command = Command::Put(
-        Name::new(alloc, name)?,
-        Body::new(Vec::from_slice(alloc, body)?)?,
-    );
-    assert!(rt; index.version() < 1000);
-    index.apply(command)?;
-    Ok(())
 }
 
 fn remove(rt: &impl Abort, alloc: Global, index: &mut Index, name: &[u8]) -> Result<(), Fail> {

@@ -1,18 +1,9 @@
-use super::*;
+use crate::fixtures::{repeat, set};
 use ere::{ByteSet, Ere};
 use std::alloc::Global;
 use std::process::Abort;
 use std::test::Fail;
-
-fn set(bytes: &[u8]) -> Ere {
-    let mut members = ByteSet::empty();
-    for byte in bytes {
-        if *byte != 0 && *byte != b'\n' {
-            members.insert(*byte);
-        }
-    }
-    Ere::Set(members)
-}
+use trigram::{Query, Trigram, analyse, simplify, trigrams_of};
 
 // the line bytes from first to last
 fn range(first: u8, last: u8) -> Ere {
@@ -32,10 +23,6 @@ fn text(alloc: Global, bytes: &[u8]) -> Result<Ere, Fail> {
         members.push(set(&[*byte]))?;
     }
     Ok(Ere::Cat(members))
-}
-
-fn repeat(alloc: Global, body: Ere, least: u8, greatest: Option<u8>) -> Result<Ere, Fail> {
-    Ok(Ere::Repeat(Box::new(alloc, body)?, least, greatest))
 }
 
 fn meets(query: &Query, held: &[&[u8; 3]]) -> bool {
@@ -195,6 +182,29 @@ fn alternatives(rt: HostRuntime) -> Result<(), Fail> {
     let tree = Ere::Alt(vec![in alloc; front, text(alloc, b"xyz")?]?);
     let query = analysed(&rt, alloc, &tree)?;
     expect(&rt, &query, &[b"abc", b"def", b"xyz"], &[&[0, 1], &[2]])
+}
+
+#[test]
+fn literals_with_anything_between(rt: HostRuntime) -> Result<(), Fail> {
+    let alloc = rt.alloc();
+    // Google.*Search
+    let mut members = Vec::new(alloc);
+    for byte in b"Google" {
+        members.push(set(&[*byte]))?;
+    }
+    members.push(repeat(alloc, range(1, 255), 0, None)?)?;
+    for byte in b"Search" {
+        members.push(set(&[*byte]))?;
+    }
+    let query = analysed(&rt, alloc, &Ere::Cat(members))?;
+    expect(
+        &rt,
+        &query,
+        &[
+            b"Goo", b"oog", b"ogl", b"gle", b"Sea", b"ear", b"arc", b"rch",
+        ],
+        &[&[0, 1, 2, 3, 4, 5, 6, 7]],
+    )
 }
 
 #[test]

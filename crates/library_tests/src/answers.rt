@@ -5,9 +5,10 @@ ghost use Rattle.index.specs.declared.command.Command.TheVariants.{Put};
 ghost use Rattle.search.specs.Pattern.{Pattern, IsPatternOf};
 ghost use Rattle.search.specs.Scan.{IsAnswerOf};
 
-use super::*;
+use crate::fixtures::{document, put};
 use ere::EreErrorKind;
 use index::{Body, Command, Index, Name};
+use search::{Answer, Prepared, Watch, find, find_watched};
 use std::alloc::Global;
 use std::process::Abort;
 use std::test::Fail;
@@ -28,26 +29,6 @@ fn search_two(
     index.apply(Command::Put(first.0, first.1))?;
     index.apply(Command::Put(second.0, second.1))?;
     Ok(find(alloc, &index, &prepared)?)
-}
-
-fn document(alloc: Global, name: &[u8], body: &[u8]) -> Result<(Name, Body), Fail> {
-    Ok((
-        Name::new(alloc, name)?,
-        Body::new(Vec::from_slice(alloc, body)?)?,
-    ))
-}
-
-fn put(
-    rt: &impl Abort,
-    alloc: Global,
-    index: &mut Index,
-    name: &[u8],
-    body: &[u8],
-) -> Result<(), Fail> {
-    let (name, body) = document(alloc, name, body)?;
-    assert!(rt; index.version() < 1000);
-    index.apply(Command::Put(name, body))?;
-    Ok(())
 }
 
 // The text of the answers of the patterns, with stats, numbered from 1.

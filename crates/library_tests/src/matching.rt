@@ -1,22 +1,9 @@
-use super::*;
-use ere::ByteSet;
+use crate::fixtures::{repeat, set};
+use ere::{Ere, MAX_LINE};
+use matcher::matches;
 use std::alloc::Global;
 use std::process::Abort;
 use std::test::Fail;
-
-fn set(bytes: &[u8]) -> Ere {
-    let mut members = ByteSet::empty();
-    for byte in bytes {
-        if *byte != 0 && *byte != b'\n' {
-            members.insert(*byte);
-        }
-    }
-    Ere::Set(members)
-}
-
-fn repeat(alloc: Global, body: Ere, least: u8, greatest: Option<u8>) -> Result<Ere, Fail> {
-    Ok(Ere::Repeat(Box::new(alloc, body)?, least, greatest))
-}
 
 fn expect(rt: &impl Abort, tree: &Ere, line: &[u8], found: bool) {
     assert!(rt; tree.within_limits());

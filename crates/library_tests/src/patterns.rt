@@ -1,10 +1,10 @@
 //! What no contract says: which fault a pattern is refused for and where, and that patterns are read.
 
-use crate::byte_set::ByteSet;
-use crate::error::{EreError, EreErrorKind};
-use crate::limits::{capped_height, capped_leaves};
-use crate::reader::parse;
-use crate::tree::Ere;
+use ere::byte_set::ByteSet;
+use ere::error::{EreError, EreErrorKind};
+use ere::limits::{capped_height, capped_leaves};
+use ere::reader::parse;
+use ere::tree::Ere;
 use std::alloc::Global;
 use std::process::Abort;
 use std::test::Fail;

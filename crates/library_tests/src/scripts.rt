@@ -1,4 +1,4 @@
-use super::*;
+use script::{Item, MAX_SCRIPT, Numbered, ScriptReader};
 use std::alloc::Global;
 use std::process::Abort;
 use std::test::Fail;

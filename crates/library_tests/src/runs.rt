@@ -2,11 +2,12 @@
 
 ghost use Rattle.std.specs.Prelude.{◌≡◌, Some, Contains};
 
-use super::*;
 use std::alloc::Global;
 use std::io::{self, Write};
 use std::process::Abort;
 use std::test::Fail;
+use tsearch::run::run;
+use tsearch::{Fault, Options, RunError, Source, WriteError, status, write_transcript};
 
 /// What a table has under a path.
 #[derive(Clone, Copy, Debug)]
@@ -28,7 +29,7 @@ struct Table<'a> {
 }
 
 impl Source for Table<'_> {
-    ghost use Rattle.tsearch.specs.declared.tests.Row.{Row};
+    ghost use Rattle.library_tests.specs.declared.runs.Row.{Row};
 
     ghost holds = { λ table path body. (row : Row) × Contains table.rows.now row × (row.path.now ≡ path) × (row.bytes.now ≡ body) };
 
@@ -98,7 +99,7 @@ fn expect_text(
             readers,
             max_commands: form.commands,
         };
-        let transcript = run::run(alloc, script, options, source)?;
+        let transcript = run(alloc, script, options, source)?;
         let mut text = Vec::new(alloc);
         write_transcript(alloc, &transcript, form.stats, &mut text)?;
         assert_eq!(rt; text.as_slice(), want, "of {:?}", script);
@@ -519,7 +520,7 @@ fn writers(rt: HostRuntime) -> Result<(), Fail> {
         max_commands: 65_536,
     };
     let script = b"put a.txt 11\nhello world\npublish\nsearch o w\n";
-    let transcript = run::run(alloc, script, options, &mut source_over(&[], b"", 0))?;
+    let transcript = run(alloc, script, options, &mut source_over(&[], b"", 0))?;
     let mut text = Vec::new(alloc);
     write_transcript(alloc, &transcript, false, &mut text)?;
     assert_eq!(rt; text.len(), 47);
@@ -564,7 +565,7 @@ fn a_script_too_long(rt: HostRuntime) -> Result<(), Fail> {
         readers: 2,
         max_commands: 65_536,
     };
-    match run::run(alloc, &script, options, &mut source_over(&[], b"", 0)) {
+    match run(alloc, &script, options, &mut source_over(&[], b"", 0)) {
         Err(RunError::ScriptTooLong) => Ok(()),
         Err(error) => Err(Fail::from(error)),
         Ok(_) => Err(Fail::from("a transcript")),
