@@ -58,6 +58,64 @@ fn sets_join_and_meet(rt: HostRuntime) -> Result<(), Fail> {
     Ok(())
 }
 
+// Numbers 0 to 299 go in the order of the multiples of a factor, from a first one on.
+fn goes_in_order(alloc: Global, factor: u32, first: u32) -> Result<bool, AllocError> {
+    let mut left = Vec::new(alloc);
+    for number in 0..300 {
+        left.push(number)?;
+    }
+    let mut set = set_of(alloc, left.as_slice())?;
+    let mut right = true;
+    for i in 0..300 {
+        let number = factor.wrapping_mul(i).wrapping_add(first) % 300;
+        set.remove(number);
+        left.retain(|n| *n != number);
+        right = right && set.len() == left.len() && !set.has(number);
+        right = right && numbers_of(alloc, &set)?.as_slice() == left.as_slice();
+    }
+    put(&mut set, 77)?;
+    Ok(right && set.len() == 1 && set.has(77))
+}
+
+#[test]
+fn numbers_go_in_any_order(rt: HostRuntime) -> Result<(), Fail> {
+    let alloc = rt.alloc();
+    let rising = goes_in_order(alloc, 1, 0)?;
+    let falling = goes_in_order(alloc, 299, 299)?;
+    let from_the_middle = goes_in_order(alloc, 1, 150)?;
+    let scattered = goes_in_order(alloc, 7, 3)?;
+    assert!(rt; rising && falling && from_the_middle && scattered);
+    Ok(())
+}
+
+#[test]
+fn sets_that_lost_numbers_grow_join_and_meet(rt: HostRuntime) -> Result<(), Fail> {
+    let alloc = rt.alloc();
+    let mut twos = set_of(alloc, &[0, 2, 4, 6, 8, 10, 12, 14, 16])?;
+    let mut threes = set_of(alloc, &[0, 3, 6, 9, 12, 15])?;
+    for gone in [0, 4, 6, 16] {
+        twos.remove(gone);
+        threes.remove(gone);
+    }
+    put(&mut twos, 15)?;
+    put(&mut twos, 18)?;
+    put(&mut threes, 18)?;
+    assert_eq!(rt; numbers_of(alloc, &twos)?.as_slice(), [2, 8, 10, 12, 14, 15, 18].as_slice());
+    assert_eq!(rt; numbers_of(alloc, &threes)?.as_slice(), [3, 9, 12, 15, 18].as_slice());
+    for both in [twos.union(&threes)?, threes.union(&twos)?] {
+        assert_eq!(rt; both.len(), 9);
+        assert_eq!(rt;
+            numbers_of(alloc, &both)?.as_slice(),
+            [2, 3, 8, 9, 10, 12, 14, 15, 18].as_slice()
+        );
+    }
+    for common in [twos.intersect(&threes)?, threes.intersect(&twos)?] {
+        assert_eq!(rt; common.len(), 3);
+        assert_eq!(rt; numbers_of(alloc, &common)?.as_slice(), [12, 15, 18].as_slice());
+    }
+    Ok(())
+}
+
 fn abc() -> Trigram
     ensures { result ≡ 6382179 }
 {
