@@ -1,6 +1,7 @@
 -- Sets of numbers.
 use Rattle.std.specs.Prelude.{◌≡◌, ℕ, ◌+◌, ◌<◌, ◌≤◌, Bool, not, ◌==◌, List, filter, length, AllPairs}
 use Rattle.std.specs.List.{list_any, dedup}
+use Rattle.std.specs.List.Sorted.{IsStrictlyIncreasing}
 
 -- the numbers of a set, rising, and for how many more there is surely room
 pub record NumberSet : Type 0 where
@@ -30,4 +31,5 @@ once_each numbers = dedup (λ m n. m == n) numbers
 -- The numbers rise, and so many places repeat the number before them.
 pub record RisesWithRepeats (numbers : List ℕ) (repeats : ℕ) : Type 0 where
   pub rises : Rises numbers
+  pub rising : IsStrictlyIncreasing (once_each numbers)
   pub counted : repeats + length (once_each numbers) ≡ length numbers
