@@ -100,14 +100,8 @@ fn sets_that_lost_numbers_grow_join_and_meet(rt: HostRuntime) -> Result<(), Fail
     put(&mut twos, 15)?;
     put(&mut twos, 18)?;
     put(&mut threes, 18)?;
-    assert_eq!(rt;
-        numbers_of(alloc, &twos)?.as_slice(),
-        [2, 8, 10, 12, 14, 15, 18].as_slice()
-    );
-    assert_eq!(rt;
-        numbers_of(alloc, &threes)?.as_slice(),
-        [3, 9, 12, 15, 18].as_slice()
-    );
+    assert_eq!(rt; numbers_of(alloc, &twos)?.as_slice(), [2, 8, 10, 12, 14, 15, 18].as_slice());
+    assert_eq!(rt; numbers_of(alloc, &threes)?.as_slice(), [3, 9, 12, 15, 18].as_slice());
     for both in [twos.union(&threes)?, threes.union(&twos)?] {
         assert_eq!(rt; both.len(), 9);
         assert_eq!(rt;
@@ -117,10 +111,7 @@ fn sets_that_lost_numbers_grow_join_and_meet(rt: HostRuntime) -> Result<(), Fail
     }
     for common in [twos.intersect(&threes)?, threes.intersect(&twos)?] {
         assert_eq!(rt; common.len(), 3);
-        assert_eq!(rt;
-            numbers_of(alloc, &common)?.as_slice(),
-            [12, 15, 18].as_slice()
-        );
+        assert_eq!(rt; numbers_of(alloc, &common)?.as_slice(), [12, 15, 18].as_slice());
     }
     Ok(())
 }

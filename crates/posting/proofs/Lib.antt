@@ -2,6 +2,7 @@ pub mod Rising
 pub mod Members
 pub mod Merging
 pub mod Meeting
+pub mod Repeats
 pub mod Slots
 pub mod Tables
 pub mod Changes

@@ -9,8 +9,8 @@ use Rattle.std.proofs.lemmas.Bool.{eq-eqb, false≢true, cases_lt}
 use Rattle.std.proofs.lemmas.Bool.Decides.{nat_tests}
 use Rattle.std.proofs.lemmas.List.Folds.{list_any_at, list_any_none}
 use Rattle.std.proofs.lemmas.List.Elements.{All-cons, All-head, All-tail, All-weaker, All-from_get_or}
-use Rattle.posting.specs.NumberSet.{has, without}
-use Rattle.posting.proofs.Rising.{rising-head, rising-tail, rising_far}
+use Rattle.posting.specs.NumberSet.{has, without, Rises}
+use Rattle.posting.proofs.Rising.{rising-head, rising-tail, rising_far, rises_at}
 
 pub has_at : (xs : List ℕ) (i n : ℕ) → i < length xs → get_or xs i 0 ≡ n → has xs n ≡ true
 has_at xs i n inside is = list_any_at (λ m. m == n) xs i 0 inside (eq-eqb (get_or xs i 0) n is)
@@ -26,11 +26,15 @@ pub lacks_above : (xs : List ℕ) (n : ℕ) → All (λ m. m < n) xs → has xs 
 lacks_above xs n h = lacks_from_all xs n (All-weaker (λ m. m < n) (λ m. m ≢ n) (λ m lt e. omega arith) xs h)
 
 -- a number that a place among rising numbers has to hold is not there
-pub lacks_at : (xs : List ℕ) (i n : ℕ) → IsStrictlyIncreasing xs → ((k : ℕ) → k < i → k < length xs → get_or xs k 0 < n) → (i < length xs → n < get_or xs i 0) → has xs n ≡ false
-lacks_at xs i n rising below at = lacks_from_all xs n (All-from_get_or (λ m. m ≢ n) xs 0 differs)
+pub lacks_at : (xs : List ℕ) (i n : ℕ) → Rises xs → ((k : ℕ) → k < i → k < length xs → get_or xs k 0 < n) → (i < length xs → n < get_or xs i 0) → has xs n ≡ false
+lacks_at xs i n rises below at = lacks_from_all xs n (All-from_get_or (λ m. m ≢ n) xs 0 differs)
   where
     differs : (k : ℕ) → k < length xs → get_or xs k 0 ≢ n
-    differs k inside e = grind (arith, below, at, rising_far xs rising i k)
+    differs k inside e = by_place (cases_lt k i)
+      where
+        by_place : (k < i) ⊎ (i ≤ k) → ⊥
+        by_place (inl lt) = omega (arith, below k lt inside)
+        by_place (inr ge) = let there : i < length xs = omega arith in omega (arith, at there, rises_at xs rises i k ge inside)
 
 -- what holds of all holds of each number that is there
 pub All-has : (P : ℕ → Type 0) (xs : List ℕ) (n : ℕ) → All P xs → has xs n ≡ true → P n
@@ -94,21 +98,14 @@ same_rising (x ∷ xs) (y ∷ ys) up up' same =
             let e' : (y == n) ≡ false = rw heads at e in
             rw e' at (rw e at (same n))
 
-non_falling : (xs : List ℕ) → IsStrictlyIncreasing xs → (i j : ℕ) → i ≤ j → j < length xs → get_or xs i 0 ≤ get_or xs j 0
-non_falling xs rising i j before inside = cases (cases_lt i j)
-  where
-    cases : (i < j) ⊎ (j ≤ i) → get_or xs i 0 ≤ get_or xs j 0
-    cases (inl lt) = omega (arith, rising_far xs rising i j lt inside)
-    cases (inr ge) = let e : i ≡ j = omega arith in rw e (omega arith)
-
 -- what `binary_search` says of rising numbers
 abbrev pub SearchedFor : List ℕ → ℕ → Result ℕ ℕ → Type 0
 SearchedFor xs n r = MatchResult r (λ i. (i < length xs) × (get_or xs i 0 ≡ n)) (λ i. (i ≤ length xs) × ((k : ℕ) → k < i → get_or xs k 0 < n) × ((k : ℕ) → i ≤ k → k < length xs → n < get_or xs k 0))
 
-pub searched_for : (xs : List ℕ) (n : ℕ) (r : Result ℕ ℕ) → IsStrictlyIncreasing xs → IsBinarySearchResult (λ y. nat_cmp y n) xs r → SearchedFor xs n r
-searched_for xs n r rising h = searched xs n r h (non_falling xs rising)
+pub searched_for : (xs : List ℕ) (n : ℕ) (r : Result ℕ ℕ) → Rises xs → IsBinarySearchResult (λ y. nat_cmp y n) xs r → SearchedFor xs n r
+searched_for xs n r rises h = searched xs n r h (rises_at xs rises)
 
-pub has-searched : (xs : List ℕ) (n : ℕ) (r : Result ℕ ℕ) → IsStrictlyIncreasing xs → SearchedFor xs n r → has xs n ≡ is_ok r
+pub has-searched : (xs : List ℕ) (n : ℕ) (r : Result ℕ ℕ) → Rises xs → SearchedFor xs n r → has xs n ≡ is_ok r
 has-searched xs n (Ok i) rising found = has_at xs i n found.0 found.1
 has-searched xs n (Err i) rising absent = lacks_at xs i n rising (λ k before _. absent.1 k before) (λ inside. absent.2 i (omega arith) inside)
 
