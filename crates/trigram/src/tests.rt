@@ -198,6 +198,29 @@ fn alternatives(rt: HostRuntime) -> Result<(), Fail> {
 }
 
 #[test]
+fn literals_with_anything_between(rt: HostRuntime) -> Result<(), Fail> {
+    let alloc = rt.alloc();
+    // Google.*Search
+    let mut members = Vec::new(alloc);
+    for byte in b"Google" {
+        members.push(set(&[*byte]))?;
+    }
+    members.push(repeat(alloc, range(1, 255), 0, None)?)?;
+    for byte in b"Search" {
+        members.push(set(&[*byte]))?;
+    }
+    let query = analysed(&rt, alloc, &Ere::Cat(members))?;
+    expect(
+        &rt,
+        &query,
+        &[
+            b"Goo", b"oog", b"ogl", b"gle", b"Sea", b"ear", b"arc", b"rch",
+        ],
+        &[&[0, 1, 2, 3, 4, 5, 6, 7]],
+    )
+}
+
+#[test]
 fn loose_neighbours(rt: HostRuntime) -> Result<(), Fail> {
     let alloc = rt.alloc();
     // (.ab)(cd.)
