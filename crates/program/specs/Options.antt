@@ -1,5 +1,5 @@
 -- The options that the program's command line has.
-use Rattle.std.specs.Prelude.{◌≡◌, ℕ, List, [], ◌∷◌, Some, false, map, codes, pos}
+use Rattle.std.specs.Prelude.{◌≡◌, ℕ, [], ◌∷◌, Some, false, map, codes, pos}
 use Rattle.std.specs.List.{slice_index_or}
 use Rattle.clap.specs.Facts.{args_of}
 use Rattle.clap.specs.Built.{IsPlain}
