@@ -41,9 +41,14 @@ fn main(rt: HostRuntime) -> ExitCode {
 }
 
 /// Reads the words of the program and does what they ask for, and gives the status.
-fn answer<R: Env + Files + Input + Print + Eprint + AllocGlobal>(
-    rt: &R,
-) -> Result<u8, ProgramError> {
+///
+/// What the words were is not known to contracts: 0 may be the status of help, and 2 that of words that are
+/// refused. Each other status is that of a run.
+fn answer<R: Env + Files + Input + Print + Eprint + AllocGlobal>(rt: &R) -> Result<u8, ProgramError>
+    ensures { IfOk result (λ status. (status ≡ 0) ⊎ ((status ≡ 2) ⊎ ((settings : Settings) × IsStatusOfRun settings.options
+        (IsScriptFrom R.File.remaining R.Reader.remaining settings.file (MAX_SCRIPT + 1))
+        (IsLoadFrom R.File.remaining (MAX_BODY + 1)) status))) }
+{
     let words = match env::args(rt) {
         Ok(words) => words,
         Err(error) if error.kind() == io::ErrorKind::OutOfMemory => {
@@ -70,6 +75,7 @@ fn explain<R: Print + Eprint>(rt: &R, error: &clap::Error) -> Result<u8, Program
         → IsOkAnd result (λ status. status ≡ 2) }
     ensures help { (kind_of error.now ≡ ErrorKind.DisplayHelp) ⊎ (kind_of error.now ≡ ErrorKind.DisplayVersion)
         → IsOkAnd result (λ status. status ≡ 0) ⊎ IsErrOf result ProgramError.CannotWrite }
+    ensures few { IfOk result (λ status. (status ≡ 0) ⊎ (status ≡ 2)) }
 {
     if error.kind() == ErrorKind::OutOfMemory {
         return Err(ProgramError::OutOfMemory);

@@ -1,6 +1,7 @@
 //! The words of the program.
 
-ghost use Rattle.std.specs.Prelude.{◌≤◌, ◌<◌, IfOk};
+ghost use Rattle.std.specs.Prelude.{◌≡◌, ◌≤◌, ◌<◌, ◌⊎◌, IfOk};
+ghost use Rattle.clap.specs.Values.{kind_of};
 ghost use Rattle.program.specs.Options.{HasOptions};
 
 use clap::error::ErrorKind;
@@ -44,8 +45,10 @@ pub fn read_words<'a>(alloc: Global, words: &'a [String]) -> Result<Settings<'a>
     })
 }
 
-/// Words that are no text.
-pub fn no_text(alloc: Global) -> Error {
+/// What is said of words that are no text, or that memory ran out.
+pub fn no_text(alloc: Global) -> Error
+    ensures { (kind_of result ≡ ErrorKind.InvalidValue) ⊎ (kind_of result ≡ ErrorKind.OutOfMemory) }
+{
     let message = "invalid UTF-8 was detected in one or more arguments";
     let refused = match command(alloc) {
         Ok(mut command) => command.error(ErrorKind::InvalidValue, message),
