@@ -1,8 +1,8 @@
 //! The words of the program.
 
-ghost use Rattle.std.specs.Prelude.{◌≡◌, ◌≤◌, ◌<◌, ◌⊎◌, IfOk};
+ghost use Rattle.std.specs.Prelude.{◌≡◌, ◌≤◌, ◌<◌, ◌⊎◌, IfOk, map, string_bytes};
 ghost use Rattle.clap.specs.Values.{kind_of};
-ghost use Rattle.program.specs.Options.{HasOptions};
+ghost use Rattle.program.specs.Options.{HasOptions, IsSettingsOf};
 
 use clap::error::ErrorKind;
 use clap::{Arg, ArgAction, Command, Error, value_parser};
@@ -31,6 +31,7 @@ pub fn read_words<'a>(alloc: Global, words: &'a [String]) -> Result<Settings<'a>
     ensures readers { IfOk result (λ settings. settings.options.readers ≤ 16) }
     ensures some_commands { IfOk result (λ settings. 0 < settings.options.max_commands) }
     ensures few_commands { IfOk result (λ settings. settings.options.max_commands ≤ 1000000) }
+    ensures read { IfOk result (IsSettingsOf (map string_bytes words.entry.now)) }
 {
     let matches = command(alloc)?.try_get_matches_from(words)?;
     let readers = matches.get_one::<u32>("readers");
@@ -106,7 +107,7 @@ most 1048576 bytes, in lines of at most 4096 bytes, and no byte 0.
 
 Each search prints `search K version V lines L`, and then each line as NAME:LINE:TEXT.
 What is refused is printed too, with its reason, and the script goes on. Only a put
-without its bytes ends the script.
+with no count or a wrong one ends the script.
 
 The status is 0 if a search listed a line, 1 if none did, 2 if anything was refused.
 
