@@ -1,8 +1,8 @@
 -- What a parse gives of an option that takes a number.
-use Rattle.std.proofs.Common.{◌≡◌, ◌⊎◌, ◌∙◌, ◌<◌, ◌≤◌, ap, ℕ, Bool, true, false, List, [], ◌∷◌, length, is_some, Option, Some, None, refl, sym, subst, inl, inr, arith, ◌^◌, zero, suc, codes, map}
+use Rattle.std.proofs.Common.{◌≡◌, ◌⊎◌, ◌∙◌, ◌<◌, ◌≤◌, ap, ℕ, true, List, [], ◌∷◌, length, Option, Some, None, refl, sym, subst, inl, inr, arith, ◌^◌, zero, suc, codes}
 use Rattle.std.specs.List.{All, slice_index_or}
 use Rattle.std.specs.Str.{bytes_eq}
-use Rattle.std.specs.Prelude.{option_map, slice_get, unwrap_or, pos, Result}
+use Rattle.std.specs.Prelude.{unwrap_or, pos, Result}
 use Rattle.std.specs.Borrow.{Bor}
 use Rattle.std.specs.Str.Parse.{ParsesUnsigned}
 use Rattle.std.proofs.lemmas.Slice.Eq.{bytes_eq-Decides}
@@ -11,7 +11,7 @@ use Rattle.std.proofs.lemmas.List.{get_or-map, length-map}
 use Rattle.clap.specs.Lexer.{without_minus}
 use Rattle.clap.specs.Values.{Accepts, IsSignedIn}
 use Rattle.clap.specs.Facts.{args_of, groups_of, Entry, EntryPasses, HasReading, PassesArg, parser_of, parser_of_value}
-use Rattle.clap.specs.Built.{IsAuto, IsParsedFrom, SameRules}
+use Rattle.clap.specs.Built.{IsAuto, IsParsedFrom}
 use Rattle.clap.specs.Matches.{found_of, matched_of, one_text, ReadsOne}
 use Rattle.clap.specs.declared.builder.arg.Arg.{Arg}
 use Rattle.clap.specs.declared.builder.command.Command.{Command}

@@ -1,7 +1,7 @@
 -- The options of the command line, added in turn, and what a parse gives of their numbers.
-use Rattle.std.proofs.Common.{◌++◌, ◌||◌, ◌≡◌, ◌∙◌, ◌<◌, ap, ℕ, false, List, [], ◌∷◌, Some, refl, arith, codes}
+use Rattle.std.proofs.Common.{◌++◌, ◌≡◌, ◌∙◌, ap, false, [], ◌∷◌, Some, refl, codes}
 use Rattle.std.specs.Prelude.{pos}
-use Rattle.clap.specs.Facts.{args_of, groups_of}
+use Rattle.clap.specs.Facts.{args_of}
 use Rattle.clap.specs.Built.{AddsArg, IsPlain, IsPlainArg}
 use Rattle.clap.specs.declared.builder.arg.Arg.{Arg}
 use Rattle.clap.specs.declared.builder.command.Command.{Command}

@@ -1,1 +1,3 @@
 pub mod Options
+pub mod Reads
+pub mod Run

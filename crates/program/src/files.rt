@@ -1,15 +1,18 @@
 //! Loads, from files.
 
-ghost use Rattle.std.specs.Prelude.{◌≡◌, ◌≤◌, ◌<◌, ◌⊎◌, ◌^◌, ◌-◌, ⊤, IsErrOf};
+ghost use Rattle.std.specs.Prelude.{◌≡◌, ◌≢◌, ◌≤◌, ◌<◌, ◌⊎◌, ◌^◌, ◌+◌, ◌-◌, IfOk, IsErrOf};
+ghost use Rattle.std.specs.IoError.{error_kind};
+ghost use Rattle.std.specs.Str.{IsUtf8};
+ghost use Rattle.program.specs.Reads.{IsLoadFrom};
 
-use crate::input::read_at_most;
+use crate::input::read_file_at_most;
 use index::body::MAX_BODY;
 use std::alloc::Global;
+use std::io::{self, ErrorKind};
 use std::rt::Files;
-use std::{fs, io};
 use tsearch::{Fault, Source};
 
-/// The files that a script's loads name by their paths. Nothing is known of what they hold.
+/// The files that a script's loads name by their paths. What stands at a path is not known to contracts.
 #[derive(Drop)]
 pub struct FileSource<'a, R> {
     files: &'a R,
@@ -25,19 +28,33 @@ impl<'a, R: Files> FileSource<'a, R> {
     }
 
     /// Reads a file. Of one that is longer than a body may be it reads one byte more than that.
-    fn read_file(&self, alloc: Global, path: &[u8]) -> Result<Vec<u8>, Fault> {
+    ///
+    /// `OutOfMemory` comes where memory ran out for the bytes, and `Failed` where the path is not UTF-8, or the
+    /// file cannot be opened or the reading fails.
+    fn read_file(&self, alloc: Global, path: &[u8]) -> Result<Vec<u8>, Fault>
+        ensures bytes { IfOk result (λ bytes. IsLoadFrom R.File.remaining (MAX_BODY + 1) path.now bytes.items) }
+        ensures no_text { ¬ IsUtf8 path.now → IsErrOf result Fault.Failed }
+    {
         let Ok(path) = str::from_utf8(path) else {
             return Err(Fault::Failed);
         };
-        let read = match fs::open(self.files, path) {
-            Ok(file) => read_at_most(alloc, file, MAX_BODY as u64 + 1),
-            Err(error) => Err(error),
-        };
-        match read {
+        let most = MAX_BODY as u64 + 1;
+        match read_file_at_most(self.files, alloc, path, most) {
             Ok(bytes) => Ok(bytes),
-            Err(error) if error.kind() == io::ErrorKind::OutOfMemory => Err(Fault::OutOfMemory),
-            Err(_) => Err(Fault::Failed),
+            Err(error) => Err(fault_of_load(&error)),
         }
+    }
+}
+
+/// What a run is told of an error that met a load.
+fn fault_of_load(error: &io::Error) -> Fault
+    ensures memory { error_kind error.now ≡ ErrorKind.OutOfMemory → result ≡ Fault.OutOfMemory }
+    ensures other { error_kind error.now ≢ ErrorKind.OutOfMemory → result ≡ Fault.Failed }
+{
+    if error.kind() == ErrorKind::OutOfMemory {
+        Fault::OutOfMemory
+    } else {
+        Fault::Failed
     }
 }
 
@@ -54,7 +71,9 @@ fn failures_after(failures: u64, read: &Result<Vec<u8>, Fault>) -> u64
 }
 
 impl<R: Files> Source for FileSource<'_, R> {
-    ghost holds = { λ _ _ _. ⊤ };
+    ghost use Rattle.index.specs.declared.body.TheConstants.{MAX_BODY};
+
+    ghost holds = { λ _ path bytes. IsLoadFrom R.File.remaining (MAX_BODY + 1) path bytes };
 
     ghost failed = { λ source. source.failures };
 

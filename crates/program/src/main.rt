@@ -3,29 +3,31 @@
 //! The program reads its words and the script, runs the script, and writes what the run answers.
 #![tactic(auto)]
 
-ghost use Rattle.std.specs.Prelude.{◌≤◌, ◌<◌};
+ghost use Rattle.std.specs.Prelude.{◌≡◌, ◌≢◌, ◌≤◌, ◌<◌, ◌⊎◌, ◌+◌, IfOk, IsErrOf, IsOkAnd};
+ghost use Rattle.clap.specs.Values.{kind_of};
+ghost use Rattle.index.specs.declared.body.TheConstants.{MAX_BODY};
+ghost use Rattle.script.specs.declared.reader.TheConstants.{MAX_SCRIPT};
+ghost use Rattle.program.specs.Reads.{IsLoadFrom, IsScriptFrom};
+ghost use Rattle.program.specs.Run.{IsStatusOfRun};
 
 mod error;
 mod files;
 mod input;
+mod output;
 mod words;
 
 use clap::error::ErrorKind;
 use error::ProgramError;
 use files::FileSource;
 use std::env::{self, Env};
-use std::io::{self, BufWriter, Write};
+use std::io;
 use std::process::ExitCode;
 use std::rt::Files;
 use tsearch::run::run;
-use tsearch::{Transcript, write_transcript};
 use words::Settings;
 
 /// The status where an argument is refused, or the program has no transcript to write or cannot write it.
 const REFUSED: u8 = 2;
-
-/// Output is written in parts of this many bytes.
-const OUTPUT_BUFFER: usize = 65536;
 
 fn main(rt: HostRuntime) -> ExitCode {
     match answer(&rt) {
@@ -39,9 +41,14 @@ fn main(rt: HostRuntime) -> ExitCode {
 }
 
 /// Reads the words of the program and does what they ask for, and gives the status.
-fn answer<R: Env + Files + Input + Print + Eprint + AllocGlobal>(
-    rt: &R,
-) -> Result<u8, ProgramError> {
+///
+/// What the words were is not known to contracts: 0 may be the status of help, and 2 that of words that are
+/// refused. Each other status is that of a run.
+fn answer<R: Env + Files + Input + Print + Eprint + AllocGlobal>(rt: &R) -> Result<u8, ProgramError>
+    ensures { IfOk result (λ status. (status ≡ 0) ⊎ ((status ≡ 2) ⊎ ((settings : Settings) × IsStatusOfRun settings.options
+        (IsScriptFrom R.File.remaining R.Reader.remaining settings.file (MAX_SCRIPT + 1))
+        (IsLoadFrom R.File.remaining (MAX_BODY + 1)) status))) }
+{
     let words = match env::args(rt) {
         Ok(words) => words,
         Err(error) if error.kind() == io::ErrorKind::OutOfMemory => {
@@ -60,7 +67,16 @@ fn answer<R: Env + Files + Input + Print + Eprint + AllocGlobal>(
 }
 
 /// Writes why the words are refused, or the help that they ask for, and gives the status.
-fn explain<R: Print + Eprint>(rt: &R, error: &clap::Error) -> Result<u8, ProgramError> {
+///
+/// Where the line for standard error is not taken, the status alone says it.
+fn explain<R: Print + Eprint>(rt: &R, error: &clap::Error) -> Result<u8, ProgramError>
+    ensures memory { kind_of error.now ≡ ErrorKind.OutOfMemory → IsErrOf result ProgramError.OutOfMemory }
+    ensures mistake { kind_of error.now ≢ ErrorKind.OutOfMemory → kind_of error.now ≢ ErrorKind.DisplayHelp → kind_of error.now ≢ ErrorKind.DisplayVersion
+        → IsOkAnd result (λ status. status ≡ 2) }
+    ensures help { (kind_of error.now ≡ ErrorKind.DisplayHelp) ⊎ (kind_of error.now ≡ ErrorKind.DisplayVersion)
+        → IsOkAnd result (λ status. status ≡ 0) ⊎ IsErrOf result ProgramError.CannotWrite }
+    ensures few { IfOk result (λ status. (status ≡ 0) ⊎ (status ≡ 2)) }
+{
     if error.kind() == ErrorKind::OutOfMemory {
         return Err(ProgramError::OutOfMemory);
     }
@@ -82,6 +98,9 @@ fn run_script<R: Files + Input + Print + AllocGlobal>(
     requires readers { settings.now.options.readers ≤ 16 }
     requires some_commands { 0 < settings.now.options.max_commands }
     requires few_commands { settings.now.options.max_commands ≤ 1000000 }
+    ensures { IfOk result (λ status. IsStatusOfRun settings.now.options
+        (IsScriptFrom R.File.remaining R.Reader.remaining settings.now.file (MAX_SCRIPT + 1))
+        (IsLoadFrom R.File.remaining (MAX_BODY + 1)) status) }
 {
     let script = input::read_script(rt, settings.file)?;
     let mut source = FileSource::new(rt);
@@ -89,27 +108,8 @@ fn run_script<R: Files + Input + Print + AllocGlobal>(
         Ok(transcript) => transcript,
         Err(error) => return Err(ProgramError::Run(error)),
     };
-    write_out(rt, &transcript, settings.stats)?;
+    output::write_text(rt.alloc(), &transcript, settings.stats, io::writer(rt))?;
     Ok(tsearch::status(&transcript))
-}
-
-fn write_out<R: Print + AllocGlobal>(
-    rt: &R,
-    transcript: &Transcript,
-    stats: bool,
-) -> Result<(), ProgramError> {
-    let writer = io::writer(rt);
-    let mut out = match BufWriter::with_capacity(rt.alloc(), OUTPUT_BUFFER, writer) {
-        Ok(out) => out,
-        Err(_) => return Err(ProgramError::OutOfMemory),
-    };
-    if let Err(error) = write_transcript(rt.alloc(), transcript, stats, &mut out) {
-        return Err(ProgramError::Write(error));
-    }
-    match out.flush() {
-        Ok(()) => Ok(()),
-        Err(_) => Err(ProgramError::CannotWrite),
-    }
 }
 
 #[cfg(test)]

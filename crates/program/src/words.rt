@@ -1,7 +1,8 @@
 //! The words of the program.
 
-ghost use Rattle.std.specs.Prelude.{◌≤◌, ◌<◌, IfOk};
-ghost use Rattle.program.specs.Options.{HasOptions};
+ghost use Rattle.std.specs.Prelude.{◌≡◌, ◌≤◌, ◌<◌, ◌⊎◌, IfOk, map, string_bytes};
+ghost use Rattle.clap.specs.Values.{kind_of};
+ghost use Rattle.program.specs.Options.{HasOptions, IsSettingsOf};
 
 use clap::error::ErrorKind;
 use clap::{Arg, ArgAction, Command, Error, value_parser};
@@ -30,6 +31,7 @@ pub fn read_words<'a>(alloc: Global, words: &'a [String]) -> Result<Settings<'a>
     ensures readers { IfOk result (λ settings. settings.options.readers ≤ 16) }
     ensures some_commands { IfOk result (λ settings. 0 < settings.options.max_commands) }
     ensures few_commands { IfOk result (λ settings. settings.options.max_commands ≤ 1000000) }
+    ensures read { IfOk result (IsSettingsOf (map string_bytes words.entry.now)) }
 {
     let matches = command(alloc)?.try_get_matches_from(words)?;
     let readers = matches.get_one::<u32>("readers");
@@ -44,8 +46,10 @@ pub fn read_words<'a>(alloc: Global, words: &'a [String]) -> Result<Settings<'a>
     })
 }
 
-/// Words that are no text.
-pub fn no_text(alloc: Global) -> Error {
+/// What is said of words that are no text, or that memory ran out.
+pub fn no_text(alloc: Global) -> Error
+    ensures { (kind_of result ≡ ErrorKind.InvalidValue) ⊎ (kind_of result ≡ ErrorKind.OutOfMemory) }
+{
     let message = "invalid UTF-8 was detected in one or more arguments";
     let refused = match command(alloc) {
         Ok(mut command) => command.error(ErrorKind::InvalidValue, message),
@@ -103,7 +107,7 @@ most 1048576 bytes, in lines of at most 4096 bytes, and no byte 0.
 
 Each search prints `search K version V lines L`, and then each line as NAME:LINE:TEXT.
 What is refused is printed too, with its reason, and the script goes on. Only a put
-without its bytes ends the script.
+with no count or a wrong one ends the script.
 
 The status is 0 if a search listed a line, 1 if none did, 2 if anything was refused.
 

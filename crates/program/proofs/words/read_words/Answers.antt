@@ -1,4 +1,4 @@
-use Rattle.std.proofs.Common.{codes, arith}
+use Rattle.std.proofs.Common.{codes, arith, refl}
 use Rattle.std.specs.Str.Parse.{ParsesUnsigned, ExplainsUnsignedError, HasUnsignedDigitsIfOk}
 use Rattle.program.specs.Options.{HasOptions}
 use Rattle.program.proofs.NumberLemmas.{max_commands_option, number_given, or_default, readers_option}
@@ -22,4 +22,15 @@ returns c =
       readers = rw c.unwrap_or.ensures few_readers.1;
       some_commands = rw c.unwrap_or-2.ensures in_limits.0;
       few_commands = rw c.unwrap_or-2.ensures in_limits.1;
+      read = record {
+        command = command;
+        options = options;
+        matches = m;
+        found = c.in_ok-matches.ensures.matches;
+        file = c.get_str.ensures;
+        no_stats = c.get_flag.ensures.none;
+        stats = c.get_flag.ensures.value;
+        default_readers = λ none. rw (c.unwrap_or.ensures, c.get_one-readers.ensures.none none) refl;
+        default_commands = λ none. rw (c.unwrap_or-2.ensures, c.get_one-max_commands.ensures.none none) refl;
+      };
     }
