@@ -58,61 +58,89 @@ fn sets_join_and_meet(rt: HostRuntime) -> Result<(), Fail> {
     Ok(())
 }
 
-// Numbers 0 to 299 go in the order of the multiples of a factor, from a first one on.
-fn goes_in_order(alloc: Global, factor: u32, first: u32) -> Result<bool, AllocError> {
-    let mut left = Vec::new(alloc);
-    for number in 0..300 {
-        left.push(number)?;
+// Whether the set has these numbers.
+fn lists(alloc: Global, set: &List, numbers: &[u32]) -> Result<bool, AllocError> {
+    let listed = numbers_of(alloc, set)?;
+    Ok(set.len() == numbers.len() && listed.as_slice() == numbers)
+}
+
+// Takes a number out of a set and out of a list, and tells whether they agree.
+fn goes(
+    alloc: Global,
+    set: &mut List,
+    left: &mut Vec<u32>,
+    number: u32,
+) -> Result<bool, AllocError> {
+    set.remove(number);
+    left.retain(|held| *held != number);
+    lists(alloc, set, left.as_slice())
+}
+
+fn numbers_below(alloc: Global, bound: u32) -> Result<Vec<u32>, AllocError> {
+    let mut numbers = Vec::new(alloc);
+    for number in 0..bound {
+        numbers.push(number)?;
     }
+    Ok(numbers)
+}
+
+// The numbers below 300 go in the order of the multiples of a factor, from a first one on.
+fn go_in_order(alloc: Global, factor: u32, first: u32) -> Result<bool, AllocError> {
+    let mut left = numbers_below(alloc, 300)?;
     let mut set = set_of(alloc, left.as_slice())?;
-    let mut right = true;
-    for i in 0..300 {
+    for i in 0..300u32 {
         let number = factor.wrapping_mul(i).wrapping_add(first) % 300;
-        set.remove(number);
-        left.retain(|n| *n != number);
-        right = right && set.len() == left.len() && !set.has(number);
-        right = right && numbers_of(alloc, &set)?.as_slice() == left.as_slice();
+        if !goes(alloc, &mut set, &mut left, number)? {
+            return Ok(false);
+        }
     }
     put(&mut set, 77)?;
-    Ok(right && set.len() == 1 && set.has(77))
+    lists(alloc, &set, &[77])
 }
 
 #[test]
 fn numbers_go_in_any_order(rt: HostRuntime) -> Result<(), Fail> {
     let alloc = rt.alloc();
-    let rising = goes_in_order(alloc, 1, 0)?;
-    let falling = goes_in_order(alloc, 299, 299)?;
-    let from_the_middle = goes_in_order(alloc, 1, 150)?;
-    let scattered = goes_in_order(alloc, 7, 3)?;
-    assert!(rt; rising && falling && from_the_middle && scattered);
+    assert!(rt; go_in_order(alloc, 1, 0)?);
+    assert!(rt; go_in_order(alloc, 299, 299)?);
+    assert!(rt; go_in_order(alloc, 1, 150)?);
+    assert!(rt; go_in_order(alloc, 7, 3)?);
     Ok(())
+}
+
+// Some numbers, of which a few went before others came.
+fn twos(alloc: Global) -> Result<List, AllocError> {
+    let mut set = set_of(alloc, &[0, 2, 4, 6, 8, 10, 12, 14, 16])?;
+    for gone in &[0, 4, 6, 16] {
+        set.remove(*gone);
+    }
+    put(&mut set, 15)?;
+    put(&mut set, 18)?;
+    Ok(set)
+}
+
+fn threes(alloc: Global) -> Result<List, AllocError> {
+    let mut set = set_of(alloc, &[0, 3, 6, 9, 12, 15])?;
+    for gone in &[0, 6] {
+        set.remove(*gone);
+    }
+    put(&mut set, 18)?;
+    Ok(set)
 }
 
 #[test]
 fn sets_that_lost_numbers_grow_join_and_meet(rt: HostRuntime) -> Result<(), Fail> {
     let alloc = rt.alloc();
-    let mut twos = set_of(alloc, &[0, 2, 4, 6, 8, 10, 12, 14, 16])?;
-    let mut threes = set_of(alloc, &[0, 3, 6, 9, 12, 15])?;
-    for gone in [0, 4, 6, 16] {
-        twos.remove(gone);
-        threes.remove(gone);
-    }
-    put(&mut twos, 15)?;
-    put(&mut twos, 18)?;
-    put(&mut threes, 18)?;
-    assert_eq!(rt; numbers_of(alloc, &twos)?.as_slice(), [2, 8, 10, 12, 14, 15, 18].as_slice());
-    assert_eq!(rt; numbers_of(alloc, &threes)?.as_slice(), [3, 9, 12, 15, 18].as_slice());
-    for both in [twos.union(&threes)?, threes.union(&twos)?] {
-        assert_eq!(rt; both.len(), 9);
-        assert_eq!(rt;
-            numbers_of(alloc, &both)?.as_slice(),
-            [2, 3, 8, 9, 10, 12, 14, 15, 18].as_slice()
-        );
-    }
-    for common in [twos.intersect(&threes)?, threes.intersect(&twos)?] {
-        assert_eq!(rt; common.len(), 3);
-        assert_eq!(rt; numbers_of(alloc, &common)?.as_slice(), [12, 15, 18].as_slice());
-    }
+    let twos = twos(alloc)?;
+    let threes = threes(alloc)?;
+    assert!(rt; lists(alloc, &twos, &[2, 8, 10, 12, 14, 15, 18])?);
+    assert!(rt; lists(alloc, &threes, &[3, 9, 12, 15, 18])?);
+    let both = twos.union(&threes)?;
+    assert!(rt; lists(alloc, &both, &[2, 3, 8, 9, 10, 12, 14, 15, 18])?);
+    let common = twos.intersect(&threes)?;
+    assert!(rt; lists(alloc, &common, &[12, 15, 18])?);
+    let common = threes.intersect(&twos)?;
+    assert!(rt; lists(alloc, &common, &[12, 15, 18])?);
     Ok(())
 }
 
