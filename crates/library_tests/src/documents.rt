@@ -16,16 +16,6 @@ fn remove(rt: &impl Abort, alloc: Global, index: &mut Index, name: &[u8]) -> Res
     Ok(())
 }
 
-fn expect_document(rt: &impl Abort, index: &Index, number: u32, name: &[u8], body: &[u8]) {
-    match index.document(number) {
-        Some((found, text)) => {
-            assert_eq!(rt; found.as_bytes(), name);
-            assert_eq!(rt; text.as_bytes(), body);
-        }
-        None => assert!(rt; false, "no document {number}"),
-    }
-}
-
 #[test]
 fn names(rt: HostRuntime) -> Result<(), Fail> {
     let alloc = rt.alloc();
@@ -92,46 +82,6 @@ fn bodies(rt: HostRuntime) -> Result<(), Fail> {
 }
 
 #[test]
-fn a_put_replaces_and_a_remove_takes_away(rt: HostRuntime) -> Result<(), Fail> {
-    let alloc = rt.alloc();
-    let mut index = Index::new(alloc);
-    assert_eq!(rt; index.version(), 0);
-    assert_eq!(rt; index.documents(), 0);
-    put(&rt, alloc, &mut index, b"f", b"old")?;
-    expect_document(&rt, &index, 1, b"f", b"old");
-    put(&rt, alloc, &mut index, b"f", b"new")?;
-    assert!(rt; index.document(1).is_none());
-    expect_document(&rt, &index, 2, b"f", b"new");
-    put(&rt, alloc, &mut index, b"g", b"x")?;
-    assert_eq!(rt; index.documents(), 2);
-    remove(&rt, alloc, &mut index, b"f")?;
-    remove(&rt, alloc, &mut index, b"absent")?;
-    assert_eq!(rt; index.version(), 5);
-    assert_eq!(rt; index.documents(), 1);
-    assert!(rt; index.document(2).is_none());
-    assert!(rt; index.document(4).is_none());
-    assert!(rt; index.document(6).is_none());
-    expect_document(&rt, &index, 3, b"g", b"x");
-    assert_eq!(rt; index.number(&Name::new(alloc, b"g")?), Some(3));
-    assert_eq!(rt; index.number(&Name::new(alloc, b"f")?), None);
-    Ok(())
-}
-
-#[test]
-fn numbers_by_the_bytes_of_names(rt: HostRuntime) -> Result<(), Fail> {
-    let alloc = rt.alloc();
-    let mut index = Index::new(alloc);
-    for name in [b"b".as_slice(), b"a".as_slice(), b"B".as_slice()] {
-        put(&rt, alloc, &mut index, name, b"hit")?;
-    }
-    assert_eq!(rt;
-        index.numbers_by_name(alloc)?.as_slice(),
-        [3, 2, 1].as_slice()
-    );
-    Ok(())
-}
-
-#[test]
 fn commands_are_copied(rt: HostRuntime) -> Result<(), Fail> {
     let alloc = rt.alloc();
     let put = Command::Put(
@@ -155,11 +105,65 @@ fn commands_are_copied(rt: HostRuntime) -> Result<(), Fail> {
     Ok(())
 }
 
-fn expect_numbers(rt: &impl Abort, found: &posting::List, want: &[u32]) {
-    assert_eq!(rt; found.len(), want.len());
-    for number in want {
-        assert!(rt; found.has(*number), "without {number}");
+/// An index of these commands, with bars between them: a name, a space and a text for a put, and a minus
+/// before the name for a remove.
+fn index_of(rt: &impl Abort, alloc: Global, commands: &[u8]) -> Result<Index, Fail> {
+    let mut index = Index::new(alloc);
+    for command in commands.split(|b| *b == b'|') {
+        match command.iter().position(|b| *b == b' ') {
+            Some(at) => put(rt, alloc, &mut index, &command[..at], &command[at + 1..])?,
+            None if command.is_empty() => {}
+            None => remove(rt, alloc, &mut index, &command[1..])?,
+        }
     }
+    Ok(index)
+}
+
+#[test]
+fn a_put_replaces_and_a_remove_takes_away(rt: HostRuntime) -> Result<(), Fail> {
+    let alloc = rt.alloc();
+    let all = b"f old|f new|g x|-f|-absent".as_slice();
+    for (commands, version, documents, number, text) in [
+        (b"".as_slice(), 0, 0, 1, None),
+        (b"f old".as_slice(), 1, 1, 1, Some(b"old".as_slice())),
+        (b"f old|f new".as_slice(), 2, 1, 1, None),
+        (b"f old|f new".as_slice(), 2, 1, 2, Some(b"new".as_slice())),
+        (all, 5, 1, 2, None),
+        (all, 5, 1, 3, Some(b"x".as_slice())),
+        (all, 5, 1, 4, None),
+        (all, 5, 1, 6, None),
+    ] {
+        let index = index_of(&rt, alloc, commands)?;
+        assert_eq!(rt; index.version(), version, "of {:?}", commands);
+        assert_eq!(rt;
+            index.commands().len(),
+            version as usize,
+            "of {:?}",
+            commands
+        );
+        assert_eq!(rt; index.documents(), documents, "of {:?}", commands);
+        assert_eq!(rt; text_at(&index, number), text, "of {:?}", commands);
+    }
+    Ok(())
+}
+
+/// The text of the document with the number.
+fn text_at(index: &Index, number: u32) -> Option<&[u8]> {
+    match index.document(number) {
+        Some((_, body)) => Some(body.as_bytes()),
+        None => None,
+    }
+}
+
+#[test]
+fn numbers_by_the_bytes_of_names(rt: HostRuntime) -> Result<(), Fail> {
+    let alloc = rt.alloc();
+    let index = index_of(&rt, alloc, b"b hit|a hit|B hit")?;
+    let numbers = index.numbers_by_name(alloc)?;
+    assert_eq!(rt; numbers.as_slice(), [3, 2, 1].as_slice());
+    assert_eq!(rt; index.number(&Name::new(alloc, b"a")?), Some(2));
+    assert_eq!(rt; index.number(&Name::new(alloc, b"A")?), None);
+    Ok(())
 }
 
 fn query(bytes: [u8; 3]) -> Query {
@@ -169,40 +173,56 @@ fn query(bytes: [u8; 3]) -> Query {
 #[test]
 fn candidates_of_trigrams(rt: HostRuntime) -> Result<(), Fail> {
     let alloc = rt.alloc();
-    let mut index = Index::new(alloc);
-    put(&rt, alloc, &mut index, b"f", b"abc")?;
-    put(&rt, alloc, &mut index, b"g", b"abcd")?;
-    expect_numbers(&rt, index.live(), &[1, 2]);
-    let abc = query(*b"abc");
-    let bcd = query(*b"bcd");
-    expect_numbers(&rt, &index.candidates(alloc, &abc)?, &[1, 2]);
-    expect_numbers(&rt, &index.candidates(alloc, &bcd)?, &[2]);
-    expect_numbers(&rt, &index.candidates(alloc, &Query::Any)?, &[1, 2]);
-    put(&rt, alloc, &mut index, b"g", b"abc")?;
-    expect_numbers(&rt, index.live(), &[1, 3]);
-    expect_numbers(&rt, &index.candidates(alloc, &abc)?, &[1, 3]);
-    expect_numbers(&rt, &index.candidates(alloc, &bcd)?, &[]);
-    remove(&rt, alloc, &mut index, b"f")?;
-    expect_numbers(&rt, index.live(), &[3]);
-    expect_numbers(&rt, &index.candidates(alloc, &abc)?, &[3]);
+    let two = b"f abc|g abcd".as_slice();
+    let three = b"f abc|g abcd|g abc".as_slice();
+    for (commands, trigram, want) in [
+        (two, *b"abc", [1, 2].as_slice()),
+        (two, *b"bcd", [2].as_slice()),
+        (three, *b"abc", [1, 3].as_slice()),
+        (three, *b"bcd", [].as_slice()),
+        (b"f abc|g abcd|g abc|-f".as_slice(), *b"abc", [3].as_slice()),
+    ] {
+        let index = index_of(&rt, alloc, commands)?;
+        let found = index.candidates(alloc, &query(trigram))?;
+        let numbers: Vec<u32> = found.numbers().collect(alloc)?;
+        assert_eq!(rt; numbers.as_slice(), want, "of {:?}", commands);
+    }
     Ok(())
+}
+
+#[test]
+fn live_numbers(rt: HostRuntime) -> Result<(), Fail> {
+    let alloc = rt.alloc();
+    let index = index_of(&rt, alloc, b"f abc|g abcd|g abc")?;
+    let numbers: Vec<u32> = index.live().numbers().collect(alloc)?;
+    assert_eq!(rt; numbers.as_slice(), [1, 3].as_slice());
+    Ok(())
+}
+
+/// Two documents with `xyz` among thirty others.
+fn two_among_many(rt: &impl Abort, alloc: Global) -> Result<Index, Fail> {
+    let mut index = Index::new(alloc);
+    put(rt, alloc, &mut index, b"z", b"xyz")?;
+    for i in 0..30u8 {
+        put(rt, alloc, &mut index, &[b'a', b'0' + i], b"hay")?;
+    }
+    put(rt, alloc, &mut index, b"a", b"xyz")?;
+    Ok(index)
+}
+
+fn chosen(alloc: Global, index: &Index, trigram: [u8; 3]) -> Result<Vec<u32>, Fail> {
+    let found = index.candidates(alloc, &query(trigram))?;
+    Ok(index.chosen_by_name(alloc, &found)?)
 }
 
 #[test]
 fn chosen_numbers_by_name(rt: HostRuntime) -> Result<(), Fail> {
     let alloc = rt.alloc();
-    let mut index = Index::new(alloc);
-    put(&rt, alloc, &mut index, b"z", b"xyz")?;
-    for i in 0..30u8 {
-        put(&rt, alloc, &mut index, &[b'a', b'0' + i], b"hay")?;
-    }
-    put(&rt, alloc, &mut index, b"a", b"xyz")?;
-    let few = index.candidates(alloc, &query(*b"xyz"))?;
+    let index = two_among_many(&rt, alloc)?;
     assert_eq!(rt;
-        index.chosen_by_name(alloc, &few)?.as_slice(),
+        chosen(alloc, &index, *b"xyz")?.as_slice(),
         [32, 1].as_slice()
     );
-    let most = index.candidates(alloc, &query(*b"hay"))?;
-    assert_eq!(rt; index.chosen_by_name(alloc, &most)?.len(), 30);
+    assert_eq!(rt; chosen(alloc, &index, *b"hay")?.len(), 30);
     Ok(())
 }

@@ -128,19 +128,21 @@ fn threes(alloc: Global) -> Result<List, AllocError> {
     Ok(set)
 }
 
+fn joined(alloc: Global) -> Result<bool, AllocError> {
+    let both = twos(alloc)?.union(&threes(alloc)?)?;
+    lists(alloc, &both, &[2, 3, 8, 9, 10, 12, 14, 15, 18])
+}
+
+fn met(alloc: Global) -> Result<bool, AllocError> {
+    let common = twos(alloc)?.intersect(&threes(alloc)?)?;
+    lists(alloc, &common, &[12, 15, 18])
+}
+
 #[test]
 fn sets_that_lost_numbers_grow_join_and_meet(rt: HostRuntime) -> Result<(), Fail> {
     let alloc = rt.alloc();
-    let twos = twos(alloc)?;
-    let threes = threes(alloc)?;
-    assert!(rt; lists(alloc, &twos, &[2, 8, 10, 12, 14, 15, 18])?);
-    assert!(rt; lists(alloc, &threes, &[3, 9, 12, 15, 18])?);
-    let both = twos.union(&threes)?;
-    assert!(rt; lists(alloc, &both, &[2, 3, 8, 9, 10, 12, 14, 15, 18])?);
-    let common = twos.intersect(&threes)?;
-    assert!(rt; lists(alloc, &common, &[12, 15, 18])?);
-    let common = threes.intersect(&twos)?;
-    assert!(rt; lists(alloc, &common, &[12, 15, 18])?);
+    assert!(rt; joined(alloc)?);
+    assert!(rt; met(alloc)?);
     Ok(())
 }
 
