@@ -26,30 +26,39 @@ def files_below(folder):
                 yield path
 
 
-def make(folder, target, limit=MAX_SCRIPT):
-    """Copies the files that may be documents below `target`/files, and writes `target`/puts. Returns what was taken."""
+def make(folder, target):
+    """Copies the files that may be documents below `target`/files, and writes the script that stores them as
+    `target`/puts: with their bytes, or with `load` lines where these would make the script too long. Returns what
+    was taken."""
     base = os.fsencode(os.path.abspath(folder))
-    copies = os.path.join(os.fsencode(target), b"files")
-    taken = {"files": 0, "bytes": 0, "refused": 0}
-    size = 0
+    copies = os.path.join(os.fsencode(os.path.abspath(target)), b"files")
+    taken = {"files": 0, "bytes": 0, "refused": 0, "loaded": False}
+    names = []
+    for path in files_below(folder):
+        name = os.path.relpath(path, base)
+        with open(path, "rb") as file:
+            body = file.read()
+        if not is_name(name) or not is_body(body) or taken["files"] == MAX_COMMANDS:
+            taken["refused"] += 1
+            continue
+        copy = os.path.join(copies, name)
+        os.makedirs(os.path.dirname(copy), exist_ok=True)
+        with open(copy, "wb") as file:
+            file.write(body)
+        names.append((name, copy))
+        taken["files"] += 1
+        taken["bytes"] += len(body)
+    taken["loaded"] = taken["bytes"] + 300 * len(names) > MAX_SCRIPT
     with open(os.path.join(target, "puts"), "wb") as script:
-        for path in files_below(folder):
-            name = os.path.relpath(path, base)
-            with open(path, "rb") as file:
-                body = file.read()
-            put = b"put %s %d\n%s\n" % (name, len(body), body)
-            if not is_name(name) or not is_body(body) or size + len(put) > limit or taken["files"] == MAX_COMMANDS:
-                taken["refused"] += 1
-                continue
-            size += len(put)
-            script.write(put)
-            copy = os.path.join(copies, name)
-            os.makedirs(os.path.dirname(copy), exist_ok=True)
-            with open(copy, "wb") as file:
-                file.write(body)
-            taken["files"] += 1
-            taken["bytes"] += len(body)
+        for name, copy in names:
+            script.write(b"load %s %s\n" % (name, copy) if taken["loaded"] else put(name, copy))
     return taken
+
+
+def put(name, copy):
+    with open(copy, "rb") as file:
+        body = file.read()
+    return b"put %s %d\n%s\n" % (name, len(body), body)
 
 
 if __name__ == "__main__":

@@ -1,7 +1,9 @@
-"""How time and memory grow with the number of documents: python3 bench/growth.py.
+"""How time and memory grow with the number of documents: python3 bench/growth.py [FOLDER].
 
-Scripts of 2,000 and of 20,000 documents of about 2 KB: to the first publish, one search, and the replacement of one
-document after each publish.
+Scripts of 2,000, 10,000 and 20,000 documents of about 2 KB, all of the same words: the time to the first publish, of
+one search, and of one document added, removed or replaced after each publish. With a FOLDER, the last three for its
+files too. What the changes are measured against has two publishes with a command between them, so that both of the
+program's indexes hold all documents before the first change.
 """
 import os
 import random
@@ -9,9 +11,11 @@ import sys
 import tempfile
 
 sys.path.insert(0, os.path.dirname(os.path.abspath(__file__)))
+import corpus
 import timed
 
 PROGRAM = os.path.join(os.path.dirname(os.path.abspath(__file__)), "..", "crates", "program", "out", "program")
+MOST_CHANGES = 4000
 WORDS = "alpha beta gamma delta int return static void char const struct if else while for memory index search line".split()
 
 
@@ -20,28 +24,61 @@ def body(seed):
     return "".join(" ".join(pick.choice(WORDS) + str(pick.randrange(50)) for _ in range(6)) + "\n" for _ in range(45)).encode()
 
 
-def put(name, seed):
-    text = body(seed)
-    return b"put d%06d %d\n%s\n" % (name, len(text), text)
+def put(name, text):
+    return b"put %s %d\n%s\n" % (name, len(text), text)
 
 
 def run(target, parts):
     path = os.path.join(target, "script")
     with open(path, "wb") as script:
         script.writelines(parts)
-    return min((timed.run([PROGRAM, "--max-commands", "1000000", path]) for _ in range(2)), key=lambda r: r["seconds"])
+    return min((timed.run([PROGRAM, "--max-commands", "1000000", path]) for _ in range(5)), key=lambda r: r["seconds"])
+
+
+def times_of_changes(target, puts, names, bodies):
+    """Milliseconds to add, to remove and to replace one of the documents, each with its publish. The bodies that come
+    are those of `bodies`, one for each of some names taken at random."""
+    puts = puts + [put(b"one-more", b"one more\n"), b"publish\n"]
+    whole = run(target, puts)["seconds"]
+    chosen = random.Random(1).sample(names, len(bodies))
+    added = [put(b"added/" + name, text) + b"publish\n" for name, text in zip(chosen, bodies)]
+    removed = [b"remove " + name + b"\npublish\n" for name in chosen]
+    replaced = [put(name, text) + b"publish\n" for name, text in zip(chosen, bodies)]
+    return [1000 * (run(target, puts + changes)["seconds"] - whole) / len(bodies) for changes in (added, removed, replaced)]
+
+
+def row_of(target, count):
+    names = [b"d%06d" % i for i in range(count)]
+    puts = [put(name, body(i)) for i, name in enumerate(names)] + [b"publish\n"]
+    base = run(target, puts)
+    searched = run(target, puts + [b"search memory7.*static3\n"] * 20)
+    search = 1000 * (searched["seconds"] - base["seconds"]) / 20
+    times = times_of_changes(target, puts, names, [body(count + i) for i in range(min(count // 2, MOST_CHANGES))])
+    return (count, base["seconds"], base["memory"] / 1e6, search, *times)
+
+
+def files_of(folder, target):
+    taken = corpus.make(folder, target)
+    names = [os.path.relpath(path, os.path.join(os.fsencode(target), b"files")) for path in corpus.files_below(os.path.join(target, "files"))]
+    with open(os.path.join(target, "puts"), "rb") as puts:
+        return taken, [puts.read(), b"publish\n"], names
 
 
 def main():
-    print("| documents | to the publish s | resident MB | one search ms | a replacement with its publish ms |")
-    print("|---|---|---|---|---|")
+    print("| documents | to the publish s | resident MB | one search ms | adding ms | removing ms | replacing ms |")
+    print("|---|---|---|---|---|---|---|")
     with tempfile.TemporaryDirectory() as target:
-        for count in (2000, 20000):
-            puts = [put(i, i) for i in range(count)] + [b"publish\n"]
-            base = run(target, puts)
-            searched = run(target, puts + [b"search memory7.*static3\n"] * 20)
-            replaced = run(target, puts + [put(i, count + i) + b"publish\n" for i in range(200)])
-            print("| %d | %.2f | %.0f | %.2f | %.2f |" % (count, base["seconds"], base["memory"] / 1e6, 1000 * (searched["seconds"] - base["seconds"]) / 20, 1000 * (replaced["seconds"] - base["seconds"]) / 200), flush=True)
+        for count in (2000, 10000, 20000):
+            print("| %d | %.2f | %.0f | %.2f | %.2f | %.2f | %.2f |" % row_of(target, count), flush=True)
+    if len(sys.argv) > 1:
+        with tempfile.TemporaryDirectory() as target:
+            taken, puts, names = files_of(sys.argv[1], target)
+            bodies = []
+            for name in random.Random(2).sample(names, len(names) // 2):
+                with open(os.path.join(os.fsencode(target), b"files", name), "rb") as file:
+                    bodies.append(file.read())
+            print("%(files)d files, %(bytes)d bytes:" % taken, end=" ")
+            print("adding %.2f ms, removing %.2f, replacing %.2f" % tuple(times_of_changes(target, puts, names, bodies)))
 
 
 main()

@@ -161,9 +161,14 @@ fn numbers_by_the_bytes_of_names(rt: HostRuntime) -> Result<(), Fail> {
     let index = index_of(&rt, alloc, b"b hit|a hit|B hit")?;
     let numbers = index.numbers_by_name(alloc)?;
     assert_eq!(rt; numbers.as_slice(), [3, 2, 1].as_slice());
-    assert_eq!(rt; index.number(&Name::new(alloc, b"a")?), Some(2));
-    assert_eq!(rt; index.number(&Name::new(alloc, b"A")?), None);
+    assert_eq!(rt; number_of(alloc, &index, b"a")?, Some(2));
+    assert_eq!(rt; number_of(alloc, &index, b"A")?, None);
     Ok(())
+}
+
+fn number_of(alloc: Global, index: &Index, name: &[u8]) -> Result<Option<u32>, Fail> {
+    let name = Name::new(alloc, name)?;
+    Ok(index.number(&name))
 }
 
 fn query(bytes: [u8; 3]) -> Query {
@@ -183,11 +188,15 @@ fn candidates_of_trigrams(rt: HostRuntime) -> Result<(), Fail> {
         (b"f abc|g abcd|g abc|-f".as_slice(), *b"abc", [3].as_slice()),
     ] {
         let index = index_of(&rt, alloc, commands)?;
-        let found = index.candidates(alloc, &query(trigram))?;
-        let numbers: Vec<u32> = found.numbers().collect(alloc)?;
+        let numbers = candidate_numbers(alloc, &index, trigram)?;
         assert_eq!(rt; numbers.as_slice(), want, "of {:?}", commands);
     }
     Ok(())
+}
+
+fn candidate_numbers(alloc: Global, index: &Index, trigram: [u8; 3]) -> Result<Vec<u32>, Fail> {
+    let found = index.candidates(alloc, &query(trigram))?;
+    Ok(found.numbers().collect(alloc)?)
 }
 
 #[test]

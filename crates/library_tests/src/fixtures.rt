@@ -7,7 +7,7 @@ use std::process::Abort;
 use std::test::Fail;
 
 /// The tree of one of these bytes, of which a byte 0 and a line feed are left out.
-pub fn set(bytes: &[u8]) -> Ere {
+pub(crate) fn set(bytes: &[u8]) -> Ere {
     let mut members = ByteSet::empty();
     for byte in bytes {
         if *byte != 0 && *byte != b'\n' {
@@ -18,12 +18,17 @@ pub fn set(bytes: &[u8]) -> Ere {
 }
 
 /// The tree of so many of the body.
-pub fn repeat(alloc: Global, body: Ere, least: u8, greatest: Option<u8>) -> Result<Ere, Fail> {
+pub(crate) fn repeat(
+    alloc: Global,
+    body: Ere,
+    least: u8,
+    greatest: Option<u8>,
+) -> Result<Ere, Fail> {
     Ok(Ere::Repeat(Box::new(alloc, body)?, least, greatest))
 }
 
 /// A document of this name and body.
-pub fn document(alloc: Global, name: &[u8], body: &[u8]) -> Result<(Name, Body), Fail> {
+pub(crate) fn document(alloc: Global, name: &[u8], body: &[u8]) -> Result<(Name, Body), Fail> {
     Ok((
         Name::new(alloc, name)?,
         Body::new(Vec::from_slice(alloc, body)?)?,
@@ -31,7 +36,7 @@ pub fn document(alloc: Global, name: &[u8], body: &[u8]) -> Result<(Name, Body),
 }
 
 /// Puts a document into the index, which has fewer than 1,000 commands.
-pub fn put(
+pub(crate) fn put(
     rt: &impl Abort,
     alloc: Global,
     index: &mut Index,

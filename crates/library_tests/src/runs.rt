@@ -108,252 +108,183 @@ fn expect_text(
     Ok(())
 }
 
+/// Each script has its text and its status, over a source that has nothing.
+fn expect_texts(
+    rt: &impl Abort,
+    alloc: Global,
+    stats: bool,
+    cases: &[(&[u8], &[u8], u8)],
+) -> Result<(), Fail> {
+    let form = Form {
+        commands: 65_536,
+        stats,
+    };
+    for (script, want, code) in cases {
+        let mut source = source_over(&[], b"", 0);
+        expect_text(rt, alloc, &mut source, form, script, want, *code)?;
+    }
+    Ok(())
+}
+
 #[test]
 fn patterns(rt: HostRuntime) -> Result<(), Fail> {
     let alloc = rt.alloc();
-    let cases = [
+    let cases: [(&[u8], &[u8], u8); 8] = [
         // An anchor in the middle
         (
-            b"put f 10\na^b\nab\ne$f\npublish\nsearch a^b\nsearch e$f\n".as_slice(),
-            b"search 1 version 1 lines 0\nsearch 2 version 1 lines 0\n".as_slice(),
+            b"put f 10\na^b\nab\ne$f\npublish\nsearch a^b\nsearch e$f\n",
+            b"search 1 version 1 lines 0\nsearch 2 version 1 lines 0\n",
             1,
         ),
         // An anchor in a group
         (
-            b"put f 13\nabcdef\ncdefab\npublish\nsearch (^ab)\nsearch (ab$)\n".as_slice(),
-            b"search 1 version 1 lines 1\nf:1:abcdef\nsearch 2 version 1 lines 1\nf:2:cdefab\n".as_slice(),
+            b"put f 13\nabcdef\ncdefab\npublish\nsearch (^ab)\nsearch (ab$)\n",
+            b"search 1 version 1 lines 1\nf:1:abcdef\nsearch 2 version 1 lines 1\nf:2:cdefab\n",
             0,
         ),
         // The bracket's odd places
         (
-            b"put f 9\n]\n-\n%\n@\na\npublish\nsearch []a]\nsearch [^]-]\nsearch [%--]\nsearch [--@]\n".as_slice(),
-            b"search 1 version 1 lines 2\nf:1:]\nf:5:a\nsearch 2 version 1 lines 3\nf:3:%\nf:4:@\nf:5:a\nsearch 3 version 1 lines 2\nf:2:-\nf:3:%\nsearch 4 version 1 lines 2\nf:2:-\nf:4:@\n".as_slice(),
+            b"put f 9\n]\n-\n%\n@\na\npublish\nsearch []a]\nsearch [^]-]\nsearch [%--]\nsearch [--@]\n",
+            b"search 1 version 1 lines 2\nf:1:]\nf:5:a\nsearch 2 version 1 lines 3\nf:3:%\nf:4:@\nf:5:a\nsearch 3 version 1 lines 2\nf:2:-\nf:3:%\nsearch 4 version 1 lines 2\nf:2:-\nf:4:@\n",
             0,
         ),
         // Interval limits
         (
-            b"put f 8\nb\nab\naab\npublish\nsearch ^a{0}b\nsearch ^a{2,}b\nsearch a{256}\nsearch a{2,1}\nsearch a{255}\n".as_slice(),
-            b"search 1 version 1 lines 1\nf:1:b\nsearch 2 version 1 lines 1\nf:3:aab\nsearch 3 refused: bad interval at 1\nsearch 4 refused: bad interval at 1\nsearch 5 version 1 lines 0\n".as_slice(),
+            b"put f 8\nb\nab\naab\npublish\nsearch ^a{0}b\nsearch ^a{2,}b\nsearch a{256}\nsearch a{2,1}\nsearch a{255}\n",
+            b"search 1 version 1 lines 1\nf:1:b\nsearch 2 version 1 lines 1\nf:3:aab\nsearch 3 refused: bad interval at 1\nsearch 4 refused: bad interval at 1\nsearch 5 version 1 lines 0\n",
             2,
         ),
         // Ordinary braces and parentheses
         (
-            b"put f 15\n{x\na)\nf {\nf() {\npublish\nsearch {x\nsearch a)\nsearch f() {\nsearch f\\(\\) \\{\n".as_slice(),
-            b"search 1 version 1 lines 1\nf:1:{x\nsearch 2 version 1 lines 1\nf:2:a)\nsearch 3 version 1 lines 1\nf:3:f {\nsearch 4 version 1 lines 1\nf:4:f() {\n".as_slice(),
+            b"put f 15\n{x\na)\nf {\nf() {\npublish\nsearch {x\nsearch a)\nsearch f() {\nsearch f\\(\\) \\{\n",
+            b"search 1 version 1 lines 1\nf:1:{x\nsearch 2 version 1 lines 1\nf:2:a)\nsearch 3 version 1 lines 1\nf:3:f {\nsearch 4 version 1 lines 1\nf:4:f() {\n",
             0,
         ),
         // Empty alternatives, repeated duplication, the empty pattern
         (
-            b"put f 3\nb\nc\npublish\nsearch ()\nsearch (|a)b\nsearch a**\nsearch\nsearch *a\nsearch ^*\nsearch (a\n".as_slice(),
-            b"search 1 version 1 lines 2\nf:1:b\nf:2:c\nsearch 2 version 1 lines 1\nf:1:b\nsearch 3 version 1 lines 2\nf:1:b\nf:2:c\nsearch 4 version 1 lines 2\nf:1:b\nf:2:c\nsearch 5 refused: nothing to repeat at 0\nsearch 6 refused: nothing to repeat at 1\nsearch 7 refused: group not closed at 0\n".as_slice(),
+            b"put f 3\nb\nc\npublish\nsearch ()\nsearch (|a)b\nsearch a**\nsearch\nsearch *a\nsearch ^*\nsearch (a\n",
+            b"search 1 version 1 lines 2\nf:1:b\nf:2:c\nsearch 2 version 1 lines 1\nf:1:b\nsearch 3 version 1 lines 2\nf:1:b\nf:2:c\nsearch 4 version 1 lines 2\nf:1:b\nf:2:c\nsearch 5 refused: nothing to repeat at 0\nsearch 6 refused: nothing to repeat at 1\nsearch 7 refused: group not closed at 0\n",
             2,
         ),
         // Refused brackets and escapes
         (
-            b"search [[:foo:]]\nsearch [a-m-o]\nsearch [z-a]\nsearch \\w\nsearch a\\\nsearch [[:alpha:]\n".as_slice(),
-            b"search 1 refused: unknown class at 1\nsearch 2 refused: bad range at 4\nsearch 3 refused: bad range at 2\nsearch 4 refused: bad escape at 0\nsearch 5 refused: bad escape at 1\nsearch 6 refused: bracket not closed at 0\n".as_slice(),
+            b"search [[:foo:]]\nsearch [a-m-o]\nsearch [z-a]\nsearch \\w\nsearch a\\\nsearch [[:alpha:]\n",
+            b"search 1 refused: unknown class at 1\nsearch 2 refused: bad range at 4\nsearch 3 refused: bad range at 2\nsearch 4 refused: bad escape at 0\nsearch 5 refused: bad escape at 1\nsearch 6 refused: bracket not closed at 0\n",
             2,
         ),
         // Stars upon stars
         (
-            b"put f 10\naaab\nab\nac\npublish\nsearch ^a**************************************************************b$\n".as_slice(),
-            b"search 1 version 1 lines 2\nf:1:aaab\nf:2:ab\n".as_slice(),
+            b"put f 10\naaab\nab\nac\npublish\nsearch ^a**************************************************************b$\n",
+            b"search 1 version 1 lines 2\nf:1:aaab\nf:2:ab\n",
             0,
         ),
     ];
-    for (script, want, code) in cases {
-        expect_text(
-            &rt,
-            alloc,
-            &mut source_over(&[], b"", 0),
-            PLAIN,
-            script,
-            want,
-            code,
-        )?;
-    }
-    Ok(())
+    expect_texts(&rt, alloc, false, &cases)
 }
 
 #[test]
 fn documents_and_versions(rt: HostRuntime) -> Result<(), Fail> {
     let alloc = rt.alloc();
-    let cases = [
+    let cases: [(&[u8], &[u8], u8); 7] = [
         // The first script of the README
         (
-            b"put a.txt 11\nhello world\npublish\nsearch o w\n".as_slice(),
-            b"search 1 version 1 lines 1\na.txt:1:hello world\n".as_slice(),
+            b"put a.txt 11\nhello world\npublish\nsearch o w\n",
+            b"search 1 version 1 lines 1\na.txt:1:hello world\n",
             0,
         ),
         // Empty lines, and no last line end
         (
-            b"put a 0\n\nput b 1\n\n\nput c 4\na\n\nb\npublish\nsearch ^$\n".as_slice(),
-            b"search 1 version 3 lines 2\nb:1:\nc:2:\n".as_slice(),
+            b"put a 0\n\nput b 1\n\n\nput c 4\na\n\nb\npublish\nsearch ^$\n",
+            b"search 1 version 3 lines 2\nb:1:\nc:2:\n",
             0,
         ),
         // Replacement, and a put that isn't seen before its publish
         (
-            b"put f 3\nold\npublish\nsearch old\nsync\nput f 3\nnew\nsearch old\nsync\npublish\nsearch old\nsearch new\n".as_slice(),
-            b"search 1 version 1 lines 1\nf:1:old\nsearch 2 version 1 lines 1\nf:1:old\nsearch 3 version 2 lines 0\nsearch 4 version 2 lines 1\nf:1:new\n".as_slice(),
+            b"put f 3\nold\npublish\nsearch old\nsync\nput f 3\nnew\nsearch old\nsync\npublish\nsearch old\nsearch new\n",
+            b"search 1 version 1 lines 1\nf:1:old\nsearch 2 version 1 lines 1\nf:1:old\nsearch 3 version 2 lines 0\nsearch 4 version 2 lines 1\nf:1:new\n",
             0,
         ),
         // Order by the bytes of names
         (
-            b"put b 3\nhit\nput a 3\nhit\nput B 3\nhit\npublish\nsearch hit\n".as_slice(),
-            b"search 1 version 3 lines 3\nB:1:hit\na:1:hit\nb:1:hit\n".as_slice(),
+            b"put b 3\nhit\nput a 3\nhit\nput B 3\nhit\npublish\nsearch hit\n",
+            b"search 1 version 3 lines 3\nB:1:hit\na:1:hit\nb:1:hit\n",
             0,
         ),
         // Byte 0 in a pattern
-        (
-            b"search a\x00\n".as_slice(),
-            b"search 1 refused: bad byte at 1\n".as_slice(),
-            2,
-        ),
+        (b"search a\x00\n", b"search 1 refused: bad byte at 1\n", 2),
         // An empty script
-        (b"".as_slice(), b"".as_slice(), 1),
+        (b"", b"", 1),
         // A search before any publish
-        (
-            b"search x".as_slice(),
-            b"search 1 version 0 lines 0\n".as_slice(),
-            1,
-        ),
+        (b"search x", b"search 1 version 0 lines 0\n", 1),
     ];
-    for (script, want, code) in cases {
-        expect_text(
-            &rt,
-            alloc,
-            &mut source_over(&[], b"", 0),
-            PLAIN,
-            script,
-            want,
-            code,
-        )?;
-    }
-    Ok(())
+    expect_texts(&rt, alloc, false, &cases)
 }
 
 #[test]
 fn faults_of_puts(rt: HostRuntime) -> Result<(), Fail> {
     let alloc = rt.alloc();
-    let cases = [
+    let cases: [(&[u8], &[u8], u8); 11] = [
+        (b"put f x\nsearch x", b"line 1 refused: bad put\n", 2),
+        (b"put", b"line 1 refused: bad put\n", 2),
+        (b"pu", b"line 1 refused: bad line\n", 2),
+        (b"put a 1234567890", b"line 1 refused: bad put\n", 2),
+        (b"put 5", b"line 1 refused: bad put\n", 2),
+        (b"put a 999999999\nx", b"line 1 refused: truncated\n", 2),
+        (b"put a 0", b"line 1 refused: truncated\n", 2),
+        (b"put a 0\n", b"", 1),
+        (b"put \xC3\xA9 1\nx", b"", 1),
+        (b"put a 0\nx", b"line 1 refused: body not closed\n", 2),
         (
-            b"put f x\nsearch x".as_slice(),
-            b"line 1 refused: bad put\n".as_slice(),
-            2,
-        ),
-        (
-            b"put".as_slice(),
-            b"line 1 refused: bad put\n".as_slice(),
-            2,
-        ),
-        (
-            b"pu".as_slice(),
-            b"line 1 refused: bad line\n".as_slice(),
-            2,
-        ),
-        (
-            b"put a 1234567890".as_slice(),
-            b"line 1 refused: bad put\n".as_slice(),
-            2,
-        ),
-        (
-            b"put 5".as_slice(),
-            b"line 1 refused: bad put\n".as_slice(),
-            2,
-        ),
-        (
-            b"put a 999999999\nx".as_slice(),
-            b"line 1 refused: truncated\n".as_slice(),
-            2,
-        ),
-        (
-            b"put a 0".as_slice(),
-            b"line 1 refused: truncated\n".as_slice(),
-            2,
-        ),
-        (b"put a 0\n".as_slice(), b"".as_slice(), 1),
-        (b"put \xC3\xA9 1\nx".as_slice(), b"".as_slice(), 1),
-        (
-            b"put a 0\nx".as_slice(),
-            b"line 1 refused: body not closed\n".as_slice(),
-            2,
-        ),
-        (
-            b"put a b 1\nx\npub".as_slice(),
-            b"line 1 refused: bad byte in name\nline 3 refused: bad line\n".as_slice(),
+            b"put a b 1\nx\npub",
+            b"line 1 refused: bad byte in name\nline 3 refused: bad line\n",
             2,
         ),
     ];
-    for (script, want, code) in cases {
-        expect_text(
-            &rt,
-            alloc,
-            &mut source_over(&[], b"", 0),
-            PLAIN,
-            script,
-            want,
-            code,
-        )?;
-    }
-    Ok(())
+    expect_texts(&rt, alloc, false, &cases)
 }
 
 #[test]
 fn candidates(rt: HostRuntime) -> Result<(), Fail> {
     let alloc = rt.alloc();
-    let cases = [
+    let cases: [(&[u8], &[u8], u8); 6] = [
         // All trigrams without a match
         (
-            b"put a 18\nGoogle Code Search\nput b 13\nSearch Google\nput c 3\nGoo\npublish\nsearch Google.*Search\n".as_slice(),
-            b"search 1 version 3 lines 1 candidates 2 of 3\na:1:Google Code Search\n".as_slice(),
+            b"put a 18\nGoogle Code Search\nput b 13\nSearch Google\nput c 3\nGoo\npublish\nsearch Google.*Search\n",
+            b"search 1 version 3 lines 1 candidates 2 of 3\na:1:Google Code Search\n",
             0,
         ),
         // Matches and trigrams stop at lines
         (
-            b"put f 7\nabc\ndef\npublish\nsearch abc.def\nsearch cde\n".as_slice(),
-            b"search 1 version 1 lines 0 candidates 1 of 1\nsearch 2 version 1 lines 0 candidates 0 of 1\n".as_slice(),
+            b"put f 7\nabc\ndef\npublish\nsearch abc.def\nsearch cde\n",
+            b"search 1 version 1 lines 0 candidates 1 of 1\nsearch 2 version 1 lines 0 candidates 0 of 1\n",
             1,
         ),
         // The empty byte set
         (
-            b"put f 1\na\npublish\nsearch [^\x01-\xFF]\n".as_slice(),
-            b"search 1 version 1 lines 0 candidates 0 of 1\n".as_slice(),
+            b"put f 1\na\npublish\nsearch [^\x01-\xFF]\n",
+            b"search 1 version 1 lines 0 candidates 0 of 1\n",
             1,
         ),
         // A repeated byte between trigrams
         (
-            b"put a 6\nabbcdd\nput b 4\nabcd\nput c 6\nabcxbd\npublish\nsearch ab+cd+\n".as_slice(),
-            b"search 1 version 3 lines 2 candidates 2 of 3\na:1:abbcdd\nb:1:abcd\n".as_slice(),
+            b"put a 6\nabbcdd\nput b 4\nabcd\nput c 6\nabcxbd\npublish\nsearch ab+cd+\n",
+            b"search 1 version 3 lines 2 candidates 2 of 3\na:1:abbcdd\nb:1:abcd\n",
             0,
         ),
         // Sets of 16 and of 17 bytes
         (
-            b"put f 3\nzzz\npublish\nsearch [a-p]bc\nsearch [a-q]bc\n".as_slice(),
-            b"search 1 version 1 lines 0 candidates 0 of 1\nsearch 2 version 1 lines 0 candidates 1 of 1\n".as_slice(),
+            b"put f 3\nzzz\npublish\nsearch [a-p]bc\nsearch [a-q]bc\n",
+            b"search 1 version 1 lines 0 candidates 0 of 1\nsearch 2 version 1 lines 0 candidates 1 of 1\n",
             1,
         ),
         // Names as lines
         (
-            b"put src/a.c 8\nint main\nput src/a.h 4\nmain\npublish\nsearchin \\.c$ main\n".as_slice(),
-            b"search 1 version 2 lines 1 candidates 2 of 2\nsrc/a.c:1:int main\n".as_slice(),
+            b"put src/a.c 8\nint main\nput src/a.h 4\nmain\npublish\nsearchin \\.c$ main\n",
+            b"search 1 version 2 lines 1 candidates 2 of 2\nsrc/a.c:1:int main\n",
             0,
         ),
     ];
-    for (script, want, code) in cases {
-        expect_text(
-            &rt,
-            alloc,
-            &mut source_over(&[], b"", 0),
-            Form {
-                commands: 65_536,
-                stats: true,
-            },
-            script,
-            want,
-            code,
-        )?;
-    }
-    Ok(())
+    expect_texts(&rt, alloc, true, &cases)
 }
 
 #[test]

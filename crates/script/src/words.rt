@@ -25,6 +25,7 @@ pub fn cut_at_last(byte: u8, text: &[u8]) -> Option<(&[u8], &[u8])>
 /// The first line of a text that isn't empty.
 #[derive(Clone, Copy, Debug)]
 pub struct FirstLine<'a> {
+    /// The line, without its line feed.
     pub line: &'a [u8],
     /// What follows the line's line feed, where it has one.
     pub rest: Option<&'a [u8]>,

@@ -1,12 +1,13 @@
 -- Which item an entry can belong to: only a publish is published, and only a search is found.
-use Rattle.std.proofs.Common.{◌≡◌, ℕ, ◌+◌, List, Option, sym, ap, ◌∙◌, length}
+use Rattle.std.proofs.Common.{◌≡◌, ℕ, ◌+◌, Bool, true, false, List, Option, refl, sym, ap, ◌∙◌, length}
+use Rattle.std.proofs.lemmas.Bool.{false≢true}
 use Rattle.index.specs.declared.command.Command.{Command}
 use Rattle.search.specs.Pattern.{Pattern}
 use Rattle.search.specs.Scan.{Reply}
 use Rattle.script.specs.Items.{Item, put, load, remove, publish, search, search_in, sync, bad_line, bad_put, truncated, body_not_closed}
 use Rattle.tsearch.specs.declared.items.Counts.{Counts}
 use Rattle.tsearch.specs.declared.transcript.Entry.{Entry}
-use Rattle.tsearch.specs.declared.transcript.Entry.TheVariants.{Published, Found}
+use Rattle.tsearch.specs.declared.transcript.Entry.TheVariants.{Accepted, Refused, Published, Found, SearchRefused}
 use Rattle.tsearch.specs.Legal.{IsNamed, bad_name, no_memory, named, HasBody, bad_body, with_body, IsRoomFor, full, accepted, IsPut, HasLoaded, failed, loaded_body, IsRemove, no_such_file, is_there, IsPublish}
 use Rattle.tsearch.specs.Legal as legal
 use Rattle.tsearch.specs.Shelf.{Shelf}
@@ -17,29 +18,41 @@ use Rattle.tsearch.specs.Steps as now
 same_answer : {number number' reader reader' turn turn' : ℕ} {answer answer' : Reply} → Found number reader turn answer ≡ Found number' reader' turn' answer' → answer.version ≡ answer'.version
 same_answer {answer = answer} {answer' = answer'} e = let same : answer ≡ answer' = cc in ap (λ a. a.version) same
 
+abbrev tells : Entry → Bool
+tells (Accepted line commands) = false
+tells (Refused line reason) = false
+tells (Published line version) = true
+tells (Found number reader turn answer) = true
+tells (SearchRefused number reason) = false
+
+-- an entry that is published or found
+module _ (entry : Entry) (is : tells entry ≡ true) where
+  never : {other : Entry} → entry ≡ other → tells other ≡ false → ⊥
+  never e untold = false≢true (sym untold ∙ sym (ap tells e) ∙ is)
+
+  not_room : (most : ℕ) (commands : List Command) (line : ℕ) → IsRoomFor most commands line entry → ⊥
+  not_room most commands line (full all e) = never e refl
+  not_room most commands line (accepted few e) = never e refl
+
+  not_body : (most : ℕ) (commands : List Command) (body : List ℕ) (line : ℕ) → HasBody most commands body line entry → ⊥
+  not_body most commands body line (bad_body fault is_fault e) = never e refl
+  not_body most commands body line (with_body is_body fits) = not_room most commands line fits
+
+  not_named : (name : List ℕ) (line : ℕ) (Else : Type 0) → (Else → ⊥) → IsNamed name line entry Else → ⊥
+  not_named name line Else other (bad_name fault unlike is_fault e) = never e refl
+  not_named name line Else other (no_memory is_name e) = never e refl
+  not_named name line Else other (named is_name else) = other else
+
+  not_loaded : (Holds : List ℕ → List ℕ → Type 0) (most : ℕ) (commands : List Command) (path : List ℕ) (loaded : Option (List ℕ)) (line : ℕ) → HasLoaded Holds most commands path loaded line entry → ⊥
+  not_loaded Holds most commands path loaded line (failed none e) = never e refl
+  not_loaded Holds most commands path loaded line (loaded_body body some held fits) = not_body most commands body line fits
+
+  not_remove : (most : ℕ) (commands : List Command) (name : List ℕ) (line : ℕ) → IsRemove most commands name line entry → ⊥
+  not_remove most commands name line (no_such_file none e) = never e refl
+  not_remove most commands name line (is_there some fits) = not_room most commands line fits
+
 -- an entry that is published
 module _ (entry : Entry) (at version : ℕ) (is : entry ≡ Published at version) where
-  room : (most : ℕ) (commands : List Command) (line : ℕ) → IsRoomFor most commands line entry → ⊥
-  room most commands line (full all e) = let both = sym is ∙ e in cc
-  room most commands line (accepted few e) = let both = sym is ∙ e in cc
-
-  has_body : (most : ℕ) (commands : List Command) (body : List ℕ) (line : ℕ) → HasBody most commands body line entry → ⊥
-  has_body most commands body line (bad_body fault is_fault e) = let both = sym is ∙ e in cc
-  has_body most commands body line (with_body is_body fits) = room most commands line fits
-
-  is_named : (name : List ℕ) (line : ℕ) (Else : Type 0) → (Else → ⊥) → IsNamed name line entry Else → ⊥
-  is_named name line Else never (bad_name fault other is_fault e) = let both = sym is ∙ e in cc
-  is_named name line Else never (no_memory is_name e) = let both = sym is ∙ e in cc
-  is_named name line Else never (named is_name else) = never else
-
-  has_loaded : (Holds : List ℕ → List ℕ → Type 0) (most : ℕ) (commands : List Command) (path : List ℕ) (loaded : Option (List ℕ)) (line : ℕ) → HasLoaded Holds most commands path loaded line entry → ⊥
-  has_loaded Holds most commands path loaded line (failed none e) = let both = sym is ∙ e in cc
-  has_loaded Holds most commands path loaded line (loaded_body body some held fits) = has_body most commands body line fits
-
-  is_remove : (most : ℕ) (commands : List Command) (name : List ℕ) (line : ℕ) → IsRemove most commands name line entry → ⊥
-  is_remove most commands name line (no_such_file none e) = let both = sym is ∙ e in cc
-  is_remove most commands name line (is_there some fits) = room most commands line fits
-
   is_searched : (published : List Command) (number turn : ℕ) (IsIt : Pattern → Type 0) → IsSearchedNow published number turn IsIt entry → ⊥
   is_searched published number turn IsIt (now.no_memory e) = let both = sym is ∙ e in cc
   is_searched published number turn IsIt (now.found pattern answer is_it e answered) = let both = sym is ∙ e in cc
@@ -57,11 +70,14 @@ module _ (entry : Entry) (at version : ℕ) (is : entry ≡ Published at version
   is_publish commands line (legal.published e) = let both = sym is ∙ e in cc
   is_publish commands line (legal.no_memory e) = let both = sym is ∙ e in cc
 
+  told : tells entry ≡ true
+  told = ap tells is
+
   pub published_entry : (Holds : List ℕ → List ℕ → Type 0) (shelf : Shelf) (counts : Counts) (loaded : Option (List ℕ)) (line : ℕ) (item : Item) → IsEntryNow Holds shelf counts loaded line item entry → version ≡ length shelf.accepted
   unfolding IsEntryNow
-  published_entry Holds shelf counts loaded line (put name body) h = absurd (is_named name line _ (has_body shelf.most shelf.accepted body line) h)
-  published_entry Holds shelf counts loaded line (load name path) h = absurd (is_named name line _ (has_loaded Holds shelf.most shelf.accepted path loaded line) h)
-  published_entry Holds shelf counts loaded line (remove name) h = absurd (is_named name line _ (is_remove shelf.most shelf.accepted name line) h)
+  published_entry Holds shelf counts loaded line (put name body) h = absurd (not_named entry told name line _ (not_body entry told shelf.most shelf.accepted body line) h)
+  published_entry Holds shelf counts loaded line (load name path) h = absurd (not_named entry told name line _ (not_loaded entry told Holds shelf.most shelf.accepted path loaded line) h)
+  published_entry Holds shelf counts loaded line (remove name) h = absurd (not_named entry told name line _ (not_remove entry told shelf.most shelf.accepted name line) h)
   published_entry Holds shelf counts loaded line publish h = is_publish shelf.accepted line h
   published_entry Holds shelf counts loaded line (search text) h = absurd (is_search shelf.published _ _ text h)
   published_entry Holds shelf counts loaded line (search_in name_text text) h = absurd (is_search_in shelf.published _ _ name_text text h)
@@ -73,27 +89,6 @@ module _ (entry : Entry) (at version : ℕ) (is : entry ≡ Published at version
 
 -- an entry that is found
 module _ (entry : Entry) (number' reader turn' : ℕ) (answer' : Reply) (is : entry ≡ Found number' reader turn' answer') where
-  found_room : (most : ℕ) (commands : List Command) (line : ℕ) → IsRoomFor most commands line entry → ⊥
-  found_room most commands line (full all e) = let both = sym is ∙ e in cc
-  found_room most commands line (accepted few e) = let both = sym is ∙ e in cc
-
-  found_body : (most : ℕ) (commands : List Command) (body : List ℕ) (line : ℕ) → HasBody most commands body line entry → ⊥
-  found_body most commands body line (bad_body fault is_fault e) = let both = sym is ∙ e in cc
-  found_body most commands body line (with_body is_body fits) = found_room most commands line fits
-
-  found_named : (name : List ℕ) (line : ℕ) (Else : Type 0) → (Else → ⊥) → IsNamed name line entry Else → ⊥
-  found_named name line Else never (bad_name fault other is_fault e) = let both = sym is ∙ e in cc
-  found_named name line Else never (no_memory is_name e) = let both = sym is ∙ e in cc
-  found_named name line Else never (named is_name else) = never else
-
-  found_loaded : (Holds : List ℕ → List ℕ → Type 0) (most : ℕ) (commands : List Command) (path : List ℕ) (loaded : Option (List ℕ)) (line : ℕ) → HasLoaded Holds most commands path loaded line entry → ⊥
-  found_loaded Holds most commands path loaded line (failed none e) = let both = sym is ∙ e in cc
-  found_loaded Holds most commands path loaded line (loaded_body body some held fits) = found_body most commands body line fits
-
-  found_remove : (most : ℕ) (commands : List Command) (name : List ℕ) (line : ℕ) → IsRemove most commands name line entry → ⊥
-  found_remove most commands name line (no_such_file none e) = let both = sym is ∙ e in cc
-  found_remove most commands name line (is_there some fits) = found_room most commands line fits
-
   found_searched : (published : List Command) (number turn : ℕ) (IsIt : Pattern → Type 0) → IsSearchedNow published number turn IsIt entry → (turn' ≡ turn) × (answer'.version ≡ length published)
   found_searched published number turn IsIt (now.no_memory e) = let both = sym is ∙ e in cc
   found_searched published number turn IsIt (now.found pattern answer is_it e answered) = let both = sym is ∙ e in (cc, same_answer both ∙ answered.version)
@@ -111,11 +106,14 @@ module _ (entry : Entry) (number' reader turn' : ℕ) (answer' : Reply) (is : en
   found_publish commands line (legal.published e) = let both = sym is ∙ e in cc
   found_publish commands line (legal.no_memory e) = let both = sym is ∙ e in cc
 
+  found_told : tells entry ≡ true
+  found_told = ap tells is
+
   pub found_entry : (Holds : List ℕ → List ℕ → Type 0) (shelf : Shelf) (counts : Counts) (loaded : Option (List ℕ)) (line : ℕ) (item : Item) → IsEntryNow Holds shelf counts loaded line item entry → (turn' ≡ counts.turns + 1) × (answer'.version ≡ length shelf.published)
   unfolding IsEntryNow
-  found_entry Holds shelf counts loaded line (put name body) h = absurd (found_named name line _ (found_body shelf.most shelf.accepted body line) h)
-  found_entry Holds shelf counts loaded line (load name path) h = absurd (found_named name line _ (found_loaded Holds shelf.most shelf.accepted path loaded line) h)
-  found_entry Holds shelf counts loaded line (remove name) h = absurd (found_named name line _ (found_remove shelf.most shelf.accepted name line) h)
+  found_entry Holds shelf counts loaded line (put name body) h = absurd (not_named entry found_told name line _ (not_body entry found_told shelf.most shelf.accepted body line) h)
+  found_entry Holds shelf counts loaded line (load name path) h = absurd (not_named entry found_told name line _ (not_loaded entry found_told Holds shelf.most shelf.accepted path loaded line) h)
+  found_entry Holds shelf counts loaded line (remove name) h = absurd (not_named entry found_told name line _ (not_remove entry found_told shelf.most shelf.accepted name line) h)
   found_entry Holds shelf counts loaded line publish h = absurd (found_publish shelf.accepted line h)
   found_entry Holds shelf counts loaded line (search text) h = found_search shelf.published _ _ text h
   found_entry Holds shelf counts loaded line (search_in name_text text) h = found_search_in shelf.published _ _ name_text text h

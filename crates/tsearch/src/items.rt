@@ -171,10 +171,12 @@ fn reason_of(in_name: bool, error: EreError) -> SearchReason
     }
 }
 
-/// How many searches there were, and how many of them were answered.
+/// What a run has counted so far.
 #[derive(Clone, Copy, Debug, PartialEq, Eq)]
 pub struct Counts {
+    /// The searches, refused ones too.
     pub searches: u32,
+    /// The searches that were answered.
     pub turns: u32,
 }
 

@@ -15,8 +15,11 @@ use std::alloc::{AllocError, Global};
 /// What a run has done so far.
 #[derive(Drop)]
 pub struct Session {
+    /// The accepted commands and the published documents.
     pub store: Store,
+    /// How many searches there were.
     pub counts: Counts,
+    /// What the items were answered, in their order.
     pub entries: Vec<Entry>,
 }
 

@@ -1,6 +1,6 @@
-use Rattle.std.proofs.Common.{subst, ◌∙◌, ◌≡◌, ◌≤◌, ◌<◌, ◌^◌, arith, map, length}
-use Rattle.std.specs.Prelude.{flat_map, filter}
-use Rattle.index.specs.Documents.{documents_of, meets}
+use Rattle.std.proofs.Common.{subst, ◌∙◌, arith}
+use Rattle.std.specs.Prelude.{flat_map}
+use Rattle.index.specs.Documents.{documents_of}
 use Rattle.trigram.specs.Query.{formula_of}
 use Rattle.search.specs.Found.{found_all}
 use Rattle.search.specs.Prepared.{pattern_of}

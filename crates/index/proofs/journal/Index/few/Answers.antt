@@ -1,4 +1,4 @@
-use Rattle.std.proofs.Common.{sym, ◌∙◌, subst, ap, cond, Some}
+use Rattle.std.proofs.Common.{sym, ◌∙◌, ap, cond, Some}
 use Rattle.std.specs.Prelude.{bytes_eq}
 use Rattle.index.specs.Documents.{documents_of, number_of}
 use Rattle.index.specs.IndexParts.{kept_if}
