@@ -7,5 +7,5 @@ returns-in_ok-push-clause-ok g c = record {
   carried = c.carry_out-entry.ensures.done;
   entries = rw c.in-Some.is c.in_ok-push.ensures.items;
   searches = rw c.searches_in.ensures.count refl;
-  turns = rw c.in-Some.is (rw c.found_in.ensures.count refl)
+  turns = rw c.in-Some.is (rw c.found_in.ensures.count refl);
 }
