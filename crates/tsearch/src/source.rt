@@ -13,6 +13,7 @@ pub enum Fault {
     OutOfMemory,
 }
 
+/// What a script's loads are read from.
 /// What a run reads the bodies of its loads from.
 pub trait Source {
     /// The bytes may be read under the path. No read changes it.

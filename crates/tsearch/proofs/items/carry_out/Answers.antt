@@ -1,4 +1,4 @@
-use Rattle.std.proofs.Common.{inl, None, refl, ap, arith}
+use Rattle.std.proofs.Common.{ap}
 use Rattle.tsearch.specs.declared.transcript.Entry.TheVariants.{Published}
 use Rattle.tsearch.proofs.CarryLemmas.{carried_put, carried_load, carried_remove, carried_publish, carried_search, carried_search_in, carried_bad_line, carried_bad_put, carried_truncated, carried_open_body}
 use Rattle.tsearch.proofs.items.carry_out.Goals as goal
@@ -32,6 +32,3 @@ returns-in-Truncated-clause-done g c = rw c.in-Truncated.is (carried_truncated _
 
 pub returns-in-BodyNotClosed-clause-done : goal.returns-in-BodyNotClosed-clause-done
 returns-in-BodyNotClosed-clause-done g c = rw c.in-BodyNotClosed.is (carried_open_body _ c.args.store.now c.args.counts _ c.args.item.line _ c.refused-in-BodyNotClosed.ensures)
-
-pub returns-in-Sync-clause-done : goal.returns-in-Sync-clause-done
-returns-in-Sync-clause-done g c = rw c.in-Sync.is record { loaded = None; legal = tt; left = refl; counted = record { rises = inl (omega arith); stays = λ e. e } }
