@@ -37,7 +37,7 @@ unfoldable mutual
   InSome (more tree trees) before word after = InLanguage tree before word after ⊎ InSome trees before word after
 
 -- The line contains a word of the tree in its place.
-pub record Hit (tree : Tree) (line : List ℕ) : Type 0 where
+pub record ContainsMatch (tree : Tree) (line : List ℕ) : Type 0 where
   pub before : List ℕ
   pub word : List ℕ
   pub after : List ℕ

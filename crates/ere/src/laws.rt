@@ -2,7 +2,7 @@
 
 ghost use Rattle.std.specs.Prelude.{◌≡◌, ◌↔◌, ℕ, Bool, None, ◌⊎◌, IsTrue, List, [], ◌∷◌, ◌++◌};
 ghost use Rattle.ere.specs.ByteSet.{has};
-ghost use Rattle.ere.specs.Language.{Hit, InLanguage};
+ghost use Rattle.ere.specs.Language.{ContainsMatch, InLanguage};
 ghost use Rattle.ere.specs.Limits.{IsTreeOf, IsWithinLimits};
 ghost use Rattle.ere.specs.Spelling.{Spells};
 ghost use Rattle.ere.specs.Tree.{at_end, at_start, cat, empty, more, none, repeat, set, Tree};
@@ -30,6 +30,6 @@ pub fn star_unrolls()
 
 /// `^`, a set and `$` match exactly the lines of one byte of the set (POSIX.1-2017 XBD 9.4.9).
 pub fn anchored_set()
-    ensures { (members : List Bool) (line : List ℕ) → Hit (cat (more at_start (more (set members) (more at_end none)))) line
+    ensures { (members : List Bool) (line : List ℕ) → ContainsMatch (cat (more at_start (more (set members) (more at_end none)))) line
         ↔ ((b : ℕ) × (line ≡ b ∷ []) × IsTrue (has members b)) }
 {}

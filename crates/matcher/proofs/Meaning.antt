@@ -4,7 +4,7 @@ use Rattle.std.proofs.lemmas.List.{append-nil, take-append-drop, length-take-le}
 use Rattle.std.proofs.Math.Seq.{get_or-append_seam}
 use Rattle.ere.specs.ByteSet.{has}
 use Rattle.ere.specs.Tree.{Tree, empty, set, at_start, at_end, cat, alt, repeat, Trees, none, more}
-use Rattle.ere.specs.Language.{Language, InCopies, InLanguage, InEach, InSome, Hit}
+use Rattle.ere.specs.Language.{Language, InCopies, InLanguage, InEach, InSome, ContainsMatch}
 use Rattle.matcher.specs.Spans.{Relation, Steps, Spans, SpansEach, SpansSome}
 
 -- ends of a text behind another
@@ -128,12 +128,12 @@ mutual
       record { word = one.word; after = one.after; is_rest = one.is_rest; is_end = one.is_end; in_language = inr one.in_language }
 
 -- a hit, by positions
-pub hit_of_spans : (line : List ℕ) (tree : Tree) (from to : ℕ) → from ≤ length line → Spans line tree from to → Hit tree line
+pub hit_of_spans : (line : List ℕ) (tree : Tree) (from to : ℕ) → from ≤ length line → Spans line tree from to → ContainsMatch tree line
 hit_of_spans line tree from to inside h =
     let whole : line ≡ take from line ++ drop from line = sym (take-append-drop from line) in
     let leads = language_of_spans line tree (take from line) (drop from line) from to whole (length-take-le from line inside) h in
     record { before = take from line; word = leads.word; after = leads.after; is_line = whole ∙ ap (λ t. take from line ++ t) leads.is_rest; in_language = leads.in_language }
 
-pub spans_of_hit : (line : List ℕ) (tree : Tree) → Hit tree line → (from to : ℕ) × (from ≤ length line) × Spans line tree from to
+pub spans_of_hit : (line : List ℕ) (tree : Tree) → ContainsMatch tree line → (from to : ℕ) × (from ≤ length line) × Spans line tree from to
 spans_of_hit line tree hit =
     (length hit.before, length (hit.before ++ hit.word), omega (arith, ap length hit.is_line, length-append hit.before (hit.word ++ hit.after)), spans_of_language line tree hit.before hit.word hit.after hit.is_line hit.in_language)

@@ -7,7 +7,7 @@ use Rattle.ere.specs.Tree.{form, trees_of, Tree, empty, at_start, at_end, cat, a
 use Rattle.matcher.specs.declared.positions.Positions.{Positions}
 use Rattle.matcher.specs.Spans.{Relation, Steps, Spans, SpansEach, SpansSome}
 use Rattle.matcher.specs.PositionSets.{has_position, HasNone, IsEither, IsNew, Moves}
-use Rattle.ere.specs.Language.{Hit}
+use Rattle.ere.specs.Language.{ContainsMatch}
 use Rattle.matcher.proofs.Truths.{false≢true}
 use Rattle.matcher.proofs.Meaning.{hit_of_spans, spans_of_hit}
 
@@ -402,19 +402,19 @@ moves_by_no_member line members i from to past none_to = subst (λ trees. Moves 
 
 -- a walk of all positions of a line, and whether any is left
 module _ (tree : Tree) (line : List ℕ) (all left : Positions) (every : (k : ℕ) → has_position all k ≡ nat_le k (length line)) (moves : Moves (Spans line tree) all left) where
-  pub hit_of_position : (k : ℕ) → IsTrue (has_position left k) → Hit tree line
+  pub hit_of_position : (k : ℕ) → IsTrue (has_position left k) → ContainsMatch tree line
   hit_of_position k h =
       let w = moves.sound k h in
       let test : IsTrue (nat_le w.0 (length line)) = sym (every w.0) ∙ w.1 in
       hit_of_spans line tree w.0 k (grind (arith, nat_tests)) w.2
 
-  pub position_of_hit : Hit tree line → (k : ℕ) × IsTrue (has_position left k)
+  pub position_of_hit : ContainsMatch tree line → (k : ℕ) × IsTrue (has_position left k)
   position_of_hit hit =
       let w = spans_of_hit line tree hit in
       let inside : w.0 ≤ length line = w.2 in
       (w.1, moves.complete w.0 w.1 (every w.0 ∙ grind (arith, nat_tests)) w.3)
 
   -- the answer, from whether the set that is left is empty
-  pub is_hit : (empty : Bool) → MatchBool empty (HasNone left) ((k : ℕ) × IsTrue (has_position left k)) → IsTrue (not empty) ↔ Hit tree line
+  pub is_hit : (empty : Bool) → MatchBool empty (HasNone left) ((k : ℕ) × IsTrue (has_position left k)) → IsTrue (not empty) ↔ ContainsMatch tree line
   is_hit true is_none = (λ h. absurd (false≢true h), λ hit. let w = position_of_hit hit in absurd (not_held is_none w.0 w.1))
   is_hit false some = (λ _. hit_of_position some.0 some.1, λ _. refl)

@@ -9,7 +9,7 @@ mod walk;
 
 ghost use Rattle.std.specs.Prelude.{◌≤◌, ◌↔◌, IsTrue, length};
 ghost use Rattle.ere.specs.Limits.{IsWithinLimits};
-ghost use Rattle.ere.specs.Language.{Hit};
+ghost use Rattle.ere.specs.Language.{ContainsMatch};
 ghost use Rattle.ere.specs.Tree.{form};
 
 use crate::positions::Positions;
@@ -22,7 +22,7 @@ use ere::{Ere, MAX_LINE};
 pub fn matches(tree: &Ere, line: &[u8]) -> bool
     requires within_limits { IsWithinLimits (form tree.now) }
     requires line { length line.now ≤ MAX_LINE }
-    ensures { IsTrue result ↔ Hit (form tree.now) line.now }
+    ensures { IsTrue result ↔ ContainsMatch (form tree.now) line.now }
 {
     let mut at = Positions::through(line.len());
     advance(tree, line, &mut at);

@@ -5,7 +5,7 @@ use Rattle.std.proofs.lemmas.List.{length-map}
 use Rattle.std.proofs.lemmas.List.Elements.{filter_agree}
 use Rattle.std.proofs.lemmas.Option.{slice_get_within, get_or_from_slice_get}
 use Rattle.ere.specs.Tree.{Tree}
-use Rattle.ere.specs.Language.{Hit}
+use Rattle.ere.specs.Language.{ContainsMatch}
 use Rattle.ere.specs.Lines.{lines_of}
 use Rattle.trigram.specs.Trigrams.{TrigramSet, trigrams_of_body}
 use Rattle.trigram.specs.Query.{Formula, is_met}
@@ -25,7 +25,7 @@ abbrev IsMetAs : Tree → Formula → Type 0
 IsMetAs tree formula = (set : TrigramSet) → is_met formula set ≡ condition tree set
 
 -- a document with a hit
-candidate : (tree : Tree) (formula : Formula) → IsMetAs tree formula → (d : Document) (i : ℕ) (text : List ℕ) → slice_get (lines_of d.body) i ≡ Some text → Hit tree text → meets formula d ≡ true
+candidate : (tree : Tree) (formula : Formula) → IsMetAs tree formula → (d : Document) (i : ℕ) (text : List ℕ) → slice_get (lines_of d.body) i ≡ Some text → ContainsMatch tree text → meets formula d ≡ true
 candidate tree formula same d i text at hit =
     same (trigrams_of_body d.body) ∙ matching_line tree d.body text (i, slice_get_within (lines_of d.body) i text at, get_or_from_slice_get (lines_of d.body) i text text at) hit
 

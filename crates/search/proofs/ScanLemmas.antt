@@ -11,7 +11,7 @@ use Rattle.std.specs.List.{AllByRecursion}
 use Rattle.std.specs.List.Sorted.{IsStrictlySortedBy}
 use Rattle.std.specs.declared.cmp.Ordering.TheVariants.{Less}
 use Rattle.std.proofs.lemmas.Bool.Decides.{nat_tests}
-use Rattle.ere.specs.Language.{Hit}
+use Rattle.ere.specs.Language.{ContainsMatch}
 use Rattle.ere.specs.Lines.{lines_of}
 use Rattle.index.specs.declared.command.Command.{Command}
 use Rattle.index.specs.Documents.{Document, documents_of, document_at, IsInNameOrder, RisesByName}
@@ -29,12 +29,12 @@ numbered-named name line [] P each = tt
 numbered-named name line (text ∷ texts) P each = (each line text, numbered-named name (suc line) texts P each)
 
 -- where the name is asked for, only the texts matter
-pub Selects-named : (pattern : Pattern) (name body : List ℕ) (kept : List Found) → IfSome pattern.name_tree (λ tree. Hit tree name) → Selects (λ f. Hit pattern.tree f.text) (lines_found name body) kept → Selects (IsWanted pattern) (lines_found name body) kept
+pub Selects-named : (pattern : Pattern) (name body : List ℕ) (kept : List Found) → IfSome pattern.name_tree (λ tree. ContainsMatch tree name) → Selects (λ f. ContainsMatch pattern.tree f.text) (lines_found name body) kept → Selects (IsWanted pattern) (lines_found name body) kept
 Selects-named pattern name body kept named s =
-    Selects-same (numbered-named name 1 (lines_of body) (λ f. (Hit pattern.tree f.text → IsWanted pattern f) × (IsWanted pattern f → Hit pattern.tree f.text)) (λ line text. (λ h. record { hit = h; name_hit = named }, λ w. w.hit))) s
+    Selects-same (numbered-named name 1 (lines_of body) (λ f. (ContainsMatch pattern.tree f.text → IsWanted pattern f) × (IsWanted pattern f → ContainsMatch pattern.tree f.text)) (λ line text. (λ h. record { hit = h; name_hit = named }, λ w. w.hit))) s
 
 -- where the name is not asked for, no line is
-pub Selects-unnamed : (pattern : Pattern) (name body : List ℕ) → (IfSome pattern.name_tree (λ tree. Hit tree name) → ⊥) → Selects (IsWanted pattern) (lines_found name body) []
+pub Selects-unnamed : (pattern : Pattern) (name body : List ℕ) → (IfSome pattern.name_tree (λ tree. ContainsMatch tree name) → ⊥) → Selects (IsWanted pattern) (lines_found name body) []
 Selects-unnamed pattern name body other =
     Selects-none (IsWanted pattern) (lines_found name body) (numbered-named name 1 (lines_of body) (λ f. IsWanted pattern f → ⊥) (λ line text w. other w.name_hit))
 
@@ -191,7 +191,7 @@ Adds-absent Has documents number now e = subst (λ d. Adds Has (lines_shown d) n
 
 -- ---- the scan
 
-pub IsScanOf-Selects : (c : List Command) (pattern : Pattern) (chosen ordered : List Document) (hits : List Found) → IsInNameOrder chosen ordered → ((d : Document) → Contains chosen d → Contains (documents_of c) d) → ((d : Document) → Contains (documents_of c) d → (i : ℕ) (text : List ℕ) → slice_get (lines_of d.body) i ≡ Some text → Hit pattern.tree text → Contains chosen d) → Selects (IsWanted pattern) (flat_map (lines_at (documents_of c)) (map (λ d. d.number) ordered)) hits → IsScanOf c pattern hits
+pub IsScanOf-Selects : (c : List Command) (pattern : Pattern) (chosen ordered : List Document) (hits : List Found) → IsInNameOrder chosen ordered → ((d : Document) → Contains chosen d → Contains (documents_of c) d) → ((d : Document) → Contains (documents_of c) d → (i : ℕ) (text : List ℕ) → slice_get (lines_of d.body) i ≡ Some text → ContainsMatch pattern.tree text → Contains chosen d) → Selects (IsWanted pattern) (flat_map (lines_at (documents_of c)) (map (λ d. d.number) ordered)) hits → IsScanOf c pattern hits
 IsScanOf-Selects c pattern chosen ordered hits order within law given =
     let numbers = lines-numbers (documents_of c) ordered (λ d h. document_at-Contains c d (within d ((order.same d).0 h))) in
     let s = subst (λ all. Selects (IsWanted pattern) all hits) numbers given in

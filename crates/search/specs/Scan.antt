@@ -4,7 +4,7 @@ use Rattle.std.specs.Ordering.{nat_cmp, then_cmp, on}
 use Rattle.std.specs.Cmp.Lexicographic.{slice_cmp}
 use Rattle.std.specs.List.Sorted.{IsStrictlySortedBy}
 use Rattle.std.specs.declared.cmp.Ordering.{Ordering}
-use Rattle.ere.specs.Language.{Hit}
+use Rattle.ere.specs.Language.{ContainsMatch}
 use Rattle.ere.specs.Tree.{Tree}
 use Rattle.ere.specs.Lines.{lines_of}
 use Rattle.trigram.specs.Trigrams.{trigrams_of_body}
@@ -26,8 +26,8 @@ pub record IsFound (commands : List Command) (pattern : Pattern) (found : Found)
   pub named : found.name ≡ document.name
   pub counted : 0 < found.line
   pub line : slice_get (lines_of document.body) (found.line - 1) ≡ Some found.text
-  pub hit : Hit pattern.tree found.text
-  pub name_hit : IfSome pattern.name_tree (λ tree. Hit tree found.name)
+  pub hit : ContainsMatch pattern.tree found.text
+  pub name_hit : IfSome pattern.name_tree (λ tree. ContainsMatch tree found.name)
 
 -- by the names' bytes, as unsigned numbers, and then by line
 abbrev pub found_cmp : Found → Found → Ordering

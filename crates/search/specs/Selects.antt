@@ -1,6 +1,6 @@
 -- The lines of documents, one after another, and those of them that a search keeps.
 use Rattle.std.specs.Prelude.{◌≡◌, ℕ, suc, List, [], ◌∷◌, ◌++◌, Option, Some, None, IfSome}
-use Rattle.ere.specs.Language.{Hit}
+use Rattle.ere.specs.Language.{ContainsMatch}
 use Rattle.ere.specs.Lines.{lines_of}
 use Rattle.index.specs.Documents.{Document, document_at}
 use Rattle.search.specs.Pattern.{Pattern}
@@ -40,5 +40,5 @@ pub record Adds (Has : Found → Type 0) (all old new : List Found) : Type 0 whe
 
 -- the pattern asks for this line of a document that is there
 pub record IsWanted (pattern : Pattern) (f : Found) : Type 0 where
-  pub hit : Hit pattern.tree f.text
-  pub name_hit : IfSome pattern.name_tree (λ tree. Hit tree f.name)
+  pub hit : ContainsMatch pattern.tree f.text
+  pub name_hit : IfSome pattern.name_tree (λ tree. ContainsMatch tree f.name)

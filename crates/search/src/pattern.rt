@@ -38,7 +38,7 @@ pub struct WithinError {
 
 impl Prepared {
     ghost use Rattle.std.specs.Prelude.{◌≢◌, ◌↔◌, IsTrue, IfOk, IfErr, IfSome, MatchBool};
-    ghost use Rattle.ere.specs.Language.{Hit as HitIn};
+    ghost use Rattle.ere.specs.Language.{ContainsMatch};
     ghost use Rattle.ere.specs.Limits.{HasNoTree};
     ghost use Rattle.search.specs.Pattern.{IsPatternOf, IsPatternWithin, HasTree};
     ghost use Rattle.search.specs.Prepared.{pattern_of};
@@ -92,7 +92,7 @@ impl Prepared {
     /// Whether a document with this name counts: its name, taken as a line, matches the name pattern, or
     /// there is none.
     pub fn takes_name(&self, name: &Name) -> bool
-        ensures { IsTrue result ↔ IfSome (pattern_of self.now).name_tree (λ tree. HitIn tree name.now) }
+        ensures { IsTrue result ↔ IfSome (pattern_of self.now).name_tree (λ tree. ContainsMatch tree name.now) }
     {
         match &self.name_tree {
             None => true,

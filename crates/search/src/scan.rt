@@ -3,7 +3,7 @@
 ghost use Rattle.std.specs.Prelude.{◌≡◌, ◌≤◌, [], ◌∷◌, length, flat_map, IfOk, OnOk};
 ghost use Rattle.ere.specs.Tree.{form};
 ghost use Rattle.ere.specs.Limits.{IsWithinLimits};
-ghost use Rattle.ere.specs.Language.{Hit as HitIn};
+ghost use Rattle.ere.specs.Language.{ContainsMatch};
 ghost use Rattle.ere.specs.Lines.{lines_of};
 ghost use Rattle.index.specs.Documents.{documents_of};
 ghost use Rattle.search.specs.Scan.{IsAnswerOf};
@@ -111,7 +111,7 @@ fn scan_lines(
     hits: &mut Vec<Hit>,
 ) -> Result<(), AllocError>
     requires { IsWithinLimits (form tree.now) }
-    ensures { OnOk result (Adds (λ f. HitIn (form tree.now) f.text) (lines_found name.now body.now)
+    ensures { OnOk result (Adds (λ f. ContainsMatch (form tree.now) f.text) (lines_found name.now body.now)
         (found_all hits.old.items) (found_all hits.new.items)) }
 {
     let mut rest = body.as_bytes();
@@ -138,7 +138,7 @@ fn scan_line(
 ) -> Result<(), AllocError>
     requires limits { IsWithinLimits (form tree.now) }
     requires short { length text.now ≤ MAX_LINE }
-    ensures { OnOk result (Adds (λ f. HitIn (form tree.now) f.text) (found name.now line text.now ∷ [])
+    ensures { OnOk result (Adds (λ f. ContainsMatch (form tree.now) f.text) (found name.now line text.now ∷ [])
         (found_all hits.old.items) (found_all hits.new.items)) }
 {
     if !matches(tree, text) {

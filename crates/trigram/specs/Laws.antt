@@ -2,7 +2,7 @@
 use Rattle.std.specs.Prelude.{◌≡◌, ℕ, List, [], ◌∷◌, IsTrue, IsFalse, ◌↔◌, Contains}
 use Rattle.ere.specs.Tree.{Tree}
 use Rattle.ere.specs.Limits.{IsProper}
-use Rattle.ere.specs.Language.{InLanguage, Hit}
+use Rattle.ere.specs.Language.{InLanguage, ContainsMatch}
 use Rattle.ere.specs.LanguageLaws.{without_anchors}
 use Rattle.ere.specs.Lines.{lines_of}
 use Rattle.trigram.specs.Trigrams.{TrigramSet, trigrams_of_text, trigrams_of_body, has_all_trigrams}
@@ -17,7 +17,7 @@ KnownTextsAreTheWords =
 -- The trigrams of a body with a line that contains a word of the tree meet the condition of the tree.
 abbrev pub MatchingLineMeetsCondition : Type 0
 MatchingLineMeetsCondition =
-    (tree : Tree) (body line : List ℕ) → Contains (lines_of body) line → Hit tree line → Condition tree (trigrams_of_body body)
+    (tree : Tree) (body line : List ℕ) → Contains (lines_of body) line → ContainsMatch tree line → Condition tree (trigrams_of_body body)
 
 -- A set has all trigrams of a text where it has each of them.
 abbrev pub TrigramsAreHeld : Type 0

@@ -1,5 +1,5 @@
 use Rattle.std.proofs.Common.{◌≡◌, ◌+◌, ◌≤◌, ◌++◌, false, List, length}
-use Rattle.ere.specs.Language.{Hit}
+use Rattle.ere.specs.Language.{ContainsMatch}
 use Rattle.ere.specs.Lines.{lines_of}
 use Rattle.ere.specs.Tree.{form}
 use Rattle.index.specs.Text.{has_long_line}
@@ -10,7 +10,7 @@ use Rattle.search.proofs.scan.scan_lines.Given as goal
 
 abbrev pub invariant-loop-end : goal.invariant-loop-end
 invariant-loop-end l = record {
-  so_far : (more : List Found) → Selects (λ f. Hit (form l.tree) f.text) (numbered l.name l.line (lines_of l.rest)) more → Adds (λ f. Hit (form l.tree) f.text) (lines_found l.name l.body) (found_all l.initial.hits.items) (found_all l.hits.items ++ more);
+  so_far : (more : List Found) → Selects (λ f. ContainsMatch (form l.tree) f.text) (numbered l.name l.line (lines_of l.rest)) more → Adds (λ f. ContainsMatch (form l.tree) f.text) (lines_found l.name l.body) (found_all l.initial.hits.items) (found_all l.hits.items ++ more);
   short : has_long_line l.rest ≡ false;
   room : l.line + length l.rest ≤ 1 + length l.body;
 }
