@@ -7,6 +7,10 @@ abbrev pub with_byte_in_front : ℕ → List (List ℕ) → List (List ℕ)
 with_byte_in_front b [] = (b ∷ []) ∷ []
 with_byte_in_front b (line ∷ lines) = (b ∷ line) ∷ lines
 
+-- the greatest length of a line (this program's choice)
+abbrev pub greatest_line : ℕ
+greatest_line = 4096
+
 unfoldable pub lines_of : List ℕ → List (List ℕ)
 lines_of [] = []
 lines_of (b ∷ body) = if b == 10 then [] ∷ lines_of body else with_byte_in_front b (lines_of body)

@@ -59,7 +59,7 @@ impl EreError {
 impl<T: Drop> From<AllocFailed<T>> for EreError {
     ghost use Rattle.ere.specs.declared.error.EreErrorKind.TheVariants.{OutOfMemory};
 
-    ghost from_gives = { λ _ e. e.kind ≡ OutOfMemory };
+    ghost from_gives = { λ _ e. (e.kind ≡ OutOfMemory) × (e.at ≡ 0) };
 
     fn from(_: AllocFailed<T>) -> EreError {
         EreError::new(EreErrorKind::OutOfMemory, 0)

@@ -3,9 +3,17 @@
 ghost use Rattle.std.specs.Prelude.{◌≡◌, ◌↔◌, ℕ, Bool, None, ◌⊎◌, IsTrue, List, [], ◌∷◌, ◌++◌};
 ghost use Rattle.ere.specs.ByteSet.{has};
 ghost use Rattle.ere.specs.Language.{ContainsMatch, InLanguage};
+ghost use Rattle.ere.specs.Lines.{greatest_line};
 ghost use Rattle.ere.specs.Limits.{IsTreeOf, IsWithinLimits};
 ghost use Rattle.ere.specs.Spelling.{Spells};
 ghost use Rattle.ere.specs.Tree.{at_end, at_start, cat, empty, more, none, repeat, set, Tree};
+
+use crate::tree::MAX_LINE;
+
+/// The greatest length of a line is the one of the definitions.
+pub fn line_limit()
+    ensures { MAX_LINE ≡ greatest_line }
+{}
 
 /// A text spells at most one tree, however many groups may be open.
 pub fn one_tree()

@@ -1,8 +1,7 @@
 -- What is a name, and what is a body (this program's choices).
 use Rattle.std.specs.Prelude.{◌≡◌, ℕ, ◌<◌, ◌≤◌, Bool, true, false, not, ◌&&◌, ◌==◌, nat_le, nat_lt, List, length}
 use Rattle.std.specs.List.{list_any}
-use Rattle.ere.specs.Lines.{lines_of}
-use Rattle.ere.specs.declared.tree.TheConstants.{MAX_LINE}
+use Rattle.ere.specs.Lines.{lines_of, greatest_line}
 use Rattle.index.specs.declared.error.NameError.{NameError}
 use Rattle.index.specs.declared.error.NameError.TheVariants as name_error
 use Rattle.index.specs.declared.error.BodyErrorKind.{BodyErrorKind}
@@ -41,7 +40,7 @@ has_byte_0 bytes = list_any (λ b. b == 0) bytes
 
 -- some line is longer than a line may be
 abbrev pub has_long_line : List ℕ → Bool
-has_long_line bytes = list_any (λ line. nat_lt MAX_LINE (length line)) (lines_of bytes)
+has_long_line bytes = list_any (λ line. nat_lt greatest_line (length line)) (lines_of bytes)
 
 pub record IsBody (bytes : List ℕ) : Type 0 where
   pub short : length bytes ≤ greatest_body
