@@ -12,8 +12,8 @@ use Rattle.ere.specs.Brackets.{IsRangeEnd as range_end}
 use Rattle.ere.specs.Brackets.{SpellsItem as item}
 use Rattle.ere.specs.Brackets.{SpellsItems as items}
 use Rattle.ere.specs.Brackets.{SpellsBracket as brackets}
-use Rattle.ere.specs.Reading.{opens_with, IsByteOrSymbol}
-use Rattle.ere.specs.Reading.{IsByteOrSymbol as byte_or_symbol}
+use Rattle.ere.specs.Private.Reading.{opens_with, IsByteOrSymbol}
+use Rattle.ere.specs.Private.Reading.{IsByteOrSymbol as byte_or_symbol}
 use Rattle.ere.proofs.Texts.{first_begins}
 use Rattle.ere.proofs.SetLemmas.{has-set_of, set_of-ext}
 

@@ -7,8 +7,8 @@ use Rattle.ere.specs.ByteSet.{single, bytes_between}
 use Rattle.ere.specs.Classes.{class_named}
 use Rattle.ere.specs.Brackets.{begins_with, range_ahead, IsCharacterClass, IsRangeEnd, SpellsItem, SpellsItems, SpellsBracket}
 use Rattle.ere.specs.Brackets.{IsRangeStart as range_start, IsRangeEnd as range_end, SpellsItem as item, SpellsItems as items, SpellsBracket as brackets}
-use Rattle.ere.specs.Reading.{opens_with, IsSymbol, IsSymbolEnd, IsByteOrSymbol}
-use Rattle.ere.specs.Reading.{IsByteOrSymbol as byte_or_symbol}
+use Rattle.ere.specs.Private.Reading.{opens_with, IsSymbol, IsSymbolEnd, IsByteOrSymbol}
+use Rattle.ere.specs.Private.Reading.{IsByteOrSymbol as byte_or_symbol}
 use Rattle.ere.proofs.Texts.{front, Stands, Stands-read, Stands-begins, read_at, first_begins, eqb_is}
 use Rattle.ere.proofs.BracketLemmas.{head_of, ItemView, ItemView as view, item_view, IsPlain, NoColon, no_colon, one_byte_or_symbol, mark_clash, items_left, ends_plain, plain_opens}
 

@@ -5,7 +5,7 @@ use Rattle.ere.specs.Tokens.{Token}
 use Rattle.ere.specs.Tokens as token
 use Rattle.ere.specs.Spelling.{SpellsDuplications, SpellsAtom, SpellsPiece, SpellsBranch, SpellsAlternatives, branch_of, alternatives_of}
 use Rattle.ere.specs.Spelling.{SpellsDuplications as duplications, SpellsAtom as atoms, SpellsPiece as pieces_are, SpellsBranch as branches_are, SpellsAlternatives as alternatives_are}
-use Rattle.ere.specs.Reading.{Ends, EndsBranch, NoTimes, join}
+use Rattle.ere.specs.Private.Reading.{Ends, EndsBranch, NoTimes, join}
 
 -- what may stand behind
 pub ends_branch_of : (ts : List Token) (depth : ℕ) → Ends ts depth → EndsBranch ts depth

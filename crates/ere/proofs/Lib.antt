@@ -1,11 +1,13 @@
-pub mod SetLemmas
-pub mod Texts
-pub mod BracketLemmas
-pub mod BracketSteps
-pub mod TokenLemmas
-pub mod TokenSteps
-pub mod GrammarLemmas
-pub mod PartLemmas
-pub mod ReaderSteps
-pub mod TreeLaws
-pub mod Sizes
+pub mod Forms
+pub mod Words
+mod SetLemmas
+mod Texts
+mod BracketLemmas
+mod BracketSteps
+mod TokenLemmas
+mod TokenSteps
+mod GrammarLemmas
+mod PartLemmas
+mod ReaderSteps
+mod TreeLaws
+mod Sizes

@@ -4,7 +4,7 @@ use Rattle.ere.specs.declared.tree.Ere.{Ere}
 use Rattle.ere.specs.Tree.{Tree, Trees, none, more, empty, cat, alt, repeat, form}
 use Rattle.ere.specs.Limits.{height, highest, greatest_height}
 use Rattle.ere.specs.Spelling.{branch_of, alternatives_of}
-use Rattle.ere.specs.Reading.{join}
+use Rattle.ere.specs.Private.Reading.{join}
 use Rattle.ere.proofs.Sizes.{forms}
 
 pub join-forms : (members : List Ere) (e : Ere) → forms (members ++ e ∷ []) ≡ join (forms members) (more (form e) none)

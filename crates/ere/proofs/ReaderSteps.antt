@@ -15,7 +15,7 @@ use Rattle.std.specs.Result.{IsErrAnd, OnErr}
 use Rattle.std.specs.Prelude.{Result, Ok, Err, IfErr, IfOk}
 use Rattle.ere.specs.declared.parts.Part.{Part}
 use Rattle.ere.specs.declared.parts.Members.{Members}
-use Rattle.ere.specs.Reading.{Ends, EndsBranch, NoTimes, NoDuplication, ends_branch, join, Reads, IsBuilt, AreBuilt, ReadsDuplications, ReadsAtom, ReadsPiece, ReadsBranch, ReadsAlternatives, HasNoTokens, NoAtom, NoPiece, NoBranch, NoAlternatives}
+use Rattle.ere.specs.Private.Reading.{Ends, EndsBranch, NoTimes, NoDuplication, ends_branch, join, Reads, IsBuilt, AreBuilt, ReadsDuplications, ReadsAtom, ReadsPiece, ReadsBranch, ReadsAlternatives, HasNoTokens, NoAtom, NoPiece, NoBranch, NoAlternatives}
 use Rattle.ere.proofs.Texts.{eqb_is}
 use Rattle.ere.proofs.BracketSteps.{eqb_differs}
 use Rattle.ere.proofs.TokenLemmas.{one_token, no_token}

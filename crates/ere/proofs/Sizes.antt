@@ -10,7 +10,7 @@ use Rattle.std.specs.declared.boxed.Box.{Box}
 use Rattle.ere.specs.declared.tree.Ere.{Ere}
 use Rattle.ere.specs.declared.tree.Ere.TheVariants.{Empty, Set, Start, End, Cat, Alt, Repeat}
 use Rattle.ere.specs.Tree.{Tree, Trees, none, more, trees_of, form}
-use Rattle.ere.specs.Forms.{form-Empty, form-Set, form-Start, form-End, form-Cat, form-Alt, form-Repeat}
+use Rattle.ere.proofs.Forms.{form-Empty, form-Set, form-Start, form-End, form-Cat, form-Alt, form-Repeat}
 use Rattle.ere.specs.Limits.{height, highest, leaves, leaves_in, copies_counted, AreProper, HasTwo, IsProper}
 
 -- the plain trees of members

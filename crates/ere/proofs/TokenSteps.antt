@@ -10,7 +10,7 @@ use Rattle.ere.specs.Classes.{is_digit}
 use Rattle.ere.specs.Brackets.{begins_with, SpellsBracket}
 use Rattle.ere.specs.Tokens.{Token, set, times, SpellsToken, SpellsInterval, SpellsCount, digit_ahead, decimal_value, token_of_byte, is_escapable}
 use Rattle.ere.specs.Tokens.{SpellsToken as spelled, SpellsInterval as interval}
-use Rattle.ere.specs.Reading.{begins_longer, NoDuplication, ReadsCount}
+use Rattle.ere.specs.Private.Reading.{begins_longer, NoDuplication, ReadsCount}
 use Rattle.ere.proofs.BracketLemmas.{head_of}
 use Rattle.ere.proofs.BracketSteps.{eqb_differs}
 use Rattle.ere.proofs.Texts.{first_begins, front}

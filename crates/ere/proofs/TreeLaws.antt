@@ -11,7 +11,7 @@ use Rattle.ere.specs.Tokens as token
 use Rattle.ere.specs.Tokens.{Tokens as tokens, SpellsToken as spelled, SpellsInterval as interval, SpellsInterval}
 use Rattle.ere.specs.Spelling.{Spells, SpellsDuplications, SpellsAtom, SpellsPiece, SpellsBranch, SpellsAlternatives, branch_of, alternatives_of}
 use Rattle.ere.specs.Spelling.{SpellsDuplications as duplications, SpellsAtom as atoms, SpellsPiece as pieces_are, SpellsBranch as branches_are, SpellsAlternatives as alternatives_are}
-use Rattle.ere.specs.Reading.{ReadsAlternatives, NoAlternatives, ends_branch}
+use Rattle.ere.specs.Private.Reading.{ReadsAlternatives, NoAlternatives, ends_branch}
 use Rattle.ere.proofs.TokenLemmas.{one_tokens}
 use Rattle.ere.proofs.GrammarLemmas.{one_alternatives}
 

@@ -1,4 +1,4 @@
--- Bracket expressions (POSIX.1-2017 XBD 9.3.5), in the POSIX locale: what stands between `[` and `]`,
+-- Bracket expressions (POSIX.1-2017 XBD 9.3.5), in the POSIX locale: what is between `[` and `]`,
 -- and the set that it denotes. A relation takes a text from its first byte on, and the text after it.
 use Rattle.std.specs.Prelude.{◌≡◌, ℕ, ◌≤◌, Bool, true, false, not, ◌&&◌, ◌||◌, ◌==◌, IsTrue, IsFalse, List, [], ◌∷◌, ◌++◌, Some}
 use Rattle.ere.specs.ByteSet.{single, bytes_between, union, complement}
@@ -9,12 +9,12 @@ abbrev pub begins_with : ℕ → List ℕ → Bool
 begins_with b [] = false
 begins_with b (c ∷ text) = c == b
 
--- A `-` stands here and isn't last: it would make a range of what is before it.
+-- A `-` is here and isn't last: it would make a range of what is before it.
 abbrev pub range_ahead : List ℕ → Bool
 range_ahead (dash ∷ next ∷ text) = dash == 45 && not (next == 93)
 range_ahead _ = false
 
--- `[.`, `[=` and `[:` open a symbol: behind a `[` that stands for itself comes none of `.`, `=`, `:`.
+-- `[.`, `[=` and `[:` open a symbol: after a `[` that stands for itself comes none of `.`, `=`, `:`.
 abbrev pub opens_symbol : List ℕ → Bool
 opens_symbol text = begins_with 46 text || (begins_with 61 text || begins_with 58 text)
 

@@ -8,7 +8,7 @@ use Rattle.ere.specs.Tree.{Tree, empty, set, at_start, at_end, cat, alt, repeat,
 abbrev pub Language : Type 1
 Language = List ℕ → List ℕ → List ℕ → Type 0
 
--- `count` words of a language, one behind the other
+-- `count` words of a language, one after the other
 unfoldable pub InCopies : Language → ℕ → Language
 InCopies language zero before word after = word ≡ []
 InCopies language (suc count) before word after =
@@ -25,7 +25,7 @@ unfoldable mutual
   InLanguage (repeat body least greatest) before word after =
       (count : ℕ) × (least ≤ count) × IfSome greatest (λ most. count ≤ most) × InCopies (InLanguage body) count before word after
 
-  -- a word of each, one behind the other
+  -- a word of each, one after the other
   pub InEach : Trees → List ℕ → List ℕ → List ℕ → Type 0
   InEach none before word after = word ≡ []
   InEach (more tree trees) before word after =

@@ -2,12 +2,11 @@ pub mod ByteSet
 pub mod Classes
 pub mod Brackets
 pub mod Tree
-pub mod Forms
 pub mod Tokens
 pub mod Spelling
 pub mod Limits
 pub mod Language
 pub mod Lines
-pub mod Reading
 pub mod Faults
-pub mod LanguageLaws
+pub mod Anchors
+pub mod Private

@@ -19,7 +19,7 @@ abbrev pub alternatives_of : Trees → Tree
 alternatives_of (more branch none) = branch
 alternatives_of branches = alt branches
 
--- Any number of duplications behind an atom, the first innermost.
+-- Any number of duplications after an atom, the first innermost.
 pub data SpellsDuplications : List Token → List Token → Tree → Tree → Type 0 where
   done : {from : List Token} {piece : Tree} → SpellsDuplications from from piece piece
   again : {from rest : List Token} {piece whole : Tree} {least : ℕ} {greatest : Option ℕ} → SpellsDuplications from rest (repeat piece least greatest) whole → SpellsDuplications (token.times least greatest ∷ from) rest piece whole

@@ -28,7 +28,7 @@ abbrev pub digit_ahead : List ℕ → Bool
 digit_ahead [] = false
 digit_ahead (b ∷ text) = is_digit b
 
--- The token of a byte that is one by itself, where `text` comes behind it. None: `[`, `\` and a `{`
+-- The token of a byte that is one by itself, where `text` comes after it. None: `[`, `\` and a `{`
 -- before a digit, which begin a longer token.
 unfoldable pub token_of_byte : ℕ → List ℕ → Option Token
 token_of_byte b text =
@@ -59,13 +59,13 @@ pub record SpellsCount (digits : List ℕ) (count : ℕ) : Type 0 where
   pub value : count ≡ decimal_value digits
   pub within : count ≤ greatest_count
 
--- An interval behind its `{`: `m}`, `m,}` or `m,n}`.
+-- An interval after its `{`: `m}`, `m,}` or `m,n}`.
 pub data SpellsInterval (from rest : List ℕ) (least : ℕ) (greatest : Option ℕ) : Type 0 where
   exactly : (digits : List ℕ) → from ≡ digits ++ 125 ∷ rest → SpellsCount digits least → greatest ≡ Some least → SpellsInterval from rest least greatest
   at_least : (digits : List ℕ) → from ≡ digits ++ 44 ∷ 125 ∷ rest → SpellsCount digits least → greatest ≡ None → SpellsInterval from rest least greatest
   between : (low high : List ℕ) (most : ℕ) → from ≡ low ++ 44 ∷ (high ++ 125 ∷ rest) → SpellsCount low least → SpellsCount high most → least ≤ most → greatest ≡ Some most → SpellsInterval from rest least greatest
 
--- One token at the front of a text, and the text behind it.
+-- One token at the front of a text, and the text after it.
 pub data SpellsToken (from rest : List ℕ) (token : Token) : Type 0 where
   byte : (b : ℕ) → from ≡ b ∷ rest → token_of_byte b rest ≡ Some token → SpellsToken from rest token
   escaped : (b : ℕ) → from ≡ 92 ∷ b ∷ rest → IsTrue (is_escapable b) → token ≡ set (single b) → SpellsToken from rest token

@@ -4,27 +4,27 @@ ghost use Rattle.std.specs.Prelude.{◌≡◌, ◌≢◌, ℕ, Bool, true, false
 ghost use Rattle.ere.specs.Brackets.{begins_with, range_ahead, IsCharacterClass, IsRangeEnd, SpellsBracket, SpellsItem, SpellsItems};
 ghost use Rattle.ere.specs.ByteSet.{bytes_between};
 ghost use Rattle.ere.specs.Classes.{class_named};
-ghost use Rattle.ere.specs.Reading.{IsSymbol, opens_with, IsByteOrSymbol, IsSymbolEnd};
+ghost use Rattle.ere.specs.Private.Reading.{IsSymbol, opens_with, IsByteOrSymbol, IsSymbolEnd};
 
 use crate::byte_set::ByteSet;
 use crate::classes::class_named;
 use crate::error::{EreError, EreErrorKind};
 
-/// Whether this byte stands at `at`.
+/// Whether this byte is at `at`.
 pub fn stands_at(text: &[u8], at: usize, byte: u8) -> bool
     ensures { result ≡ begins_with byte (drop at text.now) }
 {
     at < text.len() && text[at] == byte
 }
 
-/// Whether `[` and this mark stand at `at`.
+/// Whether `[` and this mark are at `at`.
 fn opens(text: &[u8], at: usize, mark: u8) -> bool
     ensures { result ≡ opens_with mark (drop at text.now) }
 {
     stands_at(text, at, b'[') && stands_at(text, at + 1, mark)
 }
 
-/// The bracket expression whose `[` stands at `opening`: its set, and the offset behind its `]`.
+/// The bracket expression whose `[` is at `opening`: its set, and the offset after its `]`.
 pub fn bracket_at(text: &[u8], opening: usize) -> Result<(ByteSet, usize), EreError>
     requires { opening < length text.now }
     ensures ok { IfOk result (λ r. SpellsBracket (drop (opening + 1) text.now) (drop r.1 text.now) r.0) }
@@ -39,7 +39,7 @@ pub fn bracket_at(text: &[u8], opening: usize) -> Result<(ByteSet, usize), EreEr
     items_at(text, start, opening)
 }
 
-/// One or more items and the closing `]`: the union of the items' sets, and the offset behind the `]`.
+/// One or more items and the closing `]`: the union of the items' sets, and the offset after the `]`.
 fn items_at(text: &[u8], start: usize, opening: usize) -> Result<(ByteSet, usize), EreError>
     requires { start ≤ length text.now }
     ensures ok { IfOk result (λ r. SpellsItems true (drop start text.now) (93 ∷ drop r.1 text.now) r.0) }
@@ -104,14 +104,14 @@ fn last_dash_at(text: &[u8], at: usize, opening: usize) -> Result<(ByteSet, usiz
     Err(EreError::new(EreErrorKind::BadRange, at))
 }
 
-/// Whether a `-` stands at `at` and is not last, so that it makes a range of what is before it.
+/// Whether a `-` is at `at` and is not last, so that it makes a range of what is before it.
 fn is_range_ahead(text: &[u8], at: usize) -> bool
     ensures { result ≡ range_ahead (drop at text.now) }
 {
     stands_at(text, at, b'-') && at + 1 < text.len() && text[at + 1] != b']'
 }
 
-/// The range from `low`, whose `-` stands at `dash`.
+/// The range from `low`, whose `-` is at `dash`.
 fn range_at(text: &[u8], low: u8, dash: usize, opening: usize) -> Result<(ByteSet, usize), EreError>
     requires { IsTrue (range_ahead (drop dash text.now)) }
     ensures ok { IfOk result (λ r. (high : ℕ) × IsRangeEnd (drop (dash + 1) text.now) high (drop r.1 text.now) × (low ≤ high) × (r.0 ≡ bytes_between low high)) }
@@ -173,7 +173,7 @@ fn class_at(text: &[u8], at: usize, opening: usize) -> Result<(ByteSet, usize), 
     }
 }
 
-/// Where the first `mark` and `]` from `start` on stand.
+/// Where the first `mark` and `]` from `start` on are.
 fn symbol_end(text: &[u8], start: usize, mark: u8) -> Option<usize>
     requires { mark ≢ 0 }
     ensures found { IfSome result (λ p. (start ≤ p) × (p + 1 < length text.now) × IsSymbolEnd mark text.now p) }

@@ -119,7 +119,7 @@ impl ByteSet {
     }
 }
 
-/// Whether the byte may stand in a line: any byte but 0 and the line feed (10).
+/// Whether the byte may be in a line: any byte but 0 and the line feed (10).
 pub fn is_line_byte(byte: u8) -> bool
     ensures { result ≡ is_line_byte byte }
 {

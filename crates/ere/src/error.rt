@@ -20,7 +20,7 @@ pub enum EreErrorKind {
     TooLong,
     /// A byte 0 or 10 (line feed). Reported at the byte.
     BadByte,
-    /// A backslash before a byte that it cannot stand before, or at the end. Reported at the backslash.
+    /// A backslash before a byte that takes none, or at the end. Reported at the backslash.
     BadEscape,
     /// A bracket expression has no end. Reported at its `[`.
     BadBracket,
@@ -69,7 +69,7 @@ impl<T: Drop> From<AllocFailed<T>> for EreError {
 impl EreErrorKind {
     ghost use Rattle.ere.specs.Faults.{reason_of};
 
-    /// The words with which a pattern is refused, such as `bad escape`.
+    /// The text with which a pattern is refused, such as `bad escape`.
     pub fn reason(self) -> &'static str
         ensures { result.now ≡ reason_of self }
     {

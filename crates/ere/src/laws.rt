@@ -1,6 +1,7 @@
 //! Laws of the definitions: each is the contract of a function that does nothing.
 
 ghost use Rattle.std.specs.Prelude.{◌≡◌, ◌↔◌, ℕ, Bool, None, ◌⊎◌, IsTrue, List, [], ◌∷◌, ◌++◌};
+ghost use Rattle.ere.specs.Anchors.{ForgetsSurroundings};
 ghost use Rattle.ere.specs.ByteSet.{has};
 ghost use Rattle.ere.specs.Language.{ContainsMatch, InLanguage};
 ghost use Rattle.ere.specs.Lines.{greatest_line};
@@ -25,12 +26,12 @@ pub fn tree_within_limits()
     ensures { (pattern : List ℕ) (tree : Tree) → IsTreeOf pattern tree → IsWithinLimits tree }
 {}
 
-/// The language of the empty tree is the empty word alone, wherever it stands.
+/// The language of the empty tree is the empty word alone, in any surroundings.
 pub fn only_the_empty_word()
     ensures { (before word after : List ℕ) → InLanguage empty before word after ↔ (word ≡ []) }
 {}
 
-/// Any number of copies are none, or any number and one more behind them.
+/// Any number of copies are none, or any number and one more after them.
 pub fn star_unrolls()
     ensures { (body : Tree) (before word after : List ℕ) → InLanguage (repeat body 0 None) before word after
         ↔ ((word ≡ []) ⊎ ((front back : List ℕ) × (word ≡ front ++ back) × InLanguage (repeat body 0 None) before front (back ++ after) × InLanguage body (before ++ front) back after)) }
@@ -40,4 +41,10 @@ pub fn star_unrolls()
 pub fn anchored_set()
     ensures { (members : List Bool) (line : List ℕ) → ContainsMatch (cat (more at_start (more (set members) (more at_end none)))) line
         ↔ ((b : ℕ) × (line ≡ b ∷ []) × IsTrue (has members b)) }
+{}
+
+/// A word in its surroundings is a word of the tree with the empty text for each anchor, in any
+/// surroundings.
+pub fn surroundings_are_forgotten()
+    ensures { ForgetsSurroundings }
 {}

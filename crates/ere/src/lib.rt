@@ -4,17 +4,16 @@
 //! character is one byte. What POSIX leaves open is this program's choice, and `docs/PATTERNS.md` says it.
 #![tactic(auto)]
 
-pub mod brackets;
-pub mod byte_set;
-pub mod classes;
-pub mod error;
-pub mod language_laws;
+mod brackets;
+mod byte_set;
+mod classes;
+mod error;
 pub mod laws;
-pub mod limits;
-pub mod parts;
-pub mod reader;
-pub mod token;
-pub mod tree;
+mod limits;
+mod parts;
+mod reader;
+mod token;
+mod tree;
 
 pub use byte_set::ByteSet;
 pub use error::{EreError, EreErrorKind};

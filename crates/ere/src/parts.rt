@@ -2,7 +2,7 @@
 
 ghost use Rattle.std.specs.Prelude.{◌≡◌, ◌+◌, Some, IfErr, IfOk};
 ghost use Rattle.ere.specs.Limits.{height};
-ghost use Rattle.ere.specs.Reading.{join, AreBuilt, IsBuilt};
+ghost use Rattle.ere.specs.Private.Reading.{join, AreBuilt, IsBuilt};
 ghost use Rattle.ere.specs.Spelling.{alternatives_of, branch_of};
 ghost use Rattle.ere.specs.Tree.{form, more, none, repeat, Tree, Trees};
 

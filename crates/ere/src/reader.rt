@@ -3,7 +3,7 @@
 ghost use Rattle.std.specs.Prelude.{◌≡◌, ◌≢◌, ◌<◌, ◌≤◌, IfErr, IfOk, IsFalse, List, OnOk, OnErr, drop, length};
 ghost use Rattle.std.specs.List.{AllByRecursion};
 ghost use Rattle.ere.specs.Limits.{greatest_open, greatest_pattern, height, HasNoTree, IsTreeOf, IsWithinLimits};
-ghost use Rattle.ere.specs.Reading.{ends_branch, HasNoTokens, IsBuilt, NoAlternatives, NoAtom, NoBranch, NoDuplication, NoPiece, NoTimes, ReadsAlternatives, ReadsAtom, ReadsBranch, ReadsDuplications, ReadsPiece};
+ghost use Rattle.ere.specs.Private.Reading.{ends_branch, HasNoTokens, IsBuilt, NoAlternatives, NoAtom, NoBranch, NoDuplication, NoPiece, NoTimes, ReadsAlternatives, ReadsAtom, ReadsBranch, ReadsDuplications, ReadsPiece};
 ghost use Rattle.ere.specs.Tokens.{opens, SpellsToken, Token as AnyToken, Tokens};
 ghost use Rattle.ere.specs.Tree.{form, Tree};
 
@@ -149,7 +149,7 @@ fn piece(
     }
 }
 
-/// The group whose `(` stands at `opening` and whose alternatives begin at `start`.
+/// The group whose `(` is at `opening` and whose alternatives begin at `start`.
 #[cycle(reader)]
 fn group(
     alloc: Global,
@@ -159,7 +159,7 @@ fn group(
     depth: u8,
 ) -> Result<(Option<Part>, usize), EreError>
     requires opens { SpellsToken (drop opening text.now) (drop start text.now) opens }
-    requires behind { opening < start }
+    requires after_it { opening < start }
     requires within { start ≤ length text.now }
     requires open_groups { depth ≤ greatest_open }
     ensures ok { IfOk result (λ r. ReadsAtom depth (drop opening text.now) (drop r.1 text.now) r.0) }

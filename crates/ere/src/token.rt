@@ -2,7 +2,7 @@
 
 ghost use Rattle.std.specs.Prelude.{◌≡◌, ℕ, Some, ◌+◌, ◌<◌, ◌≤◌, List, Option, IfErr, IfNone, IfOk, IfSome, IsFalse, IsTrue, drop, length};
 ghost use Rattle.ere.specs.Brackets.{begins_with};
-ghost use Rattle.ere.specs.Reading.{begins_longer, meaning, NoDuplication, ReadsCount};
+ghost use Rattle.ere.specs.Private.Reading.{begins_longer, meaning, NoDuplication, ReadsCount};
 ghost use Rattle.ere.specs.Tokens.{digit_ahead, is_escapable, token_of_byte, SpellsInterval, SpellsToken};
 ghost use Rattle.ere.specs.Tokens.{Token as AnyToken, times};
 
@@ -30,7 +30,7 @@ pub enum Token {
     Times(u8, Option<u8>),
 }
 
-/// The token at `at`, and the offset behind it.
+/// The token at `at`, and the offset after it.
 pub fn token_at(text: &[u8], at: usize) -> Result<(Token, usize), EreError>
     requires { at < length text.now }
     ensures ok { IfOk result (λ r. SpellsToken (drop at text.now) (drop r.1 text.now) (meaning r.0)) }
@@ -52,7 +52,7 @@ pub fn token_at(text: &[u8], at: usize) -> Result<(Token, usize), EreError>
     Ok((token_of_byte(byte), at + 1))
 }
 
-/// The duplication at `at`, where one stands there, and the offset behind it.
+/// The duplication at `at`, where there is one, and the offset after it.
 pub fn duplication_at(text: &[u8], at: usize) -> Result<Option<(u8, Option<u8>, usize)>, EreError>
     requires { at ≤ length text.now }
     ensures ok { IfOk result (λ found. IfSome found (λ d. SpellsToken (drop at text.now) (drop d.2 text.now) (times d.0 d.1))) }
@@ -70,7 +70,7 @@ pub fn duplication_at(text: &[u8], at: usize) -> Result<Option<(u8, Option<u8>, 
     }
 }
 
-/// Whether a byte that may begin a duplication stands at `at`.
+/// Whether a byte that may begin a duplication is at `at`.
 fn begins_duplication(text: &[u8], at: usize) -> bool
     requires { at ≤ length text.now }
     ensures may { IsTrue result → at < length text.now }
@@ -97,7 +97,7 @@ fn token_of_byte(byte: u8) -> Token
     }
 }
 
-/// The token of the `\` at `at` and the byte behind it.
+/// The token of the `\` at `at` and the byte after it.
 fn escape_at(text: &[u8], at: usize) -> Result<(Token, usize), EreError>
     requires { IsTrue (begins_with 92 (drop at text.now)) }
     ensures ok { IfOk result (λ r. SpellsToken (drop at text.now) (drop r.1 text.now) (meaning r.0)) }
@@ -123,7 +123,7 @@ fn is_digit_at(text: &[u8], at: usize) -> bool
     at < text.len() && is_digit(text[at])
 }
 
-/// The interval whose `{` stands at `at`: its least and greatest count, and the offset behind its `}`.
+/// The interval whose `{` is at `at`: its least and greatest count, and the offset after its `}`.
 fn interval_at(text: &[u8], at: usize) -> Result<(u8, Option<u8>, usize), EreError>
     requires begins { at < length text.now }
     requires digit { IsTrue (digit_ahead (drop (at + 1) text.now)) }
@@ -156,7 +156,7 @@ fn interval_at(text: &[u8], at: usize) -> Result<(u8, Option<u8>, usize), EreErr
 }
 
 /// The count that the decimal digits from `start` on spell, where there are some and it is at most 255,
-/// and the offset behind them.
+/// and the offset after them.
 fn count_at(text: &[u8], start: usize) -> (Option<u8>, usize)
     requires { start ≤ length text.now }
     ensures count { ReadsCount (drop start text.now) (drop result.1 text.now) result.0 }

@@ -20,10 +20,10 @@ pub enum Ere {
     Start,
     /// The empty text at the line's end: `$`.
     End,
-    /// A word of each member, one behind the other.
+    /// A word of each member, one after the other.
     Cat(Vec<Ere>),
     /// A word of one of the members.
     Alt(Vec<Ere>),
-    /// Words of the body, one behind the other: at least the first number of them, and at most the second, where there is one.
+    /// Words of the body, one after the other: at least the first number of them, and at most the second, where there is one.
     Repeat(Box<Ere>, u8, Option<u8>),
 }

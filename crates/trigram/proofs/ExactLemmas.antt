@@ -2,7 +2,7 @@
 use Rattle.std.proofs.Common.{◌≡◌, ℕ, zero, suc, ◌+◌, ◌-◌, ◌<◌, ◌≤◌, Bool, true, false, cond, ◌==◌, List, [], ◌++◌, refl, sym, ap, subst, ◌∙◌, arith, inl, inr, ⊎_elim, Some, None}
 use Rattle.std.proofs.lemmas.Bool.Decides.{nat_tests}
 use Rattle.std.proofs.lemmas.List.{append_assoc, append-nil}
-use Rattle.ere.specs.LanguageLaws.{WordSet, IsPower}
+use Rattle.ere.proofs.Words.{WordSet, IsPower}
 use Rattle.trigram.specs.Texts.{Texts, union, joins}
 use Rattle.trigram.specs.Analysis.{Analysis, known, loose, just_empty, settle_known, are_kept, loosen, either, both, copies_of, optional, repeated}
 use Rattle.trigram.proofs.MemberLemmas.{IsIn, IsIn-union_cases, IsIn-from_joins}

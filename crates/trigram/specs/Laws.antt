@@ -3,7 +3,7 @@ use Rattle.std.specs.Prelude.{◌≡◌, ℕ, List, [], ◌∷◌, IsTrue, IsFal
 use Rattle.ere.specs.Tree.{Tree}
 use Rattle.ere.specs.Limits.{IsProper}
 use Rattle.ere.specs.Language.{InLanguage, ContainsMatch}
-use Rattle.ere.specs.LanguageLaws.{without_anchors}
+use Rattle.ere.specs.Anchors.{without_anchors}
 use Rattle.ere.specs.Lines.{lines_of}
 use Rattle.trigram.specs.Trigrams.{TrigramSet, trigrams_of_text, trigrams_of_body, has_all_trigrams}
 use Rattle.trigram.specs.Texts.{Texts, has_text, distinct}

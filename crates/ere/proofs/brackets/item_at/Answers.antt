@@ -1,7 +1,7 @@
 use Rattle.std.proofs.Common.{◌+◌, sym, subst, drop, IsTrue, ◌∷◌, inl, inr}
 use Rattle.ere.specs.Brackets.{range_ahead, SpellsItem}
 use Rattle.ere.specs.Brackets.{SpellsItem as item}
-use Rattle.ere.specs.Reading.{IsByteOrSymbol}
+use Rattle.ere.specs.Private.Reading.{IsByteOrSymbol}
 use Rattle.ere.proofs.BracketSteps.{if_err, if_ok_map, if_err_map, plain_from, class_item, simple_item, range_item, no_low, no_range, IsAhead-range_ahead, may_begin_dash}
 use Rattle.ere.proofs.brackets.item_at.Goals as goal
 use Rattle.ere.proofs.brackets.item_at.Goals.{else-text-at-eq45-via-then-text-at-eq45+else-not-first, else-text-at-eq45-via-else-text-at-eq45}

@@ -1,5 +1,5 @@
 use Rattle.std.proofs.Common.{ℕ, ◌<◌, ◌≤◌}
-use Rattle.ere.specs.Reading.{IsSymbolEnd}
+use Rattle.ere.specs.Private.Reading.{IsSymbolEnd}
 use Rattle.ere.proofs.brackets.symbol_end.Given as goal
 
 abbrev pub invariant-loop-p : goal.invariant-loop-p

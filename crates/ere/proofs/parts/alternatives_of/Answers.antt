@@ -1,9 +1,9 @@
 use Rattle.std.proofs.Common.{ap, arith, sym, ◌∙◌, subst, Some}
-use Rattle.ere.specs.Forms.{form-Alt}
+use Rattle.ere.proofs.Forms.{form-Alt}
 use Rattle.ere.specs.Tree.{alt}
 use Rattle.ere.specs.Limits.{height}
 use Rattle.ere.specs.Spelling.{alternatives_of}
-use Rattle.ere.specs.Reading.{AreBuilt, IsBuilt}
+use Rattle.ere.specs.Private.Reading.{AreBuilt, IsBuilt}
 use Rattle.ere.proofs.PartLemmas.{just_one, alternatives_alt, high_alternatives, height_alt}
 use Rattle.ere.proofs.parts.alternatives_of.Goals as goal
 

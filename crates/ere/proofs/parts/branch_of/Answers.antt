@@ -1,9 +1,9 @@
 use Rattle.std.proofs.Common.{ap, arith, sym, ◌∙◌, subst, Some}
-use Rattle.ere.specs.Forms.{form-Empty, form-Cat}
+use Rattle.ere.proofs.Forms.{form-Empty, form-Cat}
 use Rattle.ere.specs.Tree.{cat}
 use Rattle.ere.specs.Limits.{height}
 use Rattle.ere.specs.Spelling.{branch_of}
-use Rattle.ere.specs.Reading.{AreBuilt, IsBuilt}
+use Rattle.ere.specs.Private.Reading.{AreBuilt, IsBuilt}
 use Rattle.ere.proofs.PartLemmas.{branch_none, just_one, branch_cat, high_branch, height_empty, height_cat}
 use Rattle.ere.proofs.parts.branch_of.Goals as goal
 

@@ -1,7 +1,7 @@
 use Rattle.std.proofs.Common.{ap, arith, ◌∙◌, subst}
-use Rattle.ere.specs.Forms.{form-Repeat}
+use Rattle.ere.proofs.Forms.{form-Repeat}
 use Rattle.ere.specs.Tree.{form, repeat}
-use Rattle.ere.specs.Reading.{IsBuilt}
+use Rattle.ere.specs.Private.Reading.{IsBuilt}
 use Rattle.ere.proofs.PartLemmas.{height_repeat}
 use Rattle.ere.proofs.parts.repeat_of.Goals as goal
 

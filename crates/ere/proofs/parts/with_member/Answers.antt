@@ -1,6 +1,6 @@
 use Rattle.std.proofs.Common.{ap, arith, ◌∙◌, subst}
 use Rattle.ere.specs.Tree.{none, more, form}
-use Rattle.ere.specs.Reading.{join, AreBuilt, IsBuilt}
+use Rattle.ere.specs.Private.Reading.{join, AreBuilt, IsBuilt}
 use Rattle.ere.proofs.Sizes.{forms}
 use Rattle.ere.proofs.PartLemmas.{join-forms, highest-join}
 use Rattle.ere.proofs.parts.with_member.Goals as goal

@@ -5,8 +5,8 @@ use Rattle.ere.specs.ByteSet.{single}
 use Rattle.ere.specs.Tokens.{SpellsToken}
 use Rattle.ere.specs.Tokens as token
 use Rattle.ere.specs.Tree.{at_start, at_end, set}
-use Rattle.ere.specs.Forms.{form-Start, form-End, form-Set}
-use Rattle.ere.specs.Reading.{meaning, ReadsAlternatives, NoAlternatives, NoDuplication}
+use Rattle.ere.proofs.Forms.{form-Start, form-End, form-Set}
+use Rattle.ere.specs.Private.Reading.{meaning, ReadsAlternatives, NoAlternatives, NoDuplication}
 use Rattle.ere.proofs.Texts.{front, Stands-begins}
 use Rattle.ere.proofs.BracketSteps.{if_err_but, if_err_map, if_ok_map}
 use Rattle.ere.proofs.ReaderSteps.{alternatives_start, alternatives_step, branch_fails, branch_start, branch_step, closing, full_fails, group_reads, inner_fails, next_branch_fails, pass_on, unclosed_fails, group_fails, start_fails, end_fails, times_fail, tokenless, lexing_fails, back_fails, leaf_atom, leaf_piece, piece_of_atom, Reads-token, lone_close_atom, no_bar_begins, on_err_map, if_ok_both, height_set, height_start, height_end}

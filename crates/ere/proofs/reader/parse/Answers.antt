@@ -1,5 +1,5 @@
 use Rattle.std.proofs.Common.{arith, subst, drop}
-use Rattle.ere.specs.Reading.{ReadsAlternatives}
+use Rattle.ere.specs.Private.Reading.{ReadsAlternatives}
 use Rattle.ere.proofs.TreeLaws.{found_tree, high_no_tree, large_no_tree, tree_within}
 use Rattle.ere.proofs.reader.parse.Goals as goal
 

@@ -1,7 +1,7 @@
 use Rattle.std.proofs.Common.{◌-◌, ◌≤◌, drop, length}
 use Rattle.ere.specs.Spelling.{SpellsDuplications}
 use Rattle.ere.specs.Tree.{Tree}
-use Rattle.ere.specs.Reading.{IsBuilt, Reads}
+use Rattle.ere.specs.Private.Reading.{IsBuilt, Reads}
 use Rattle.ere.proofs.reader.repeated.Given as goal
 
 abbrev pub invariant-loop-part : goal.invariant-loop-part

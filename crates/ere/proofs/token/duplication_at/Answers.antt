@@ -1,6 +1,6 @@
 use Rattle.std.proofs.Common.{◌≡◌, ℕ, Option, subst, refl, drop}
 use Rattle.ere.specs.Tokens.{SpellsToken, times}
-use Rattle.ere.specs.Reading.{meaning}
+use Rattle.ere.specs.Private.Reading.{meaning}
 use Rattle.ere.specs.declared.token.Token.{Token}
 use Rattle.ere.specs.declared.token.Token.TheVariants.{Set, Opens, Closes, Bar, AtStart, AtEnd, Times}
 use Rattle.ere.proofs.TokenSteps.{no_duplication_other}

@@ -1,5 +1,5 @@
 use Rattle.std.proofs.Common.{◌+◌, ◌∷◌, arith, sym, subst, ap, drop, ◌∙◌, Some, None}
-use Rattle.ere.specs.Reading.{ReadsCount}
+use Rattle.ere.specs.Private.Reading.{ReadsCount}
 use Rattle.ere.proofs.Texts.{Stands-begins}
 use Rattle.ere.proofs.TokenLemmas.{one_count}
 use Rattle.ere.proofs.TokenSteps.{low_fails, exactly_found, at_least_found, between_found, tail_fails, comma_fails, begins_not}

@@ -1,6 +1,6 @@
 use Rattle.std.proofs.Common.{ap, ◌∙◌}
 use Rattle.ere.specs.Tree.{form}
-use Rattle.ere.specs.Forms.{form-Repeat}
+use Rattle.ere.proofs.Forms.{form-Repeat}
 use Rattle.matcher.proofs.Walks.{joins_if}
 use Rattle.matcher.proofs.walk.joins_words.Goals as goal
 

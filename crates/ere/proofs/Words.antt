@@ -1,36 +1,21 @@
--- Laws on the language of a tree: what remains of a word once its surroundings are forgotten.
-use Rattle.std.specs.Prelude.{◌≡◌, ℕ, zero, suc, ◌≤◌, IsTrue, List, [], ◌∷◌, ◌++◌, ◌⊎◌, IfSome}
-use Rattle.std.proofs.Common.{inl, inr, ⊎_elim}
+-- The words of a tree without their surroundings: what remains of a word once its surroundings are forgotten.
+use Rattle.std.proofs.Common.{◌≡◌, ℕ, zero, suc, ◌≤◌, IsTrue, List, [], ◌∷◌, ◌++◌, ◌⊎◌, IfSome, inl, inr, ⊎_elim}
 use Rattle.ere.specs.ByteSet.{has}
 use Rattle.ere.specs.Tree.{Tree, empty, set, at_start, at_end, cat, alt, repeat, Trees, none, more}
 use Rattle.ere.specs.Language.{Language, InCopies, InLanguage, InEach, InSome}
-
-unfoldable mutual
-  -- the tree with the empty text for each anchor
-  pub without_anchors : Tree → Tree
-  without_anchors empty = empty
-  without_anchors (set members) = set members
-  without_anchors at_start = empty
-  without_anchors at_end = empty
-  without_anchors (cat members) = cat (all_without_anchors members)
-  without_anchors (alt members) = alt (all_without_anchors members)
-  without_anchors (repeat body least greatest) = repeat (without_anchors body) least greatest
-
-  pub all_without_anchors : Trees → Trees
-  all_without_anchors none = none
-  all_without_anchors (more tree trees) = more (without_anchors tree) (all_without_anchors trees)
+use Rattle.ere.specs.Anchors.{without_anchors, all_without_anchors, ForgetsSurroundings}
 
 -- A set of words.
 abbrev pub WordSet : Type 1
 WordSet = List ℕ → Type 0
 
--- `count` words of a set, one behind the other
+-- `count` words of a set, one after the other
 unfoldable pub IsPower : WordSet → ℕ → WordSet
 IsPower words zero word = word ≡ []
 IsPower words (suc count) word = (front back : List ℕ) × (word ≡ front ++ back) × IsPower words count front × words back
 
 unfoldable mutual
-  -- The word is one of the tree, where an anchor stands for the empty text.
+  -- The word is one of the tree, where an anchor is the empty text.
   pub IsWord : Tree → WordSet
   IsWord empty word = word ≡ []
   IsWord (set members) word = (b : ℕ) × (word ≡ b ∷ []) × IsTrue (has members b)
@@ -87,7 +72,7 @@ mutual
 mutual
   unfolding InLanguage IsWord without_anchors
 
-  -- a word is one of the tree without its anchors, wherever it stands
+  -- a word is one of the tree without its anchors, in any surroundings
   pub without_anchors-from_word : (tree : Tree) (before word after : List ℕ) → IsWord tree word → InLanguage (without_anchors tree) before word after
   without_anchors-from_word empty before word after h = h
   without_anchors-from_word (set members) before word after h = h
@@ -131,11 +116,6 @@ mutual
   some-from_without_anchors none before word after h = h
   some-from_without_anchors (more tree trees) before word after h =
       ⊎_elim (λ here. inl (IsWord-from_without_anchors tree before word after here)) (λ later. inr (some-from_without_anchors trees before word after later)) h
-
--- A word in its surroundings is a word of the tree without its anchors, in any surroundings.
-abbrev pub ForgetsSurroundings : Type 0
-ForgetsSurroundings =
-    (tree : Tree) (before word after before' after' : List ℕ) → InLanguage tree before word after → InLanguage (without_anchors tree) before' word after'
 
 pub forgets_surroundings : ForgetsSurroundings
 forgets_surroundings tree before word after before' after' h = without_anchors-from_word tree before' word after' (IsWord-from_language tree before word after h)

@@ -22,7 +22,7 @@ opens_with mark (b ∷ text) = b == 91 && begins_with mark text
 abbrev pub IsSymbol : ℕ → List ℕ → ℕ → List ℕ → Type 0
 IsSymbol mark from x rest = from ≡ 91 ∷ mark ∷ x ∷ mark ∷ 93 ∷ rest
 
--- The mark and a `]` stand at an offset.
+-- The mark and a `]` are at an offset.
 abbrev pub IsSymbolEnd : ℕ → List ℕ → ℕ → Type 0
 IsSymbolEnd mark text k = (slice_index text k ≡ mark) × (slice_index text (k + 1) ≡ 93)
 
@@ -45,7 +45,7 @@ meaning (Times least greatest) = tokens.times least greatest
 abbrev pub begins_longer : ℕ → List ℕ → Bool
 begins_longer b text = b == 91 || (b == 92 || (b == 123 && digit_ahead text))
 
--- No duplication stands at the front.
+-- No duplication is at the front.
 abbrev pub NoDuplication : List ℕ → Type 0
 NoDuplication from = (rest : List ℕ) (least : ℕ) (greatest : Option ℕ) → SpellsToken from rest (tokens.times least greatest) → ⊥
 
@@ -57,7 +57,7 @@ pub record ReadsCount (from rest : List ℕ) (count : Option ℕ) : Type 0 where
   pub ends : IsFalse (digit_ahead rest)
   pub counted : MatchOption count ((n : ℕ) → SpellsCount digits n → ⊥) (SpellsCount digits)
 
--- one list of trees behind another
+-- one list of trees after another
 abbrev pub join : Trees → Trees → Trees
 join none trees = trees
 join (more tree others) trees = more tree (join others trees)
@@ -85,8 +85,8 @@ abbrev pub ends_branch : ℕ → List ℕ → Bool
 ends_branch depth [] = true
 ends_branch depth (b ∷ text) = b == 124 || (nat_lt 0 depth && b == 41)
 
--- Whatever tokens the text behind has, what was read spells so together with them; and whatever tokens
--- the text from here on has, they begin with what was read.
+-- What is read from `from` up to `to`: any tokens of the rest follow it in tokens of the whole, and any
+-- tokens of the whole begin with it.
 pub record Reads (from to : List ℕ) (spells : List tokens.Token → List tokens.Token → Type 0) : Type 0 where
   pub forward : (rest : List tokens.Token) → tokens.Tokens to rest → (all : List tokens.Token) × tokens.Tokens from all × spells all rest
   pub backward : (all : List tokens.Token) → tokens.Tokens from all → (rest : List tokens.Token) × tokens.Tokens to rest × spells all rest
