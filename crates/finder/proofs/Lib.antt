@@ -1,0 +1,8 @@
+pub mod RelationLemmas
+pub mod NodeLemmas
+pub mod MemberLemmas
+pub mod ClassLemmas
+pub mod LineLemmas
+pub mod MatchLemmas
+pub mod CutLemmas
+pub mod HeightLemmas

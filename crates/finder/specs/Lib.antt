@@ -1,0 +1,4 @@
+pub mod Translation
+pub mod StarHeight
+pub mod FirstLine
+pub mod Patterns

@@ -1,0 +1,94 @@
+//! The first line of a text that contains a match.
+
+ghost use Rattle.std.specs.Prelude.{◌≡◌, ◌≤◌, length, MatchOption, Some, None};
+ghost use Rattle.regex_meta.specs.Programs.{pattern_of};
+ghost use Rattle.regex_hir.specs.Find.{Match, find};
+
+use crate::compiled::Compiled;
+use crate::line::{line_end, line_start, lines_before};
+use regex_meta::Searcher;
+use std::alloc::{AllocError, Global};
+
+/// The first line of a text that contains a match.
+#[derive(Clone, Copy, Debug, PartialEq, Eq)]
+pub struct FirstLine {
+    /// How many lines are before it.
+    pub before: usize,
+    /// Where it starts in the text, in bytes.
+    pub start: usize,
+    /// Where it ends: at its line feed, or at the text's end.
+    pub end: usize,
+}
+
+/// What looks for the matches of a compiled pattern. It takes memory while it works, and does without where it
+/// gets none, so that a search is never refused.
+pub struct Finder<'p> {
+    pub(crate) searcher: Searcher<'p>,
+}
+
+// Written out, so that a caller's proof sees one call.
+impl Drop for Finder<'_> {
+    fn drop(self) {
+        let Finder {
+            searcher: _searcher,
+        } = self;
+    }
+}
+
+impl<'p> Finder<'p> {
+    ghost use Rattle.std.specs.Prelude.{◌≢◌, ◌↔◌, ◌<◌, ℕ, IsTrue, IfOk, IfSome, IfNone, length, slice_index};
+    ghost use Rattle.ere.specs.Tree.{Tree};
+    ghost use Rattle.ere.specs.Language.{ContainsMatch};
+    ghost use Rattle.finder.specs.FirstLine.{IsFirstLine, IsInside, HasNoMatch};
+    ghost use Rattle.finder.specs.Patterns.{IsCompiledFrom, IsFinderOf};
+
+    /// A finder for the pattern. An `Err` comes only where memory ran out.
+    pub fn new(alloc: Global, compiled: &'p Compiled) -> Result<Finder<'p>, AllocError>
+        ensures { IfOk result (λ finder. (tree : Tree) → IsCompiledFrom tree compiled.now → IsFinderOf tree finder) }
+    {
+        Ok(Finder {
+            searcher: Searcher::new(alloc, &compiled.program)?,
+        })
+    }
+
+    /// The first line of the text that contains a match.
+    pub fn first_line(&mut self, text: &[u8]) -> Option<FirstLine>
+        ensures same { (tree : Tree) → IsFinderOf tree self.old → IsFinderOf tree self.new }
+        ensures inside { IfSome result (IsInside text.now) }
+        ensures none { IfNone result ((tree : Tree) → IsFinderOf tree self.old → HasNoMatch tree text.now) }
+        ensures some { IfSome result (λ line. (tree : Tree) → IsFinderOf tree self.old → IsFirstLine tree text.now line) }
+    {
+        let Some(from) = first_match(&mut self.searcher, text) else {
+            return None;
+        };
+        let start = line_start(text, from);
+        // No line is after the last line feed.
+        if start == text.len() {
+            return None;
+        }
+        let before = lines_before(text, start);
+        let end = line_end(text, from);
+        Some(FirstLine { before, start, end })
+    }
+
+    /// Whether the line contains a match. It has no line feed.
+    pub fn matches(&mut self, line: &[u8]) -> bool
+        requires { (k : ℕ) → k < length line.now → slice_index line.now k ≢ 10 }
+        ensures same { (tree : Tree) → IsFinderOf tree self.old → IsFinderOf tree self.new }
+        ensures found { (tree : Tree) → IsFinderOf tree self.old → IsTrue result ↔ ContainsMatch tree line.now }
+    {
+        self.searcher.is_match(line, 0)
+    }
+}
+
+// Where the engine's first match starts.
+fn first_match(searcher: &mut Searcher<'_>, text: &[u8]) -> Option<usize>
+    ensures same { searcher.new.program.now ≡ searcher.old.program.now }
+    ensures found { MatchOption result (find (pattern_of searcher.old.program.now) text.now 0 ≡ None)
+        (λ from. (m : Match) × (find (pattern_of searcher.old.program.now) text.now 0 ≡ Some m) × (m.start ≡ from) × (from ≤ length text.now)) }
+{
+    match searcher.find(text, 0) {
+        Some((from, _)) => Some(from),
+        None => None,
+    }
+}

@@ -1,0 +1,64 @@
+//! How deep the stars of a tree are.
+
+ghost use Rattle.std.specs.Prelude.{◌≡◌, ◌<◌, map, nat_le};
+ghost use Rattle.ere.specs.Tree.{form, trees_of};
+ghost use Rattle.finder.specs.StarHeight.{star_height, greatest_height, is_set};
+
+use ere::Ere;
+
+/// Whether the tree's star height is at least this: whether so many repeats without a greatest count are one
+/// inside another, where one of a single set does not count.
+#[cycle(heights)]
+pub fn has_star_height(tree: &Ere, least: u32) -> bool
+    ensures { result ≡ nat_le least (star_height (form tree.now)) }
+{
+    if least == 0 {
+        return true;
+    }
+    match tree {
+        Ere::Empty => false,
+        Ere::Set(_) => false,
+        Ere::Start => false,
+        Ere::End => false,
+        Ere::Cat(members) => some_has_star_height(members.as_slice(), least),
+        Ere::Alt(members) => some_has_star_height(members.as_slice(), least),
+        Ere::Repeat(body, _, greatest) => match greatest {
+            None => {
+                if is_one_set(body) {
+                    return false;
+                }
+                has_star_height(body, least - 1)
+            }
+            Some(_) => has_star_height(body, least),
+        },
+    }
+}
+
+// Whether the star height of some member is at least this.
+#[cycle(heights)]
+fn some_has_star_height(members: &[Ere], least: u32) -> bool
+    requires { 0 < least }
+    ensures { result ≡ nat_le least (greatest_height (trees_of (map form members.now))) }
+{
+    for member in members {
+        if has_star_height(member, least) {
+            return true;
+        }
+    }
+    false
+}
+
+// Whether the tree is a single set.
+fn is_one_set(tree: &Ere) -> bool
+    ensures { result ≡ is_set (form tree.now) }
+{
+    match tree {
+        Ere::Empty => false,
+        Ere::Set(_) => true,
+        Ere::Start => false,
+        Ere::End => false,
+        Ere::Cat(_) => false,
+        Ere::Alt(_) => false,
+        Ere::Repeat(_, _, _) => false,
+    }
+}
