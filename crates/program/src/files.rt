@@ -61,8 +61,10 @@ fn fault_of_load(error: &io::Error) -> Fault
 /// How many failures there are after a read, up to the greatest `u64`.
 fn failures_after(failures: u64, read: &Result<Vec<u8>, Fault>) -> u64
     ensures counted { failures ≤ result }
+    ensures one { result ≤ failures + 1 }
     ensures bound { result < 2 ^ 64 }
     ensures failure { IsErrOf read.now Fault.Failed → (failures < result) ⊎ (result ≡ 2 ^ 64 - 1) }
+    ensures no_failure { ¬ IsErrOf read.now Fault.Failed → result ≡ failures }
 {
     match read {
         Err(Fault::Failed) => failures.saturating_add(1),

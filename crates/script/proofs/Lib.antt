@@ -1,3 +1,3 @@
-pub mod WordLemmas
+pub mod FieldLemmas
 pub mod ReaderLemmas
 pub mod OneReading

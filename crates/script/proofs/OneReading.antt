@@ -5,8 +5,8 @@ use Rattle.std.proofs.lemmas.Bool.Decides.{nat_tests}
 use Rattle.std.proofs.Math.Seq.{take-append_seam, drop-append_seam}
 use Rattle.std.proofs.lemmas.List.Elements.{recursion_from_All}
 use Rattle.ere.specs.Classes.{is_digit}
-use Rattle.script.specs.Words.{words_of, SpellsSize}
-use Rattle.script.specs.Cuts.{Lacks, FirstLineOf}
+use Rattle.script.specs.Fields.{fields_of, SpellsSize}
+use Rattle.script.specs.Private.Cuts.{Lacks, FirstLineOf}
 use Rattle.script.specs.Items.{Numbered, numbered, ItemsFrom, done, blank_line, other_line, closed_put, last_put, malformed_put, missing_body, short_body, open_body, BeginsWithLine, ended, last, IsPutLine, is_put, is_blank, item_of_line, line_feeds, put, bad_put, truncated, body_not_closed}
 use Rattle.script.proofs.ReaderLemmas.{in_back, last_cut_once, lacks_byte}
 
@@ -79,8 +79,8 @@ one_put_line : (line name name' : List ℕ) (size size' : ℕ) → IsPutLine lin
 one_put_line line name name' size size' is is' =
     let header = is.3 in
     let header' = is'.3 in
-    let words : is.1 ≡ is'.1 = cc in
-    let whole : name ++ 32 ∷ header.0 ≡ name' ++ 32 ∷ header'.0 = sym header.1 ∙ words ∙ header'.1 in
+    let fields : is.1 ≡ is'.1 = cc in
+    let whole : name ++ 32 ∷ header.0 ≡ name' ++ 32 ∷ header'.0 = sym header.1 ∙ fields ∙ header'.1 in
     let digits : header.0 ≡ header'.0 = last_cut_once 32 name name' header.0 header'.0 whole (lacks_space _ _ header.2) (lacks_space _ _ header'.2) in
     (last_cut_front 32 name name' header.0 (whole ∙ ap (λ d. name' ++ 32 ∷ d) (sym digits)) (lacks_space _ _ header.2), cc)
 
@@ -111,16 +111,16 @@ leads_once n text next next' (something line left header some first head is) (so
 
 -- A blank line is no put.
 comment_is_no_put : (b : ℕ) (line : List ℕ) → b ≡ 35 → is_put (b ∷ line) ≡ false
-unfolding words_of
+unfolding fields_of
 comment_is_no_put b line is = subst (λ c. is_put (c ∷ line) ≡ false) (sym is) refl
 
 blank_is_no_put : (line : List ℕ) → IsTrue (is_blank line) → is_put line ≡ false
-unfolding words_of
+unfolding fields_of
 blank_is_no_put [] blank = refl
 blank_is_no_put (b ∷ line) blank = comment_is_no_put b line (grind (arith, nat_tests))
 
 is_put_first : (line name : List ℕ) (size : ℕ) → IsPutLine line name size → is_put line ≡ true
-unfolding words_of
+unfolding fields_of
 is_put_first line name size is = subst (λ l. is_put l ≡ true) (sym is.2) refl
 
 record FirstOf (text line rest : List ℕ) : Type 0 where
@@ -183,12 +183,12 @@ module _ (n : ℕ) (text line name left : List ℕ) (size : ℕ) (whole : text �
       let test : nat_lt (length left) size ≡ true = grind (arith, nat_tests) in
       leads_put _ (rw test refl)
 
-module _ (n : ℕ) (text line name body behind : List ℕ) (whole : text ≡ line ++ 10 ∷ (body ++ behind)) (is : IsPutLine line name (length body)) where
-  leads_body : (next : Next) → next ≡ after_body n name body behind → Leads n text next
+module _ (n : ℕ) (text line name body after : List ℕ) (whole : text ≡ line ++ 10 ∷ (body ++ after)) (is : IsPutLine line name (length body)) where
+  leads_body : (next : Next) → next ≡ after_body n name body after → Leads n text next
   leads_body next same =
-      let long : length (body ++ behind) ≡ length body + length behind = length-append body behind in
-      let test : nat_lt (length (body ++ behind)) (length body) ≡ false = grind (arith, nat_tests) in
-      leads_put n text line name (body ++ behind) (length body) whole is next (rw (test, take-append_seam body behind, drop-append_seam body behind) same)
+      let long : length (body ++ after) ≡ length body + length after = length-append body after in
+      let test : nat_lt (length (body ++ after)) (length body) ≡ false = grind (arith, nat_tests) in
+      leads_put n text line name (body ++ after) (length body) whole is next (rw (test, take-append_seam body after, drop-append_seam body after) same)
 
 abbrev next_of : (n : ℕ) (text : List ℕ) (items : List Numbered) → ItemsFrom n text items → Next
 next_of n text items done = end

@@ -1,9 +1,9 @@
 -- The items of a script (this program's own language). An item is a line, up to a line feed or the
--- script's end; a `put` has a body behind its line.
+-- script's end; a `put` has a body after its line.
 use Rattle.std.specs.Prelude.{◌≡◌, ◌≢◌, ℕ, ◌+◌, ◌<◌, ◌==◌, if◌then◌else◌, List, [], ◌∷◌, ◌++◌, length, count_by, Option, Some, None, Bool, true, IsTrue, IsFalse, codes}
 use Rattle.std.specs.List.{AllByRecursion}
 use Rattle.std.specs.Str.{bytes_eq}
-use Rattle.script.specs.Words.{words_of, IsPutHeader}
+use Rattle.script.specs.Fields.{fields_of, IsPutHeader}
 
 pub data Item : Type 0 where
   put : (name body : List ℕ) → Item
@@ -15,7 +15,7 @@ pub data Item : Type 0 where
   sync : Item
   -- any other line
   bad_line : Item
-  -- The faults that end the reading: a put without its form; without its bytes; with a byte other than a line feed behind them.
+  -- The faults that end the reading: a put without its form; without its bytes; with a byte other than a line feed after them.
   bad_put : Item
   truncated : Item
   body_not_closed : Item
@@ -33,12 +33,12 @@ abbrev pub is_blank : List ℕ → Bool
 is_blank [] = true
 is_blank (b ∷ line) = b == 35
 
-abbrev pub is_word : List ℕ → List ℕ → Bool
-is_word word text = bytes_eq word text
+abbrev pub is_keyword : List ℕ → List ℕ → Bool
+is_keyword keyword text = bytes_eq keyword text
 
 -- a line `put`, or one that begins with `put `
 abbrev pub is_put : List ℕ → Bool
-is_put line = is_word (words_of line).first (codes "put")
+is_put line = is_keyword (fields_of line).first (codes "put")
 
 -- a name up to the next space, and the rest, which isn't empty
 abbrev pub load_of : List ℕ → Option (List ℕ) → Item
@@ -51,31 +51,31 @@ abbrev pub search_in_of : List ℕ → Option (List ℕ) → Item
 search_in_of name_pattern None = bad_line
 search_in_of name_pattern (Some pattern) = search_in name_pattern pattern
 
--- the item of a line with a first word and nothing behind it
-abbrev pub item_of_word : List ℕ → Item
-item_of_word word =
-    if is_word word (codes "publish") then publish
-    else (if is_word word (codes "sync") then sync
-    else (if is_word word (codes "search") then search []
+-- the item of a line that is a keyword alone
+abbrev pub item_of_keyword : List ℕ → Item
+item_of_keyword keyword =
+    if is_keyword keyword (codes "publish") then publish
+    else (if is_keyword keyword (codes "sync") then sync
+    else (if is_keyword keyword (codes "search") then search []
     else bad_line))
 
--- the item of a line with a first word, a space and more behind it
-abbrev pub item_of_words : List ℕ → List ℕ → Item
-item_of_words word others =
-    if is_word word (codes "search") then search others
-    else (if is_word word (codes "searchin") then search_in_of (words_of others).first (words_of others).others
-    else (if is_word word (codes "remove") then remove others
-    else (if is_word word (codes "load") then load_of (words_of others).first (words_of others).others
+-- the item of a line with a keyword, a space and more after it
+abbrev pub item_of_keyword_and_others : List ℕ → List ℕ → Item
+item_of_keyword_and_others keyword others =
+    if is_keyword keyword (codes "search") then search others
+    else (if is_keyword keyword (codes "searchin") then search_in_of (fields_of others).first (fields_of others).others
+    else (if is_keyword keyword (codes "remove") then remove others
+    else (if is_keyword keyword (codes "load") then load_of (fields_of others).first (fields_of others).others
     else bad_line)))
 
--- the item of a line with these words
+-- the item of a line with this keyword, and with what follows the space after it
 abbrev pub item_of : List ℕ → Option (List ℕ) → Item
-item_of word None = item_of_word word
-item_of word (Some others) = item_of_words word others
+item_of keyword None = item_of_keyword keyword
+item_of keyword (Some others) = item_of_keyword_and_others keyword others
 
 -- the item of a line that is neither blank nor a put
 abbrev pub item_of_line : List ℕ → Item
-item_of_line line = item_of (words_of line).first (words_of line).others
+item_of_line line = item_of (fields_of line).first (fields_of line).others
 
 abbrev pub IsLine : List ℕ → Type 0
 IsLine line = AllByRecursion (λ b. b ≢ 10) line
@@ -88,9 +88,14 @@ pub data BeginsWithLine (text line rest : List ℕ) : Type 0 where
   ended : text ≡ line ++ 10 ∷ rest → IsLine line → BeginsWithLine text line rest
   last : text ≡ line → IsLine line → line ≢ [] → rest ≡ [] → BeginsWithLine text line rest
 
+-- A text of nothing but empty lines and comments.
+pub data IsBlankText : List ℕ → Type 0 where
+  empty : IsBlankText []
+  one_more : {text : List ℕ} (line rest : List ℕ) → BeginsWithLine text line rest → IsTrue (is_blank line) → IsBlankText rest → IsBlankText text
+
 -- The line of a put of this name, for a body of this many bytes.
 abbrev pub IsPutLine : List ℕ → List ℕ → ℕ → Type 0
-IsPutLine line name size = IsLine line × (words : List ℕ) × (line ≡ codes "put " ++ words) × IsPutHeader words name size
+IsPutLine line name size = IsLine line × (fields : List ℕ) × (line ≡ codes "put " ++ fields) × IsPutHeader fields name size
 
 -- The items of a text whose first line has this number.
 pub data ItemsFrom : ℕ → List ℕ → List Numbered → Type 0 where

@@ -1,5 +1,5 @@
-pub mod Words
+pub mod Fields
 pub mod Items
-pub mod Cuts
-pub mod Place
+pub mod Position
 pub mod Reading
+pub mod Private

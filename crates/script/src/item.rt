@@ -1,10 +1,10 @@
-//! The items of a script. The language is this program's own: one space separates words, and `docs/SCRIPT.md`
+//! The items of a script. The language is this program's own: one space separates fields, and `docs/SCRIPT.md`
 //! has its table of lines.
 
-/// An item of a script, with its words and bodies as they stand in the script.
+/// An item of a script, with its texts and bodies as they are in the script.
 #[derive(Clone, Copy, Debug)]
 pub enum Item<'a> {
-    /// `put NAME N` and the N bytes behind its line. Nothing is said yet of the name and the body: they may be
+    /// `put NAME N` and the N bytes after its line. Nothing is said yet of the name and the body: they may be
     /// empty, or none that documents may have.
     Put {
         name: &'a [u8],
@@ -38,7 +38,7 @@ pub enum Item<'a> {
     BadPut,
     /// A put without its bytes. Nothing is read after it.
     Truncated,
-    /// A put with a byte other than a line feed behind its bytes. Nothing is read after it.
+    /// A put with a byte other than a line feed after its bytes. Nothing is read after it.
     BodyNotClosed,
 }
 

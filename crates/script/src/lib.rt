@@ -1,10 +1,11 @@
 //! The script of `tsearch`, read item by item. `docs/SCRIPT.md` has the language.
 #![tactic(auto)]
 
-pub mod item;
-pub mod laws;
-pub mod reader;
-mod words;
+mod cuts;
+mod item;
+mod laws;
+mod reader;
 
 pub use item::{Item, Numbered};
+pub use laws::items_are_one;
 pub use reader::{MAX_SCRIPT, ScriptReader};

@@ -1,13 +1,14 @@
 //! The reader of scripts.
 
-ghost use Rattle.std.specs.Prelude.{◌≡◌, ℕ, ◌+◌, ◌<◌, ◌≤◌, List, [], ◌∷◌, ◌++◌, length, codes, IsFalse, MatchOption, OnSome, option_map};
-ghost use Rattle.script.specs.Cuts.{FirstLineOf, shown_words};
-ghost use Rattle.script.specs.Items.{Numbered as NumberedItem, is_blank, item_of, item_of_word, item_of_words, load_of, search_in_of, line_feeds, numbered, ItemsFrom, BeginsWithLine, IsPutLine};
-ghost use Rattle.script.specs.Reading.{TakesFrom, FollowsLine, shown_item};
-ghost use Rattle.script.specs.Words.{words_of, IsPutHeader, HasHeader, LacksHeader};
+ghost use Rattle.std.specs.Prelude.{◌≡◌, ℕ, ◌+◌, ◌<◌, ◌≤◌, List, [], ◌∷◌, ◌++◌, length, codes, IsFalse, MatchOption, OnSome, IfNone, option_map};
+ghost use Rattle.script.specs.Private.Cuts.{FirstLineOf, shown_fields};
+ghost use Rattle.script.specs.Items.{Numbered as NumberedItem, is_blank, item_of, item_of_keyword, item_of_keyword_and_others, load_of, search_in_of, line_feeds, numbered, ItemsFrom, BeginsWithLine, IsPutLine};
+ghost use Rattle.script.specs.Reading.{shown_item};
+ghost use Rattle.script.specs.Fields.{fields_of, IsPutHeader};
+ghost use Rattle.script.specs.Private.Taking.{TakesFrom, FollowsLine, HasHeader, LacksHeader};
 
+use crate::cuts::{FirstLine, cut_at_last, cut_at_space, first_line, size_of};
 use crate::item::{Item, Numbered};
-use crate::words::{FirstLine, cut_at_last, first_line, size_of, split_word};
 use std::marker::Model;
 
 /// The greatest length of a script, in bytes.
@@ -22,9 +23,9 @@ pub struct ScriptReader<'a> {
 
 impl<'a> Model for ScriptReader<'a> {
     ghost use Rattle.std.specs.Prelude.{◌+◌, ◌≤◌, length};
-    ghost use Rattle.script.specs.Place.{Place};
+    ghost use Rattle.script.specs.Position.{Position};
 
-    ghost Value = { Place };
+    ghost Value = { Position };
 
     ghost view = { λ r. record { line = r.line; rest = r.rest.now } };
 
@@ -32,13 +33,14 @@ impl<'a> Model for ScriptReader<'a> {
 }
 
 impl<'a> ScriptReader<'a> {
-    ghost use Rattle.script.specs.Place.{place};
+    ghost use Rattle.script.specs.Position.{position};
+    ghost use Rattle.script.specs.Items.{IsBlankText};
     ghost use Rattle.script.specs.Reading.{Takes};
 
     /// A reader of the whole script, which has at most `MAX_SCRIPT` bytes. Its first line has the number 1.
     pub fn new(script: &'a [u8]) -> ScriptReader<'a>
         requires { length script.now ≤ MAX_SCRIPT }
-        ensures { result ≡ place 1 script.now }
+        ensures { result ≡ position 1 script.now }
     {
         ScriptReader {
             rest: script,
@@ -46,13 +48,15 @@ impl<'a> ScriptReader<'a> {
         }
     }
 
-    /// Takes the next item, with the number of its line. `None`: there is none. Empty lines and comments are
-    /// passed over, and a fault that ends the reading leaves nothing. It takes no memory and never fails: a line
+    /// Takes the next item, with the number of its line. `None`: what was left is empty lines and comments, and
+    /// nothing is left after it. Empty lines and comments are passed over, and a fault that ends the reading
+    /// leaves nothing. It takes no memory and never fails: a line
     /// that is no item is an item of its own, such as `Item::BadLine`.
     pub fn next_item(&mut self) -> Option<Numbered<'a>>
         ensures item { MatchOption result
             (ItemsFrom self.old.line self.old.rest [])
             (λ found. Takes self.old (numbered found.line (shown_item found.item)) self.new) }
+        ensures ended { IfNone result (IsBlankText self.old.rest × (self.new.rest ≡ [])) }
         ensures shorter { OnSome result (length self.new.rest < length self.old.rest) }
     {
         let start = skip_blank(self.rest, self.line);
@@ -134,63 +138,63 @@ fn take_item(start: Start<'_>) -> Taken<'_>
     ensures { TakesFrom start.entry.line start.entry.text.now (shown_item result.item) result.after.line result.after.text.now }
 {
     let first = first_line(start.text);
-    let (word, others) = split_word(first.line);
-    if word == b"put".as_slice() {
+    let (keyword, others) = cut_at_space(first.line);
+    if keyword == b"put".as_slice() {
         take_put(start, first, others)
     } else {
         Taken {
-            item: item_of_words(word, others),
+            item: item_of(keyword, others),
             after: after_line(start, first),
         }
     }
 }
 
-/// The item of a line that is no put, by its first word and what follows the space behind it.
-fn item_of_words<'a>(word: &'a [u8], others: Option<&'a [u8]>) -> Item<'a>
-    ensures { shown_item result ≡ item_of word.now (option_map (λ rest. rest.now) others.entry) }
+/// The item of a line that is no put, by its keyword and what follows the space after it.
+fn item_of<'a>(keyword: &'a [u8], others: Option<&'a [u8]>) -> Item<'a>
+    ensures { shown_item result ≡ item_of keyword.now (option_map (λ rest. rest.now) others.entry) }
 {
     match others {
-        None => item_of_word(word),
-        Some(others) => item_with_others(word, others),
+        None => item_of_keyword(keyword),
+        Some(others) => item_of_keyword_and_others(keyword, others),
     }
 }
 
-fn item_of_word(word: &[u8]) -> Item<'_>
-    ensures { shown_item result ≡ item_of_word word.now }
+fn item_of_keyword(keyword: &[u8]) -> Item<'_>
+    ensures { shown_item result ≡ item_of_keyword keyword.now }
 {
-    if word == b"publish".as_slice() {
+    if keyword == b"publish".as_slice() {
         Item::Publish
-    } else if word == b"sync".as_slice() {
+    } else if keyword == b"sync".as_slice() {
         Item::Sync
-    } else if word == b"search".as_slice() {
+    } else if keyword == b"search".as_slice() {
         Item::Search {
-            pattern: &word[word.len()..],
+            pattern: &keyword[keyword.len()..],
         }
     } else {
         Item::BadLine
     }
 }
 
-fn item_with_others<'a>(word: &[u8], others: &'a [u8]) -> Item<'a>
-    ensures { shown_item result ≡ item_of_words word.now others.now }
+fn item_of_keyword_and_others<'a>(keyword: &[u8], others: &'a [u8]) -> Item<'a>
+    ensures { shown_item result ≡ item_of_keyword_and_others keyword.now others.now }
 {
-    if word == b"search".as_slice() {
+    if keyword == b"search".as_slice() {
         Item::Search { pattern: others }
-    } else if word == b"searchin".as_slice() {
+    } else if keyword == b"searchin".as_slice() {
         search_in(others)
-    } else if word == b"remove".as_slice() {
+    } else if keyword == b"remove".as_slice() {
         Item::Remove { name: others }
-    } else if word == b"load".as_slice() {
+    } else if keyword == b"load".as_slice() {
         load(others)
     } else {
         Item::BadLine
     }
 }
 
-fn search_in(words: &[u8]) -> Item<'_>
-    ensures { shown_item result ≡ search_in_of (words_of words.now).first (words_of words.now).others }
+fn search_in(fields: &[u8]) -> Item<'_>
+    ensures { shown_item result ≡ search_in_of (fields_of fields.now).first (fields_of fields.now).others }
 {
-    match split_word(words) {
+    match cut_at_space(fields) {
         (name_pattern, Some(pattern)) => Item::SearchIn {
             name_pattern,
             pattern,
@@ -199,10 +203,10 @@ fn search_in(words: &[u8]) -> Item<'_>
     }
 }
 
-fn load(words: &[u8]) -> Item<'_>
-    ensures { shown_item result ≡ load_of (words_of words.now).first (words_of words.now).others }
+fn load(fields: &[u8]) -> Item<'_>
+    ensures { shown_item result ≡ load_of (fields_of fields.now).first (fields_of fields.now).others }
 {
-    match split_word(words) {
+    match cut_at_space(fields) {
         (name, Some(path)) if !path.is_empty() => Item::Load { name, path },
         _ => Item::BadLine,
     }
@@ -216,10 +220,10 @@ struct Header<'a> {
 }
 
 /// The name and the size in what follows `put `.
-fn put_header(words: &[u8]) -> Option<Header<'_>>
-    ensures { MatchOption result ((name : List ℕ) (size : ℕ) → IsPutHeader words.now name size → ⊥) (λ header. IsPutHeader words.now header.name.now header.size) }
+fn put_header(fields: &[u8]) -> Option<Header<'_>>
+    ensures { MatchOption result ((name : List ℕ) (size : ℕ) → IsPutHeader fields.now name size → ⊥) (λ header. IsPutHeader fields.now header.name.now header.size) }
 {
-    let (name, digits) = cut_at_last(b' ', words)?;
+    let (name, digits) = cut_at_last(b' ', fields)?;
     let size = size_of(digits)?;
     Some(Header {
         name,
@@ -233,17 +237,17 @@ fn header_in(others: Option<&[u8]>) -> Option<Header<'_>>
         (λ header. HasHeader (option_map (λ rest. rest.now) others.entry) header.name.now header.size) }
 {
     match others {
-        Some(words) => put_header(words),
+        Some(fields) => put_header(fields),
         None => None,
     }
 }
 
-/// Takes a put, whose line's first word is `put`.
+/// Takes a put, whose line's keyword is `put`.
 fn take_put<'a>(start: Start<'a>, first: FirstLine<'a>, others: Option<&'a [u8]>) -> Taken<'a>
     requires room { start.line + length start.text.now ≤ 67108865 }
     requires some { 0 < length start.text.now }
     requires line { FirstLineOf start.text.now first.line.now (option_map (λ rest. rest.now) first.rest) }
-    requires words { words_of first.line.now ≡ shown_words (codes "put") (option_map (λ rest. rest.now) others) }
+    requires fields { fields_of first.line.now ≡ shown_fields (codes "put") (option_map (λ rest. rest.now) others) }
     ensures { TakesFrom start.entry.line start.entry.text.now (shown_item result.item) result.after.line result.after.text.now }
 {
     let end = Start {
@@ -279,16 +283,16 @@ fn take_body<'a>(start: Start<'a>, header: Header<'a>, left: &'a [u8]) -> Taken<
     requires size { header.size ≤ length left.now }
     ensures { TakesFrom start.entry.line start.entry.text.now (shown_item result.item) result.after.line result.after.text.now }
 {
-    let (body, behind) = left.split_at(header.size);
+    let (body, after) = left.split_at(header.size);
     let put = Item::Put {
         name: header.name,
         body,
     };
-    match behind.split_first() {
+    match after.split_first() {
         None => Taken {
             item: put,
             after: Start {
-                text: behind,
+                text: after,
                 line: start.line,
             },
         },

@@ -10,9 +10,9 @@ use Rattle.tsearch.specs.declared.transcript.Entry.{Entry}
 use Rattle.tsearch.specs.declared.transcript.Entry.TheVariants.{Accepted, Refused, Published, Found, SearchRefused}
 use Rattle.tsearch.specs.Legal.{IsNamed, bad_name, no_memory, named, HasBody, bad_body, with_body, IsRoomFor, full, accepted, IsPut, HasLoaded, failed, loaded_body, IsRemove, no_such_file, is_there, IsPublish}
 use Rattle.tsearch.specs.Legal as legal
-use Rattle.tsearch.specs.Shelf.{Shelf}
-use Rattle.tsearch.specs.Steps.{IsSearchedNow, IsSearchNow, IsSearchInNow, IsEntryNow, HasEntryNow}
-use Rattle.tsearch.specs.Steps as now
+use Rattle.tsearch.specs.Private.StoreState.{StoreState}
+use Rattle.tsearch.specs.Private.Steps.{IsSearchedNow, IsSearchNow, IsSearchInNow, IsEntryNow, HasEntryNow}
+use Rattle.tsearch.specs.Private.Steps as now
 
 -- The answers of two equal entries have one version.
 same_answer : {number number' reader reader' turn turn' : ℕ} {answer answer' : Reply} → Found number reader turn answer ≡ Found number' reader' turn' answer' → answer.version ≡ answer'.version
@@ -73,19 +73,19 @@ module _ (entry : Entry) (at version : ℕ) (is : entry ≡ Published at version
   told : tells entry ≡ true
   told = ap tells is
 
-  pub published_entry : (Holds : List ℕ → List ℕ → Type 0) (shelf : Shelf) (counts : Counts) (loaded : Option (List ℕ)) (line : ℕ) (item : Item) → IsEntryNow Holds shelf counts loaded line item entry → version ≡ length shelf.accepted
+  pub published_entry : (Holds : List ℕ → List ℕ → Type 0) (store : StoreState) (counts : Counts) (loaded : Option (List ℕ)) (line : ℕ) (item : Item) → IsEntryNow Holds store counts loaded line item entry → version ≡ length store.accepted
   unfolding IsEntryNow
-  published_entry Holds shelf counts loaded line (put name body) h = absurd (not_named entry told name line _ (not_body entry told shelf.most shelf.accepted body line) h)
-  published_entry Holds shelf counts loaded line (load name path) h = absurd (not_named entry told name line _ (not_loaded entry told Holds shelf.most shelf.accepted path loaded line) h)
-  published_entry Holds shelf counts loaded line (remove name) h = absurd (not_named entry told name line _ (not_remove entry told shelf.most shelf.accepted name line) h)
-  published_entry Holds shelf counts loaded line publish h = is_publish shelf.accepted line h
-  published_entry Holds shelf counts loaded line (search text) h = absurd (is_search shelf.published _ _ text h)
-  published_entry Holds shelf counts loaded line (search_in name_text text) h = absurd (is_search_in shelf.published _ _ name_text text h)
-  published_entry Holds shelf counts loaded line sync h = absurd h
-  published_entry Holds shelf counts loaded line bad_line h = absurd (let both = sym is ∙ h in cc)
-  published_entry Holds shelf counts loaded line bad_put h = absurd (let both = sym is ∙ h in cc)
-  published_entry Holds shelf counts loaded line truncated h = absurd (let both = sym is ∙ h in cc)
-  published_entry Holds shelf counts loaded line body_not_closed h = absurd (let both = sym is ∙ h in cc)
+  published_entry Holds store counts loaded line (put name body) h = absurd (not_named entry told name line _ (not_body entry told store.most store.accepted body line) h)
+  published_entry Holds store counts loaded line (load name path) h = absurd (not_named entry told name line _ (not_loaded entry told Holds store.most store.accepted path loaded line) h)
+  published_entry Holds store counts loaded line (remove name) h = absurd (not_named entry told name line _ (not_remove entry told store.most store.accepted name line) h)
+  published_entry Holds store counts loaded line publish h = is_publish store.accepted line h
+  published_entry Holds store counts loaded line (search text) h = absurd (is_search store.published _ _ text h)
+  published_entry Holds store counts loaded line (search_in name_text text) h = absurd (is_search_in store.published _ _ name_text text h)
+  published_entry Holds store counts loaded line sync h = absurd h
+  published_entry Holds store counts loaded line bad_line h = absurd (let both = sym is ∙ h in cc)
+  published_entry Holds store counts loaded line bad_put h = absurd (let both = sym is ∙ h in cc)
+  published_entry Holds store counts loaded line truncated h = absurd (let both = sym is ∙ h in cc)
+  published_entry Holds store counts loaded line body_not_closed h = absurd (let both = sym is ∙ h in cc)
 
 -- an entry that is found
 module _ (entry : Entry) (number' reader turn' : ℕ) (answer' : Reply) (is : entry ≡ Found number' reader turn' answer') where
@@ -109,16 +109,16 @@ module _ (entry : Entry) (number' reader turn' : ℕ) (answer' : Reply) (is : en
   found_told : tells entry ≡ true
   found_told = ap tells is
 
-  pub found_entry : (Holds : List ℕ → List ℕ → Type 0) (shelf : Shelf) (counts : Counts) (loaded : Option (List ℕ)) (line : ℕ) (item : Item) → IsEntryNow Holds shelf counts loaded line item entry → (turn' ≡ counts.turns + 1) × (answer'.version ≡ length shelf.published)
+  pub found_entry : (Holds : List ℕ → List ℕ → Type 0) (store : StoreState) (counts : Counts) (loaded : Option (List ℕ)) (line : ℕ) (item : Item) → IsEntryNow Holds store counts loaded line item entry → (turn' ≡ counts.turns + 1) × (answer'.version ≡ length store.published)
   unfolding IsEntryNow
-  found_entry Holds shelf counts loaded line (put name body) h = absurd (not_named entry found_told name line _ (not_body entry found_told shelf.most shelf.accepted body line) h)
-  found_entry Holds shelf counts loaded line (load name path) h = absurd (not_named entry found_told name line _ (not_loaded entry found_told Holds shelf.most shelf.accepted path loaded line) h)
-  found_entry Holds shelf counts loaded line (remove name) h = absurd (not_named entry found_told name line _ (not_remove entry found_told shelf.most shelf.accepted name line) h)
-  found_entry Holds shelf counts loaded line publish h = absurd (found_publish shelf.accepted line h)
-  found_entry Holds shelf counts loaded line (search text) h = found_search shelf.published _ _ text h
-  found_entry Holds shelf counts loaded line (search_in name_text text) h = found_search_in shelf.published _ _ name_text text h
-  found_entry Holds shelf counts loaded line sync h = absurd h
-  found_entry Holds shelf counts loaded line bad_line h = absurd (let both = sym is ∙ h in cc)
-  found_entry Holds shelf counts loaded line bad_put h = absurd (let both = sym is ∙ h in cc)
-  found_entry Holds shelf counts loaded line truncated h = absurd (let both = sym is ∙ h in cc)
-  found_entry Holds shelf counts loaded line body_not_closed h = absurd (let both = sym is ∙ h in cc)
+  found_entry Holds store counts loaded line (put name body) h = absurd (not_named entry found_told name line _ (not_body entry found_told store.most store.accepted body line) h)
+  found_entry Holds store counts loaded line (load name path) h = absurd (not_named entry found_told name line _ (not_loaded entry found_told Holds store.most store.accepted path loaded line) h)
+  found_entry Holds store counts loaded line (remove name) h = absurd (not_named entry found_told name line _ (not_remove entry found_told store.most store.accepted name line) h)
+  found_entry Holds store counts loaded line publish h = absurd (found_publish store.accepted line h)
+  found_entry Holds store counts loaded line (search text) h = found_search store.published _ _ text h
+  found_entry Holds store counts loaded line (search_in name_text text) h = found_search_in store.published _ _ name_text text h
+  found_entry Holds store counts loaded line sync h = absurd h
+  found_entry Holds store counts loaded line bad_line h = absurd (let both = sym is ∙ h in cc)
+  found_entry Holds store counts loaded line bad_put h = absurd (let both = sym is ∙ h in cc)
+  found_entry Holds store counts loaded line truncated h = absurd (let both = sym is ∙ h in cc)
+  found_entry Holds store counts loaded line body_not_closed h = absurd (let both = sym is ∙ h in cc)

@@ -1,5 +1,5 @@
 -- The entries of single items are legal.
-use Rattle.std.proofs.Common.{◌≡◌, ℕ, ◌≤◌, ◌<◌, ◌⊎◌, inl, inr, Bool, true, false, List, Some, refl, ap, ◌∙◌, subst, arith, MatchBool}
+use Rattle.std.proofs.Common.{◌≡◌, ℕ, ◌≤◌, ◌<◌, ◌+◌, ◌-◌, ◌⊎◌, inl, inr, Bool, true, false, List, Some, refl, ap, ◌∙◌, subst, arith, MatchBool}
 use Rattle.ere.specs.declared.error.EreError.{EreError}
 use Rattle.ere.specs.declared.error.EreErrorKind.{EreErrorKind}
 use Rattle.ere.specs.declared.error.EreErrorKind.TheVariants as kind
@@ -16,10 +16,10 @@ use Rattle.search.specs.Scan.{IsAnswerOf}
 use Rattle.tsearch.specs.declared.transcript.Entry.{Entry}
 use Rattle.tsearch.specs.declared.transcript.Entry.TheVariants.{Refused, SearchRefused}
 use Rattle.tsearch.specs.declared.transcript.SearchReason.TheVariants as search_reason
-use Rattle.tsearch.specs.Legal.{IsNamed, bad_name, no_memory, named, bad_body, with_body, full, accepted, IsPut, HasLoaded, loaded_body}
-use Rattle.tsearch.specs.Entries.{reason_of_name, reason_of_fault, reason_of_fault_of, HasBodyOrNoMemory}
-use Rattle.tsearch.specs.Steps.{IsSearchedNow, IsSearchNow, IsSearchInNow, found, IsCounted}
-use Rattle.tsearch.specs.Steps as now
+use Rattle.tsearch.specs.Legal.{IsNamed, bad_name, no_memory, named, bad_body, with_body, full, accepted, IsPut, HasLoaded, loaded_body, IsFailedTimes}
+use Rattle.tsearch.specs.Private.Entries.{reason_of_name, reason_of_fault, reason_of_fault_of, HasBodyOrNoMemory}
+use Rattle.tsearch.specs.Private.Steps.{IsSearchedNow, IsSearchNow, IsSearchInNow, found, IsCounted}
+use Rattle.tsearch.specs.Private.Steps as now
 
 pub named_fault : (error : NameError) (bytes : List ℕ) (line : ℕ) (entry : Entry) (Else : Type 0) → IsNameFault error bytes → entry ≡ Refused line (reason_of_name error) → IsNamed bytes line entry Else
 unfolding IsNameFault
@@ -30,11 +30,11 @@ named_fault name.OutOfMemory bytes line entry Else fault is = no_memory fault is
 
 pub named_body : (most : ℕ) (commands : List Command) (bytes bytes' : List ℕ) (line : ℕ) (entry : Entry) → IsName bytes → HasBodyOrNoMemory most commands bytes' line entry → IsPut most commands bytes bytes' line entry
 named_body most commands bytes bytes' line entry is (inl body_is) = named is body_is
-named_body most commands bytes bytes' line entry is (inr ran_out) = no_memory is ran_out
+named_body most commands bytes bytes' line entry is (inr ran_out) = no_memory is ran_out.2
 
 pub named_loaded : (Holds : List ℕ → List ℕ → Type 0) (most : ℕ) (commands : List Command) (bytes path bytes' : List ℕ) (line : ℕ) (entry : Entry) → IsName bytes → Holds path bytes' → HasBodyOrNoMemory most commands bytes' line entry → IsNamed bytes line entry (HasLoaded Holds most commands path (Some bytes') line entry)
 named_loaded Holds most commands bytes path bytes' line entry is held (inl body_is) = named is (loaded_body bytes' refl held body_is)
-named_loaded Holds most commands bytes path bytes' line entry is held (inr ran_out) = no_memory is ran_out
+named_loaded Holds most commands bytes path bytes' line entry is held (inr ran_out) = no_memory is ran_out.2
 
 -- What is found for a pattern is found for each text that spells it.
 pub searched_by : (published : List Command) (number turn : ℕ) (pattern : Pattern) (IsIt : Pattern → Type 0) (entry : Entry) → IsIt pattern → IsSearchedNow published number turn (λ p. p ≡ pattern) entry → IsSearchedNow published number turn IsIt entry
@@ -124,13 +124,24 @@ pub no_failure_in_body : (most : ℕ) (commands : List Command) (bytes : List �
 no_failure_in_body most commands bytes line entry (inl (bad_body fault is_fault is)) = no_failure_at is refl
 no_failure_in_body most commands bytes line entry (inl (with_body is_body (full all is))) = no_failure_at is refl
 no_failure_in_body most commands bytes line entry (inl (with_body is_body (accepted room is))) = no_failure_at is refl
-no_failure_in_body most commands bytes line entry (inr is) = no_failure_at is refl
+no_failure_in_body most commands bytes line entry (inr is) = no_failure_at is.2 refl
 
-pub counted_none : (entry : Entry) (failed failed' : ℕ) → failures_in (Some entry) ≡ 0 → failed ≤ failed' → failed' < 2 ^ 64 → IsCounted (failures_in (Some entry)) failed failed'
-counted_none entry failed failed' none grows below = record {
+pub counted_none : (entry : Entry) (failed failed' : ℕ) → failures_in (Some entry) ≡ 0 → failed' ≡ failed → IsCounted (failures_in (Some entry)) failed failed'
+counted_none entry failed failed' none same = record {
   rises = inl (rw none (omega arith));
+  stays = λ e. same ∙ e;
+}
+
+-- A read that failed, said so.
+pub counted_one : (entry : Entry) (failed failed' : ℕ) → failures_in (Some entry) ≡ 1 → failed ≤ failed' → failed' ≤ failed + 1 → failed' < 2 ^ 64 → (failed < failed') ⊎ (failed' ≡ 2 ^ 64 - 1) → IsCounted (failures_in (Some entry)) failed failed'
+counted_one entry failed failed' one grows by_one below failure = record {
+  rises = by_failure failure;
   stays = λ e. omega arith;
 }
+  where
+    by_failure : (failed < failed') ⊎ (failed' ≡ 2 ^ 64 - 1) → IsFailedTimes (failures_in (Some entry)) failed failed'
+    by_failure (inl rises) = inl (rw one (omega arith))
+    by_failure (inr all) = inr (all, rw one (omega arith))
 
 pub counted_same : (entry : Entry) (failed : ℕ) → failures_in (Some entry) ≡ 0 → IsCounted (failures_in (Some entry)) failed failed
 counted_same entry failed none = record {

@@ -1,9 +1,9 @@
--- Rows one behind the other, and what they add up to.
+-- Rows one after the other, and what they add up to.
 use Rattle.std.proofs.Common.{◌≡◌, ℕ, ◌+◌, ◌⊎◌, inl, inr, Bool, true, false, List, [], ◌∷◌, ◌++◌, Option, Some, None, refl, sym, ap, ◌∙◌, subst, arith, append_assoc, option_map}
 use Rattle.std.proofs.lemmas.List.{append-nil, map-append}
 use Rattle.std.proofs.lemmas.Grind.{flat_map-append}
 use Rattle.tsearch.specs.Rows.{Row, items_of, entries_of, list_of, commands_of, accepted_by, command_of, version_in, published_in, last_or, published_last, is_sync, before_sync, searches_of, count_searches, failures_in, count_failures}
-use Rattle.tsearch.specs.Steps.{found_in}
+use Rattle.tsearch.specs.Private.Steps.{found_in}
 
 -- how many searches were answered
 abbrev pub count_found : List Row → ℕ
@@ -84,10 +84,10 @@ split_push (x ∷ rows) (b ∷ before) after last row e = under (split_push rows
 Front : List Row → Type 0
 Front rows = (front : List Row) → before_sync rows ≡ Some front → (rest : List Row) × (rows ≡ front ++ rest)
 
-behind_row : (row : Row) (rows front : List Row) (o : Option (List Row)) → before_sync rows ≡ o → option_map (λ f. row ∷ f) o ≡ Some front → Front rows → (rest : List Row) × (row ∷ rows ≡ front ++ rest)
+after_row : (row : Row) (rows front : List Row) (o : Option (List Row)) → before_sync rows ≡ o → option_map (λ f. row ∷ f) o ≡ Some front → Front rows → (rest : List Row) × (row ∷ rows ≡ front ++ rest)
 unfolding Front
-behind_row row rows front None is e more = cc
-behind_row row rows front (Some f) is e more =
+after_row row rows front None is e more = cc
+after_row row rows front (Some f) is e more =
     let found = more f is in
     let same : front ≡ row ∷ f = cc in
     (found.0, subst (λ x. row ∷ rows ≡ x ++ found.0) (sym same) (ap (λ x. row ∷ x) found.1))
@@ -97,7 +97,7 @@ unfolding before_sync
 by_sync true row rows front is e more =
     let same : [] ≡ front = let here = rw is at e in cc in
     (row ∷ rows, subst (λ x. row ∷ rows ≡ x ++ row ∷ rows) same refl)
-by_sync false row rows front is e more = behind_row row rows front (before_sync rows) refl (rw is at e) more
+by_sync false row rows front is e more = after_row row rows front (before_sync rows) refl (rw is at e) more
 
 no_sync : (front : List Row) → before_sync [] ≡ Some front → ⊥
 unfolding before_sync

@@ -69,9 +69,9 @@ pieces_front piece items i a b so_far = record {
 
 pub pieces_more : {X : Type 0} (piece : X → List ℕ) (items : List X) (i : ℕ) (x : X) (a b c : Option (List ℕ)) (text : List ℕ) → i < length items → x ≡ get_or items i x → text ≡ piece x → Appends a b (flat_map piece (take i items)) → AppendsFront b c text → AppendsFront a c (flat_map piece items)
 pieces_more piece items i x a b c text inside is text_is so_far next =
-    let behind : drop i items ≡ x ∷ drop (suc i) items = drop-cons items i x inside ∙ ap (λ y. y ∷ drop (suc i) items) (sym is) in
+    let after : drop i items ≡ x ∷ drop (suc i) items = drop-cons items i x inside ∙ ap (λ y. y ∷ drop (suc i) items) (sym is) in
     let rest : flat_map piece (drop i items) ≡ next.front ++ (next.rest ++ flat_map piece (drop (suc i) items)) =
-    ap (flat_map piece) behind ∙ ap (λ t. t ++ flat_map piece (drop (suc i) items)) (sym text_is ∙ next.whole) ∙ append_assoc next.front next.rest (flat_map piece (drop (suc i) items)) in
+    ap (flat_map piece) after ∙ ap (λ t. t ++ flat_map piece (drop (suc i) items)) (sym text_is ∙ next.whole) ∙ append_assoc next.front next.rest (flat_map piece (drop (suc i) items)) in
     record {
       front = flat_map piece (take i items) ++ next.front;
       rest = next.rest ++ flat_map piece (drop (suc i) items);

@@ -52,74 +52,74 @@ pub data IsPublish (commands : List Command) (line : ℕ) (entry : Entry) : Type
   published : entry ≡ Published line (length commands) → IsPublish commands line entry
   no_memory : entry ≡ Refused line reason.OutOfMemory → IsPublish commands line entry
 
--- The rows round a search, and how many readers there are.
-pub record Place : Type 0 where
+-- The rows before and after a row, and how many readers there are.
+pub record Context : Type 0 where
   pub readers : ℕ
   pub before : List Row
   pub row : Row
   pub after : List Row
 
-abbrev pub all_rows : Place → List Row
-all_rows place = place.before ++ place.row ∷ place.after
+abbrev pub all_rows : Context → List Row
+all_rows context = context.before ++ context.row ∷ context.after
 
--- No answer is of a version that was published only after the first sync behind the search; without
+-- No answer is of a version that was published only after the first sync after the search; without
 -- readers, after the search itself.
-abbrev pub newest_allowed : Place → Option ℕ
-newest_allowed place =
-    if place.readers == 0 then Some (published_last place.before)
-    else option_map (λ rows. published_last (place.before ++ place.row ∷ rows)) (before_sync place.after)
+abbrev pub newest_allowed : Context → Option ℕ
+newest_allowed context =
+    if context.readers == 0 then Some (published_last context.before)
+    else option_map (λ rows. published_last (context.before ++ context.row ∷ rows)) (before_sync context.after)
 
 -- An answer of a published version, no older than what was published before the search, which lists
 -- exactly what the documents after that version's commands hold.
-pub record IsAnswered (place : Place) (pattern : Pattern) (reader : ℕ) (answer : Reply) : Type 0 where
-  pub published : (answer.version ≡ 0) ⊎ Contains (published_in (all_rows place)) answer.version
-  pub not_older : published_last place.before ≤ answer.version
-  pub exact : IsAnswerOf (take answer.version (commands_of (all_rows place))) pattern answer
-  pub one_of_them : reader ≤ place.readers
-  pub not_newer : IfSome (newest_allowed place) (λ version. answer.version ≤ version)
+pub record IsAnswered (context : Context) (pattern : Pattern) (reader : ℕ) (answer : Reply) : Type 0 where
+  pub published : (answer.version ≡ 0) ⊎ Contains (published_in (all_rows context)) answer.version
+  pub not_older : published_last context.before ≤ answer.version
+  pub exact : IsAnswerOf (take answer.version (commands_of (all_rows context))) pattern answer
+  pub one_of_them : reader ≤ context.readers
+  pub not_newer : IfSome (newest_allowed context) (λ version. answer.version ≤ version)
 
 -- the number of a search, from 1
-abbrev pub search_number : Place → ℕ
-search_number place = count_searches place.before + 1
+abbrev pub search_number : Context → ℕ
+search_number context = count_searches context.before + 1
 
 -- What becomes of a search: refused for memory, or answered for its pattern, which some texts spell.
-pub data IsSearched (place : Place) (IsIt : Pattern → Type 0) (entry : Entry) : Type 0 where
-  no_memory : entry ≡ SearchRefused (search_number place) search_reason.OutOfMemory → IsSearched place IsIt entry
-  found : (pattern : Pattern) (reader turn : ℕ) (answer : Reply) → IsIt pattern → entry ≡ Found (search_number place) reader turn answer → IsAnswered place pattern reader answer → IsSearched place IsIt entry
+pub data IsSearched (context : Context) (IsIt : Pattern → Type 0) (entry : Entry) : Type 0 where
+  no_memory : entry ≡ SearchRefused (search_number context) search_reason.OutOfMemory → IsSearched context IsIt entry
+  found : (pattern : Pattern) (reader turn : ℕ) (answer : Reply) → IsIt pattern → entry ≡ Found (search_number context) reader turn answer → IsAnswered context pattern reader answer → IsSearched context IsIt entry
 
-pub data IsSearch (place : Place) (text : List ℕ) (entry : Entry) : Type 0 where
-  bad_pattern : (fault : EreError) → fault.kind ≢ kind.OutOfMemory → HasNoTree text → entry ≡ SearchRefused (search_number place) (search_reason.Pattern fault) → IsSearch place text entry
-  searched : IsSearched place (IsPatternOf text) entry → IsSearch place text entry
+pub data IsSearch (context : Context) (text : List ℕ) (entry : Entry) : Type 0 where
+  bad_pattern : (fault : EreError) → fault.kind ≢ kind.OutOfMemory → HasNoTree text → entry ≡ SearchRefused (search_number context) (search_reason.Pattern fault) → IsSearch context text entry
+  searched : IsSearched context (IsPatternOf text) entry → IsSearch context text entry
 
 -- The name pattern is looked at first.
-pub data IsSearchIn (place : Place) (name_text text : List ℕ) (entry : Entry) : Type 0 where
-  bad_name_pattern : (fault : EreError) → fault.kind ≢ kind.OutOfMemory → HasNoTree name_text → entry ≡ SearchRefused (search_number place) (search_reason.NamePattern fault) → IsSearchIn place name_text text entry
-  bad_pattern : (fault : EreError) → fault.kind ≢ kind.OutOfMemory → HasTree name_text → HasNoTree text → entry ≡ SearchRefused (search_number place) (search_reason.Pattern fault) → IsSearchIn place name_text text entry
-  searched : IsSearched place (IsPatternWithin name_text text) entry → IsSearchIn place name_text text entry
+pub data IsSearchIn (context : Context) (name_text text : List ℕ) (entry : Entry) : Type 0 where
+  bad_name_pattern : (fault : EreError) → fault.kind ≢ kind.OutOfMemory → HasNoTree name_text → entry ≡ SearchRefused (search_number context) (search_reason.NamePattern fault) → IsSearchIn context name_text text entry
+  bad_pattern : (fault : EreError) → fault.kind ≢ kind.OutOfMemory → HasTree name_text → HasNoTree text → entry ≡ SearchRefused (search_number context) (search_reason.Pattern fault) → IsSearchIn context name_text text entry
+  searched : IsSearched context (IsPatternWithin name_text text) entry → IsSearchIn context name_text text entry
 
--- The entry of an item, where these rows stand round it.
-unfoldable pub IsEntryOf : (List ℕ → List ℕ → Type 0) → ℕ → Place → ℕ → Item → Entry → Type 0
-IsEntryOf Holds most place line (put name body) entry = IsPut most (commands_of place.before) name body line entry
-IsEntryOf Holds most place line (load name path) entry = IsNamed name line entry (HasLoaded Holds most (commands_of place.before) path place.row.loaded line entry)
-IsEntryOf Holds most place line (remove name) entry = IsNamed name line entry (IsRemove most (commands_of place.before) name line entry)
-IsEntryOf Holds most place line publish entry = IsPublish (commands_of place.before) line entry
-IsEntryOf Holds most place line (search text) entry = IsSearch place text entry
-IsEntryOf Holds most place line (search_in name_text text) entry = IsSearchIn place name_text text entry
-IsEntryOf Holds most place line sync entry = ⊥
-IsEntryOf Holds most place line bad_line entry = entry ≡ Refused line reason.BadLine
-IsEntryOf Holds most place line bad_put entry = entry ≡ Refused line reason.BadPut
-IsEntryOf Holds most place line truncated entry = entry ≡ Refused line reason.Truncated
-IsEntryOf Holds most place line body_not_closed entry = entry ≡ Refused line reason.BodyNotClosed
+-- The entry of an item among these rows.
+unfoldable pub IsEntryOf : (List ℕ → List ℕ → Type 0) → ℕ → Context → ℕ → Item → Entry → Type 0
+IsEntryOf Holds most context line (put name body) entry = IsPut most (commands_of context.before) name body line entry
+IsEntryOf Holds most context line (load name path) entry = IsNamed name line entry (HasLoaded Holds most (commands_of context.before) path context.row.loaded line entry)
+IsEntryOf Holds most context line (remove name) entry = IsNamed name line entry (IsRemove most (commands_of context.before) name line entry)
+IsEntryOf Holds most context line publish entry = IsPublish (commands_of context.before) line entry
+IsEntryOf Holds most context line (search text) entry = IsSearch context text entry
+IsEntryOf Holds most context line (search_in name_text text) entry = IsSearchIn context name_text text entry
+IsEntryOf Holds most context line sync entry = ⊥
+IsEntryOf Holds most context line bad_line entry = entry ≡ Refused line reason.BadLine
+IsEntryOf Holds most context line bad_put entry = entry ≡ Refused line reason.BadPut
+IsEntryOf Holds most context line truncated entry = entry ≡ Refused line reason.Truncated
+IsEntryOf Holds most context line body_not_closed entry = entry ≡ Refused line reason.BodyNotClosed
 
 -- A sync has no entry, and every other item has one.
-abbrev pub HasEntry : (List ℕ → List ℕ → Type 0) → ℕ → Place → Item → Option Entry → Type 0
-HasEntry Holds most place sync None = Unit {0}
-HasEntry Holds most place sync (Some entry) = ⊥
-HasEntry Holds most place item None = ⊥
-HasEntry Holds most place item (Some entry) = IsEntryOf Holds most place place.row.numbered.line item entry
+abbrev pub HasEntry : (List ℕ → List ℕ → Type 0) → ℕ → Context → Item → Option Entry → Type 0
+HasEntry Holds most context sync None = Unit {0}
+HasEntry Holds most context sync (Some entry) = ⊥
+HasEntry Holds most context item None = ⊥
+HasEntry Holds most context item (Some entry) = IsEntryOf Holds most context context.row.numbered.line item entry
 
-abbrev pub IsLegalRow : (List ℕ → List ℕ → Type 0) → ℕ → Place → Type 0
-IsLegalRow Holds most place = HasEntry Holds most place place.row.numbered.item place.row.entry
+abbrev pub IsLegalRow : (List ℕ → List ℕ → Type 0) → ℕ → Context → Type 0
+IsLegalRow Holds most context = HasEntry Holds most context context.row.numbered.item context.row.entry
 
 -- The turns of one reader are distinct, and its versions never fall as they rise.
 pub record IsInTurn (first second : ℕ) (first_version second_version : ℕ) : Type 0 where
@@ -139,6 +139,10 @@ AreInTurn rows =
 abbrev pub greatest_failures : ℕ
 greatest_failures = 2 ^ 64 - 1
 
+-- A source's count rose by this number of failures, as far as it goes.
+abbrev pub IsFailedTimes : ℕ → ℕ → ℕ → Type 0
+IsFailedTimes failures before after = (failures + before ≡ after) ⊎ ((after ≡ greatest_failures) × (greatest_failures ≤ failures + before))
+
 -- The transcript is legal. Holds: what the source held. failed, failed': how often the source had failed
 -- before the run and after it.
 pub record IsLegal (script : List ℕ) (options : Options) (Holds : List ℕ → List ℕ → Type 0) (failed failed' : ℕ) (entries : List Entry) : Type 0 where
@@ -148,4 +152,4 @@ pub record IsLegal (script : List ℕ) (options : Options) (Holds : List ℕ →
   pub each : (before : List Row) (row : Row) (after : List Row) → rows ≡ before ++ row ∷ after
       → IsLegalRow Holds options.max_commands (record { readers = options.readers; before = before; row = row; after = after })
   pub turns : AreInTurn rows
-  pub failures : (count_failures rows + failed ≤ failed') ⊎ (failed' ≡ greatest_failures)
+  pub failures : IsFailedTimes (count_failures rows) failed failed'

@@ -7,8 +7,8 @@ ghost use Rattle.script.specs.Items.{numbered as numbered_item, load as load_ite
 ghost use Rattle.tsearch.specs.Legal.{IsPut, IsNamed, HasBody, HasLoaded, IsRemove, IsRoomFor};
 ghost use Rattle.tsearch.specs.Rows.{command_of, failures_in};
 ghost use Rattle.search.specs.Prepared.{pattern_of};
-ghost use Rattle.tsearch.specs.Entries.{reason_of_name, reason_of_fault, IsAccepted, HasBodyOrNoMemory, IsLoadedEntry};
-ghost use Rattle.tsearch.specs.Steps.{shelf_after, IsSearchNow, IsSearchInNow, IsSearchedNow, IsCarriedOut, IsCounted};
+ghost use Rattle.tsearch.specs.Private.Entries.{reason_of_name, reason_of_fault, IsAccepted, HasBodyOrNoMemory, IsLoadedEntry};
+ghost use Rattle.tsearch.specs.Private.Steps.{store_after, IsSearchNow, IsSearchInNow, IsSearchedNow, IsCarriedOut, IsCounted};
 
 use crate::source::{Fault, Source};
 use crate::store::{AcceptError, Store};
@@ -36,10 +36,10 @@ fn refused_name(line: u32, error: NameError) -> Entry
     }
 }
 
-/// Accepts a command whose name and body are found good.
+/// Accepts a command whose name and body are found good. It is full exactly where the limit is reached.
 fn accept(store: &mut Store, line: u32, command: Command) -> Entry
     ensures entry { IsAccepted store.old.most store.old.accepted line result }
-    ensures store { store.new ≡ shelf_after (Some result) (command ∷ []) store.old }
+    ensures store { store.new ≡ store_after (Some result) (command ∷ []) store.old }
 {
     match store.accept(command) {
         Ok(commands) => Entry::Accepted { line, commands },
@@ -50,7 +50,7 @@ fn accept(store: &mut Store, line: u32, command: Command) -> Entry
 
 fn put_body(store: &mut Store, line: u32, name: Name, bytes: Vec<u8>) -> Entry
     ensures entry { HasBodyOrNoMemory store.old.most store.old.accepted bytes.items line result }
-    ensures store { store.new ≡ shelf_after (Some result) (put_command name bytes.items ∷ []) store.old }
+    ensures store { store.new ≡ store_after (Some result) (put_command name bytes.items ∷ []) store.old }
 {
     match Body::new(bytes) {
         Ok(body) => accept(store, line, Command::Put(name, body)),
@@ -60,7 +60,7 @@ fn put_body(store: &mut Store, line: u32, name: Name, bytes: Vec<u8>) -> Entry
 
 fn put(alloc: Global, store: &mut Store, line: u32, name: &[u8], body: &[u8]) -> Entry
     ensures entry { IsPut store.old.most store.old.accepted name.now body.now line result }
-    ensures store { store.new ≡ shelf_after (Some result) (put_command name.now body.now ∷ []) store.old }
+    ensures store { store.new ≡ store_after (Some result) (put_command name.now body.now ∷ []) store.old }
 {
     let name = match Name::new(alloc, name) {
         Ok(name) => name,
@@ -75,6 +75,7 @@ fn put(alloc: Global, store: &mut Store, line: u32, name: &[u8], body: &[u8]) ->
     }
 }
 
+/// Asks the source once, where the name is a name, and says `CannotLoad` exactly where the source failed then.
 fn load<S: Source>(
     alloc: Global,
     store: &mut Store,
@@ -83,8 +84,9 @@ fn load<S: Source>(
     name: &[u8],
     path: &[u8],
 ) -> Entry
+    ensures counted { S.failed source.old ≤ S.failed source.new }
     ensures entry { IsLoadedEntry (S.holds source.old) store.old (S.failed source.old) name.now path.now line result store.new (S.failed source.new) }
-    ensures same { (path body : List ℕ) → S.holds source.new path body → S.holds source.old path body }
+    ensures same { (path body : List ℕ) → (S.holds source.new path body → S.holds source.old path body) × (S.holds source.old path body → S.holds source.new path body) }
 {
     let name = match Name::new(alloc, name) {
         Ok(name) => name,
@@ -99,7 +101,7 @@ fn load<S: Source>(
 
 fn remove(alloc: Global, store: &mut Store, line: u32, name: &[u8]) -> Entry
     ensures entry { IsNamed name.now line result (IsRemove store.old.most store.old.accepted name.now line result) }
-    ensures store { store.new ≡ shelf_after (Some result) (remove_command name.now ∷ []) store.old }
+    ensures store { store.new ≡ store_after (Some result) (remove_command name.now ∷ []) store.old }
 {
     let name = match Name::new(alloc, name) {
         Ok(name) => name,
@@ -192,7 +194,8 @@ pub fn carry_out<S: Source>(
     requires turns { counts.turns + 1 < 2 ^ 32 }
     ensures done { IsCarriedOut (S.holds source.old) store.old counts (S.failed source.old)
         (numbered_item item.entry.line (shown_item item.entry.item)) result store.new (S.failed source.new) }
-    ensures same { (path body : List ℕ) → S.holds source.new path body → S.holds source.old path body }
+    ensures same { (path body : List ℕ) → (S.holds source.new path body → S.holds source.old path body) × (S.holds source.old path body → S.holds source.new path body) }
+    ensures counted { S.failed source.old ≤ S.failed source.new }
 {
     let line = item.line;
     let next = Next {

@@ -5,13 +5,13 @@
 #![tactic(auto)]
 
 mod items;
-pub mod output;
+mod output;
 pub mod run;
 mod session;
-pub mod source;
+mod source;
 mod store;
 mod texts;
-pub mod transcript;
+mod transcript;
 
 pub use output::{WriteError, write_transcript};
 pub use run::{Options, RunError};

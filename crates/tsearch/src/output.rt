@@ -1,6 +1,6 @@
 //! Transcripts, written.
 
-ghost use Rattle.std.specs.Prelude.{◌≡◌, ◌++◌, OnOk, OnErr, List, ℕ};
+ghost use Rattle.std.specs.Prelude.{◌≡◌, ◌++◌, OnOk, OnErr, IsErrOf, List, ℕ};
 ghost use Rattle.std.specs.Io.KnownBytes.{Appends};
 ghost use Rattle.tsearch.specs.Transcript.{text_of_transcript};
 ghost use Rattle.tsearch.specs.Written.{AppendsFront};
@@ -53,9 +53,11 @@ pub fn write_transcript<W: Write>(
     Ok(())
 }
 
+/// Writes all bytes. It takes no memory.
 fn write_whole<W: Write>(out: &mut W, bytes: &[u8]) -> Result<(), WriteError>
     ensures ok { OnOk result (Appends (W.contents out.old) (W.contents out.new) bytes.now) }
     ensures err { OnErr result (AppendsFront (W.contents out.old) (W.contents out.new) bytes.now) }
+    ensures no_memory { ¬ IsErrOf result WriteError.OutOfMemory }
 {
     let mut rest = bytes;
     while !rest.is_empty() {

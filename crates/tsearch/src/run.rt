@@ -1,6 +1,6 @@
 //! Runs of scripts.
 
-ghost use Rattle.std.specs.Prelude.{◌≡◌, ℕ, ◌<◌, ◌≤◌, ◌↔◌, IfOk, IsErrOf, length};
+ghost use Rattle.std.specs.Prelude.{◌≡◌, ℕ, ◌<◌, ◌≤◌, ◌↔◌, List, IfOk, IsErrOf, length};
 ghost use Rattle.tsearch.specs.Legal.{IsLegal};
 
 use crate::session::Session;
@@ -34,7 +34,11 @@ pub enum RunError {
 ///
 /// The transcript is legal for the script (`docs/DEFINITIONS.md`): each search is answered for the
 /// documents after some published list of commands, and lists exactly the lines with a match. An item that is
-/// refused is an entry of the transcript, and the run goes on behind it.
+/// refused is an entry of the transcript, and the run goes on with the next item, except after the three faults
+/// that end the reading of a script: a put without its form, without its bytes, or with a byte other than a line
+/// feed after them.
+///
+/// Whatever the answer, the source holds afterwards what it held before, and its count of failures did not fall.
 ///
 /// `ScriptTooLong` is answered exactly where the script has over 67,108,864 bytes, and `OutOfMemory` where
 /// memory ran out for the transcript itself. After an `Err` there is no transcript.
@@ -48,6 +52,8 @@ pub fn run<S: Source>(
     requires commands { 0 < options.max_commands }
     requires few_commands { options.max_commands ≤ 1000000 }
     ensures legal { IfOk result (λ transcript. IsLegal script.now options (S.holds source.old) (S.failed source.old) (S.failed source.new) transcript.entries.items) }
+    ensures same { (path body : List ℕ) → (S.holds source.new path body → S.holds source.old path body) × (S.holds source.old path body → S.holds source.new path body) }
+    ensures counted { S.failed source.old ≤ S.failed source.new }
     ensures too_long { IsErrOf result RunError.ScriptTooLong ↔ (MAX_SCRIPT < length script.now) }
 {
     if script.len() > MAX_SCRIPT {

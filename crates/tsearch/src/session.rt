@@ -24,14 +24,14 @@ pub struct Session {
 }
 
 impl Session {
-    ghost use Rattle.tsearch.specs.Shelf.{empty_shelf};
-    ghost use Rattle.tsearch.specs.Steps.{TakesItem};
+    ghost use Rattle.tsearch.specs.Private.StoreState.{empty_store};
+    ghost use Rattle.tsearch.specs.Private.Steps.{TakesItem};
 
     /// A run before its first item, which accepts at most this many commands, up to 1,000,000. It takes no
     /// memory.
     pub fn new(alloc: Global, most: u32) -> Session
         requires { most ≤ 1000000 }
-        ensures store { result.store ≡ empty_shelf most }
+        ensures store { result.store ≡ empty_store most }
         ensures counts { (result.counts.searches ≡ 0) × (result.counts.turns ≡ 0) }
         ensures entries { result.entries.items ≡ [] }
     {
@@ -56,7 +56,8 @@ impl Session {
         requires turns { self.old.counts.turns + 1 < 2 ^ 32 }
         ensures ok { OnOk result (TakesItem (S.holds source.old) self.old (S.failed source.old)
             (numbered_item item.entry.line (shown_item item.entry.item)) self.new (S.failed source.new)) }
-        ensures same { (path body : List ℕ) → S.holds source.new path body → S.holds source.old path body }
+        ensures same { (path body : List ℕ) → (S.holds source.new path body → S.holds source.old path body) × (S.holds source.old path body → S.holds source.new path body) }
+        ensures counted { S.failed source.old ≤ S.failed source.new }
     {
         let entry = carry_out(alloc, &mut self.store, source, self.counts, item);
         self.counts.searches += searches_in(&item.item);
@@ -79,7 +80,7 @@ fn searches_in(item: &Item<'_>) -> u32
     }
 }
 
-ghost use Rattle.tsearch.specs.Steps.{found_in};
+ghost use Rattle.tsearch.specs.Private.Steps.{found_in};
 
 fn found_in(entry: &Entry) -> u32
     ensures count { result ≡ found_in (Some entry.now) }

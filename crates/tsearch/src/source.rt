@@ -1,6 +1,6 @@
 //! Where a script's loads come from.
 
-ghost use Rattle.std.specs.Prelude.{◌≡◌, ℕ, ◌-◌, ◌^◌, ◌<◌, ◌≤◌, ◌⊎◌, List, IfOk, IsErrOf};
+ghost use Rattle.std.specs.Prelude.{◌≡◌, ℕ, ◌+◌, ◌-◌, ◌^◌, ◌<◌, ◌≤◌, ◌⊎◌, List, IfOk, IsErrOf};
 
 use std::alloc::Global;
 
@@ -13,7 +13,6 @@ pub enum Fault {
     OutOfMemory,
 }
 
-/// What a script's loads are read from.
 /// What a run reads the bodies of its loads from.
 pub trait Source {
     /// The bytes may be read under the path. No read changes it.
@@ -22,16 +21,18 @@ pub trait Source {
     /// How often the source has failed.
     ghost failed: { Self → ℕ };
 
-    /// Reads what the source holds under the path, whose bytes it takes as they stand in the script.
+    /// Reads what the source holds under the path, whose bytes it takes as they are in the script.
     ///
-    /// `Failed` comes only where `failures` rises in this call, or stands at the greatest `u64` after it, and
-    /// `OutOfMemory` where memory ran out for the bytes.
+    /// `Failed` comes only where `failures` rises in this call, or is the greatest `u64` after it, and
+    /// `OutOfMemory` where memory ran out for the bytes. `failures` rises by at most one, and only for `Failed`.
     fn read(&mut self, alloc: Global, path: &[u8]) -> Result<Vec<u8>, Fault>
         ensures read { IfOk result (λ bytes. holds self.old path.now bytes.items) }
         ensures same { (path body : List ℕ) → (holds self.new path body → holds self.old path body) × (holds self.old path body → holds self.new path body) }
         ensures counted { failed self.old ≤ failed self.new }
+        ensures one { failed self.new ≤ failed self.old + 1 }
         ensures bound { failed self.new < 2 ^ 64 }
-        ensures failure { IsErrOf result Fault.Failed → (failed self.old < failed self.new) ⊎ (failed self.new ≡ 2 ^ 64 - 1) };
+        ensures failure { IsErrOf result Fault.Failed → (failed self.old < failed self.new) ⊎ (failed self.new ≡ 2 ^ 64 - 1) }
+        ensures no_failure { ¬ IsErrOf result Fault.Failed → failed self.new ≡ failed self.old };
 
     /// How often the source has failed, up to the greatest `u64`.
     fn failures(&self) -> u64

@@ -1,6 +1,6 @@
 //! Commands that are accepted, and the documents that are published of them.
 
-ghost use Rattle.std.specs.Prelude.{◌≡◌, ℕ, ◌+◌, ◌<◌, ◌^◌, ◌≤◌, List, [], ◌∷◌, ◌++◌, length, OnOk, OnErr, IfOk, IfErr, IsErrOf, is_some, drop};
+ghost use Rattle.std.specs.Prelude.{◌≡◌, ℕ, ◌+◌, ◌<◌, ◌^◌, ◌≤◌, List, [], ◌∷◌, ◌++◌, ◌↔◌, length, OnOk, OnErr, IfOk, IfErr, IsErrOf, is_some, drop};
 ghost use Rattle.index.specs.Documents.{documents_of, number_of};
 ghost use Rattle.index.specs.declared.command.Command.{Command as JournalCommand};
 ghost use Rattle.search.specs.Scan.{IsAnswerOf};
@@ -33,24 +33,24 @@ pub struct Store {
 }
 
 impl Model for Store {
-    ghost use Rattle.tsearch.specs.Shelf.{Shelf};
+    ghost use Rattle.tsearch.specs.Private.StoreState.{StoreState};
 
-    ghost Value = { Shelf };
+    ghost Value = { StoreState };
 
-    ghost use Rattle.tsearch.specs.StoreParts.{shelf_of, IsStore};
+    ghost use Rattle.tsearch.specs.Private.StoreParts.{state_of_store, IsStore};
 
-    ghost view = { shelf_of };
+    ghost view = { state_of_store };
 
     ghost invariant = { IsStore };
 }
 
 impl Store {
-    ghost use Rattle.tsearch.specs.Shelf.{Shelf, empty_shelf, with_accepted, all_published};
+    ghost use Rattle.tsearch.specs.Private.StoreState.{StoreState, empty_store, with_accepted, all_published};
 
     /// A store with no commands, for at most this many.
     pub fn new(alloc: Global, most: u32) -> Store
         requires { most ≤ 1000000 }
-        ensures { result ≡ empty_shelf most }
+        ensures { result ≡ empty_store most }
     {
         Store {
             newer: Index::new(alloc),
@@ -60,12 +60,14 @@ impl Store {
         }
     }
 
-    /// Accepts a command, and says how many are accepted with it. An `Err` changes nothing.
+    /// Accepts a command, and says how many are accepted with it. An `Err` changes nothing. `Full` comes exactly
+    /// where as many commands as may be are accepted, and `OutOfMemory` only where memory ran out.
     pub fn accept(&mut self, command: Command) -> Result<u32, AcceptError>
         ensures ok { IfOk result (λ count. (self.new ≡ with_accepted self.old command)
             × (length self.old.accepted < self.old.most) × (count ≡ length self.old.accepted + 1)) }
         ensures err { OnErr result (self.new ≡ self.old) }
-        ensures full { IsErrOf result AcceptError.Full → length self.old.accepted ≡ self.old.most }
+        ensures full { IsErrOf result AcceptError.Full ↔ (length self.old.accepted ≡ self.old.most) }
+        ensures no_memory { IsErrOf result AcceptError.OutOfMemory → length self.old.accepted < self.old.most }
     {
         if self.newer.version() >= self.most {
             return Err(AcceptError::Full);

@@ -18,7 +18,7 @@ pub enum Reason {
     BadPut,
     /// A put without its bytes.
     Truncated,
-    /// A byte other than a line feed behind the bytes of a put.
+    /// A byte other than a line feed after the bytes of a put.
     BodyNotClosed,
     /// The name is none.
     Name(NameError),

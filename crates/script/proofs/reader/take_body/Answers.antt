@@ -1,6 +1,6 @@
 use Rattle.std.proofs.Common.{◌∙◌, ap, subst, sym, ◌∷◌, ◌+◌}
 use Rattle.script.specs.Items.{put}
-use Rattle.script.specs.Reading.{TakesFrom}
+use Rattle.script.specs.Private.Taking.{TakesFrom}
 use Rattle.script.proofs.ReaderLemmas.{takes_last_put, takes_closed_put, takes_open_body, cut_parts, empty_by_length}
 use Rattle.script.proofs.reader.take_body.Goals as goal
 

@@ -16,5 +16,5 @@ returns-in-Ok-read-clause-entry g c = record {
   loaded = Some c.in-Ok-read.bytes.items;
   legal = named_loaded (g.S.Source.holds c.args.source.now) c.args.store.now.most c.args.store.now.accepted c.args.name.now c.args.path.now c.in-Ok-read.bytes.items c.args.line _ c.in-Ok.ensures.name.1 c.in-Ok-read.ensures.read c.put_body.ensures.entry;
   left = rw c.in-Ok.ensures.name.0 at c.put_body.ensures.store;
-  counted = counted_none _ _ _ (no_failure_in_body _ _ _ _ _ c.put_body.ensures.entry) c.in-Ok-read.ensures.counted c.in-Ok-read.ensures.bound;
+  counted = counted_none _ _ _ (no_failure_in_body _ _ _ _ _ c.put_body.ensures.entry) (c.in-Ok-read.ensures.no_failure (λ e. cc));
 }

@@ -1,7 +1,7 @@
 use Rattle.std.proofs.Common.{ap}
 use Rattle.search.specs.Pattern.{IsPatternOf}
 use Rattle.search.specs.Prepared.{pattern_of}
-use Rattle.tsearch.specs.Steps.{searched}
+use Rattle.tsearch.specs.Private.Steps.{searched}
 use Rattle.tsearch.specs.declared.transcript.Entry.TheVariants.{SearchRefused}
 use Rattle.tsearch.proofs.ItemLemmas.{searched_by, search_refused}
 use Rattle.tsearch.proofs.items.search.Goals as goal

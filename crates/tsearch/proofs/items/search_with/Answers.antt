@@ -1,5 +1,5 @@
 use Rattle.std.proofs.Common.{refl}
-use Rattle.tsearch.specs.Steps.{found}
+use Rattle.tsearch.specs.Private.Steps.{found}
 use Rattle.tsearch.proofs.items.search_with.Goals as goal
 
 pub returns-in-Ok : goal.returns-in-Ok

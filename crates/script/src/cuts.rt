@@ -1,12 +1,12 @@
-//! Lines, and the words of a line.
+//! Texts cut in two: at a line feed, at a space.
 
 ghost use Rattle.std.specs.Prelude.{◌≡◌, ◌≢◌, ℕ, ◌+◌, ◌<◌, ◌^◌, List, [], ◌∷◌, ◌++◌, length, MatchOption, IsTrue, option_map};
-ghost use Rattle.script.specs.Words.{SpellsSize, words_of};
-ghost use Rattle.script.specs.Cuts.{Cuts, CutsLast, Lacks, FirstLineOf, shown_words};
+ghost use Rattle.script.specs.Fields.{SpellsSize, fields_of};
+ghost use Rattle.script.specs.Private.Cuts.{Cuts, CutsLast, Lacks, FirstLineOf, shown_fields};
 
 use memchr::{memchr, memrchr};
 
-/// What stands before the first such byte, and what stands behind it.
+/// What is before the first such byte, and what is after it.
 pub fn cut_at(byte: u8, text: &[u8]) -> Option<(&[u8], &[u8])>
     ensures { MatchOption result (Lacks byte text.now) (λ parts. Cuts byte text.now parts.0.now parts.1.now) }
 {
@@ -14,7 +14,7 @@ pub fn cut_at(byte: u8, text: &[u8]) -> Option<(&[u8], &[u8])>
     Some((&text[..at], &text[at + 1..]))
 }
 
-/// What stands before the last such byte, and what stands behind it.
+/// What is before the last such byte, and what is after it.
 pub fn cut_at_last(byte: u8, text: &[u8]) -> Option<(&[u8], &[u8])>
     ensures { MatchOption result (Lacks byte text.now) (λ parts. CutsLast byte text.now parts.0.now parts.1.now) }
 {
@@ -47,12 +47,12 @@ pub fn first_line(text: &[u8]) -> FirstLine<'_>
     }
 }
 
-/// The first word of a line, and what follows the space behind it.
-pub fn split_word(line: &[u8]) -> (&[u8], Option<&[u8]>)
-    ensures { words_of line.now ≡ shown_words result.0.now (option_map (λ rest. rest.now) result.1) }
+/// The first field of a line, up to its first space, and what follows that space.
+pub fn cut_at_space(line: &[u8]) -> (&[u8], Option<&[u8]>)
+    ensures { fields_of line.now ≡ shown_fields result.0.now (option_map (λ rest. rest.now) result.1) }
 {
     match cut_at(b' ', line) {
-        Some((word, others)) => (word, Some(others)),
+        Some((first, others)) => (first, Some(others)),
         None => (line, None),
     }
 }

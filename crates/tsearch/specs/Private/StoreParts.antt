@@ -1,10 +1,10 @@
 -- What a store keeps.
 use Rattle.std.specs.Prelude.{◌≤◌, length, if◌then◌else◌, ◌≡◌, ◌++◌, drop}
 use Rattle.tsearch.specs.declared.store.Store.TheInside.{Inside}
-use Rattle.tsearch.specs.Shelf.{Shelf}
+use Rattle.tsearch.specs.Private.StoreState.{StoreState}
 
-abbrev pub shelf_of : Inside → Shelf
-shelf_of s = record { accepted = s.newer; published = if s.newer_is_published then s.newer else s.older; most = s.most }
+abbrev pub state_of_store : Inside → StoreState
+state_of_store s = record { accepted = s.newer; published = if s.newer_is_published then s.newer else s.older; most = s.most }
 
 -- the older index begins the newer one, which has no more commands than may be
 pub record IsStore (s : Inside) : Type 0 where

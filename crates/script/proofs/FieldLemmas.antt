@@ -1,29 +1,29 @@
--- The words of a line that is cut at its first space.
+-- A line that is cut at its first space.
 use Rattle.std.proofs.Common.{◌≡◌, ◌≢◌, ℕ, zero, suc, ◌+◌, ◌-◌, ◌*◌, ◌^◌, ◌<◌, ◌≤◌, length, take, get_or, true, false, ◌==◌, List, [], ◌∷◌, ◌++◌, Some, None, refl, ap, arith}
 use Rattle.std.proofs.lemmas.Bool.Decides.{nat_tests}
-use Rattle.script.specs.Words.{words_of, with_byte_in_front}
+use Rattle.script.specs.Fields.{fields_of, with_byte_in_front}
 use Rattle.std.proofs.Math.Nat.{add-zero, add-suc, le_refl, pow-succ'}
 use Rattle.std.proofs.lemmas.Grind.{pow_more}
 use Rattle.std.proofs.lemmas.List.Sums.{fold_more}
 use Rattle.ere.specs.Classes.{is_digit}
 use Rattle.ere.specs.Tokens.{decimal_value}
-use Rattle.script.specs.Cuts.{Cuts, Lacks, shown_words}
+use Rattle.script.specs.Private.Cuts.{Cuts, Lacks, shown_fields}
 
 other_byte : (b : ℕ) → b ≢ 32 → (b == 32) ≡ false
 other_byte b h = grind (arith, nat_tests)
 
-pub words_of-word : (line : List ℕ) → Lacks 32 line → words_of line ≡ shown_words line None
-unfolding words_of
-words_of-word [] h = refl
-words_of-word (b ∷ line) h = rw (other_byte b h.0) (ap (with_byte_in_front b) (words_of-word line h.1))
+pub fields_of-keyword : (line : List ℕ) → Lacks 32 line → fields_of line ≡ shown_fields line None
+unfolding fields_of
+fields_of-keyword [] h = refl
+fields_of-keyword (b ∷ line) h = rw (other_byte b h.0) (ap (with_byte_in_front b) (fields_of-keyword line h.1))
 
-words_of-space : (front back : List ℕ) → Lacks 32 front → words_of (front ++ 32 ∷ back) ≡ shown_words front (Some back)
-unfolding words_of
-words_of-space [] back h = refl
-words_of-space (b ∷ front) back h = rw (other_byte b h.0) (ap (with_byte_in_front b) (words_of-space front back h.1))
+fields_of-space : (front back : List ℕ) → Lacks 32 front → fields_of (front ++ 32 ∷ back) ≡ shown_fields front (Some back)
+unfolding fields_of
+fields_of-space [] back h = refl
+fields_of-space (b ∷ front) back h = rw (other_byte b h.0) (ap (with_byte_in_front b) (fields_of-space front back h.1))
 
-pub words_of-cut : (line front back : List ℕ) → Cuts 32 line front back → words_of line ≡ shown_words front (Some back)
-words_of-cut line front back h = rw h.whole (words_of-space front back h.first)
+pub fields_of-cut : (line front back : List ℕ) → Cuts 32 line front back → fields_of line ≡ shown_fields front (Some back)
+fields_of-cut line front back h = rw h.whole (fields_of-space front back h.first)
 
 power_grows : (i j : ℕ) → 10 ^ i ≤ 10 ^ (i + j)
 power_grows i zero = rw add-zero (le_refl (10 ^ i))

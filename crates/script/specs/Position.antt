@@ -1,9 +1,9 @@
 use Rattle.std.specs.Prelude.{ℕ, List}
 
 -- what is left of a script, and the number of its first line
-pub record Place : Type 0 where
+pub record Position : Type 0 where
   pub line : ℕ
   pub rest : List ℕ
 
-abbrev pub place : ℕ → List ℕ → Place
-place line rest = record { line = line; rest = rest }
+abbrev pub position : ℕ → List ℕ → Position
+position line rest = record { line = line; rest = rest }

@@ -2,7 +2,7 @@ use Rattle.std.proofs.Common.{◌≡◌, ◌<◌, ◌^◌, take}
 use Rattle.std.specs.List.{AllPass}
 use Rattle.ere.specs.Classes.{is_digit}
 use Rattle.ere.specs.Tokens.{decimal_value}
-use Rattle.script.proofs.words.size_of.Given as goal
+use Rattle.script.proofs.cuts.size_of.Given as goal
 
 abbrev pub invariant-loop-digit : goal.invariant-loop-digit
 invariant-loop-digit l = record {

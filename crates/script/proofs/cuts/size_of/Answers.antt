@@ -2,8 +2,8 @@ use Rattle.std.proofs.Common.{arith, ◌≡◌, true, ◌≤◌, get_or}
 use Rattle.std.proofs.lemmas.List.Elements.{All-more}
 use Rattle.ere.specs.Classes.{is_digit}
 use Rattle.std.proofs.lemmas.Bool.Decides.{nat_tests}
-use Rattle.script.proofs.WordLemmas.{is_digit_by, room_for_digit, one_more_digit, decimal_more}
-use Rattle.script.proofs.words.size_of.Goals as goal
+use Rattle.script.proofs.FieldLemmas.{is_digit_by, room_for_digit, one_more_digit, decimal_more}
+use Rattle.script.proofs.cuts.size_of.Goals as goal
 
 pub overflow_mul-size : goal.overflow_mul-size
 overflow_mul-size c =

@@ -1,5 +1,5 @@
--- One item of a script carried out on one thread: searches are answered in their places, by reader 0.
-use Rattle.std.specs.Prelude.{◌≡◌, ℕ, ◌+◌, ◌≤◌, ◌⊎◌, List, ◌++◌, Option, Some, None}
+-- One item of a script carried out on one thread: each search is answered at once, by reader 0.
+use Rattle.std.specs.Prelude.{◌≡◌, ℕ, ◌+◌, List, ◌++◌, Option, Some, None}
 use Rattle.ere.specs.Limits.{HasNoTree}
 use Rattle.ere.specs.declared.error.EreError.{EreError}
 use Rattle.ere.specs.declared.error.EreErrorKind.TheVariants as kind
@@ -14,14 +14,14 @@ use Rattle.tsearch.specs.declared.transcript.SearchReason.TheVariants as search_
 use Rattle.tsearch.specs.declared.items.Counts.{Counts}
 use Rattle.tsearch.specs.declared.session.Session.{Session}
 use Rattle.tsearch.specs.Rows.{command_of, failures_in, list_of, searches_of}
-use Rattle.tsearch.specs.Legal.{IsNamed, IsPut, HasLoaded, IsRemove, IsPublish, greatest_failures}
-use Rattle.tsearch.specs.Shelf.{Shelf, all_published}
+use Rattle.tsearch.specs.Legal.{IsNamed, IsPut, HasLoaded, IsRemove, IsPublish, greatest_failures, IsFailedTimes}
+use Rattle.tsearch.specs.Private.StoreState.{StoreState, all_published}
 
 -- the commands and the published ones, after an entry of these commands
-abbrev pub shelf_after : Option Entry → List Command → Shelf → Shelf
-shelf_after (Some (Accepted line count)) commands shelf = record { accepted = shelf.accepted ++ commands; published = shelf.published; most = shelf.most }
-shelf_after (Some (Published line version)) commands shelf = all_published shelf
-shelf_after _ commands shelf = shelf
+abbrev pub store_after : Option Entry → List Command → StoreState → StoreState
+store_after (Some (Accepted line count)) commands store = record { accepted = store.accepted ++ commands; published = store.published; most = store.most }
+store_after (Some (Published line version)) commands store = all_published store
+store_after _ commands store = store
 
 -- a search answered from what is published, in the next turn of reader 0
 pub data IsSearchedNow (published : List Command) (number turn : ℕ) (IsIt : Pattern → Type 0) (entry : Entry) : Type 0 where
@@ -37,36 +37,36 @@ pub data IsSearchInNow (published : List Command) (number turn : ℕ) (name_text
   bad_pattern : (fault : EreError) → (fault.kind ≡ kind.OutOfMemory → ⊥) → HasTree name_text → HasNoTree text → entry ≡ SearchRefused number (search_reason.Pattern fault) → IsSearchInNow published number turn name_text text entry
   searched : IsSearchedNow published number turn (IsPatternWithin name_text text) entry → IsSearchInNow published number turn name_text text entry
 
-unfoldable pub IsEntryNow : (List ℕ → List ℕ → Type 0) → Shelf → Counts → Option (List ℕ) → ℕ → Item → Entry → Type 0
-IsEntryNow Holds shelf counts loaded line (put name body) entry = IsPut shelf.most shelf.accepted name body line entry
-IsEntryNow Holds shelf counts loaded line (load name path) entry = IsNamed name line entry (HasLoaded Holds shelf.most shelf.accepted path loaded line entry)
-IsEntryNow Holds shelf counts loaded line (remove name) entry = IsNamed name line entry (IsRemove shelf.most shelf.accepted name line entry)
-IsEntryNow Holds shelf counts loaded line publish entry = IsPublish shelf.accepted line entry
-IsEntryNow Holds shelf counts loaded line (search text) entry = IsSearchNow shelf.published (counts.searches + 1) (counts.turns + 1) text entry
-IsEntryNow Holds shelf counts loaded line (search_in name_text text) entry = IsSearchInNow shelf.published (counts.searches + 1) (counts.turns + 1) name_text text entry
-IsEntryNow Holds shelf counts loaded line sync entry = ⊥
-IsEntryNow Holds shelf counts loaded line bad_line entry = entry ≡ Refused line reason.BadLine
-IsEntryNow Holds shelf counts loaded line bad_put entry = entry ≡ Refused line reason.BadPut
-IsEntryNow Holds shelf counts loaded line truncated entry = entry ≡ Refused line reason.Truncated
-IsEntryNow Holds shelf counts loaded line body_not_closed entry = entry ≡ Refused line reason.BodyNotClosed
+unfoldable pub IsEntryNow : (List ℕ → List ℕ → Type 0) → StoreState → Counts → Option (List ℕ) → ℕ → Item → Entry → Type 0
+IsEntryNow Holds store counts loaded line (put name body) entry = IsPut store.most store.accepted name body line entry
+IsEntryNow Holds store counts loaded line (load name path) entry = IsNamed name line entry (HasLoaded Holds store.most store.accepted path loaded line entry)
+IsEntryNow Holds store counts loaded line (remove name) entry = IsNamed name line entry (IsRemove store.most store.accepted name line entry)
+IsEntryNow Holds store counts loaded line publish entry = IsPublish store.accepted line entry
+IsEntryNow Holds store counts loaded line (search text) entry = IsSearchNow store.published (counts.searches + 1) (counts.turns + 1) text entry
+IsEntryNow Holds store counts loaded line (search_in name_text text) entry = IsSearchInNow store.published (counts.searches + 1) (counts.turns + 1) name_text text entry
+IsEntryNow Holds store counts loaded line sync entry = ⊥
+IsEntryNow Holds store counts loaded line bad_line entry = entry ≡ Refused line reason.BadLine
+IsEntryNow Holds store counts loaded line bad_put entry = entry ≡ Refused line reason.BadPut
+IsEntryNow Holds store counts loaded line truncated entry = entry ≡ Refused line reason.Truncated
+IsEntryNow Holds store counts loaded line body_not_closed entry = entry ≡ Refused line reason.BodyNotClosed
 
 -- A sync does nothing here, and has no entry.
-abbrev pub HasEntryNow : (List ℕ → List ℕ → Type 0) → Shelf → Counts → Option (List ℕ) → ℕ → Item → Option Entry → Type 0
-HasEntryNow Holds shelf counts loaded line sync None = Unit {0}
-HasEntryNow Holds shelf counts loaded line sync (Some entry) = ⊥
-HasEntryNow Holds shelf counts loaded line item None = ⊥
-HasEntryNow Holds shelf counts loaded line item (Some entry) = IsEntryNow Holds shelf counts loaded line item entry
+abbrev pub HasEntryNow : (List ℕ → List ℕ → Type 0) → StoreState → Counts → Option (List ℕ) → ℕ → Item → Option Entry → Type 0
+HasEntryNow Holds store counts loaded line sync None = Unit {0}
+HasEntryNow Holds store counts loaded line sync (Some entry) = ⊥
+HasEntryNow Holds store counts loaded line item None = ⊥
+HasEntryNow Holds store counts loaded line item (Some entry) = IsEntryNow Holds store counts loaded line item entry
 
--- A source failed at most as often as its count rose, unless the count stands at its greatest.
+-- The same, of one item.
 pub record IsCounted (failures failed failed' : ℕ) : Type 0 where
-  pub rises : (failures + failed ≤ failed') ⊎ (failed' ≡ greatest_failures)
+  pub rises : IsFailedTimes failures failed failed'
   pub stays : failed ≡ greatest_failures → failed' ≡ greatest_failures
 
--- An item was carried out: what it left on the shelf, and how often the source failed.
-pub record IsCarriedOut (Holds : List ℕ → List ℕ → Type 0) (shelf : Shelf) (counts : Counts) (failed : ℕ) (item : Numbered) (entry : Option Entry) (shelf' : Shelf) (failed' : ℕ) : Type 0 where
+-- An item was carried out: what it left on the store, and how often the source failed.
+pub record IsCarriedOut (Holds : List ℕ → List ℕ → Type 0) (store : StoreState) (counts : Counts) (failed : ℕ) (item : Numbered) (entry : Option Entry) (store' : StoreState) (failed' : ℕ) : Type 0 where
   pub loaded : Option (List ℕ)
-  pub legal : HasEntryNow Holds shelf counts loaded item.line item.item entry
-  pub left : shelf' ≡ shelf_after entry (command_of item.item loaded) shelf
+  pub legal : HasEntryNow Holds store counts loaded item.line item.item entry
+  pub left : store' ≡ store_after entry (command_of item.item loaded) store
   pub counted : IsCounted (failures_in entry) failed failed'
 
 abbrev pub found_in : Option Entry → ℕ

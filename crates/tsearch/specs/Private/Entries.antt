@@ -1,11 +1,12 @@
 -- The entries of single items.
-use Rattle.std.specs.Prelude.{◌≡◌, ℕ, ◌⊎◌, Bool, true, false, List, Option, Some}
+use Rattle.std.specs.Prelude.{◌≡◌, ℕ, ◌<◌, ◌⊎◌, Bool, true, false, List, length, Option, Some}
 use Rattle.ere.specs.declared.error.EreError.{EreError}
 use Rattle.ere.specs.declared.error.EreErrorKind.{EreErrorKind}
 use Rattle.ere.specs.declared.error.EreErrorKind.TheVariants as kind
 use Rattle.index.specs.declared.command.Command.{Command}
 use Rattle.index.specs.declared.error.NameError.{NameError}
 use Rattle.index.specs.declared.error.NameError.TheVariants as name
+use Rattle.index.specs.Text.{IsBody}
 use Rattle.script.specs.Items.{load}
 use Rattle.tsearch.specs.declared.transcript.Entry.{Entry}
 use Rattle.tsearch.specs.declared.transcript.Entry.TheVariants.{Refused}
@@ -15,8 +16,8 @@ use Rattle.tsearch.specs.declared.transcript.SearchReason.{SearchReason}
 use Rattle.tsearch.specs.declared.transcript.SearchReason.TheVariants as search_reason
 use Rattle.tsearch.specs.Legal.{IsRoomFor, HasBody, IsNamed, HasLoaded}
 use Rattle.tsearch.specs.Rows.{command_of, failures_in}
-use Rattle.tsearch.specs.Shelf.{Shelf}
-use Rattle.tsearch.specs.Steps.{shelf_after, IsCounted}
+use Rattle.tsearch.specs.Private.StoreState.{StoreState}
+use Rattle.tsearch.specs.Private.Steps.{store_after, IsCounted}
 
 abbrev pub reason_of_name : NameError → Reason
 reason_of_name name.OutOfMemory = reason.OutOfMemory
@@ -33,15 +34,17 @@ reason_of_fault in_name error = reason_of_fault_of in_name error.kind error
 abbrev pub RanOut : ℕ → Entry → Type 0
 RanOut line entry = entry ≡ Refused line reason.OutOfMemory
 
+-- Full exactly where the limit is reached; where it is not, memory may run out.
 abbrev pub IsAccepted : ℕ → List Command → ℕ → Entry → Type 0
-IsAccepted most commands line entry = IsRoomFor most commands line entry ⊎ RanOut line entry
+IsAccepted most commands line entry = IsRoomFor most commands line entry ⊎ ((length commands < most) × RanOut line entry)
 
+-- The faults of a body come first, then the room.
 abbrev pub HasBodyOrNoMemory : ℕ → List Command → List ℕ → ℕ → Entry → Type 0
-HasBodyOrNoMemory most commands body line entry = HasBody most commands body line entry ⊎ RanOut line entry
+HasBodyOrNoMemory most commands body line entry = HasBody most commands body line entry ⊎ (IsBody body × (length commands < most) × RanOut line entry)
 
--- A load: the source is asked once, unless the name is none.
-pub record IsLoadedEntry (Holds : List ℕ → List ℕ → Type 0) (shelf : Shelf) (failed : ℕ) (name path : List ℕ) (line : ℕ) (entry : Entry) (shelf' : Shelf) (failed' : ℕ) : Type 0 where
+-- A load: the source is asked once, unless the name is none, and failed exactly where the entry says so.
+pub record IsLoadedEntry (Holds : List ℕ → List ℕ → Type 0) (store : StoreState) (failed : ℕ) (name path : List ℕ) (line : ℕ) (entry : Entry) (store' : StoreState) (failed' : ℕ) : Type 0 where
   pub loaded : Option (List ℕ)
-  pub legal : IsNamed name line entry (HasLoaded Holds shelf.most shelf.accepted path loaded line entry)
-  pub left : shelf' ≡ shelf_after (Some entry) (command_of (load name path) loaded) shelf
+  pub legal : IsNamed name line entry (HasLoaded Holds store.most store.accepted path loaded line entry)
+  pub left : store' ≡ store_after (Some entry) (command_of (load name path) loaded) store
   pub counted : IsCounted (failures_in (Some entry)) failed failed'
