@@ -15,7 +15,7 @@ use Rattle.posting.specs.Postings.{holds, trigrams_with, SameSets}
 use Rattle.posting.proofs.Members.{has_at, All-has}
 use Rattle.index.specs.declared.command.Command.{Command}
 use Rattle.index.specs.declared.command.Command.TheVariants.{Put, Remove}
-use Rattle.index.specs.declared.sets.Entry.{Entry}
+use Rattle.index.specs.declared.sets.Listing.{Listing}
 use Rattle.index.specs.declared.sets.Sets.{Sets}
 use Rattle.index.specs.declared.sets.Change.{Change}
 use Rattle.index.specs.Documents.{Document, document, documents_of, documents_from, document_at, number_of, names, name_of, meets}
@@ -61,10 +61,10 @@ documents-push place (Put other body ∷ later) command =
 
 -- ---- the document that goes, by its name and by its number
 
-abbrev pub keeps : Option Entry → Document → Bool
+abbrev pub keeps : Option Listing → Document → Bool
 keeps gone d = not (is_of gone d.number)
 
-is_gone : (c : List Command) (name : List ℕ) (gone : Option Entry) → IsGone (documents_of c) name gone → (d : Document) → Contains (documents_of c) d → bytes_eq name d.name ≡ is_of gone d.number
+is_gone : (c : List Command) (name : List ℕ) (gone : Option Listing) → IsGone (documents_of c) name gone → (d : Document) → Contains (documents_of c) d → bytes_eq name d.name ≡ is_of gone d.number
 is_gone c name None h d there = not_true (bytes_eq name d.name) differs
   where
     differs : bytes_eq name d.name ≡ true → ⊥
@@ -73,21 +73,21 @@ is_gone c name None h d there = not_true (bytes_eq name d.name) differs
         let asked : number_of d.name (documents_of c) ≡ None = ap (λ n. number_of n (documents_of c)) (sym (same_name name d.name e)) ∙ h in
         let clash : None ≡ Some d.number = sym asked ∙ found in
         cc
-is_gone c name (Some entry) h d there = same_bool (bytes_eq name d.name) (d.number == entry.number) forth back
+is_gone c name (Some listing) h d there = same_bool (bytes_eq name d.name) (d.number == listing.number) forth back
   where
-    forth : bytes_eq name d.name ≡ true → (d.number == entry.number) ≡ true
+    forth : bytes_eq name d.name ≡ true → (d.number == listing.number) ≡ true
     forth e =
         let asked : number_of name (documents_of c) ≡ Some d.number = ap (λ n. number_of n (documents_of c)) (same_name name d.name e) ∙ number_of-Contains c d there in
-        let both : Some d.number ≡ Some entry.number = sym asked ∙ h.0 in
-        let same : d.number ≡ entry.number = cc in
-        eq-eqb d.number entry.number same
+        let both : Some d.number ≡ Some listing.number = sym asked ∙ h.0 in
+        let same : d.number ≡ listing.number = cc in
+        eq-eqb d.number listing.number same
 
-    back : (d.number == entry.number) ≡ true → bytes_eq name d.name ≡ true
+    back : (d.number == listing.number) ≡ true → bytes_eq name d.name ≡ true
     back e =
-        let same : d.number ≡ entry.number = grind (arith, nat_tests) in
-        let other = Contains-number_of (documents_of c) name entry.number h.0 in
+        let same : d.number ≡ listing.number = grind (arith, nat_tests) in
+        let other = Contains-number_of (documents_of c) name listing.number h.0 in
         let mine = ap (λ n. document_at n (documents_of c)) (sym same) ∙ document_at-Contains c d there in
-        let both : Some (name, other.0) ≡ Some (d.name, d.body) = sym (document_at-Contains c (document entry.number name other.0) other.1) ∙ mine in
+        let both : Some (name, other.0) ≡ Some (d.name, d.body) = sym (document_at-Contains c (document listing.number name other.0) other.1) ∙ mine in
         let named : name ≡ d.name = ap first_or both in
         subst (λ n. bytes_eq name n ≡ true) named (bytes_eq-refl name)
       where
@@ -101,7 +101,7 @@ filter_same p q (d ∷ ds) each =
     let rest = filter_same p q ds (λ x there. each x (Contains-tail d ds x there)) in
     ap (λ t. cond t (d ∷ filter p ds) (filter p ds)) (each d (Contains-head d ds)) ∙ ap (λ xs. cond (q d) (d ∷ xs) xs) rest
 
-pub documents_after : (c : List Command) (command : Command) (gone : Option Entry) → IsGone (documents_of c) (name_of command) gone → documents_of (c ++ command ∷ []) ≡ filter (keeps gone) (documents_of c) ++ put_by (length c + 1) command
+pub documents_after : (c : List Command) (command : Command) (gone : Option Listing) → IsGone (documents_of c) (name_of command) gone → documents_of (c ++ command ∷ []) ≡ filter (keeps gone) (documents_of c) ++ put_by (length c + 1) command
 documents_after c command gone h =
     let place : 1 + length c ≡ length c + 1 = omega arith in
     documents-push 1 c command
@@ -110,7 +110,7 @@ documents_after c command gone h =
 
 -- ---- numbers
 
-numbers-kept : (gone : Option Entry) (ds : List Document) → map (λ d. d.number) (filter (keeps gone) ds) ≡ filter (λ m. not (is_of gone m)) (map (λ d. d.number) ds)
+numbers-kept : (gone : Option Listing) (ds : List Document) → map (λ d. d.number) (filter (keeps gone) ds) ≡ filter (λ m. not (is_of gone m)) (map (λ d. d.number) ds)
 numbers-kept gone [] = refl
 numbers-kept gone (d ∷ ds) = go (not (is_of gone d.number)) (numbers-kept gone ds)
   where
@@ -118,9 +118,9 @@ numbers-kept gone (d ∷ ds) = go (not (is_of gone d.number)) (numbers-kept gone
     go true e = ap (λ xs. d.number ∷ xs) e
     go false e = e
 
-numbers-put : (place : ℕ) (command : Command) (come : Option Entry) → IsCome place command come → map (λ d. d.number) (put_by place command) ≡ numbers_of come
+numbers-put : (place : ℕ) (command : Command) (come : Option Listing) → IsCome place command come → map (λ d. d.number) (put_by place command) ≡ numbers_of come
 numbers-put place (Put name body) None h = absurd h
-numbers-put place (Put name body) (Some entry) h = ap (λ n. n ∷ []) (sym h.0)
+numbers-put place (Put name body) (Some listing) h = ap (λ n. n ∷ []) (sym h.0)
 numbers-put place (Remove name) come h = ap numbers_of (sym h)
 
 -- a document's number is the place of a command
@@ -169,7 +169,7 @@ document_at-append number (x ∷ xs) ys = go (x.number == number) (document_at-a
     go true e = refl
     go false e = e
 
-document_at-kept : (gone : Option Entry) (number : ℕ) (ds : List Document) → document_at number (filter (keeps gone) ds) ≡ cond (is_of gone number) None (document_at number ds)
+document_at-kept : (gone : Option Listing) (number : ℕ) (ds : List Document) → document_at number (filter (keeps gone) ds) ≡ cond (is_of gone number) None (document_at number ds)
 unfolding document_at
 document_at-kept gone number [] = none (is_of gone number)
   where
@@ -238,44 +238,44 @@ and_true true = refl
 and_true false = refl
 
 -- what is left of the sets where a document goes
-left_over : (documents : List Document) (sets : Sets) (name : List ℕ) (gone : Option Entry) → AreSetsOf documents sets → IsGone documents name gone → (trigram number : ℕ) → (holds sets.postings trigram number && not (takes gone trigram number)) ≡ trigrams_shown (cond (is_of gone number) None (document_at number documents)) trigram
+left_over : (documents : List Document) (sets : Sets) (name : List ℕ) (gone : Option Listing) → AreSetsOf documents sets → IsGone documents name gone → (trigram number : ℕ) → (holds sets.postings trigram number && not (takes gone trigram number)) ≡ trigrams_shown (cond (is_of gone number) None (document_at number documents)) trigram
 left_over documents sets name None kept h trigram number = and_yes (holds sets.postings trigram number) ∙ kept.postings trigram number
   where
     and_yes : (a : Bool) → (a && true) ≡ a
     and_yes true = refl
     and_yes false = refl
-left_over documents sets name (Some entry) kept h trigram number = go (number == entry.number) refl
+left_over documents sets name (Some listing) kept h trigram number = go (number == listing.number) refl
   where
-    go : (t : Bool) → (number == entry.number) ≡ t → (holds sets.postings trigram number && not (has entry.trigrams.items trigram && number == entry.number)) ≡ trigrams_shown (cond (number == entry.number) None (document_at number documents)) trigram
+    go : (t : Bool) → (number == listing.number) ≡ t → (holds sets.postings trigram number && not (has listing.trigrams.items trigram && number == listing.number)) ≡ trigrams_shown (cond (number == listing.number) None (document_at number documents)) trigram
     go true e =
-        let same : number ≡ entry.number = grind (arith, nat_tests) in
-        let was : holds sets.postings trigram number ≡ trigrams_shown (document_at entry.number documents) trigram = kept.postings trigram number ∙ ap (λ n. trigrams_shown (document_at n documents) trigram) same in
-        rw e (rw was (shown (document_at entry.number documents) h.1))
+        let same : number ≡ listing.number = grind (arith, nat_tests) in
+        let was : holds sets.postings trigram number ≡ trigrams_shown (document_at listing.number documents) trigram = kept.postings trigram number ∙ ap (λ n. trigrams_shown (document_at n documents) trigram) same in
+        rw e (rw was (shown (document_at listing.number documents) h.1))
       where
-        shown : (found : Option (List ℕ × List ℕ)) → IfSome found (λ d. ListsTrigrams d.1 entry.trigrams.items) → (trigrams_shown found trigram && not (has entry.trigrams.items trigram && true)) ≡ false
+        shown : (found : Option (List ℕ × List ℕ)) → IfSome found (λ d. ListsTrigrams d.1 listing.trigrams.items) → (trigrams_shown found trigram && not (has listing.trigrams.items trigram && true)) ≡ false
         shown None w = refl
-        shown (Some d) w = rw (listed d.1 entry.trigrams.items w trigram) (and_same (trigrams_of_body d.1 trigram))
-    go false e = rw e (and_none (holds sets.postings trigram number) (has entry.trigrams.items trigram) ∙ kept.postings trigram number)
+        shown (Some d) w = rw (listed d.1 listing.trigrams.items w trigram) (and_same (trigrams_of_body d.1 trigram))
+    go false e = rw e (and_none (holds sets.postings trigram number) (has listing.trigrams.items trigram) ∙ kept.postings trigram number)
 
 -- the sets after a document went and one came
-come_in : (place : ℕ) (command : Command) (come : Option Entry) → IsCome place command come → (found : Option (List ℕ × List ℕ)) (trigram number : ℕ) → (number ≡ place → found ≡ None) → (trigrams_shown found trigram || gives come trigram number) ≡ trigrams_shown (or_else found (document_at number (put_by place command))) trigram
+come_in : (place : ℕ) (command : Command) (come : Option Listing) → IsCome place command come → (found : Option (List ℕ × List ℕ)) (trigram number : ℕ) → (number ≡ place → found ≡ None) → (trigrams_shown found trigram || gives come trigram number) ≡ trigrams_shown (or_else found (document_at number (put_by place command))) trigram
 unfolding document_at
 come_in place (Remove name) come h None trigram number new = ap (λ o. gives o trigram number) h
 come_in place (Remove name) come h (Some d) trigram number new = ap (λ o. trigrams_of_body d.1 trigram || gives o trigram number) h ∙ or_none (trigrams_of_body d.1 trigram)
 come_in place (Put name body) None h found trigram number new = absurd h
-come_in place (Put name body) (Some entry) h None trigram number new = go (place == number) refl
+come_in place (Put name body) (Some listing) h None trigram number new = go (place == number) refl
   where
-    go : (t : Bool) → (place == number) ≡ t → (has entry.trigrams.items trigram && entry.number == number) ≡ trigrams_shown (cond (place == number) (Some (name, body)) None) trigram
-    go true e = rw h.0 (rw e (and_true (has entry.trigrams.items trigram) ∙ listed body entry.trigrams.items h.1 trigram))
-    go false e = rw h.0 (rw e (and_false (has entry.trigrams.items trigram)))
-come_in place (Put name body) (Some entry) h (Some d) trigram number new = go (place == number) refl
+    go : (t : Bool) → (place == number) ≡ t → (has listing.trigrams.items trigram && listing.number == number) ≡ trigrams_shown (cond (place == number) (Some (name, body)) None) trigram
+    go true e = rw h.0 (rw e (and_true (has listing.trigrams.items trigram) ∙ listed body listing.trigrams.items h.1 trigram))
+    go false e = rw h.0 (rw e (and_false (has listing.trigrams.items trigram)))
+come_in place (Put name body) (Some listing) h (Some d) trigram number new = go (place == number) refl
   where
-    go : (t : Bool) → (place == number) ≡ t → (trigrams_of_body d.1 trigram || (has entry.trigrams.items trigram && entry.number == number)) ≡ trigrams_of_body d.1 trigram
+    go : (t : Bool) → (place == number) ≡ t → (trigrams_of_body d.1 trigram || (has listing.trigrams.items trigram && listing.number == number)) ≡ trigrams_of_body d.1 trigram
     go true e =
         let same : number ≡ place = grind (arith, nat_tests) in
         let clash : Some d ≡ None = new same in
         cc
-    go false e = rw h.0 (rw e (rw (and_false (has entry.trigrams.items trigram)) (or_none (trigrams_of_body d.1 trigram))))
+    go false e = rw h.0 (rw e (rw (and_false (has listing.trigrams.items trigram)) (or_none (trigrams_of_body d.1 trigram))))
 
 cond_none : (t : Bool) (found : Option (List ℕ × List ℕ)) → found ≡ None → cond t None found ≡ None
 cond_none true found e = refl
@@ -311,23 +311,23 @@ shown_true number documents trigram e = go (document_at number documents) refl e
     go None at h = absurd (false≢true h)
     go (Some d) at h = document_at-found_in number documents d at
 
-pub IsNew-change : (c : List Command) (command : Command) (come : Option Entry) (sets : Sets) → AreSetsOf (documents_of c) sets → IsCome (length c + 1) command come → IsNew sets come
+pub IsNew-change : (c : List Command) (command : Command) (come : Option Listing) (sets : Sets) → AreSetsOf (documents_of c) sets → IsCome (length c + 1) command come → IsNew sets come
 IsNew-change c command None sets kept is = tt
-IsNew-change c (Remove name) (Some entry) sets kept is = let clash : Some entry ≡ None = is in cc
-IsNew-change c (Put name body) (Some entry) sets kept is = record {
-  live = subst (λ xs. All (λ m. m < entry.number) xs) (sym kept.live) (All-numbers (λ m. m < entry.number) (documents_of c) (λ d there. subst (λ n. d.number < n) (sym is.0) (number_below c d there)));
+IsNew-change c (Remove name) (Some listing) sets kept is = let clash : Some listing ≡ None = is in cc
+IsNew-change c (Put name body) (Some listing) sets kept is = record {
+  live = subst (λ xs. All (λ m. m < listing.number) xs) (sym kept.live) (All-numbers (λ m. m < listing.number) (documents_of c) (λ d there. subst (λ n. d.number < n) (sym is.0) (number_below c d there)));
   postings = λ trigram n there.
       let at = shown_true n (documents_of c) trigram (sym (kept.postings trigram n) ∙ there) in
       let low = number_below c at.0 at.1 in
       omega (arith, at.2, is.0);
-  once = λ i j d before inside. (let less = AllPairs-from_increasing entry.trigrams.items is.1.rising i j d before inside in λ e. omega arith);
+  once = λ i j d before inside. (let less = AllPairs-from_increasing listing.trigrams.items is.1.rising i j d before inside in λ e. omega arith);
 }
 
 -- what comes still is new, and has its room, where something went
-pub IsNew-less : (come : Option Entry) (old new : Sets) (gone : Option Entry) → IsNew old come → new.live.members ≡ filter (λ m. not (is_of gone m)) old.live.members → ((trigram n : ℕ) → holds new.postings trigram n ≡ (holds old.postings trigram n && not (takes gone trigram n))) → IsNew new come
+pub IsNew-less : (come : Option Listing) (old new : Sets) (gone : Option Listing) → IsNew old come → new.live.members ≡ filter (λ m. not (is_of gone m)) old.live.members → ((trigram n : ℕ) → holds new.postings trigram n ≡ (holds old.postings trigram n && not (takes gone trigram n))) → IsNew new come
 IsNew-less None old new gone h live sets = tt
-IsNew-less (Some entry) old new gone h live sets = record {
-  live = subst (λ xs. All (λ m. m < entry.number) xs) (sym live) (All-filter (λ m. not (is_of gone m)) (λ m. m < entry.number) old.live.members h.live);
+IsNew-less (Some listing) old new gone h live sets = record {
+  live = subst (λ xs. All (λ m. m < listing.number) xs) (sym live) (All-filter (λ m. not (is_of gone m)) (λ m. m < listing.number) old.live.members h.live);
   postings = λ trigram n there. h.postings trigram n (left_true (holds old.postings trigram n) (not (takes gone trigram n)) (sym (sets trigram n) ∙ there));
   once = h.once;
 }
@@ -344,7 +344,7 @@ AreSetsOf-same documents old new kept live sets = record {
 }
 
 -- nothing goes
-pub nothing_goes : (gone : Option Entry) → gone ≡ None → (xs : List ℕ) → xs ≡ filter (λ m. not (is_of gone m)) xs
+pub nothing_goes : (gone : Option Listing) → gone ≡ None → (xs : List ℕ) → xs ≡ filter (λ m. not (is_of gone m)) xs
 nothing_goes gone e xs = subst (λ o. xs ≡ filter (λ m. not (is_of o m)) xs) (sym e) (all_stay xs)
   where
     all_stay : (xs : List ℕ) → xs ≡ filter (λ m. not false) xs

@@ -16,7 +16,7 @@ use crate::body::Body;
 use crate::command::Command;
 use crate::error::ApplyError;
 use crate::name::Name;
-use crate::sets::{Change, Entry, Sets, entry_of};
+use crate::sets::{Change, Listing, Sets, listing_of};
 use std::alloc::{AllocError, Global};
 use std::collections::BTreeMap;
 use std::marker::Model;
@@ -103,29 +103,29 @@ impl Index {
         let alloc = *self.commands.allocator();
         match command {
             Command::Put(name, body) => {
-                let gone = self.entry(alloc, name)?;
-                let come = entry_of(alloc, self.version() + 1, body)?;
+                let gone = self.listing(alloc, name)?;
+                let come = listing_of(alloc, self.version() + 1, body)?;
                 Ok(Change {
                     gone,
                     come: Some(come),
                 })
             }
             Command::Remove(name) => {
-                let gone = self.entry(alloc, name)?;
+                let gone = self.listing(alloc, name)?;
                 Ok(Change { gone, come: None })
             }
         }
     }
 
-    // The entry of the document with this name, where there is one.
-    fn entry(&self, alloc: Global, name: &Name) -> Result<Option<Entry>, AllocError>
+    // The listing of the document with this name, where there is one.
+    fn listing(&self, alloc: Global, name: &Name) -> Result<Option<Listing>, AllocError>
         ensures { IfOk result (λ gone. IsGone (documents_of self.now) name.now gone) }
     {
         match self.number(name) {
             None => Ok(None),
             Some(number) => match self.document(number) {
                 None => Ok(None),
-                Some((_, body)) => Ok(Some(entry_of(alloc, number, body)?)),
+                Some((_, body)) => Ok(Some(listing_of(alloc, number, body)?)),
             },
         }
     }
@@ -194,14 +194,6 @@ impl Index {
             ≡ map (λ d. d.number) (filter (meets (formula_of query.now)) (documents_of self.now))) }
     {
         self.sets.postings.select(alloc, query, &self.sets.live)
-    }
-
-    /// The numbers of all documents, in the order of the documents' names.
-    pub fn numbers_by_name(&self, alloc: Global) -> Result<Vec<u32>, AllocError>
-        ensures { IfOk result (λ numbers. (ordered : List Document) × IsInNameOrder (documents_of self.now) ordered
-            × (numbers.items ≡ map (λ d. d.number) ordered)) }
-    {
-        numbers_of(&self.numbers, alloc)
     }
 
     /// The numbers of those documents that the list has, in the order of the documents' names. Where the

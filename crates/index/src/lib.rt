@@ -4,17 +4,17 @@
 //! which documents a journal leaves.
 #![tactic(auto)]
 
-pub mod body;
-pub mod command;
-pub mod error;
-pub mod journal;
-pub mod name;
+mod body;
+mod command;
+mod error;
+mod journal;
+mod name;
 mod sets;
 
-pub use body::Body;
+pub use body::{Body, MAX_BODY};
 pub use command::Command;
 pub use error::{ApplyError, BodyError, BodyErrorKind, NameError};
 pub use journal::{Index, documents_are_puts};
-pub use name::Name;
+pub use name::{MAX_NAME, Name};
 pub use posting::List;
 pub use trigram::Query;

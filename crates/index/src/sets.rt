@@ -10,9 +10,9 @@ use posting::{List, Postings};
 use std::alloc::{AllocError, Global};
 use trigram::{Trigram, trigrams_of};
 
-/// A document that comes or goes: its number, and the trigrams of its body.
+/// What the sets hold of a document: its number, and the trigrams of its body.
 #[derive(Drop)]
-pub(crate) struct Entry {
+pub(crate) struct Listing {
     pub(crate) number: u32,
     pub(crate) trigrams: Vec<Trigram>,
 }
@@ -20,8 +20,8 @@ pub(crate) struct Entry {
 /// What a command changes: the document that goes, and the one that comes.
 #[derive(Drop)]
 pub(crate) struct Change {
-    pub(crate) gone: Option<Entry>,
-    pub(crate) come: Option<Entry>,
+    pub(crate) gone: Option<Listing>,
+    pub(crate) come: Option<Listing>,
 }
 
 /// The numbers of the documents, and for each trigram those of the documents whose body has it.
@@ -31,13 +31,13 @@ pub(crate) struct Sets {
     pub(crate) postings: Postings,
 }
 
-/// The entry of the document with this number and body.
-pub(crate) fn entry_of(alloc: Global, number: u32, body: &Body) -> Result<Entry, AllocError>
-    ensures number { IfOk result (λ entry. entry.number ≡ number) }
-    ensures trigrams { IfOk result (λ entry. ListsTrigrams body.now entry.trigrams.items) }
+/// The listing of the document with this number and body.
+pub(crate) fn listing_of(alloc: Global, number: u32, body: &Body) -> Result<Listing, AllocError>
+    ensures number { IfOk result (λ listing. listing.number ≡ number) }
+    ensures trigrams { IfOk result (λ listing. ListsTrigrams body.now listing.trigrams.items) }
 {
     let trigrams = trigrams_of(alloc, body.as_bytes())?;
-    Ok(Entry { number, trigrams })
+    Ok(Listing { number, trigrams })
 }
 
 impl Sets {
@@ -59,10 +59,10 @@ impl Sets {
         ensures postings { SameSets self.old.postings self.new.postings }
         ensures ok { OnOk result (HasRoomFor self.new change.now.come) }
     {
-        if let Some(entry) = &change.come {
-            self.live.room_for(entry.number)?;
+        if let Some(listing) = &change.come {
+            self.live.room_for(listing.number)?;
             self.postings
-                .prepare(entry.number, entry.trigrams.as_slice())?;
+                .prepare(listing.number, listing.trigrams.as_slice())?;
         }
         Ok(())
     }
@@ -80,29 +80,30 @@ impl Sets {
         self.put_in(change.come);
     }
 
-    fn take_out(&mut self, gone: Option<Entry>)
+    fn take_out(&mut self, gone: Option<Listing>)
         ensures live { self.new.live.members ≡ filter (λ m. not (is_of gone m)) self.old.live.members }
         ensures postings { (trigram n : ℕ) → holds self.new.postings trigram n
             ≡ (holds self.old.postings trigram n && not (takes gone trigram n)) }
         ensures room { KeepsAllRoom self.old self.new }
     {
-        if let Some(entry) = gone {
-            self.live.remove(entry.number);
+        if let Some(listing) = gone {
+            self.live.remove(listing.number);
             self.postings
-                .withdraw(entry.number, entry.trigrams.as_slice());
+                .withdraw(listing.number, listing.trigrams.as_slice());
         }
     }
 
-    fn put_in(&mut self, come: Option<Entry>)
+    fn put_in(&mut self, come: Option<Listing>)
         requires room { HasRoomFor self.old come }
         requires above { IsNew self.old come }
         ensures live { self.new.live.members ≡ self.old.live.members ++ numbers_of come }
         ensures postings { (trigram n : ℕ) → holds self.new.postings trigram n
             ≡ (holds self.old.postings trigram n || gives come trigram n) }
     {
-        if let Some(entry) = come {
-            self.live.push(entry.number);
-            self.postings.add(entry.number, entry.trigrams.as_slice());
+        if let Some(listing) = come {
+            self.live.push(listing.number);
+            self.postings
+                .add(listing.number, listing.trigrams.as_slice());
         }
     }
 }

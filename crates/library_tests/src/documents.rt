@@ -159,7 +159,7 @@ fn text_at(index: &Index, number: u32) -> Option<&[u8]> {
 fn numbers_by_the_bytes_of_names(rt: HostRuntime) -> Result<(), Fail> {
     let alloc = rt.alloc();
     let index = index_of(&rt, alloc, b"b hit|a hit|B hit")?;
-    let numbers = index.numbers_by_name(alloc)?;
+    let numbers = index.chosen_by_name(alloc, index.live())?;
     assert_eq!(rt; numbers.as_slice(), [3, 2, 1].as_slice());
     assert_eq!(rt; number_of(alloc, &index, b"a")?, Some(2));
     assert_eq!(rt; number_of(alloc, &index, b"A")?, None);

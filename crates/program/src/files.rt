@@ -6,7 +6,7 @@ ghost use Rattle.std.specs.Str.{IsUtf8};
 ghost use Rattle.program.specs.Reads.{IsLoadFrom};
 
 use crate::input::read_file_at_most;
-use index::body::MAX_BODY;
+use index::MAX_BODY;
 use std::alloc::Global;
 use std::io::{self, ErrorKind};
 use std::rt::Files;

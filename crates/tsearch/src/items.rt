@@ -14,7 +14,7 @@ use crate::source::{Fault, Source};
 use crate::store::{AcceptError, Store};
 use crate::transcript::{Entry, Reason, SearchReason};
 use ere::{EreError, EreErrorKind};
-use index::body::MAX_BODY;
+use index::MAX_BODY;
 use index::{Body, BodyErrorKind, Command, Name, NameError};
 use script::{Item, Numbered};
 use search::Prepared;
