@@ -16,7 +16,7 @@ use Rattle.index.specs.declared.command.Command.{Command}
 use Rattle.index.specs.Documents.{Document, documents_of, meets, IsInNameOrder}
 use Rattle.index.proofs.OrderLemmas.{chosen_are, filter-Contains, Contains-filter}
 use Rattle.search.specs.Pattern.{Pattern}
-use Rattle.search.specs.Scan.{Found, IsScanOf, candidates_of}
+use Rattle.search.specs.Scan.{Hit, IsScanOf, candidates_of}
 use Rattle.search.specs.Selects.{Selects, IsWanted, lines_at}
 use Rattle.search.proofs.ScanLemmas.{IsScanOf-Selects}
 
@@ -29,7 +29,7 @@ candidate : (tree : Tree) (formula : Formula) → IsMetAs tree formula → (d : 
 candidate tree formula same d i text at hit =
     same (trigrams_of_body d.body) ∙ matching_line tree d.body text (i, slice_get_within (lines_of d.body) i text at, get_or_from_slice_get (lines_of d.body) i text text at) hit
 
-pub IsScanOf-candidates : (c : List Command) (pattern : Pattern) (formula : Formula) → IsMetAs pattern.tree formula → (members : List ℕ) → members ≡ map (λ d. d.number) (filter (meets formula) (documents_of c)) → (ordered : List Document) (hits : List Found) → IsInNameOrder (filter (λ d. has members d.number) (documents_of c)) ordered → Selects (IsWanted pattern) (flat_map (lines_at (documents_of c)) (map (λ d. d.number) ordered)) hits → IsScanOf c pattern hits
+pub IsScanOf-candidates : (c : List Command) (pattern : Pattern) (formula : Formula) → IsMetAs pattern.tree formula → (members : List ℕ) → members ≡ map (λ d. d.number) (filter (meets formula) (documents_of c)) → (ordered : List Document) (hits : List Hit) → IsInNameOrder (filter (λ d. has members d.number) (documents_of c)) ordered → Selects (IsWanted pattern) (flat_map (lines_at (documents_of c)) (map (λ d. d.number) ordered)) hits → IsScanOf c pattern hits
 IsScanOf-candidates c pattern formula same members are ordered hits order kept =
     IsScanOf-Selects c pattern (filter (meets formula) (documents_of c)) ordered hits
     (subst (λ ds. IsInNameOrder ds ordered) (ap (λ xs. filter (λ d. has xs d.number) (documents_of c)) are ∙ chosen_are c (meets formula)) order)

@@ -3,9 +3,9 @@ use Rattle.std.proofs.Common.{◌≡◌, ℕ, List, [], ◌++◌, take, drop, le
 use Rattle.std.proofs.lemmas.List.{take_at, append-nil, take-append-drop}
 use Rattle.std.proofs.lemmas.List.{length-map}
 use Rattle.std.specs.Prelude.{vec_len, decimal}
-use Rattle.search.specs.declared.answer.Hit.{Hit}
-use Rattle.search.specs.Scan.{Found}
-use Rattle.search.specs.Found.{found_of, found_all}
+use Rattle.search.specs.declared.answer.Hit.{Hit as StoredHit}
+use Rattle.search.specs.Scan.{Hit}
+use Rattle.search.specs.Hits.{hit_of, hits_of}
 use Rattle.search.specs.Text.{Begins}
 
 pub Begins-append : (old more new : List ℕ) → new ≡ old ++ more → Begins old new
@@ -25,8 +25,8 @@ Begins-further old more middle new grown h =
     Begins-append old (more ++ drop (length middle) new) new (cut ∙ (ap (λ t. t ++ drop (length middle) new) grown ∙ append_assoc old more (drop (length middle) new)))
 
 -- the number of hits, as it is printed
-pub counted : (hits : Vec Hit Global) (len : ℕ) (shown : List Found) → len ≡ vec_len hits → found_all hits.items ≡ shown → decimal len ≡ decimal (length shown)
-counted hits len shown e same = ap decimal (e ∙ (hits.ok.0 ∙ (sym (length-map hits.items found_of) ∙ ap length same)))
+pub counted : (hits : Vec StoredHit Global) (len : ℕ) (shown : List Hit) → len ≡ vec_len hits → hits_of hits.items ≡ shown → decimal len ≡ decimal (length shown)
+counted hits len shown e same = ap decimal (e ∙ (hits.ok.0 ∙ (sym (length-map hits.items hit_of) ∙ ap length same)))
 
 -- three texts one after another
 pub three : (old a b end x y z : List ℕ) → x ≡ old ++ a → y ≡ x ++ b → z ≡ y ++ (end ++ []) → z ≡ old ++ ((a ++ b) ++ end)

@@ -1,7 +1,7 @@
 pub mod Pattern
 pub mod Prepared
 pub mod Scan
-pub mod Found
+pub mod Hits
 pub mod Text
 pub mod Queries
 pub mod Limited

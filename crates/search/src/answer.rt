@@ -1,8 +1,8 @@
 //! Answers of searches, and their text.
 
 ghost use Rattle.std.specs.Prelude.{◌≡◌, ◌++◌, flat_map, OnOk, OnErr};
-ghost use Rattle.search.specs.Found.{found_of, found_all};
-ghost use Rattle.search.specs.Text.{text_of_found, Begins};
+ghost use Rattle.search.specs.Hits.{hit_of, hits_of};
+ghost use Rattle.search.specs.Text.{text_of_hit, Begins};
 
 use index::Name;
 use itoa::Buffer;
@@ -32,18 +32,18 @@ pub struct Answer {
 }
 
 impl Model for Answer {
-    ghost use Rattle.search.specs.Scan.{Reply};
+    ghost use Rattle.search.specs.Scan.{Answer as AnswerValue};
 
-    ghost Value = { Reply };
+    ghost Value = { AnswerValue };
 
-    ghost use Rattle.search.specs.Found.{found_all};
+    ghost use Rattle.search.specs.Hits.{hits_of};
 
-    ghost view = { λ a. record { version = a.version; hits = found_all a.hits.items; documents = a.documents; candidates = a.candidates } };
+    ghost view = { λ a. record { version = a.version; hits = hits_of a.hits.items; documents = a.documents; candidates = a.candidates } };
 }
 
 impl Answer {
     ghost use Rattle.std.specs.Prelude.{◌≡◌, ◌++◌, OnOk, OnErr};
-    ghost use Rattle.search.specs.Found.{found_all};
+    ghost use Rattle.search.specs.Hits.{hits_of};
     ghost use Rattle.search.specs.Text.{text_of_answer, text_of_head, text_of_stats, Begins};
 
     /// The number of commands that the answer rests on.
@@ -55,7 +55,7 @@ impl Answer {
 
     /// The lines that match, rising by the bytes of their names and then by line.
     pub fn hits(&self) -> &[Hit]
-        ensures { found_all result.now ≡ self.now.hits }
+        ensures { hits_of result.now ≡ self.now.hits }
     {
         self.hits.as_slice()
     }
@@ -147,7 +147,7 @@ impl Answer {
 
 // Appends a line for each hit, or a beginning of them.
 fn append_hits(out: &mut Vec<u8>, hits: &[Hit]) -> Result<(), AllocError>
-    ensures ok { OnOk result (out.new.items ≡ out.old.items ++ flat_map text_of_found (found_all hits.now)) }
+    ensures ok { OnOk result (out.new.items ≡ out.old.items ++ flat_map text_of_hit (hits_of hits.now)) }
     ensures err { OnErr result (Begins out.old.items out.new.items) }
 {
     for hit in hits {
@@ -158,7 +158,7 @@ fn append_hits(out: &mut Vec<u8>, hits: &[Hit]) -> Result<(), AllocError>
 
 // Appends the line of a hit.
 fn append_hit(out: &mut Vec<u8>, hit: &Hit) -> Result<(), AllocError>
-    ensures ok { OnOk result (out.new.items ≡ out.old.items ++ text_of_found (found_of hit.now)) }
+    ensures ok { OnOk result (out.new.items ≡ out.old.items ++ text_of_hit (hit_of hit.now)) }
     ensures err { OnErr result (out.new.items ≡ out.old.items) }
 {
     let mut line = Buffer::new();

@@ -7,9 +7,9 @@ ghost use Rattle.ere.specs.Language.{ContainsMatch};
 ghost use Rattle.ere.specs.Lines.{lines_of};
 ghost use Rattle.index.specs.Documents.{documents_of};
 ghost use Rattle.search.specs.Scan.{IsAnswerOf};
-ghost use Rattle.search.specs.Found.{found_all};
+ghost use Rattle.search.specs.Hits.{hits_of};
 ghost use Rattle.search.specs.Prepared.{pattern_of};
-ghost use Rattle.search.specs.Selects.{Adds, Selects, IsWanted, found, lines_found, lines_at};
+ghost use Rattle.search.specs.Selects.{Adds, Selects, IsWanted, found, lines_of_document, lines_at};
 
 use crate::answer::{Answer, Hit};
 use crate::pattern::Prepared;
@@ -71,7 +71,7 @@ fn scan_documents<W: Watch>(
     watch: &mut W,
 ) -> Result<Vec<Hit>, AllocError>
     ensures { IfOk result (λ hits. Selects (IsWanted (pattern_of prepared.now))
-        (flat_map (lines_at (documents_of index.now)) numbers.now) (found_all hits.items)) }
+        (flat_map (lines_at (documents_of index.now)) numbers.now) (hits_of hits.items)) }
 {
     let mut hits = Vec::new(alloc);
     for number in numbers {
@@ -91,8 +91,8 @@ fn scan_document<W: Watch>(
     hits: &mut Vec<Hit>,
     watch: &mut W,
 ) -> Result<(), AllocError>
-    ensures { OnOk result (Adds (IsWanted (pattern_of prepared.now)) (lines_found name.now body.now)
-        (found_all hits.old.items) (found_all hits.new.items)) }
+    ensures { OnOk result (Adds (IsWanted (pattern_of prepared.now)) (lines_of_document name.now body.now)
+        (hits_of hits.old.items) (hits_of hits.new.items)) }
 {
     if !prepared.takes_name(name) {
         return Ok(());
@@ -111,8 +111,8 @@ fn scan_lines(
     hits: &mut Vec<Hit>,
 ) -> Result<(), AllocError>
     requires { IsWithinLimits (form tree.now) }
-    ensures { OnOk result (Adds (λ f. ContainsMatch (form tree.now) f.text) (lines_found name.now body.now)
-        (found_all hits.old.items) (found_all hits.new.items)) }
+    ensures { OnOk result (Adds (λ f. ContainsMatch (form tree.now) f.text) (lines_of_document name.now body.now)
+        (hits_of hits.old.items) (hits_of hits.new.items)) }
 {
     let mut rest = body.as_bytes();
     let mut line = 1;
@@ -139,7 +139,7 @@ fn scan_line(
     requires limits { IsWithinLimits (form tree.now) }
     requires short { length text.now ≤ MAX_LINE }
     ensures { OnOk result (Adds (λ f. ContainsMatch (form tree.now) f.text) (found name.now line text.now ∷ [])
-        (found_all hits.old.items) (found_all hits.new.items)) }
+        (hits_of hits.old.items) (hits_of hits.new.items)) }
 {
     if !matches(tree, text) {
         return Ok(());

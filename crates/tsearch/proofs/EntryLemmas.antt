@@ -3,7 +3,7 @@ use Rattle.std.proofs.Common.{◌≡◌, ℕ, ◌+◌, Bool, true, false, List, 
 use Rattle.std.proofs.lemmas.Bool.{false≢true}
 use Rattle.index.specs.declared.command.Command.{Command}
 use Rattle.search.specs.Pattern.{Pattern}
-use Rattle.search.specs.Scan.{Reply}
+use Rattle.search.specs.Scan.{Answer}
 use Rattle.script.specs.Items.{Item, put, load, remove, publish, search, search_in, sync, bad_line, bad_put, truncated, body_not_closed}
 use Rattle.tsearch.specs.declared.items.Counts.{Counts}
 use Rattle.tsearch.specs.declared.transcript.Entry.{Entry}
@@ -15,7 +15,7 @@ use Rattle.tsearch.specs.Private.Steps.{IsSearchedNow, IsSearchNow, IsSearchInNo
 use Rattle.tsearch.specs.Private.Steps as now
 
 -- The answers of two equal entries have one version.
-same_answer : {number number' reader reader' turn turn' : ℕ} {answer answer' : Reply} → Found number reader turn answer ≡ Found number' reader' turn' answer' → answer.version ≡ answer'.version
+same_answer : {number number' reader reader' turn turn' : ℕ} {answer answer' : Answer} → Found number reader turn answer ≡ Found number' reader' turn' answer' → answer.version ≡ answer'.version
 same_answer {answer = answer} {answer' = answer'} e = let same : answer ≡ answer' = cc in ap (λ a. a.version) same
 
 abbrev tells : Entry → Bool
@@ -88,7 +88,7 @@ module _ (entry : Entry) (at version : ℕ) (is : entry ≡ Published at version
   published_entry Holds store counts loaded line body_not_closed h = absurd (let both = sym is ∙ h in cc)
 
 -- an entry that is found
-module _ (entry : Entry) (number' reader turn' : ℕ) (answer' : Reply) (is : entry ≡ Found number' reader turn' answer') where
+module _ (entry : Entry) (number' reader turn' : ℕ) (answer' : Answer) (is : entry ≡ Found number' reader turn' answer') where
   found_searched : (published : List Command) (number turn : ℕ) (IsIt : Pattern → Type 0) → IsSearchedNow published number turn IsIt entry → (turn' ≡ turn) × (answer'.version ≡ length published)
   found_searched published number turn IsIt (now.no_memory e) = let both = sym is ∙ e in cc
   found_searched published number turn IsIt (now.found pattern answer is_it e answered) = let both = sym is ∙ e in (cc, same_answer both ∙ answered.version)

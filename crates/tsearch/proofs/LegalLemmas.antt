@@ -4,7 +4,7 @@ use Rattle.std.proofs.lemmas.List.{append-nil, length-take-le, take-append-le}
 use Rattle.std.proofs.lemmas.List.Elements.{Contains-append_left, Contains-append_right}
 use Rattle.std.specs.Prelude.{Contains}
 use Rattle.search.specs.Pattern.{Pattern, IsPatternOf, IsPatternWithin}
-use Rattle.search.specs.Scan.{Reply, IsAnswerOf}
+use Rattle.search.specs.Scan.{Answer, IsAnswerOf}
 use Rattle.script.specs.Items.{Item, ItemsFrom, put, load, remove, publish, search, search_in, sync, bad_line, bad_put, truncated, body_not_closed}
 use Rattle.script.specs.Position.{Position as ScriptPosition}
 use Rattle.tsearch.specs.declared.items.Counts.{Counts}
@@ -56,7 +56,7 @@ module _ (Holds : List ℕ → List ℕ → Type 0) (most readers : ℕ) (before
   same_commands : take (published_last before) (commands_of (before ++ row ∷ after)) ≡ take (published_last before) (commands_of before)
   same_commands = ap (take (published_last before)) (commands_of-append before (row ∷ after)) ∙ take-append-le (published_last before) (commands_of before) (commands_of (row ∷ after)) here.bound
 
-  is_answered : (pattern : Pattern) (answer : Reply) → IsAnswerOf (take (published_last before) (commands_of before)) pattern answer → IsAnswered (context_of readers before row after) pattern 0 answer
+  is_answered : (pattern : Pattern) (answer : Answer) → IsAnswerOf (take (published_last before) (commands_of before)) pattern answer → IsAnswered (context_of readers before row after) pattern 0 answer
   unfolding context_of
   is_answered pattern answer answered =
       let version : answer.version ≡ published_last before = answered.version ∙ length-take-le (published_last before) (commands_of before) here.bound in
@@ -121,11 +121,11 @@ module _ (Holds : List ℕ → List ℕ → Type 0) (most readers : ℕ) (before
   legal_row = by_entry row.numbered.item row.entry here.is
 
 -- An answer comes in the next turn, and is of what is published.
-found_is : (Holds : List ℕ → List ℕ → Type 0) (store : StoreState) (counts : Counts) (loaded : Option (List ℕ)) (line : ℕ) (item : Item) (entry : Option Entry) → IsOf Holds store counts loaded line item entry → (number reader turn : ℕ) (answer : Reply) → entry ≡ Some (Found number reader turn answer) → (turn ≡ counts.turns + 1) × (answer.version ≡ length store.published)
+found_is : (Holds : List ℕ → List ℕ → Type 0) (store : StoreState) (counts : Counts) (loaded : Option (List ℕ)) (line : ℕ) (item : Item) (entry : Option Entry) → IsOf Holds store counts loaded line item entry → (number reader turn : ℕ) (answer : Answer) → entry ≡ Some (Found number reader turn answer) → (turn ≡ counts.turns + 1) × (answer.version ≡ length store.published)
 found_is Holds store counts loaded line item _ (with_entry other h) number reader turn answer e = found_entry _ number reader turn answer (let same = e in cc) Holds store counts loaded line item h
 found_is Holds store counts loaded line _ _ without number reader turn answer e = cc
 
-found_now : (Holds : List ℕ → List ℕ → Type 0) (most : ℕ) (before : List Row) (row : Row) → IsNowRow Holds most before row → (number reader turn : ℕ) (answer : Reply) → row.entry ≡ Some (Found number reader turn answer) → (turn ≡ count_found before + 1) × (answer.version ≡ published_last before)
+found_now : (Holds : List ℕ → List ℕ → Type 0) (most : ℕ) (before : List Row) (row : Row) → IsNowRow Holds most before row → (number reader turn : ℕ) (answer : Answer) → row.entry ≡ Some (Found number reader turn answer) → (turn ≡ count_found before + 1) × (answer.version ≡ published_last before)
 unfolding store_of_rows counts_of
 found_now Holds most before row here number reader turn answer e =
     let is = found_is Holds (store_of_rows most before) (counts_of before) row.loaded row.numbered.line row.numbered.item row.entry here.is number reader turn answer e in

@@ -10,7 +10,7 @@ use Rattle.index.specs.declared.error.BodyErrorKind.{BodyErrorKind}
 use Rattle.index.specs.Documents.{documents_of, number_of}
 use Rattle.index.specs.Text.{IsName, IsNameFault, IsBody, IsBodyFault}
 use Rattle.search.specs.Pattern.{Pattern, IsPatternOf, IsPatternWithin, HasTree}
-use Rattle.search.specs.Scan.{Reply, IsAnswerOf}
+use Rattle.search.specs.Scan.{Answer, IsAnswerOf}
 use Rattle.script.specs.Items.{Item, IsItemsOf, put, load, remove, publish, search, search_in, sync, bad_line, bad_put, truncated, body_not_closed}
 use Rattle.tsearch.specs.declared.transcript.Entry.{Entry}
 use Rattle.tsearch.specs.declared.transcript.Entry.TheVariants.{Accepted, Refused, Published, Found, SearchRefused}
@@ -71,7 +71,7 @@ newest_allowed context =
 
 -- An answer of a published version, no older than what was published before the search, which lists
 -- exactly what the documents after that version's commands hold.
-pub record IsAnswered (context : Context) (pattern : Pattern) (reader : ℕ) (answer : Reply) : Type 0 where
+pub record IsAnswered (context : Context) (pattern : Pattern) (reader : ℕ) (answer : Answer) : Type 0 where
   pub published : (answer.version ≡ 0) ⊎ Contains (published_in (all_rows context)) answer.version
   pub not_older : published_last context.before ≤ answer.version
   pub exact : IsAnswerOf (take answer.version (commands_of (all_rows context))) pattern answer
@@ -85,7 +85,7 @@ search_number context = count_searches context.before + 1
 -- What becomes of a search: refused for memory, or answered for its pattern, which some texts spell.
 pub data IsSearched (context : Context) (IsIt : Pattern → Type 0) (entry : Entry) : Type 0 where
   no_memory : entry ≡ SearchRefused (search_number context) search_reason.OutOfMemory → IsSearched context IsIt entry
-  found : (pattern : Pattern) (reader turn : ℕ) (answer : Reply) → IsIt pattern → entry ≡ Found (search_number context) reader turn answer → IsAnswered context pattern reader answer → IsSearched context IsIt entry
+  found : (pattern : Pattern) (reader turn : ℕ) (answer : Answer) → IsIt pattern → entry ≡ Found (search_number context) reader turn answer → IsAnswered context pattern reader answer → IsSearched context IsIt entry
 
 pub data IsSearch (context : Context) (text : List ℕ) (entry : Entry) : Type 0 where
   bad_pattern : (fault : EreError) → fault.kind ≢ kind.OutOfMemory → HasNoTree text → entry ≡ SearchRefused (search_number context) (search_reason.Pattern fault) → IsSearch context text entry
@@ -129,7 +129,7 @@ pub record IsInTurn (first second : ℕ) (first_version second_version : ℕ) : 
 
 abbrev pub AreInTurn : List Row → Type 0
 AreInTurn rows =
-    (before middle after : List Row) (row row' : Row) (reader number turn number' turn' : ℕ) (answer answer' : Reply)
+    (before middle after : List Row) (row row' : Row) (reader number turn number' turn' : ℕ) (answer answer' : Answer)
     → rows ≡ before ++ row ∷ (middle ++ row' ∷ after)
     → row.entry ≡ Some (Found number reader turn answer)
     → row'.entry ≡ Some (Found number' reader turn' answer')

@@ -5,7 +5,7 @@ use Rattle.ere.specs.declared.error.EreError.{EreError}
 use Rattle.ere.specs.declared.error.EreErrorKind.TheVariants as kind
 use Rattle.index.specs.declared.command.Command.{Command}
 use Rattle.search.specs.Pattern.{Pattern, IsPatternOf, IsPatternWithin, HasTree}
-use Rattle.search.specs.Scan.{Reply, IsAnswerOf}
+use Rattle.search.specs.Scan.{Answer, IsAnswerOf}
 use Rattle.script.specs.Items.{Item, Numbered, put, load, remove, publish, search, search_in, sync, bad_line, bad_put, truncated, body_not_closed}
 use Rattle.tsearch.specs.declared.transcript.Entry.{Entry}
 use Rattle.tsearch.specs.declared.transcript.Entry.TheVariants.{Accepted, Refused, Published, Found, SearchRefused}
@@ -26,7 +26,7 @@ store_after _ commands store = store
 -- a search answered from what is published, in the next turn of reader 0
 pub data IsSearchedNow (published : List Command) (number turn : ℕ) (IsIt : Pattern → Type 0) (entry : Entry) : Type 0 where
   no_memory : entry ≡ SearchRefused number search_reason.OutOfMemory → IsSearchedNow published number turn IsIt entry
-  found : (pattern : Pattern) (answer : Reply) → IsIt pattern → entry ≡ Found number 0 turn answer → IsAnswerOf published pattern answer → IsSearchedNow published number turn IsIt entry
+  found : (pattern : Pattern) (answer : Answer) → IsIt pattern → entry ≡ Found number 0 turn answer → IsAnswerOf published pattern answer → IsSearchedNow published number turn IsIt entry
 
 pub data IsSearchNow (published : List Command) (number turn : ℕ) (text : List ℕ) (entry : Entry) : Type 0 where
   bad_pattern : (fault : EreError) → (fault.kind ≡ kind.OutOfMemory → ⊥) → HasNoTree text → entry ≡ SearchRefused number (search_reason.Pattern fault) → IsSearchNow published number turn text entry

@@ -1,12 +1,12 @@
 use Rattle.std.proofs.Common.{◌≡◌, ◌++◌, ◌∙◌, ap}
 use Rattle.std.specs.Prelude.{codes, decimal}
 use Rattle.std.proofs.lemmas.Result.{on_ok_weaker}
-use Rattle.search.specs.Text.{text_of_found, line_end}
+use Rattle.search.specs.Text.{text_of_hit, line_end}
 use Rattle.search.proofs.TextLemmas.{six}
 use Rattle.search.proofs.answer.append_hit.Goals as goal
 
 pub returns-clause-ok : goal.returns-clause-ok
-unfolding text_of_found
+unfolding text_of_hit
 returns-clause-ok c =
     let name : c.as_bytes.result.now ≡ c.args.hit.now.name = c.as_bytes.ensures.bytes in
     let first : c.as_slice.result.now ≡ codes ":" = c.as_slice.ensures in

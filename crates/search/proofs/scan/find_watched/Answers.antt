@@ -2,7 +2,7 @@ use Rattle.std.proofs.Common.{subst, ◌∙◌, arith}
 use Rattle.std.specs.Prelude.{flat_map}
 use Rattle.index.specs.Documents.{documents_of}
 use Rattle.trigram.specs.Query.{formula_of}
-use Rattle.search.specs.Found.{found_all}
+use Rattle.search.specs.Hits.{hits_of}
 use Rattle.search.specs.Prepared.{pattern_of}
 use Rattle.search.specs.Selects.{Selects, IsWanted, lines_at}
 use Rattle.search.proofs.CandidateLemmas.{counted, fewer, IsScanOf-candidates}
@@ -17,10 +17,10 @@ returns g c =
     let prepared = c.args.prepared.now in
     let pattern = pattern_of prepared in
     let order = c.in_ok-numbers.ensures in
-    let kept = subst (λ xs. Selects (IsWanted pattern) (flat_map (lines_at (documents_of commands)) xs) (found_all c.in_ok-hits.hits.items)) (c.as_slice.ensures.value ∙ order.2) c.in_ok-hits.ensures in
+    let kept = subst (λ xs. Selects (IsWanted pattern) (flat_map (lines_at (documents_of commands)) xs) (hits_of c.in_ok-hits.hits.items)) (c.as_slice.ensures.value ∙ order.2) c.in_ok-hits.ensures in
     record {
       version = c.version.ensures;
-      hits = IsScanOf-candidates commands pattern (formula_of prepared.query) prepared.filter c.in_ok-candidates.candidates.members c.in_ok-candidates.ensures order.0 (found_all c.in_ok-hits.hits.items) order.1 kept;
+      hits = IsScanOf-candidates commands pattern (formula_of prepared.query) prepared.filter c.in_ok-candidates.candidates.members c.in_ok-candidates.ensures order.0 (hits_of c.in_ok-hits.hits.items) order.1 kept;
       documents = c.documents.ensures;
       candidates = c.len.ensures ∙ counted commands pattern (formula_of prepared.query) prepared.filter c.in_ok-candidates.candidates.members c.in_ok-candidates.ensures;
     }

@@ -1,14 +1,14 @@
 use Rattle.std.proofs.Common.{◌≡◌, ◌++◌, ◌∙◌, ap, append_assoc}
 use Rattle.std.specs.Prelude.{flat_map}
 use Rattle.std.proofs.lemmas.Result.{on_ok_weaker}
-use Rattle.search.specs.Found.{found_all}
-use Rattle.search.specs.Text.{text_of_answer, text_of_head, text_of_found}
+use Rattle.search.specs.Hits.{hits_of}
+use Rattle.search.specs.Text.{text_of_answer, text_of_head, text_of_hit}
 use Rattle.search.proofs.answer.Answer.append_to.Goals as goal
 
 pub returns-clause-ok : goal.returns-clause-ok
 unfolding text_of_answer
 returns-clause-ok c =
     let head = text_of_head c.args.search c.args.stats c.args.self.now in
-    let hits = flat_map text_of_found c.args.self.now.hits in
-    let all : found_all c.as_slice.result.now ≡ c.args.self.now.hits = ap found_all c.as_slice.ensures.value ∙ ap (λ a. a.hits) c.self.view_is in
-    on_ok_weaker c.append_hits.result (λ e. e ∙ (ap (λ t. t ++ flat_map text_of_found (found_all c.as_slice.result.now)) c.in_ok-append_head.ensures.ok ∙ (append_assoc c.args.out.now.items head (flat_map text_of_found (found_all c.as_slice.result.now)) ∙ ap (λ fs. c.args.out.now.items ++ (head ++ flat_map text_of_found fs)) all))) c.append_hits.ensures.ok
+    let hits = flat_map text_of_hit c.args.self.now.hits in
+    let all : hits_of c.as_slice.result.now ≡ c.args.self.now.hits = ap hits_of c.as_slice.ensures.value ∙ ap (λ a. a.hits) c.self.view_is in
+    on_ok_weaker c.append_hits.result (λ e. e ∙ (ap (λ t. t ++ flat_map text_of_hit (hits_of c.as_slice.result.now)) c.in_ok-append_head.ensures.ok ∙ (append_assoc c.args.out.now.items head (flat_map text_of_hit (hits_of c.as_slice.result.now)) ∙ ap (λ fs. c.args.out.now.items ++ (head ++ flat_map text_of_hit fs)) all))) c.append_hits.ensures.ok
