@@ -10,7 +10,7 @@ use Rattle.std.proofs.lemmas.List.Elements.{All-nil, All-cons, All-filter, All-c
 use Rattle.std.proofs.lemmas.Option.{slice_get_within}
 use Rattle.query.specs.Trigrams.{ListsTrigrams, trigrams_of_body}
 use Rattle.query.specs.Query.{Formula, is_met}
-use Rattle.posting.specs.NumberSet.{has}
+use Rattle.posting.specs.ListValue.{has}
 use Rattle.posting.specs.Postings.{holds, trigrams_with, SameSets}
 use Rattle.posting.proofs.Members.{has_at, All-has}
 use Rattle.index.specs.declared.command.Command.{Command}

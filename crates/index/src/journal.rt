@@ -7,7 +7,7 @@ ghost use Rattle.std.specs.BTreeMap.{IsUnchanged, IsOrdered, get, values};
 ghost use Rattle.std.specs.List.Sorted.{IsStrictlyIncreasing};
 ghost use Rattle.index.specs.declared.command.Command.{Command as CommandValue};
 ghost use Rattle.query.specs.Query.{formula_of};
-ghost use Rattle.posting.specs.NumberSet.{has};
+ghost use Rattle.posting.specs.ListValue.{has};
 ghost use Rattle.index.specs.IndexParts.{Notes, kept_if};
 ghost use Rattle.index.specs.SetParts.{IsGone, IsChange};
 ghost use Rattle.index.specs.Documents.{Document, documents_of, document_at, number_of, meets, IsInNameOrder, IsDocument};

@@ -211,7 +211,7 @@ keeps : (a b c : Bool) → (b && c) ≡ b → ((a && b) && c) ≡ (a && b)
 keeps true b c e = e
 keeps false b c e = refl
 
--- a conjunct that stands already adds nothing
+-- a conjunct that is there already adds nothing
 pub stands_already : (fs : List Formula) (i : ℕ) (f : Formula) → i < length fs → get_or fs i f ≡ f → AddsNothing And fs f
 unfolding are_all_met
 stands_already [] i f below is set = absurd (omega arith)

@@ -66,7 +66,7 @@ HasTwo (more member none) = ⊥
 HasTwo (more member (more next members)) = Unit {0}
 
 unfoldable mutual
-  -- No constant in it; each conjunction and disjunction has at least two members, and none stands directly
+  -- No constant in it; each conjunction and disjunction has at least two members, and none is directly
   -- in one of its own kind.
   pub IsReduced : Formula → Type 0
   IsReduced always = ⊥

@@ -30,7 +30,7 @@ pub record AreMembersOf (connective : Connective) (formula : Formula) (members :
   pub some : 0 < length members
   pub met : (set : TrigramSet) → are_met connective (formulas_of members) set ≡ is_met formula set
 
--- The members with further ones, of which those that stand already may be left out.
+-- The members with further ones, of which those that are there already may be left out.
 pub record HasTakenIn (connective : Connective) (old further new : List Formula) : Type 0 where
   pub parts : AreReducedParts (is_of connective) (formulas_of new)
   pub more : length old ≤ length new

@@ -87,7 +87,7 @@ fn are_same(ones: &[Query], others: &[Query]) -> bool
 }
 
 /// A plain query with the same truth at every set of trigrams. Plain means: it is `Any` or `None`, or it has
-/// neither in it, each `And` and `Or` in it has at least two members, and no `And` stands directly in an
+/// neither in it, each `And` and `Or` in it has at least two members, and no `And` is directly in an
 /// `And`, no `Or` directly in an `Or`.
 ///
 /// An `Err` comes where memory runs out; the query is then dropped.
@@ -125,7 +125,7 @@ fn all_simplified(
     Ok(whole)
 }
 
-/// Two plain queries joined. A conjunct that stands already is left out where it is found soon.
+/// Two plain queries joined. A conjunct that is there already is left out where it is found soon.
 pub fn join(
     alloc: Global,
     connective: Connective,
