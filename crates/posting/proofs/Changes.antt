@@ -6,9 +6,9 @@ use Rattle.std.proofs.lemmas.Bool.Decides.{nat_tests}
 use Rattle.std.proofs.lemmas.List.{get_or-take, length-take-le}
 use Rattle.std.proofs.lemmas.List.Folds.{list_any_more}
 use Rattle.std.proofs.lemmas.List.Elements.{All-from_get_or, All-more, All-weaker}
-use Rattle.posting.specs.NumberSet.{NumberSet, has, without, HasRoom}
+use Rattle.posting.specs.ListValue.{ListValue, has, without, HasRoom}
 use Rattle.posting.specs.Postings.{set_of, holds, IsPrepared, IsAbove, AllDiffer, SameSets, KeepsRoom}
-use Rattle.posting.specs.Laws.{has-append, has-filter}
+use Rattle.posting.proofs.Laws.{has-append, has-filter}
 use Rattle.posting.proofs.Members.{has_at, lacks_from_all}
 
 pub has-take_more : (trigrams : List ℕ) (i t : ℕ) → i < length trigrams → has (take (i + 1) trigrams) t ≡ (has (take i trigrams) t || get_or trigrams i 0 == t)
@@ -36,14 +36,14 @@ next_is_new trigrams i differ inside =
     apart k before = rw (get_or-take i trigrams k 0 before) (differ k i 0 before inside)
 
 -- The number was put into the sets of some trigrams, and the other sets are as they were.
-pub record Added (old new : List NumberSet) (trigrams : List ℕ) (number : ℕ) : Type 0 where
+pub record Added (old new : List ListValue) (trigrams : List ℕ) (number : ℕ) : Type 0 where
   pub done : (t : ℕ) → has trigrams t ≡ true → (set_of new t).members ≡ (set_of old t).members ++ number ∷ []
   pub left : (t : ℕ) → has trigrams t ≡ false → set_of new t ≡ set_of old t
 
-pub added_none : (table : List NumberSet) (number : ℕ) → Added table table [] number
+pub added_none : (table : List ListValue) (number : ℕ) → Added table table [] number
 added_none table number = record { done = λ t there. absurd (false≢true there); left = λ t _. refl }
 
-pub added_more : (old now new : List NumberSet) (trigrams : List ℕ) (i number : ℕ) → Added old now (take i trigrams) number → AllDiffer trigrams → i < length trigrams → (set_of new (get_or trigrams i 0)).members ≡ (set_of now (get_or trigrams i 0)).members ++ number ∷ [] → ((t : ℕ) → t ≢ get_or trigrams i 0 → set_of new t ≡ set_of now t) → Added old new (take (i + 1) trigrams) number
+pub added_more : (old now new : List ListValue) (trigrams : List ℕ) (i number : ℕ) → Added old now (take i trigrams) number → AllDiffer trigrams → i < length trigrams → (set_of new (get_or trigrams i 0)).members ≡ (set_of now (get_or trigrams i 0)).members ++ number ∷ [] → ((t : ℕ) → t ≢ get_or trigrams i 0 → set_of new t ≡ set_of now t) → Added old new (take (i + 1) trigrams) number
 added_more old now new trigrams i number h differ inside at others = record {
   done = λ t there. done t (rw (has-take_more trigrams i t inside) at there) (get_or trigrams i 0 == t) refl;
   left = λ t absent. left t (rw (has-take_more trigrams i t inside) at absent) (get_or trigrams i 0 == t) refl;
@@ -67,16 +67,16 @@ added_more old now new trigrams i number h differ inside at others = record {
         others t ne ∙ h.left t (sym (or_false (has (take i trigrams) t)) ∙ rw e at absent)
 
 -- the next set has the room, and the number is above all in it
-pub next_has_room : (old now : List NumberSet) (trigrams : List ℕ) (i number : ℕ) → Added old now (take i trigrams) number → AllDiffer trigrams → IsPrepared old trigrams → i < length trigrams → HasRoom (set_of now (get_or trigrams i 0))
+pub next_has_room : (old now : List ListValue) (trigrams : List ℕ) (i number : ℕ) → Added old now (take i trigrams) number → AllDiffer trigrams → IsPrepared old trigrams → i < length trigrams → HasRoom (set_of now (get_or trigrams i 0))
 next_has_room old now trigrams i number h differ prepared inside =
     rw (h.left (get_or trigrams i 0) (next_is_new trigrams i differ inside)) (prepared i 0 inside)
 
-pub next_is_above : (old now : List NumberSet) (trigrams : List ℕ) (i number : ℕ) → Added old now (take i trigrams) number → AllDiffer trigrams → IsAbove old trigrams number → i < length trigrams → All (λ m. m < number) (set_of now (get_or trigrams i 0)).members
+pub next_is_above : (old now : List ListValue) (trigrams : List ℕ) (i number : ℕ) → Added old now (take i trigrams) number → AllDiffer trigrams → IsAbove old trigrams number → i < length trigrams → All (λ m. m < number) (set_of now (get_or trigrams i 0)).members
 next_is_above old now trigrams i number h differ above inside =
     rw (h.left (get_or trigrams i 0) (next_is_new trigrams i differ inside))
     (All-from_has (λ m. m < number) (set_of old (get_or trigrams i 0)).members (λ m there. above (get_or trigrams i 0) m (has_at trigrams i (get_or trigrams i 0) inside refl) there))
 
-pub holds-added : (old new : List NumberSet) (trigrams : List ℕ) (number : ℕ) → Added old new trigrams number → (t n : ℕ) → holds new t n ≡ (holds old t n || (has trigrams t && number == n))
+pub holds-added : (old new : List ListValue) (trigrams : List ℕ) (number : ℕ) → Added old new trigrams number → (t n : ℕ) → holds new t n ≡ (holds old t n || (has trigrams t && number == n))
 holds-added old new trigrams number h t n = cases (has trigrams t) refl
   where
     cases : (named : Bool) → has trigrams t ≡ named → holds new t n ≡ (holds old t n || (has trigrams t && number == n))
@@ -84,7 +84,7 @@ holds-added old new trigrams number h t n = cases (has trigrams t) refl
     cases false e = rw e (ap (λ s. has s.members n) (h.left t e) ∙ sym (or_false (holds old t n)))
 
 -- The number was taken out of the sets of some trigrams.
-pub record Withdrawn (old new : List NumberSet) (trigrams : List ℕ) (number : ℕ) : Type 0 where
+pub record Withdrawn (old new : List ListValue) (trigrams : List ℕ) (number : ℕ) : Type 0 where
   pub sets : (t n : ℕ) → holds new t n ≡ (holds old t n && not (has trigrams t && n == number))
   pub room : KeepsRoom old new
 
@@ -92,7 +92,7 @@ and_true : (a : Bool) → a ≡ (a && true)
 and_true true = refl
 and_true false = refl
 
-pub withdrawn_none : (table : List NumberSet) (number : ℕ) → Withdrawn table table [] number
+pub withdrawn_none : (table : List ListValue) (number : ℕ) → Withdrawn table table [] number
 withdrawn_none table number = record { sets = λ t n. and_true (holds table t n); room = λ t some. some }
 
 twice : (held named is : Bool) → ((held && not (named && is)) && not is) ≡ (held && not ((named || true) && is))
@@ -106,7 +106,7 @@ once : (held named is : Bool) → (held && not (named && is)) ≡ (held && not (
 once held true is = refl
 once held false is = refl
 
-pub withdrawn_more : (old now new : List NumberSet) (trigrams : List ℕ) (i number : ℕ) → Withdrawn old now (take i trigrams) number → i < length trigrams → (set_of new (get_or trigrams i 0)).members ≡ without number (set_of now (get_or trigrams i 0)).members → ((t : ℕ) → t ≢ get_or trigrams i 0 → set_of new t ≡ set_of now t) → KeepsRoom now new → Withdrawn old new (take (i + 1) trigrams) number
+pub withdrawn_more : (old now new : List ListValue) (trigrams : List ℕ) (i number : ℕ) → Withdrawn old now (take i trigrams) number → i < length trigrams → (set_of new (get_or trigrams i 0)).members ≡ without number (set_of now (get_or trigrams i 0)).members → ((t : ℕ) → t ≢ get_or trigrams i 0 → set_of new t ≡ set_of now t) → KeepsRoom now new → Withdrawn old new (take (i + 1) trigrams) number
 withdrawn_more old now new trigrams i number h inside at others room = record {
   sets = λ t n. rw (has-take_more trigrams i t inside) (sets t n (get_or trigrams i 0 == t) refl);
   room = λ t some. room t (h.room t some);
@@ -121,20 +121,20 @@ withdrawn_more old now new trigrams i number h inside at others room = record {
         rw e (ap (λ s. has s.members n) (others t ne) ∙ h.sets t n ∙ once (holds old t n) (has (take i trigrams) t) (n == number))
 
 -- Some trigrams' sets were given room, and no set changed.
-pub record Prepared (old new : List NumberSet) (trigrams : List ℕ) : Type 0 where
+pub record Prepared (old new : List ListValue) (trigrams : List ℕ) : Type 0 where
   pub sets : (t : ℕ) → (set_of new t).members ≡ (set_of old t).members
   pub room : KeepsRoom old new
   pub prepared : IsPrepared new trigrams
 
-pub prepared_none : (table : List NumberSet) → Prepared table table []
+pub prepared_none : (table : List ListValue) → Prepared table table []
 prepared_none table = record { sets = λ t. refl; room = λ t some. some; prepared = λ k d inside. absurd (omega arith) }
 
-pub prepared_more : (old now new : List NumberSet) (trigrams : List ℕ) (i : ℕ) → Prepared old now (take i trigrams) → i < length trigrams → ((t : ℕ) → (set_of new t).members ≡ (set_of now t).members) → KeepsRoom now new → HasRoom (set_of new (get_or trigrams i 0)) → Prepared old new (take (i + 1) trigrams)
+pub prepared_more : (old now new : List ListValue) (trigrams : List ℕ) (i : ℕ) → Prepared old now (take i trigrams) → i < length trigrams → ((t : ℕ) → (set_of new t).members ≡ (set_of now t).members) → KeepsRoom now new → HasRoom (set_of new (get_or trigrams i 0)) → Prepared old new (take (i + 1) trigrams)
 prepared_more old now new trigrams i h inside sets room at = record {
   sets = λ t. sets t ∙ h.sets t;
   room = λ t some. room t (h.room t some);
   prepared = All-more (λ t. HasRoom (set_of new t)) trigrams i 0 inside (All-weaker (λ t. HasRoom (set_of now t)) (λ t. HasRoom (set_of new t)) room (take i trigrams) h.prepared) at;
 }
 
-pub same_sets : (old now new : List NumberSet) → ((t : ℕ) → (set_of now t).members ≡ (set_of old t).members) → ((t : ℕ) → (set_of new t).members ≡ (set_of now t).members) → SameSets old new
+pub same_sets : (old now new : List ListValue) → ((t : ℕ) → (set_of now t).members ≡ (set_of old t).members) → ((t : ℕ) → (set_of new t).members ≡ (set_of now t).members) → SameSets old new
 same_sets old now new first then t n = ap (λ ms. has ms n) (then t ∙ first t)

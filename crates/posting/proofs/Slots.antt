@@ -7,7 +7,7 @@ use Rattle.std.proofs.lemmas.Bool.Decides.{nat_tests}
 use Rattle.std.proofs.lemmas.List.{get_or-set_same, get_or-set_other, take_all}
 use Rattle.posting.specs.Pages.{page_size, page_at, slot_of}
 
--- an empty page behind the others
+-- an empty page after the others
 page_at-push : (pages : List (Vec ℕ Global)) (page : Vec ℕ Global) (k : ℕ) → page.items ≡ [] → page_at (pages ++ page ∷ []) k ≡ page_at pages k
 page_at-push [] page zero e = e
 page_at-push [] page (suc k) e = refl
@@ -47,11 +47,11 @@ get_or-zeros zero i = refl
 get_or-zeros (suc n) zero = refl
 get_or-zeros (suc n) (suc i) = get_or-zeros n i
 
--- zeros behind the slots of a page
-pub get_or-zeros_behind : (slots : List ℕ) (n i : ℕ) → get_or (slots ++ replicate n 0) i 0 ≡ get_or slots i 0
-get_or-zeros_behind [] n i = get_or-zeros n i
-get_or-zeros_behind (s ∷ slots) n zero = refl
-get_or-zeros_behind (s ∷ slots) n (suc i) = get_or-zeros_behind slots n i
+-- zeros after the slots of a page
+pub get_or-zeros_after : (slots : List ℕ) (n i : ℕ) → get_or (slots ++ replicate n 0) i 0 ≡ get_or slots i 0
+get_or-zeros_after [] n i = get_or-zeros n i
+get_or-zeros_after (s ∷ slots) n zero = refl
+get_or-zeros_after (s ∷ slots) n (suc i) = get_or-zeros_after slots n i
 
 -- a trigram is told by its page and its place there
 same_place : (s t : ℕ) → s / page_size ≡ t / page_size → s % page_size ≡ t % page_size → s ≡ t
@@ -93,7 +93,7 @@ pub slot_of-lengthened : (pages : List (Vec ℕ Global)) (k n : ℕ) (page long 
 slot_of-lengthened pages k n page long inside is short long_is =
     let same : page_at pages k ≡ page.items = page_at-get_or pages k page inside is in
     let whole : take n page.items ≡ page.items = take_all n page.items (omega arith) in
-    slot_of-same_page pages k long inside (λ i. rw (long_is, whole, same) (get_or-zeros_behind page.items (n - length page.items) i))
+    slot_of-same_page pages k long inside (λ i. rw (long_is, whole, same) (get_or-zeros_after page.items (n - length page.items) i))
 
 pub slot_of-refused : (pages : List (Vec ℕ Global)) (k : ℕ) (page kept : Vec ℕ Global) → k < length pages → page ≡ get_or pages k page → kept.items ≡ page.items → (t : ℕ) → slot_of (set pages k kept) t ≡ slot_of pages t
 slot_of-refused pages k page kept inside is kept_is =

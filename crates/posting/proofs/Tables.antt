@@ -1,4 +1,4 @@
--- The table that pages and lists stand for.
+-- The table that pages and lists make.
 use Rattle.std.proofs.Common.{◌≡◌, ◌≢◌, ℕ, zero, suc, ◌+◌, ◌-◌, ◌^◌, ◌<◌, ◌≤◌, Bool, true, false, cond, ◌==◌, nat_lt, List, [], ◌∷◌, ◌++◌, ◌⊎◌, inl, inr, length, get_or, set, refl, sym, ap, ◌∙◌, subst, arith, add-one, length-set, filter}
 use Rattle.std.specs.List.{range_with_len}
 use Rattle.std.specs.declared.alloc.Global.{Global}
@@ -9,82 +9,82 @@ use Rattle.std.proofs.lemmas.List.{get_or-set_same, get_or-set_other, get_or_pas
 use Rattle.std.proofs.lemmas.List.FromFn.{get_or-map-range_with_len, length-map-range_with_len, length-range_with_len}
 use Rattle.std.proofs.lemmas.List.Elements.{filter_agree}
 use Rattle.std.proofs.lemmas.List.Sums.{count_by-le-length, length-filter}
-use Rattle.posting.specs.NumberSet.{NumberSet, HasRoom}
+use Rattle.posting.specs.ListValue.{ListValue, HasRoom}
 use Rattle.posting.specs.Postings.{no_numbers, set_of}
-use Rattle.posting.specs.Pages.{trigram_count, slot_of, set_behind, table_of, listed_trigrams, IsSound}
+use Rattle.posting.specs.Pages.{trigram_count, slot_of, set_in_slot, table_of, listed_trigrams, IsSound}
 
 pub below_count : (t : ℕ) → t < 2 ^ 24 → t < trigram_count
 unfolding trigram_count
 below_count t h = h
 
-pub set_of-table : (pages : List (Vec ℕ Global)) (lists : List NumberSet) (t : ℕ) → t < trigram_count → set_of (table_of pages lists) t ≡ set_behind lists (slot_of pages t)
+pub set_of-table : (pages : List (Vec ℕ Global)) (lists : List ListValue) (t : ℕ) → t < trigram_count → set_of (table_of pages lists) t ≡ set_in_slot lists (slot_of pages t)
 unfolding table_of
-set_of-table pages lists t below = get_or-map-range_with_len (λ s. set_behind lists (slot_of pages s)) 0 trigram_count t t no_numbers below (omega arith)
+set_of-table pages lists t below = get_or-map-range_with_len (λ s. set_in_slot lists (slot_of pages s)) 0 trigram_count t t no_numbers below (omega arith)
 
-pub set_of-past : (pages : List (Vec ℕ Global)) (lists : List NumberSet) (t : ℕ) → trigram_count ≤ t → set_of (table_of pages lists) t ≡ no_numbers
+pub set_of-past : (pages : List (Vec ℕ Global)) (lists : List ListValue) (t : ℕ) → trigram_count ≤ t → set_of (table_of pages lists) t ≡ no_numbers
 unfolding table_of
-set_of-past pages lists t past = get_or_past _ t no_numbers (omega (arith, length-map-range_with_len (λ s. set_behind lists (slot_of pages s)) 0 trigram_count))
+set_of-past pages lists t past = get_or_past _ t no_numbers (omega (arith, length-map-range_with_len (λ s. set_in_slot lists (slot_of pages s)) 0 trigram_count))
 
--- what holds of the sets behind the slots of two tables holds of their sets
-pub tables_relate : (R : NumberSet → NumberSet → Type 0) (pages pages' : List (Vec ℕ Global)) (lists lists' : List NumberSet) → R no_numbers no_numbers → ((t : ℕ) → R (set_behind lists (slot_of pages t)) (set_behind lists' (slot_of pages' t))) → (t : ℕ) → R (set_of (table_of pages lists) t) (set_of (table_of pages' lists') t)
-tables_relate R pages pages' lists lists' none behind t = cases (cases_lt t trigram_count)
+-- what holds of the sets of the slots of two tables holds of their sets
+pub tables_relate : (R : ListValue → ListValue → Type 0) (pages pages' : List (Vec ℕ Global)) (lists lists' : List ListValue) → R no_numbers no_numbers → ((t : ℕ) → R (set_in_slot lists (slot_of pages t)) (set_in_slot lists' (slot_of pages' t))) → (t : ℕ) → R (set_of (table_of pages lists) t) (set_of (table_of pages' lists') t)
+tables_relate R pages pages' lists lists' none after t = cases (cases_lt t trigram_count)
   where
     cases : (t < trigram_count) ⊎ (trigram_count ≤ t) → R (set_of (table_of pages lists) t) (set_of (table_of pages' lists') t)
     cases (inl below) =
         subst (λ s. R s (set_of (table_of pages' lists') t)) (sym (set_of-table pages lists t below))
-        (subst (λ s. R (set_behind lists (slot_of pages t)) s) (sym (set_of-table pages' lists' t below)) (behind t))
+        (subst (λ s. R (set_in_slot lists (slot_of pages t)) s) (sym (set_of-table pages' lists' t below)) (after t))
     cases (inr past) =
         subst (λ s. R s (set_of (table_of pages' lists') t)) (sym (set_of-past pages lists t past))
         (subst (λ s. R no_numbers s) (sym (set_of-past pages' lists' t past)) none)
 
-pub set_behind-place : (lists : List NumberSet) (place : ℕ) → set_behind lists (place + 1) ≡ get_or lists place no_numbers
-set_behind-place lists place = rw add-one refl
+pub set_in_slot-place : (lists : List ListValue) (place : ℕ) → set_in_slot lists (place + 1) ≡ get_or lists place no_numbers
+set_in_slot-place lists place = rw add-one refl
 
-pub set_behind-set_same : (lists : List NumberSet) (place : ℕ) (x : NumberSet) → place < length lists → set_behind (set lists place x) (place + 1) ≡ x
-set_behind-set_same lists place x inside = set_behind-place (set lists place x) place ∙ get_or-set_same lists place x no_numbers inside
+pub set_in_slot-set_same : (lists : List ListValue) (place : ℕ) (x : ListValue) → place < length lists → set_in_slot (set lists place x) (place + 1) ≡ x
+set_in_slot-set_same lists place x inside = set_in_slot-place (set lists place x) place ∙ get_or-set_same lists place x no_numbers inside
 
-pub set_behind-set_other : (lists : List NumberSet) (place slot : ℕ) (x : NumberSet) → slot ≢ place + 1 → set_behind (set lists place x) slot ≡ set_behind lists slot
-set_behind-set_other lists place zero x other = refl
-set_behind-set_other lists place (suc k) x other = get_or-set_other lists place k x no_numbers (λ e. other (omega arith))
+pub set_in_slot-set_other : (lists : List ListValue) (place slot : ℕ) (x : ListValue) → slot ≢ place + 1 → set_in_slot (set lists place x) slot ≡ set_in_slot lists slot
+set_in_slot-set_other lists place zero x other = refl
+set_in_slot-set_other lists place (suc k) x other = get_or-set_other lists place k x no_numbers (λ e. other (omega arith))
 
-pub IsSound-set : (pages : List (Vec ℕ Global)) (lists : List NumberSet) (place : ℕ) (x : NumberSet) → IsSound pages lists → IsSound pages (set lists place x)
+pub IsSound-set : (pages : List (Vec ℕ Global)) (lists : List ListValue) (place : ℕ) (x : ListValue) → IsSound pages lists → IsSound pages (set lists place x)
 IsSound-set pages lists place x h = record {
   within = λ t. rw (length-set lists place x) (h.within t);
   apart = h.apart;
   counted = length-set lists place x ∙ h.counted;
 }
 
--- The trigram's list stands at this place.
-pub record Stands (pages : List (Vec ℕ Global)) (lists : List NumberSet) (trigram place : ℕ) : Type 0 where
+-- The trigram's list is at this place.
+pub record Stands (pages : List (Vec ℕ Global)) (lists : List ListValue) (trigram place : ℕ) : Type 0 where
   pub sound : IsSound pages lists
   pub below : trigram < trigram_count
   pub slot : slot_of pages trigram ≡ place + 1
 
-pub stands_inside : (pages : List (Vec ℕ Global)) (lists : List NumberSet) (trigram place : ℕ) → Stands pages lists trigram place → place < length lists
+pub stands_inside : (pages : List (Vec ℕ Global)) (lists : List ListValue) (trigram place : ℕ) → Stands pages lists trigram place → place < length lists
 stands_inside pages lists trigram place h = omega (arith, h.sound.within trigram, h.slot)
 
--- its set is the one that stands there
-pub set_of-there : (pages : List (Vec ℕ Global)) (lists : List NumberSet) (trigram place : ℕ) (x : NumberSet) → Stands pages lists trigram place → x ≡ get_or lists place x → set_of (table_of pages lists) trigram ≡ x
+-- its set is the one that is there
+pub set_of-there : (pages : List (Vec ℕ Global)) (lists : List ListValue) (trigram place : ℕ) (x : ListValue) → Stands pages lists trigram place → x ≡ get_or lists place x → set_of (table_of pages lists) trigram ≡ x
 set_of-there pages lists trigram place x h is =
-    set_of-table pages lists trigram h.below ∙ rw h.slot (set_behind-place lists place ∙ sym (get_or_read lists place x (stands_inside pages lists trigram place h) is no_numbers))
+    set_of-table pages lists trigram h.below ∙ rw h.slot (set_in_slot-place lists place ∙ sym (get_or_read lists place x (stands_inside pages lists trigram place h) is no_numbers))
 
 -- a list is written, and the other trigrams keep their sets
-pub set_of-written : (pages : List (Vec ℕ Global)) (lists : List NumberSet) (trigram place : ℕ) (x : NumberSet) → Stands pages lists trigram place → set_of (table_of pages (set lists place x)) trigram ≡ x
+pub set_of-written : (pages : List (Vec ℕ Global)) (lists : List ListValue) (trigram place : ℕ) (x : ListValue) → Stands pages lists trigram place → set_of (table_of pages (set lists place x)) trigram ≡ x
 set_of-written pages lists trigram place x h =
-    set_of-table pages (set lists place x) trigram h.below ∙ rw h.slot (set_behind-set_same lists place x (stands_inside pages lists trigram place h))
+    set_of-table pages (set lists place x) trigram h.below ∙ rw h.slot (set_in_slot-set_same lists place x (stands_inside pages lists trigram place h))
 
-pub set_of-kept : (pages : List (Vec ℕ Global)) (lists : List NumberSet) (trigram place : ℕ) (x : NumberSet) → Stands pages lists trigram place → (t : ℕ) → t ≢ trigram → set_of (table_of pages (set lists place x)) t ≡ set_of (table_of pages lists) t
+pub set_of-kept : (pages : List (Vec ℕ Global)) (lists : List ListValue) (trigram place : ℕ) (x : ListValue) → Stands pages lists trigram place → (t : ℕ) → t ≢ trigram → set_of (table_of pages (set lists place x)) t ≡ set_of (table_of pages lists) t
 set_of-kept pages lists trigram place x h t other = cases (cases_lt t trigram_count)
   where
     differs : slot_of pages t ≢ place + 1
     differs e = other (h.sound.apart t trigram (omega arith) (e ∙ sym h.slot))
 
     cases : (t < trigram_count) ⊎ (trigram_count ≤ t) → set_of (table_of pages (set lists place x)) t ≡ set_of (table_of pages lists) t
-    cases (inl below) = set_of-table pages (set lists place x) t below ∙ set_behind-set_other lists place (slot_of pages t) x differs ∙ sym (set_of-table pages lists t below)
+    cases (inl below) = set_of-table pages (set lists place x) t below ∙ set_in_slot-set_other lists place (slot_of pages t) x differs ∙ sym (set_of-table pages lists t below)
     cases (inr past) = set_of-past pages (set lists place x) t past ∙ sym (set_of-past pages lists t past)
 
 -- what holds of each set and itself, and of the one that was there and the one that is written, holds of all
-pub written_relate : (R : NumberSet → NumberSet → Type 0) → ((s : NumberSet) → R s s) → (pages : List (Vec ℕ Global)) (lists : List NumberSet) (trigram place : ℕ) (x y : NumberSet) → Stands pages lists trigram place → x ≡ get_or lists place x → R x y → (t : ℕ) → R (set_of (table_of pages lists) t) (set_of (table_of pages (set lists place y)) t)
+pub written_relate : (R : ListValue → ListValue → Type 0) → ((s : ListValue) → R s s) → (pages : List (Vec ℕ Global)) (lists : List ListValue) (trigram place : ℕ) (x y : ListValue) → Stands pages lists trigram place → x ≡ get_or lists place x → R x y → (t : ℕ) → R (set_of (table_of pages lists) t) (set_of (table_of pages (set lists place y)) t)
 written_relate R itself pages lists trigram place x y h is related t = cases (cases_eq t trigram)
   where
     cases : (t ≡ trigram) ⊎ (t ≢ trigram) → R (set_of (table_of pages lists) t) (set_of (table_of pages (set lists place y)) t)
@@ -93,10 +93,10 @@ written_relate R itself pages lists trigram place x y h is related t = cases (ca
     cases (inr ne) = subst (λ s. R (set_of (table_of pages lists) t) s) (sym (set_of-kept pages lists trigram place y h t ne)) (itself (set_of (table_of pages lists) t))
 
 -- a trigram without a list has an empty set with no room
-pub set_of-unlisted : (pages : List (Vec ℕ Global)) (lists : List NumberSet) (trigram : ℕ) → trigram < trigram_count → slot_of pages trigram ≡ 0 → set_of (table_of pages lists) trigram ≡ no_numbers
+pub set_of-unlisted : (pages : List (Vec ℕ Global)) (lists : List ListValue) (trigram : ℕ) → trigram < trigram_count → slot_of pages trigram ≡ 0 → set_of (table_of pages lists) trigram ≡ no_numbers
 set_of-unlisted pages lists trigram below none = set_of-table pages lists trigram below ∙ rw none refl
 
-pub listed_from_room : (pages : List (Vec ℕ Global)) (lists : List NumberSet) (trigram : ℕ) → trigram < trigram_count → HasRoom (set_of (table_of pages lists) trigram) → 0 < slot_of pages trigram
+pub listed_from_room : (pages : List (Vec ℕ Global)) (lists : List ListValue) (trigram : ℕ) → trigram < trigram_count → HasRoom (set_of (table_of pages lists) trigram) → 0 < slot_of pages trigram
 listed_from_room pages lists trigram below room = cases (slot_of pages trigram) refl
   where
     cases : (slot : ℕ) → slot_of pages trigram ≡ slot → 0 < slot_of pages trigram
@@ -104,7 +104,7 @@ listed_from_room pages lists trigram below room = cases (slot_of pages trigram) 
     cases (suc k) e = omega arith
 
 -- the place of a trigram whose set has room
-pub stands_from_room : (pages : List (Vec ℕ Global)) (lists table : List NumberSet) (trigram slot : ℕ) → table_of pages lists ≡ table → IsSound pages lists → trigram < trigram_count → slot ≡ slot_of pages trigram → HasRoom (set_of table trigram) → Stands pages lists trigram (slot - 1)
+pub stands_from_room : (pages : List (Vec ℕ Global)) (lists table : List ListValue) (trigram slot : ℕ) → table_of pages lists ≡ table → IsSound pages lists → trigram < trigram_count → slot ≡ slot_of pages trigram → HasRoom (set_of table trigram) → Stands pages lists trigram (slot - 1)
 stands_from_room pages lists table trigram slot view sound below is room =
     let some : 0 < slot_of pages trigram = listed_from_room pages lists trigram below (rw view room) in
     record { sound = sound; below = below; slot = omega arith }
@@ -178,7 +178,7 @@ unfolding trigram_count
 trigram_count-lt = omega arith
 
 -- pages with the same slots
-pub IsSound-same : (pages pages' : List (Vec ℕ Global)) (lists : List NumberSet) → ((t : ℕ) → slot_of pages' t ≡ slot_of pages t) → IsSound pages lists → IsSound pages' lists
+pub IsSound-same : (pages pages' : List (Vec ℕ Global)) (lists : List ListValue) → ((t : ℕ) → slot_of pages' t ≡ slot_of pages t) → IsSound pages lists → IsSound pages' lists
 unfolding listed_trigrams
 IsSound-same pages pages' lists same h = record {
   within = λ t. rw (same t) (h.within t);
@@ -198,7 +198,7 @@ slot-new {pages} {pages'} {trigram} {place} h = h.slots trigram ∙ rw (eq-eqb t
 slot-old : {pages pages' : List (Vec ℕ Global)} {trigram place : ℕ} → Listed pages pages' trigram place → (t : ℕ) → t ≢ trigram → slot_of pages' t ≡ slot_of pages t
 slot-old {pages} {pages'} {trigram} {place} h t ne = let e : (t == trigram) ≡ false = grind (arith, nat_tests) in h.slots t ∙ rw e refl
 
-module _ (pages pages' : List (Vec ℕ Global)) (lists : List NumberSet) (trigram : ℕ) (x : NumberSet) (sound : IsSound pages lists) (listed : Listed pages pages' trigram (length lists)) where
+module _ (pages pages' : List (Vec ℕ Global)) (lists : List ListValue) (trigram : ℕ) (x : ListValue) (sound : IsSound pages lists) (listed : Listed pages pages' trigram (length lists)) where
   counted_more : length (listed_trigrams pages') ≡ length (listed_trigrams pages) + 1
   unfolding listed_trigrams
   counted_more =
@@ -222,26 +222,26 @@ module _ (pages pages' : List (Vec ℕ Global)) (lists : List NumberSet) (trigra
       apart s t some e (inr ne) (inl is) = absurd (omega (arith, rw is at e, slot-new listed, slot-old listed s ne, sound.within s))
       apart s t some e (inr ne) (inr ne') = sound.apart s t (rw (slot-old listed s ne) at some) (sym (slot-old listed s ne) ∙ e ∙ slot-old listed t ne')
 
-  behind-kept : (t : ℕ) → t ≢ trigram → set_behind (lists ++ x ∷ []) (slot_of pages' t) ≡ set_behind lists (slot_of pages t)
-  behind-kept t ne = rw (slot-old listed t ne) (kept (slot_of pages t) (sound.within t))
+  after-kept : (t : ℕ) → t ≢ trigram → set_in_slot (lists ++ x ∷ []) (slot_of pages' t) ≡ set_in_slot lists (slot_of pages t)
+  after-kept t ne = rw (slot-old listed t ne) (kept (slot_of pages t) (sound.within t))
     where
-      kept : (slot : ℕ) → slot ≤ length lists → set_behind (lists ++ x ∷ []) slot ≡ set_behind lists slot
+      kept : (slot : ℕ) → slot ≤ length lists → set_in_slot (lists ++ x ∷ []) slot ≡ set_in_slot lists slot
       kept zero within = refl
       kept (suc k) within = get_or_append_left lists (x ∷ []) no_numbers k (omega arith)
 
-  behind-new : set_behind (lists ++ x ∷ []) (slot_of pages' trigram) ≡ x
-  behind-new = rw (slot-new listed) (set_behind-place (lists ++ x ∷ []) (length lists) ∙ get_or_push lists x no_numbers (length lists) refl)
+  after-new : set_in_slot (lists ++ x ∷ []) (slot_of pages' trigram) ≡ x
+  after-new = rw (slot-new listed) (set_in_slot-place (lists ++ x ∷ []) (length lists) ∙ get_or_push lists x no_numbers (length lists) refl)
 
-  pub members-listed : x.members ≡ [] → (t : ℕ) → (set_behind (lists ++ x ∷ []) (slot_of pages' t)).members ≡ (set_behind lists (slot_of pages t)).members
+  pub members-listed : x.members ≡ [] → (t : ℕ) → (set_in_slot (lists ++ x ∷ []) (slot_of pages' t)).members ≡ (set_in_slot lists (slot_of pages t)).members
   members-listed empty t = cases (cases_eq t trigram)
     where
-      cases : (t ≡ trigram) ⊎ (t ≢ trigram) → (set_behind (lists ++ x ∷ []) (slot_of pages' t)).members ≡ (set_behind lists (slot_of pages t)).members
-      cases (inl e) = rw e (rw listed.had_none (ap (λ s. s.members) behind-new ∙ empty))
-      cases (inr ne) = ap (λ s. s.members) (behind-kept t ne)
+      cases : (t ≡ trigram) ⊎ (t ≢ trigram) → (set_in_slot (lists ++ x ∷ []) (slot_of pages' t)).members ≡ (set_in_slot lists (slot_of pages t)).members
+      cases (inl e) = rw e (rw listed.had_none (ap (λ s. s.members) after-new ∙ empty))
+      cases (inr ne) = ap (λ s. s.members) (after-kept t ne)
 
-  pub room-listed : (t : ℕ) → HasRoom (set_behind lists (slot_of pages t)) → HasRoom (set_behind (lists ++ x ∷ []) (slot_of pages' t))
+  pub room-listed : (t : ℕ) → HasRoom (set_in_slot lists (slot_of pages t)) → HasRoom (set_in_slot (lists ++ x ∷ []) (slot_of pages' t))
   room-listed t had = cases (cases_eq t trigram)
     where
-      cases : (t ≡ trigram) ⊎ (t ≢ trigram) → HasRoom (set_behind (lists ++ x ∷ []) (slot_of pages' t))
+      cases : (t ≡ trigram) ⊎ (t ≢ trigram) → HasRoom (set_in_slot (lists ++ x ∷ []) (slot_of pages' t))
       cases (inl e) = absurd (omega (arith, rw listed.had_none at (rw e at had)))
-      cases (inr ne) = rw (behind-kept t ne) had
+      cases (inr ne) = rw (after-kept t ne) had

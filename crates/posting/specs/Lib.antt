@@ -1,4 +1,4 @@
-pub mod NumberSet
+pub mod ListValue
+pub mod ListParts
 pub mod Postings
 pub mod Pages
-pub mod Laws

@@ -1,12 +1,12 @@
-//! Where the list of each trigram stands.
+//! Where the list of each trigram is.
 
 ghost use Rattle.std.specs.Prelude.{◌≡◌, ℕ, ◌+◌, ◌<◌, ◌≤◌, ◌/◌, if◌then◌else◌, ◌==◌, length, IfOk, OnOk, IsOk};
-ghost use Rattle.posting.specs.NumberSet.{HasRoom};
-ghost use Rattle.posting.specs.Pages.{IsSound, page_at, page_size, set_behind, slot_of, trigram_count};
+ghost use Rattle.posting.specs.ListValue.{HasRoom};
+ghost use Rattle.posting.specs.Pages.{IsSound, page_at, page_size, set_in_slot, slot_of, trigram_count};
 
 use crate::list::List;
+use query::Trigram;
 use std::alloc::AllocError;
-use trigram::Trigram;
 
 // How many trigrams have their slots on a page.
 const PAGE: usize = 1024;
@@ -63,10 +63,10 @@ pub(crate) fn make_list(
 ) -> Result<usize, AllocError>
     requires { IsSound pages.old.items lists.old.items }
     ensures sound { IsSound pages.new.items lists.new.items }
-    ensures members { (t : ℕ) → (set_behind lists.new.items (slot_of pages.new.items t)).members
-        ≡ (set_behind lists.old.items (slot_of pages.old.items t)).members }
-    ensures room { (t : ℕ) → HasRoom (set_behind lists.old.items (slot_of pages.old.items t))
-        → HasRoom (set_behind lists.new.items (slot_of pages.new.items t)) }
+    ensures members { (t : ℕ) → (set_in_slot lists.new.items (slot_of pages.new.items t)).members
+        ≡ (set_in_slot lists.old.items (slot_of pages.old.items t)).members }
+    ensures room { (t : ℕ) → HasRoom (set_in_slot lists.old.items (slot_of pages.old.items t))
+        → HasRoom (set_in_slot lists.new.items (slot_of pages.new.items t)) }
     ensures place { IfOk result (λ place. slot_of pages.new.items trigram ≡ place + 1) }
     ensures bound { trigram < trigram_count }
 {

@@ -2,15 +2,15 @@
 
 ghost use Rattle.std.specs.Prelude.{◌≡◌, ◌≢◌, ℕ, ◌<◌, false, ◌∷◌, [], ◌++◌, All, map, IfOk, IfSome, IfNone, OnOk};
 ghost use Rattle.std.specs.List.Sorted.{IsStrictlyIncreasing};
-ghost use Rattle.trigram.specs.Query.{formula_of, formulas_of, all_of, one_of};
-ghost use Rattle.posting.specs.NumberSet.{without, HasRoom};
+ghost use Rattle.query.specs.Query.{formula_of, formulas_of, all_of, one_of};
+ghost use Rattle.posting.specs.ListValue.{without, HasRoom};
 ghost use Rattle.posting.specs.Postings.{set_of, holds, IsPrepared, IsAbove, AllDiffer, SameSets, KeepsRoom, AddsNumber, WithdrawsNumber, selected};
 
 use crate::list::List;
 use crate::pages;
+use query::{Query, Trigram};
 use std::alloc::{AllocError, Global};
 use std::marker::Model;
-use trigram::{Query, Trigram};
 
 /// A set of numbers for each trigram.
 ///
@@ -24,10 +24,10 @@ pub struct Postings {
 
 impl Model for Postings {
     ghost use Rattle.std.specs.Prelude.{List};
-    ghost use Rattle.posting.specs.NumberSet.{NumberSet};
+    ghost use Rattle.posting.specs.ListValue.{ListValue};
     ghost use Rattle.posting.specs.Pages.{IsSound, table_of};
 
-    ghost Value = { List NumberSet };
+    ghost Value = { List ListValue };
 
     ghost view = { λ p. table_of p.pages.items p.lists.items };
 

@@ -2,7 +2,7 @@ use Rattle.std.proofs.Common.{◌≡◌, List, map, subst}
 use Rattle.std.specs.Prelude.{filter}
 use Rattle.std.specs.BTreeMap.{values}
 use Rattle.std.proofs.lemmas.Result.{IfOk-weaker}
-use Rattle.posting.specs.NumberSet.{has}
+use Rattle.posting.specs.ListValue.{has}
 use Rattle.index.specs.Documents.{Document, documents_of, IsInNameOrder}
 use Rattle.index.specs.IndexParts.{IsIndex}
 use Rattle.index.proofs.OrderLemmas.{chosen_in_order, among_by_name}

@@ -2,7 +2,7 @@ use Rattle.std.proofs.Common.{sym, ◌∙◌, ap, cond, Some}
 use Rattle.std.specs.Prelude.{bytes_eq}
 use Rattle.index.specs.Documents.{documents_of, number_of}
 use Rattle.index.specs.IndexParts.{kept_if}
-use Rattle.posting.specs.NumberSet.{has}
+use Rattle.posting.specs.ListValue.{has}
 use Rattle.index.proofs.OrderLemmas.{few-none, few-skip, few-more, inserted, passed-more, passed-all}
 use Rattle.index.proofs.journal.Index.few.Goals as goal
 

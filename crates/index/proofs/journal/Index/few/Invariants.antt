@@ -2,7 +2,7 @@ use Rattle.std.proofs.Common.{◌≡◌, ◌++◌, List, ℕ}
 use Rattle.std.specs.Ordering.{nat_cmp}
 use Rattle.std.specs.Cmp.Lexicographic.{slice_cmp}
 use Rattle.std.specs.BTreeMap.{get}
-use Rattle.posting.specs.NumberSet.{has}
+use Rattle.posting.specs.ListValue.{has}
 use Rattle.index.specs.Documents.{documents_of, number_of}
 use Rattle.index.specs.IndexParts.{kept_if}
 use Rattle.index.proofs.journal.Index.few.Given as goal

@@ -1,5 +1,5 @@
 use Rattle.std.proofs.Common.{◌≡◌, ◌≤◌, sym, ◌∙◌, arith, refl, subst, OnOk}
-use Rattle.posting.specs.NumberSet.{NumberSet, HasRoom}
+use Rattle.posting.specs.ListValue.{ListValue, HasRoom}
 use Rattle.posting.proofs.Tables.{Stands, set_of-written, tables_relate, written_relate}
 use Rattle.posting.proofs.postings.Postings.make_room.Goals as goal
 
@@ -33,4 +33,4 @@ returns-clause-room c =
 pub returns-clause-ok : goal.returns-clause-ok
 returns-clause-ok c =
     let there : Stands c.make_list.new.pages.items c.make_list.new.lists.items c.args.trigram c.in_ok-place.place = record { sound = c.in_ok-place.ensures.sound; below = c.in_ok-place.ensures.bound; slot = c.in_ok-place.ensures.place } in
-    subst (λ (s : NumberSet). OnOk c.room_for.result (HasRoom s)) (sym (set_of-written c.make_list.new.pages.items c.make_list.new.lists.items c.args.trigram c.in_ok-place.place c.room_for.new.self there)) c.room_for.ensures.ok
+    subst (λ (s : ListValue). OnOk c.room_for.result (HasRoom s)) (sym (set_of-written c.make_list.new.pages.items c.make_list.new.lists.items c.args.trigram c.in_ok-place.place c.room_for.new.self there)) c.room_for.ensures.ok
