@@ -34,6 +34,7 @@ fn names_are_refused(rt: HostRuntime) -> Result<(), Fail> {
 fn names_of_each_length_and_byte(rt: HostRuntime) -> Result<(), Fail> {
     let alloc = rt.alloc();
     let bytes = built(alloc, &[(b"a\xff", 128)])?;
+    assert_eq!(rt; bytes.len(), 256);
     for length in 1..=255usize {
         let name = Name::new(alloc, &bytes[..length])?;
         assert_eq!(rt; name.as_bytes(), &bytes[..length], "of {length} bytes");

@@ -18,11 +18,12 @@ fn put_all(set: &mut List, numbers: &[u32]) -> Result<(), AllocError> {
     Ok(())
 }
 
-/// The set of the first numbers, of which some go before others come.
-fn set_of(alloc: Global, first: &[u32], gone: &[u32], later: &[u32]) -> Result<List, AllocError> {
+/// The set of the first of these numbers, from which the second go before the third come.
+fn set_of(alloc: Global, steps: &[&[u32]; 3]) -> Result<List, AllocError> {
+    let [first, gone, later] = steps;
     let mut set = List::new(alloc);
     put_all(&mut set, first)?;
-    for number in gone {
+    for number in *gone {
         set.remove(*number);
     }
     put_all(&mut set, later)?;
@@ -39,26 +40,27 @@ fn lists(alloc: Global, set: &List, numbers: &[u32]) -> Result<bool, AllocError>
     )
 }
 
+const FAR: [u32; 6] = [1, 5, 300, 70000, 70001, 4294967295];
+
+const MANY: [u32; 9] = [0, 2, 3, 4, 5, 6, 7, 8, 10];
+
 #[test]
 fn sets_keep_their_numbers_rising(rt: HostRuntime) -> Result<(), Fail> {
     let alloc = rt.alloc();
-    let first = [1, 5, 300, 70000, 70001, 4294967295];
-    let rows: [(&[u32], &[u32], &[u32], &[u32]); 8] = [
-        (&[], &[], &[], &[]),
-        (&first, &[], &[], &first),
-        (&first, &[300, 301], &[], &[1, 5, 70000, 70001, 4294967295]),
-        (&first, &first, &[0], &[0]),
-        (&[5, 300, 70000], &[300], &[], &[5, 70000]),
-        (&[0, 1, 128], &[0, 0], &[127, 129], &[1, 128, 129]),
-        (&[0, 1, 2, 3, 4, 5], &[0, 1, 2], &[], &[3, 4, 5]),
-        (&[0, 1, 2, 3, 4, 5], &[5, 4, 3], &[6], &[0, 1, 2, 6]),
+    let rows: [([&[u32]; 3], &[u32]); 8] = [
+        ([&[], &[], &[]], &[]),
+        ([&FAR, &[], &[]], &FAR),
+        ([&FAR, &[300, 301], &[]], &[1, 5, 70000, 70001, 4294967295]),
+        ([&FAR, &FAR, &[0]], &[0]),
+        ([&[5, 300, 70000], &[300], &[]], &[5, 70000]),
+        ([&[0, 1, 128], &[0, 0], &[127, 129]], &[1, 128, 129]),
+        ([&[0, 1, 2, 3, 4, 5], &[0, 1, 2], &[]], &[3, 4, 5]),
+        ([&[0, 1, 2, 3, 4, 5], &[5, 4, 3], &[6]], &[0, 1, 2, 6]),
     ];
-    for (first, gone, later, want) in rows {
-        let set = set_of(alloc, first, gone, later)?;
+    for (steps, want) in rows {
+        let set = set_of(alloc, &steps)?;
         assert!(rt; lists(alloc, &set, want)?, "of {want:?}");
-        for number in want {
-            assert!(rt; set.has(*number), "{number} of {want:?}");
-        }
+        assert!(rt; want.iter().all(|number| set.has(*number)), "of {want:?}");
         assert!(rt; !set.has(301), "of {want:?}");
     }
     Ok(())
@@ -68,40 +70,43 @@ fn sets_keep_their_numbers_rising(rt: HostRuntime) -> Result<(), Fail> {
 #[test]
 fn sets_join_and_meet(rt: HostRuntime) -> Result<(), Fail> {
     let alloc = rt.alloc();
-    let many = [0, 2, 3, 4, 5, 6, 7, 8, 10];
-    let joined = [0, 2, 3, 4, 5, 6, 7, 8, 9, 10];
-    let rows: [(&[u32], &[u32], &[u32], &[u32]); 5] = [
-        (&[2, 9], &many, &joined, &[2]),
-        (&many, &[2, 9], &joined, &[2]),
-        (&[], &many, &many, &[]),
-        (&many, &many, &many, &many),
-        (&[1], &[4294967295], &[1, 4294967295], &[]),
+    let rows: [([&[u32]; 3], [&[u32]; 3], &[u32], &[u32]); 6] = [
+        (
+            [&[2, 9], &[], &[]],
+            [&MANY, &[], &[]],
+            &[0, 2, 3, 4, 5, 6, 7, 8, 9, 10],
+            &[2],
+        ),
+        (
+            [&MANY, &[], &[]],
+            [&[2, 9], &[], &[]],
+            &[0, 2, 3, 4, 5, 6, 7, 8, 9, 10],
+            &[2],
+        ),
+        ([&[], &[], &[]], [&MANY, &[], &[]], &MANY, &[]),
+        ([&MANY, &[], &[]], [&MANY, &[], &[]], &MANY, &MANY),
+        (
+            [&[1], &[], &[]],
+            [&[4294967295], &[], &[]],
+            &[1, 4294967295],
+            &[],
+        ),
+        (
+            [&[0, 2, 4, 6, 8, 10, 12, 14, 16], &[0, 4, 6, 16], &[15, 18]],
+            [&[0, 3, 6, 9, 12, 15], &[0, 6], &[18]],
+            &[2, 3, 8, 9, 10, 12, 14, 15, 18],
+            &[12, 15, 18],
+        ),
     ];
     for (left, right, joined, met) in rows {
-        let left = set_of(alloc, left, &[], &[])?;
-        let right = set_of(alloc, right, &[], &[])?;
+        let left = set_of(alloc, &left)?;
+        let right = set_of(alloc, &right)?;
         assert!(rt;
             lists(alloc, &left.union(&right)?, joined)?,
             "of {joined:?}"
         );
         assert!(rt; lists(alloc, &left.intersect(&right)?, met)?, "of {met:?}");
     }
-    Ok(())
-}
-
-#[test]
-fn sets_that_lost_numbers_join_and_meet(rt: HostRuntime) -> Result<(), Fail> {
-    let alloc = rt.alloc();
-    let twos = set_of(
-        alloc,
-        &[0, 2, 4, 6, 8, 10, 12, 14, 16],
-        &[0, 4, 6, 16],
-        &[15, 18],
-    )?;
-    let threes = set_of(alloc, &[0, 3, 6, 9, 12, 15], &[0, 6], &[18])?;
-    let joined = twos.union(&threes)?;
-    assert!(rt; lists(alloc, &joined, &[2, 3, 8, 9, 10, 12, 14, 15, 18])?);
-    assert!(rt; lists(alloc, &twos.intersect(&threes)?, &[12, 15, 18])?);
     Ok(())
 }
 
@@ -112,7 +117,7 @@ fn go_in_order(alloc: Global, factor: u32, first: u32) -> Result<bool, AllocErro
     for number in 0..300 {
         left.push(number)?;
     }
-    let mut set = set_of(alloc, &left, &[], &[])?;
+    let mut set = set_of(alloc, &[&left, &[], &[]])?;
     for i in 0..300u32 {
         let number = factor.wrapping_mul(i).wrapping_add(first) % 300;
         set.remove(number);
@@ -164,29 +169,40 @@ fn selects(
     live: &[u32],
     numbers: &[u32],
 ) -> Result<bool, AllocError> {
-    let live = set_of(alloc, live, &[], &[])?;
+    let live = set_of(alloc, &[live, &[], &[]])?;
     let chosen = postings.select(alloc, query, &live)?;
     lists(alloc, &chosen, numbers)
+}
+
+/// The query that has this number in the table of selections.
+fn query_of(alloc: Global, which: u8) -> Result<Query, AllocError> {
+    Ok(match which {
+        0 => Query::Any,
+        1 => Query::None,
+        2 => Query::Has(bcd()),
+        3 => Query::And(Vec::new(alloc)),
+        4 => Query::Or(Vec::new(alloc)),
+        5 => Query::And(vec![in alloc; Query::Has(abc()), Query::Has(bcd())]?),
+        _ => Query::Or(vec![in alloc; Query::Has(abc()), Query::Has(bcd())]?),
+    })
 }
 
 #[test]
 fn queries_select_documents(rt: HostRuntime) -> Result<(), Fail> {
     let alloc = rt.alloc();
-    let either = vec![in alloc; Query::Has(abc()), Query::Has(bcd())]?;
-    let both = vec![in alloc; Query::Has(abc()), Query::Has(bcd())]?;
-    let queries = [
-        (Query::Has(bcd()), [1].as_slice()),
-        (Query::Any, [1, 2].as_slice()),
-        (Query::None, [].as_slice()),
-        (Query::And(Vec::new(alloc)), [1, 2].as_slice()),
-        (Query::Or(Vec::new(alloc)), [].as_slice()),
-        (Query::Or(either), [1, 2].as_slice()),
-        (Query::And(both), [1].as_slice()),
-    ];
     let postings = two_documents(alloc)?;
-    for (query, numbers) in &queries {
+    for (which, numbers) in [
+        (0, [1, 2].as_slice()),
+        (1, [].as_slice()),
+        (2, [1].as_slice()),
+        (3, [1, 2].as_slice()),
+        (4, [].as_slice()),
+        (5, [1].as_slice()),
+        (6, [1, 2].as_slice()),
+    ] {
+        let query = query_of(alloc, which)?;
         assert!(rt;
-            selects(alloc, &postings, query, &[1, 2], numbers)?,
+            selects(alloc, &postings, &query, &[1, 2], numbers)?,
             "of {query:?}"
         );
     }

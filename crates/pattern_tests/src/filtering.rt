@@ -1,6 +1,6 @@
 //! Trigrams of bodies, plain queries, and what the analysis of a pattern asks of a document.
 
-use crate::fixtures::built;
+use crate::fixtures::halves;
 use ere::parse;
 use std::alloc::Global;
 use std::process::Abort;
@@ -113,50 +113,35 @@ fn no_demand(rt: HostRuntime) -> Result<(), Fail> {
     Ok(())
 }
 
-/// A set of trigrams meets a pattern's query, or does not. The sets are parted by bars.
+/// The rows are `PATTERN~SETS~SETS`: the sets of trigrams that meet the pattern's query, and those that do not,
+/// parted by bars.
+const DEMANDS: &[u8] =
+    b"Google.*Search~Goo oog ogl gle Sea ear arc rch~oog ogl gle Sea ear arc rch|Goo ogl gle Sea ear arc rch|Goo oog gle Sea ear arc rch|Goo oog ogl Sea ear arc rch|Goo oog ogl gle ear arc rch|Goo oog ogl gle Sea arc rch|Goo oog ogl gle Sea ear rch|Goo oog ogl gle Sea ear arc
+ab+cd+~bcd~abc cdd|
+abc|xyz~abc|xyz|abc xyz~|bca
+abc?d~abc bcd|abd|abc abd~abc|bcd|
+(abc)+~abc~bca cab|
+a{3,}~aaa~aab|
+(ab|cd)ef~abe bef|cde def~abe def|cde bef|abe cde|bef def|
+(.ab)(cd.)~abc bcd~abc|bcd|
+abc.+def|xyz~abc def|xyz~abc|def|
+x[0-9][0-9]y~x00|x42|x99~00y 42y x0a xa0|
+one|two|ten|six~one|two|ten|six~net|
+abc{2}d{1,2}e~abc bcc ccd cde|abc bcc ccd cdd dde~abc bcc ccd|
+[a-p]bc~abc|pbc~qbc|";
+
 #[test]
 fn demands(rt: HostRuntime) -> Result<(), Fail> {
     let alloc = rt.alloc();
-    let rows: [(&[u8], &[u8], bool); 26] = [
-        (b"Google.*Search", b"Goo oog ogl gle Sea ear arc rch", true),
-        (
-            b"Google.*Search",
-            b"oog ogl gle Sea ear arc rch|Goo ogl gle Sea ear arc rch|Goo oog gle Sea ear arc rch|Goo oog ogl Sea ear arc rch|Goo oog ogl gle ear arc rch|Goo oog ogl gle Sea arc rch|Goo oog ogl gle Sea ear rch|Goo oog ogl gle Sea ear arc",
-            false,
-        ),
-        (b"ab+cd+", b"bcd", true),
-        (b"ab+cd+", b"abc cdd|", false),
-        (b"abc|xyz", b"abc|xyz|abc xyz", true),
-        (b"abc|xyz", b"|bca", false),
-        (b"abc?d", b"abc bcd|abd|abc abd", true),
-        (b"abc?d", b"abc|bcd|", false),
-        (b"(abc)+", b"abc", true),
-        (b"(abc)+", b"bca cab|", false),
-        (b"a{3,}", b"aaa", true),
-        (b"a{3,}", b"aab|", false),
-        (b"(ab|cd)ef", b"abe bef|cde def", true),
-        (b"(ab|cd)ef", b"abe def|cde bef|abe cde|bef def|", false),
-        (b"(.ab)(cd.)", b"abc bcd", true),
-        (b"(.ab)(cd.)", b"abc|bcd|", false),
-        (b"abc.+def|xyz", b"abc def|xyz", true),
-        (b"abc.+def|xyz", b"abc|def|", false),
-        (b"x[0-9][0-9]y", b"x00|x42|x99", true),
-        (b"x[0-9][0-9]y", b"00y 42y x0a xa0|", false),
-        (b"one|two|ten|six", b"one|two|ten|six", true),
-        (b"one|two|ten|six", b"net|", false),
-        (
-            b"abc{2}d{1,2}e",
-            b"abc bcc ccd cde|abc bcc ccd cdd dde",
-            true,
-        ),
-        (b"abc{2}d{1,2}e", b"abc bcc ccd|", false),
-        (b"[a-p]bc", b"abc|pbc", true),
-        (b"[a-p]bc", b"qbc|", false),
-    ];
-    for (pattern, sets, met) in rows {
+    for row in DEMANDS.split(|b| *b == b'\n') {
+        let (pattern, rest) = halves(row);
+        let (wanted, others) = halves(rest);
         let query = analysed(&rt, alloc, pattern)?;
-        for set in sets.split(|b| *b == b'|') {
-            assert_eq!(rt; meets(&query, set), met, "{pattern:?} at {set:?}");
+        for set in wanted.split(|b| *b == b'|') {
+            assert!(rt; meets(&query, set), "{pattern:?} at {set:?}");
+        }
+        for set in others.split(|b| *b == b'|') {
+            assert!(rt; !meets(&query, set), "{pattern:?} at {set:?}");
         }
     }
     Ok(())

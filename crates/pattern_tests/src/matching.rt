@@ -1,6 +1,6 @@
 //! Lines that contain a match, and lines that contain none.
 
-use crate::fixtures::built;
+use crate::fixtures::{built, halves};
 use ere::{MAX_LINE, parse};
 use matcher::matches;
 use std::alloc::Global;
@@ -22,113 +22,77 @@ fn expect(
     Ok(())
 }
 
+/// Each line of a table contains a match of its pattern, or none. The rows are `PATTERN~LINES~LINES`: those with
+/// a match, and those without, parted by bars.
+const SHORT_LINES: &[u8] = b"(a|b$){2}~ab|aab~ba|aba
+(^a)+b~ab~aab
+(^)*ab~xab~xa
+$^~~a
+a{3,}~baaab~aa
+^(a|){2,3}$~|aaa~aaaa
+~|a
+^(ab){2,3}c~ababc|abababc~abc|ababababc
+x[ab]*y~-xaxbaby-|xy~xabcy
+^(ab|ba)+c$~abbaabc~abbaac|c
+a{1}b{2}c{3}d{0,2}$~abbccc|xabbcccdd~abbcc|abbcccddd
+one|two|three|four~xonex|twot|three|four~on|tow|thre|fou
+\xff{2}~a\xff\xff~\xffa\xff";
+
 #[test]
 fn short_lines(rt: HostRuntime) -> Result<(), Fail> {
     let alloc = rt.alloc();
-    // The lines are parted by bars.
-    let rows: [(&[u8], &[u8], bool); 26] = [
-        (b"(a|b$){2}", b"ab|aab", true),
-        (b"(a|b$){2}", b"ba|aba", false),
-        (b"(^a)+b", b"ab", true),
-        (b"(^a)+b", b"aab", false),
-        (b"(^)*ab", b"xab", true),
-        (b"(^)*ab", b"xa", false),
-        (b"$^", b"", true),
-        (b"$^", b"a", false),
-        (b"a{3,}", b"baaab", true),
-        (b"a{3,}", b"aa", false),
-        (b"^(a|){2,3}$", b"|aaa", true),
-        (b"^(a|){2,3}$", b"aaaa", false),
-        // a set with no byte
-        (b"[^\x01-\xff]", b"a|", false),
-        // these as grep -E has them
-        (b"^(ab){2,3}c", b"ababc|abababc", true),
-        (b"^(ab){2,3}c", b"abc|ababababc", false),
-        (b"x[ab]*y", b"-xaxbaby-|xy", true),
-        (b"x[ab]*y", b"xabcy", false),
-        (b"^(ab|ba)+c$", b"abbaabc", true),
-        (b"^(ab|ba)+c$", b"abbaac|c", false),
-        (b"a{1}b{2}c{3}d{0,2}$", b"abbccc|xabbcccdd", true),
-        (b"a{1}b{2}c{3}d{0,2}$", b"abbcc|abbcccddd", false),
-        (b"one|two|three|four", b"xonex|twot|three|four", true),
-        (b"one|two|three|four", b"on|tow|thre|fou", false),
-        (b"\xff{2}", b"a\xff\xff", true),
-        (b"\xff{2}", b"\xffa\xff", false),
-        (b"", b"|a", true),
-    ];
-    for (pattern, lines, found) in rows {
-        for line in lines.split(|b| *b == b'|') {
-            expect(&rt, alloc, pattern, line, found)?;
+    for row in SHORT_LINES.split(|b| *b == b'\n') {
+        let mut pattern = b"".as_slice();
+        for (i, part) in row.split(|b| *b == b'~').enumerate() {
+            if i == 0 {
+                pattern = part;
+            } else {
+                for line in part.split(|b| *b == b'|') {
+                    expect(&rt, alloc, pattern, line, i == 1)?;
+                }
+            }
         }
     }
-    Ok(())
+    // a set with no byte
+    expect(&rt, alloc, b"[^\x01-\xff]", b"a", false)?;
+    expect(&rt, alloc, b"[^\x01-\xff]", b"", false)
 }
 
-/// Lines of pieces, each so many times.
+/// The rows are `+PATTERN~LINE` where the line contains a match, and `-PATTERN~LINE` where it contains none. Patterns
+/// and lines are of pieces. Each star doubles the work of the star inside it, unless a star of a star takes one
+/// round.
+const LONG_LINES: &[u8] = b"+^a*b$;1~a;63;b;1
++^a*b$;1~a;64;b;1
++^a*b$;1~a;4095;b;1
+-^a*b$;1~a;64
+-^a*b$;1~a;64;cb;1
++^(.{64}){63}.*x$;1~a;4032;x;1
++^(.{64}){63}.*x$;1~a;4095;x;1
+-^(.{64}){63}.*x$;1~a;4031;x;1
+-^(.{64}){63}.*x$;1~a;4096
++^.{64}b;1~a;64;b;1
+-^.{64}b;1~a;63;b;1
+-^.{64}b;1~a;65;b;1
++a{255};1~a;255
+-a{255};1~a;254
++^(a{64}){63}$;1~a;4032
+-^(a{64}){63}$;1~a;4031
+-^(aa)*a;1;*;40;b$;1~a;4000
++^a;1;*;62;b$;1~a;3;b;1
+-^a;1;*;62;b$;1~ac;1
++a|;39;b;1~xb;1
+-a|;39;b;1~xc;1
++^;1;a{2,3};40;$;1~a;120
+-^;1;a{2,3};40;$;1~a;79
+-^;1;a{2,3};40;$;1~a;121";
+
 #[test]
 fn long_lines(rt: HostRuntime) -> Result<(), Fail> {
     let alloc = rt.alloc();
-    let rows: [(&[u8], &[(&[u8], usize)], bool); 16] = [
-        (b"^a*b$", &[(b"a", 63), (b"b", 1)], true),
-        (b"^a*b$", &[(b"a", 64), (b"b", 1)], true),
-        (b"^a*b$", &[(b"a", 4095), (b"b", 1)], true),
-        (b"^a*b$", &[(b"a", 64)], false),
-        (b"^a*b$", &[(b"a", 64), (b"cb", 1)], false),
-        (b"^(.{64}){63}.*x$", &[(b"a", 4032), (b"x", 1)], true),
-        (b"^(.{64}){63}.*x$", &[(b"a", 4095), (b"x", 1)], true),
-        (b"^(.{64}){63}.*x$", &[(b"a", 4031), (b"x", 1)], false),
-        (b"^(.{64}){63}.*x$", &[(b"a", 4096)], false),
-        (b"^.{64}b", &[(b"a", 64), (b"b", 1)], true),
-        (b"^.{64}b", &[(b"a", 63), (b"b", 1)], false),
-        (b"^.{64}b", &[(b"a", 65), (b"b", 1)], false),
-        (b"a{255}", &[(b"a", 255)], true),
-        (b"a{255}", &[(b"a", 254)], false),
-        (b"^(a{64}){64}$", &[(b"a", 4096)], true),
-        (b"^(a{64}){64}$", &[(b"a", 4095)], false),
-    ];
-    for (pattern, pieces, found) in rows {
-        expect(&rt, alloc, pattern, &built(alloc, pieces)?, found)?;
-    }
-    Ok(())
-}
-
-/// Patterns and lines of pieces, each so many times. Each star doubles the work of the star inside it, unless
-/// a star of a star takes one round.
-#[test]
-fn long_patterns(rt: HostRuntime) -> Result<(), Fail> {
-    let alloc = rt.alloc();
-    let rows: [(&[(&[u8], usize)], &[(&[u8], usize)], bool); 8] = [
-        (
-            &[(b"^(aa)*a", 1), (b"*", 40), (b"b$", 1)],
-            &[(b"a", 4000)],
-            false,
-        ),
-        (
-            &[(b"^a", 1), (b"*", 62), (b"b$", 1)],
-            &[(b"a", 3), (b"b", 1)],
-            true,
-        ),
-        (&[(b"^a", 1), (b"*", 62), (b"b$", 1)], &[(b"ac", 1)], false),
-        (&[(b"a|", 39), (b"b", 1)], &[(b"xb", 1)], true),
-        (&[(b"a|", 39), (b"b", 1)], &[(b"xc", 1)], false),
-        (
-            &[(b"^", 1), (b"a{2,3}", 40), (b"$", 1)],
-            &[(b"a", 120)],
-            true,
-        ),
-        (
-            &[(b"^", 1), (b"a{2,3}", 40), (b"$", 1)],
-            &[(b"a", 79)],
-            false,
-        ),
-        (
-            &[(b"^", 1), (b"a{2,3}", 40), (b"$", 1)],
-            &[(b"a", 121)],
-            false,
-        ),
-    ];
-    for (pieces, line, found) in rows {
-        let pattern = built(alloc, pieces)?;
+    for row in LONG_LINES.split(|b| *b == b'\n') {
+        let found = row.starts_with(b"+");
+        let (pattern, line) = halves(&row[1.min(row.len())..]);
+        let pattern = built(alloc, pattern)?;
         expect(&rt, alloc, &pattern, &built(alloc, line)?, found)?;
     }
     Ok(())

@@ -1,7 +1,7 @@
 //! Patterns as they are read: their trees, and the fault that a pattern is refused for and where. No contract
 //! says the fault.
 
-use crate::fixtures::built;
+use crate::fixtures::{built, halves};
 use ere::{ByteSet, Ere, EreErrorKind, parse};
 use std::alloc::Global;
 use std::process::Abort;
@@ -68,153 +68,140 @@ fn reading(alloc: Global, pattern: &[u8]) -> Result<Vec<u8>, Fail> {
     Ok(out)
 }
 
-/// Each pattern has its reading.
-fn expect_readings(rt: &impl Abort, alloc: Global, rows: &[(&[u8], &[u8])]) -> Result<(), Fail> {
-    for (pattern, want) in rows {
+/// Each pattern of a table has its reading. The rows are `PATTERN~READING`.
+fn expect_readings(rt: &impl Abort, alloc: Global, table: &[u8]) -> Result<(), Fail> {
+    for row in table.split(|b| *b == b'\n') {
+        let (pattern, want) = halves(row);
         let found = reading(alloc, pattern)?;
-        assert_eq!(rt; found.as_slice(), *want, "of {pattern:?}");
+        assert_eq!(rt; found.as_slice(), want, "of {pattern:?}");
     }
     Ok(())
 }
 
-#[test]
-fn faults_of_tokens(rt: HostRuntime) -> Result<(), Fail> {
-    let rows: [(&[u8], &[u8]); 36] = [
-        (b"a\0", b"bad byte at 1"),
-        (b"a\nb", b"bad byte at 1"),
-        (b"\0", b"bad byte at 0"),
-        (b"(*[z-a]\n", b"bad byte at 7"),
-        (b"\\<", b"bad escape at 0"),
-        (b"\\", b"bad escape at 0"),
-        (b"ab\\w", b"bad escape at 2"),
-        (b"a\\'", b"bad escape at 1"),
-        (b"a\\`b", b"bad escape at 1"),
-        (b"\\>", b"bad escape at 0"),
-        (b"([a", b"bracket not closed at 1"),
-        (b"[[.a]", b"bracket not closed at 0"),
-        (b"a[]", b"bracket not closed at 1"),
-        (b"[^]", b"bracket not closed at 0"),
-        (b"[a-m-", b"bracket not closed at 0"),
-        (b"[[:digit:]-", b"bracket not closed at 0"),
-        (b"[[=a=]-z]", b"bad range at 6"),
-        (b"[a-[:digit:]]", b"bad range at 2"),
-        (b"[a-[=b=]]", b"bad range at 2"),
-        (b"[z-a]", b"bad range at 2"),
-        (b"[a-m-o]", b"bad range at 4"),
-        (b"[[:digit:]-z]", b"bad range at 10"),
-        (b"[z-[", b"bad range at 2"),
-        (b"[a-[:foo", b"bad range at 2"),
-        (b"[a-[:foo:]]", b"bad range at 2"),
-        (b"[[.ab.]]", b"unknown class at 1"),
-        (b"[[=ab=]]", b"unknown class at 1"),
-        (b"[[:foo:]]", b"unknown class at 1"),
-        (b"[[:]:]", b"unknown class at 1"),
-        (b"[[..]]", b"unknown class at 1"),
-        (b"[[==]]", b"unknown class at 1"),
-        (b"[z-[.ab.]]", b"unknown class at 3"),
-        (b"[a[:Digit:]]", b"unknown class at 2"),
-        (b"\\w", b"bad escape at 0"),
-        (b"a\\", b"bad escape at 1"),
-        (b"[[:alpha:]", b"bracket not closed at 0"),
-    ];
-    expect_readings(&rt, rt.alloc(), &rows)
-}
+const FAULTS_OF_TOKENS: &[u8] = br"\<~bad escape at 0
+\~bad escape at 0
+ab\w~bad escape at 2
+a\'~bad escape at 1
+a\`b~bad escape at 1
+\>~bad escape at 0
+([a~bracket not closed at 1
+[[.a]~bracket not closed at 0
+a[]~bracket not closed at 1
+[^]~bracket not closed at 0
+[a-m-~bracket not closed at 0
+[[:digit:]-~bracket not closed at 0
+[[=a=]-z]~bad range at 6
+[a-[:digit:]]~bad range at 2
+[a-[=b=]]~bad range at 2
+[z-a]~bad range at 2
+[a-m-o]~bad range at 4
+[[:digit:]-z]~bad range at 10
+[z-[~bad range at 2
+[a-[:foo~bad range at 2
+[a-[:foo:]]~bad range at 2
+[[.ab.]]~unknown class at 1
+[[=ab=]]~unknown class at 1
+[[:foo:]]~unknown class at 1
+[[:]:]~unknown class at 1
+[[..]]~unknown class at 1
+[[==]]~unknown class at 1
+[z-[.ab.]]~unknown class at 3
+[a[:Digit:]]~unknown class at 2
+\w~bad escape at 0
+a\~bad escape at 1
+[[:alpha:]~bracket not closed at 0";
+
+/// The fault of the leftmost place comes first, whatever its kind.
+const FAULTS_OF_THE_GRAMMAR: &[u8] = br"{2}~nothing to repeat at 0
+$?~nothing to repeat at 1
+*a~nothing to repeat at 0
+^*~nothing to repeat at 1
+a|+~nothing to repeat at 2
+a(?b)~nothing to repeat at 2
+(^{2})~nothing to repeat at 2
+({3,2}~bad interval at 1
+a{1~bad interval at 1
+a{0256}~bad interval at 1
+a{256}~bad interval at 1
+a{256,}~bad interval at 1
+a{1,256}~bad interval at 1
+a{2,1}~bad interval at 1
+a{1,a}~bad interval at 1
+a{1a}~bad interval at 1
+a{1,2~bad interval at 1
+^{2,1}~bad interval at 1
+(a{1~bad interval at 2
+{1~bad interval at 0
+(a~group not closed at 0
+(a(b~group not closed at 2
+(a(b)~group not closed at 0
+a|(~group not closed at 2
+(*[z-a]~nothing to repeat at 1
+[z-a]*{1~bad range at 2
+(\w[z-a]~bad escape at 1
+a{2,1}|*~bad interval at 1
+(a[[:x:]~unknown class at 3
+^*[~nothing to repeat at 1
+[a\w{2,1}~bracket not closed at 0
+(((a)~group not closed at 1";
+
+const SETS: &[u8] = br"[]a]~[]a]
+[a-c-]~[-abc]
+[a\]~[\a]
+[[.-.]x]~[-x]
+[:a:]~[:a]
+[--]~[-]
+[---]~[-]
+\/~[/]
+[[=b=]]~[b]
+a~[a]
+[%--]~[%&'()*+,-]
+[--@]~[-./0123456789:;<=>?@]
+[[.-.]-0]~[-./0]
+[]-a]~[]^_`a]";
+
+const TREES: &[u8] = br"~empty
+()~empty
+(ab)c|~(alt (cat (cat [a] [b]) [c]) empty)
+a+?~(repeat 0 1 (repeat 1 - [a]))
+a{01}~(repeat 1 1 [a])
+a{2,}~(repeat 2 - [a])
+a{0,255}~(repeat 0 255 [a])
+a{,3}~(cat [a] [{] [,] [3] [}])
+a)~(cat [a] [)])
+^$~(cat start end)
+(^a)*~(repeat 0 - (cat start [a]))
+(|a)b~(cat (alt empty [a]) [b])
+a|b|c|d~(alt [a] [b] [c] [d])
+a||^|$~(alt [a] empty start end)
+abcd~(cat [a] [b] [c] [d])
+a{1}b{2}c{3,}d{4,5}~(cat (repeat 1 1 [a]) (repeat 2 2 [b]) (repeat 3 - [c]) (repeat 4 5 [d]))
+a{1}{2}{3}{0,4}~(repeat 0 4 (repeat 3 3 (repeat 2 2 (repeat 1 1 [a]))))
+(((a)b|c)d|e)f~(cat (alt (cat (alt (cat [a] [b]) [c]) [d]) [e]) [f])";
 
 #[test]
-fn faults_of_the_grammar(rt: HostRuntime) -> Result<(), Fail> {
-    let rows: [(&[u8], &[u8]); 32] = [
-        (b"{2}", b"nothing to repeat at 0"),
-        (b"$?", b"nothing to repeat at 1"),
-        (b"*a", b"nothing to repeat at 0"),
-        (b"^*", b"nothing to repeat at 1"),
-        (b"a|+", b"nothing to repeat at 2"),
-        (b"a(?b)", b"nothing to repeat at 2"),
-        (b"(^{2})", b"nothing to repeat at 2"),
-        (b"({3,2}", b"bad interval at 1"),
-        (b"a{1", b"bad interval at 1"),
-        (b"a{0256}", b"bad interval at 1"),
-        (b"a{256}", b"bad interval at 1"),
-        (b"a{256,}", b"bad interval at 1"),
-        (b"a{1,256}", b"bad interval at 1"),
-        (b"a{2,1}", b"bad interval at 1"),
-        (b"a{1,a}", b"bad interval at 1"),
-        (b"a{1a}", b"bad interval at 1"),
-        (b"a{1,2", b"bad interval at 1"),
-        (b"^{2,1}", b"bad interval at 1"),
-        (b"(a{1", b"bad interval at 2"),
-        (b"{1", b"bad interval at 0"),
-        (b"(a", b"group not closed at 0"),
-        (b"(a(b", b"group not closed at 2"),
-        (b"(a(b)", b"group not closed at 0"),
-        (b"a|(", b"group not closed at 2"),
-        // the first fault from the left, whatever its kind
-        (b"(*[z-a]", b"nothing to repeat at 1"),
-        (b"[z-a]*{1", b"bad range at 2"),
-        (b"(\\w[z-a]", b"bad escape at 1"),
-        (b"a{2,1}|*", b"bad interval at 1"),
-        (b"(a[[:x:]", b"unknown class at 3"),
-        (b"^*[", b"nothing to repeat at 1"),
-        (b"[a\\w{2,1}", b"bracket not closed at 0"),
-        (b"(((a)", b"group not closed at 1"),
-    ];
-    expect_readings(&rt, rt.alloc(), &rows)
+fn readings(rt: HostRuntime) -> Result<(), Fail> {
+    for table in [FAULTS_OF_TOKENS, FAULTS_OF_THE_GRAMMAR, SETS, TREES] {
+        expect_readings(&rt, rt.alloc(), table)?;
+    }
+    Ok(())
 }
 
+/// Bytes that no line has are looked for before all else but the length.
 #[test]
-fn sets(rt: HostRuntime) -> Result<(), Fail> {
-    let rows: [(&[u8], &[u8]); 16] = [
-        (b"[]a]", b"[]a]"),
-        (b"[a-c-]", b"[-abc]"),
-        (b"[a\\]", b"[\\a]"),
-        (b"[[.-.]x]", b"[-x]"),
-        (b"[:a:]", b"[:a]"),
-        (b"[--]", b"[-]"),
-        (b"[---]", b"[-]"),
-        (b"\\/", b"[/]"),
-        (b"[[=b=]]", b"[b]"),
-        (b"[[:blank:]_]", b"[\t _]"),
-        (b"[^\x01-\xff]", b"[]"),
-        (b"a", b"[a]"),
-        (b"[%--]", b"[%&'()*+,-]"),
-        (b"[--@]", b"[-./0123456789:;<=>?@]"),
-        (b"[[.-.]-0]", b"[-./0]"),
-        (b"[]-a]", b"[]^_`a]"),
-    ];
-    expect_readings(&rt, rt.alloc(), &rows)
-}
-
-#[test]
-fn trees(rt: HostRuntime) -> Result<(), Fail> {
-    let rows: [(&[u8], &[u8]); 18] = [
-        (b"", b"empty"),
-        (b"()", b"empty"),
-        (b"(ab)c|", b"(alt (cat (cat [a] [b]) [c]) empty)"),
-        (b"a+?", b"(repeat 0 1 (repeat 1 - [a]))"),
-        (b"a{01}", b"(repeat 1 1 [a])"),
-        (b"a{2,}", b"(repeat 2 - [a])"),
-        (b"a{0,255}", b"(repeat 0 255 [a])"),
-        (b"a{,3}", b"(cat [a] [{] [,] [3] [}])"),
-        (b"a)", b"(cat [a] [)])"),
-        (b"^$", b"(cat start end)"),
-        (b"(^a)*", b"(repeat 0 - (cat start [a]))"),
-        (b"(|a)b", b"(cat (alt empty [a]) [b])"),
-        (b"a|b|c|d", b"(alt [a] [b] [c] [d])"),
-        (b"a||^|$", b"(alt [a] empty start end)"),
-        (b"abcd", b"(cat [a] [b] [c] [d])"),
-        (
-            b"a{1}b{2}c{3,}d{4,5}",
-            b"(cat (repeat 1 1 [a]) (repeat 2 2 [b]) (repeat 3 - [c]) (repeat 4 5 [d]))",
-        ),
-        (
-            b"a{1}{2}{3}{0,4}",
-            b"(repeat 0 4 (repeat 3 3 (repeat 2 2 (repeat 1 1 [a]))))",
-        ),
-        (
-            b"(((a)b|c)d|e)f",
-            b"(cat (alt (cat (alt (cat [a] [b]) [c]) [d]) [e]) [f])",
-        ),
-    ];
-    expect_readings(&rt, rt.alloc(), &rows)
+fn bytes_of_no_line(rt: HostRuntime) -> Result<(), Fail> {
+    for (pattern, want) in [
+        (b"a\0".as_slice(), b"bad byte at 1".as_slice()),
+        (b"a\nb".as_slice(), b"bad byte at 1".as_slice()),
+        (b"\0".as_slice(), b"bad byte at 0".as_slice()),
+        (b"(*[z-a]\n".as_slice(), b"bad byte at 7".as_slice()),
+        (b"[^\x01-\xff]".as_slice(), b"[]".as_slice()),
+        (b"[[:blank:]_]".as_slice(), b"[\t _]".as_slice()),
+    ] {
+        let found = reading(rt.alloc(), pattern)?;
+        assert_eq!(rt; found.as_slice(), want, "of {pattern:?}");
+    }
+    Ok(())
 }
 
 #[test]
@@ -260,7 +247,9 @@ fn classes(rt: HostRuntime) -> Result<(), Fail> {
         (b"cntrl", 31, &[(1, 9), (11, 31), (127, 127)]),
     ];
     for (name, size, ranges) in rows {
-        let pattern = built(alloc, &[(b"[[:", 1), (name, 1), (b":]]", 1)])?;
+        let mut pattern = Vec::from_slice(alloc, b"[[:")?;
+        pattern.extend_from_slice(name)?;
+        pattern.extend_from_slice(b":]]")?;
         let mut want = vec![in alloc; b'[']?;
         for byte in 0..=127u8 {
             if ranges
@@ -322,96 +311,61 @@ fn beginnings_of_a_pattern(rt: HostRuntime) -> Result<(), Fail> {
     Ok(())
 }
 
-/// Patterns of pieces, each so many times, with the fault or none.
+/// The rows are `PIECES~FAULT`, with no fault where the pattern is read.
+const LIMITS: &[u8] = b"a;1024~
+a;1025~pattern too long at 1024
+(;1025~pattern too long at 1024
+\0;2000~pattern too long at 1024
+(;1000~too deep at 64
+(;65~too deep at 64
+(;64~group not closed at 63
+(;64;);64~
+(;64;a;1;)*;63;);1~
+(;64;a;1;)*;64~too deep at 0
+a;1;*;1023~too deep at 0
+a;1;*;64~too deep at 0
+a;1;*;63~
+a;1;*;99;(;1~group not closed at 100
+a{255}{16};1~
+(a{64}){64};1~
+a{255}{17};1~too large at 0
+(a{64}){64}b;1~too large at 0
+(a|b){255}{255,};1~too large at 0
+a{255}{17}*{2,1};1~bad interval at 11
+a{255}{17};1;*;63~too deep at 0
+a{255}{17};1;*;61~too large at 0
+(a|;64;b{255};1;);64;{64};1~too deep at 0";
+
 #[test]
 fn limits_at_their_edges(rt: HostRuntime) -> Result<(), Fail> {
     let alloc = rt.alloc();
-    let rows: [(&[(&[u8], usize)], &[u8]); 23] = [
-        (&[(b"a", 1024)], b""),
-        (&[(b"a", 1025)], b"pattern too long at 1024"),
-        (&[(b"(", 1025)], b"pattern too long at 1024"),
-        (&[(b"\0", 2000)], b"pattern too long at 1024"),
-        (&[(b"(", 1000)], b"too deep at 64"),
-        (&[(b"(", 65)], b"too deep at 64"),
-        (&[(b"(", 64)], b"group not closed at 63"),
-        (&[(b"(", 64), (b")", 64)], b""),
-        (&[(b"(", 64), (b"a", 1), (b")*", 63), (b")", 1)], b""),
-        (&[(b"(", 64), (b"a", 1), (b")*", 64)], b"too deep at 0"),
-        (&[(b"a", 1), (b"*", 1023)], b"too deep at 0"),
-        (&[(b"a", 1), (b"*", 64)], b"too deep at 0"),
-        (&[(b"a", 1), (b"*", 63)], b""),
-        // a fault after a tree that is too high comes first
-        (
-            &[(b"a", 1), (b"*", 99), (b"(", 1)],
-            b"group not closed at 100",
-        ),
-        (&[(b"a{255}{16}", 1)], b""),
-        (&[(b"(a{64}){64}", 1)], b""),
-        (&[(b"a{255}{17}", 1)], b"too large at 0"),
-        (&[(b"(a{64}){64}b", 1)], b"too large at 0"),
-        (&[(b"(a|b){255}{255,}", 1)], b"too large at 0"),
-        (&[(b"a{255}{17}*{2,1}", 1)], b"bad interval at 11"),
-        // too high and too large
-        (&[(b"a{255}{17}", 1), (b"*", 63)], b"too deep at 0"),
-        (&[(b"a{255}{17}", 1), (b"*", 61)], b"too large at 0"),
-        (
-            &[(b"(a|", 64), (b"b{255}", 1), (b")", 64), (b"{64}", 1)],
-            b"too deep at 0",
-        ),
-    ];
-    for (pieces, want) in rows {
+    for row in LIMITS.split(|b| *b == b'\n') {
+        let (pieces, want) = halves(row);
         let pattern = built(alloc, pieces)?;
-        let found = reading(alloc, &pattern)?;
         if want.is_empty() {
             assert!(rt; parse(alloc, &pattern).is_ok(), "of {pieces:?}");
         } else {
-            assert_eq!(rt; found.as_slice(), want, "of {pieces:?}");
+            assert_eq!(rt; reading(alloc, &pattern)?.as_slice(), want, "of {pieces:?}");
         }
     }
     Ok(())
 }
 
-/// Patterns and their trees, of pieces, each so many times.
+/// The rows are `PIECES~PIECES`, of a pattern and of its tree.
+const MANY_MEMBERS: &[u8] = b"a|;39;b;1~(alt;1; [a];39; [b]);1
+a|;511;b;1~(alt;1; [a];511; [b]);1
+a;1023;b;1~(cat;1; [a];1023; [b]);1
+a{2,3};40~(cat;1; (repeat 2 3 [a]);40;);1
+(a|b){9}|;40~(alt;1; (repeat 9 9 (alt [a] [b]));40; empty);1
+a;1;{1};63~(repeat 1 1 ;63;[a];1;);63";
+
 #[test]
 fn many_members(rt: HostRuntime) -> Result<(), Fail> {
     let alloc = rt.alloc();
-    let rows: [(&[(&[u8], usize)], &[(&[u8], usize)]); 6] = [
-        (
-            &[(b"a|", 39), (b"b", 1)],
-            &[(b"(alt", 1), (b" [a]", 39), (b" [b])", 1)],
-        ),
-        (
-            &[(b"a|", 511), (b"b", 1)],
-            &[(b"(alt", 1), (b" [a]", 511), (b" [b])", 1)],
-        ),
-        (
-            &[(b"a", 1023), (b"b", 1)],
-            &[(b"(cat", 1), (b" [a]", 1023), (b" [b])", 1)],
-        ),
-        (
-            &[(b"a{2,3}", 40)],
-            &[(b"(cat", 1), (b" (repeat 2 3 [a])", 40), (b")", 1)],
-        ),
-        (
-            &[(b"(a|b){9}|", 40)],
-            &[
-                (b"(alt", 1),
-                (b" (repeat 9 9 (alt [a] [b]))", 40),
-                (b" empty)", 1),
-            ],
-        ),
-        (
-            &[(b"a", 1), (b"{1}", 63)],
-            &[(b"(repeat 1 1 ", 63), (b"[a]", 1), (b")", 63)],
-        ),
-    ];
-    for (pieces, want) in rows {
-        let pattern = built(alloc, pieces)?;
-        assert_eq!(rt;
-            reading(alloc, &pattern)?,
-            built(alloc, want)?,
-            "of {pieces:?}"
-        );
+    for row in MANY_MEMBERS.split(|b| *b == b'\n') {
+        let (pieces, want) = halves(row);
+        let found = reading(alloc, &built(alloc, pieces)?)?;
+        assert_eq!(rt; found, built(alloc, want)?, "of {pieces:?}");
     }
     Ok(())
 }
