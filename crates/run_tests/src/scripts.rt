@@ -1,4 +1,6 @@
-use script::{Item, MAX_SCRIPT, Numbered, ScriptReader};
+//! The items of scripts.
+
+use script::{Item, MAX_SCRIPT, ScriptReader};
 use std::alloc::Global;
 use std::process::Abort;
 use std::test::Fail;
@@ -104,7 +106,7 @@ fn lines(rt: HostRuntime) -> Result<(), Fail> {
     Ok(())
 }
 
-/// Puts with their bodies, and the numbers of the lines behind them.
+/// Puts with their bodies, and the numbers of the lines after them.
 #[test]
 fn puts(rt: HostRuntime) -> Result<(), Fail> {
     let cases = [

@@ -1,0 +1,165 @@
+//! Names, bodies, and the documents and candidates of an index.
+
+use crate::fixtures::{built, index_of};
+use index::{Body, BodyErrorKind, Index, Name, NameError};
+use std::alloc::Global;
+use std::process::Abort;
+use std::test::Fail;
+use trigram::{Query, Trigram};
+
+#[test]
+fn names_are_refused(rt: HostRuntime) -> Result<(), Fail> {
+    let alloc = rt.alloc();
+    let longer = built(alloc, &[(b"a", 256)])?;
+    // too long comes before a bad byte
+    let longer_and_bad = built(alloc, &[(b" ", 256)])?;
+    for (bytes, want) in [
+        (b"".as_slice(), NameError::Empty),
+        (longer.as_slice(), NameError::TooLong),
+        (longer_and_bad.as_slice(), NameError::TooLong),
+        (b"a b".as_slice(), NameError::BadByte),
+        (b"a\n".as_slice(), NameError::BadByte),
+        (b"\0".as_slice(), NameError::BadByte),
+    ] {
+        match Name::new(alloc, bytes) {
+            Ok(_) => assert!(rt; false, "a name: {bytes:?}"),
+            Err(error) => assert_eq!(rt; error, want, "at {bytes:?}"),
+        }
+    }
+    Ok(())
+}
+
+/// A name may have 1 to 255 bytes, each of them 33 to 126 or from 128 on.
+#[test]
+fn names_of_each_length_and_byte(rt: HostRuntime) -> Result<(), Fail> {
+    let alloc = rt.alloc();
+    let bytes = built(alloc, &[(b"a\xff", 128)])?;
+    assert_eq!(rt; bytes.len(), 256);
+    for length in 1..=255usize {
+        let name = Name::new(alloc, &bytes[..length])?;
+        assert_eq!(rt; name.as_bytes(), &bytes[..length], "of {length} bytes");
+    }
+    for byte in 0..=255u8 {
+        let may_be = byte > 32 && byte != 127;
+        assert_eq!(rt; Name::new(alloc, &[byte]).is_ok(), may_be, "of {byte}");
+    }
+    Ok(())
+}
+
+#[test]
+fn names_rise_by_their_bytes(rt: HostRuntime) -> Result<(), Fail> {
+    let alloc = rt.alloc();
+    for (low, high) in [
+        (b"B".as_slice(), b"a".as_slice()),
+        (b"aaa".as_slice(), b"b".as_slice()),
+        (b"a".as_slice(), b"aa".as_slice()),
+        (b"~".as_slice(), b"\x80".as_slice()),
+    ] {
+        let low = Name::new(alloc, low)?;
+        let high = Name::new(alloc, high)?;
+        assert!(rt; low < high, "{low:?} and {high:?}");
+        assert!(rt; low.copy()? == low, "{low:?}");
+    }
+    Ok(())
+}
+
+#[test]
+fn bodies(rt: HostRuntime) -> Result<(), Fail> {
+    let alloc = rt.alloc();
+    let rows: [(&[(&[u8], usize)], Option<BodyErrorKind>); 11] = [
+        (&[], None),
+        (&[(b"a", 4096)], None),
+        (&[(b"a", 4096), (b"\n", 1), (b"b", 4096)], None),
+        (&[(b"a\n", 262_144)], None),
+        (&[(b"sixteen bytes..\n", 65_536)], None),
+        (&[(b"\n", 1_048_576)], None),
+        (&[(b"\n", 1_048_577)], Some(BodyErrorKind::TooLong)),
+        (&[(b"a", 4097)], Some(BodyErrorKind::LineTooLong)),
+        (&[(b"a\0b", 1)], Some(BodyErrorKind::NotText)),
+        // the faults in their order
+        (&[(b"a", 4097), (b"\0", 1)], Some(BodyErrorKind::NotText)),
+        (&[(b"\0", 1_048_577)], Some(BodyErrorKind::TooLong)),
+    ];
+    for (pieces, fault) in rows {
+        let bytes = built(alloc, pieces)?;
+        let handed = bytes.clone()?;
+        match Body::new(bytes) {
+            Ok(body) => {
+                assert!(rt; fault.is_none(), "of {pieces:?}");
+                assert!(rt; body.as_bytes() == handed.as_slice(), "of {pieces:?}");
+                assert!(rt;
+                    body.copy()?.as_bytes() == handed.as_slice(),
+                    "of {pieces:?}"
+                );
+            }
+            Err(error) => {
+                assert_eq!(rt; Some(error.kind), fault, "of {pieces:?}");
+                assert!(rt; error.bytes == handed, "of {pieces:?}");
+            }
+        }
+    }
+    Ok(())
+}
+
+#[test]
+fn a_put_replaces_and_a_remove_takes_away(rt: HostRuntime) -> Result<(), Fail> {
+    let alloc = rt.alloc();
+    let all = b"f old|f new|g x|-f|-absent".as_slice();
+    for (commands, version, documents, number, text) in [
+        (b"".as_slice(), 0, 0, 1, None),
+        (b"f old".as_slice(), 1, 1, 1, Some(b"old".as_slice())),
+        (b"f old|f new".as_slice(), 2, 1, 1, None),
+        (b"f old|f new".as_slice(), 2, 1, 2, Some(b"new".as_slice())),
+        (all, 5, 1, 2, None),
+        (all, 5, 1, 3, Some(b"x".as_slice())),
+        (all, 5, 1, 4, None),
+        (all, 5, 1, 6, None),
+    ] {
+        let index = index_of(&rt, alloc, commands)?;
+        assert_eq!(rt; index.version(), version, "of {commands:?}");
+        assert_eq!(rt; index.documents(), documents, "of {commands:?}");
+        assert_eq!(rt; text_at(&index, number), text, "of {commands:?}");
+    }
+    Ok(())
+}
+
+/// The text of the document with the number.
+fn text_at(index: &Index, number: u32) -> Option<&[u8]> {
+    match index.document(number) {
+        Some((_, body)) => Some(body.as_bytes()),
+        None => None,
+    }
+}
+
+#[test]
+fn live_numbers_and_candidates(rt: HostRuntime) -> Result<(), Fail> {
+    let alloc = rt.alloc();
+    let two = b"f abc|g abcd".as_slice();
+    let three = b"f abc|g abcd|g abc".as_slice();
+    let four = b"f abc|g abcd|g abc|-f".as_slice();
+    let abc = Query::Has(Trigram::of(*b"abc"));
+    let bcd = Query::Has(Trigram::of(*b"bcd"));
+    for (commands, query, want) in [
+        (two, &abc, [1, 2].as_slice()),
+        (two, &bcd, [2].as_slice()),
+        (two, &Query::Any, [1, 2].as_slice()),
+        (two, &Query::None, [].as_slice()),
+        (three, &abc, [1, 3].as_slice()),
+        (three, &bcd, [].as_slice()),
+        (four, &abc, [3].as_slice()),
+        (b"".as_slice(), &abc, [].as_slice()),
+    ] {
+        let index = index_of(&rt, alloc, commands)?;
+        let found = candidates(alloc, &index, query)?;
+        assert_eq!(rt; found.as_slice(), want, "{query:?} of {commands:?}");
+        let live: Vec<u32> = index.live().numbers().collect(alloc)?;
+        let any = candidates(alloc, &index, &Query::Any)?;
+        assert!(rt; live == any, "of {commands:?}");
+    }
+    Ok(())
+}
+
+fn candidates(alloc: Global, index: &Index, query: &Query) -> Result<Vec<u32>, Fail> {
+    let found = index.candidates(alloc, query)?;
+    Ok(found.numbers().collect(alloc)?)
+}

@@ -1,0 +1,60 @@
+//! What several tests start from.
+
+use index::{Body, Command, Index, Name};
+use std::alloc::Global;
+use std::process::Abort;
+use std::test::Fail;
+
+/// A document of this name and body.
+pub(crate) fn document(alloc: Global, name: &[u8], body: &[u8]) -> Result<(Name, Body), Fail> {
+    Ok((
+        Name::new(alloc, name)?,
+        Body::new(Vec::from_slice(alloc, body)?)?,
+    ))
+}
+
+/// Puts a document into the index, which has fewer than 1,000 commands.
+pub(crate) fn put(
+    rt: &impl Abort,
+    alloc: Global,
+    index: &mut Index,
+    name: &[u8],
+    body: &[u8],
+) -> Result<(), Fail> {
+    let (name, body) = document(alloc, name, body)?;
+    assert!(rt; index.version() < 1000);
+    index.apply(Command::Put(name, body))?;
+    Ok(())
+}
+
+fn remove(rt: &impl Abort, alloc: Global, index: &mut Index, name: &[u8]) -> Result<(), Fail> {
+    let command = Command::Remove(Name::new(alloc, name)?);
+    assert!(rt; index.version() < 1000);
+    index.apply(command)?;
+    Ok(())
+}
+
+/// An index of these commands, with bars between them: a name, a space and a text for a put, and a minus
+/// before the name for a remove.
+pub(crate) fn index_of(rt: &impl Abort, alloc: Global, commands: &[u8]) -> Result<Index, Fail> {
+    let mut index = Index::new(alloc);
+    for command in commands.split(|b| *b == b'|') {
+        match command.iter().position(|b| *b == b' ') {
+            Some(at) => put(rt, alloc, &mut index, &command[..at], &command[at + 1..])?,
+            None if command.is_empty() => {}
+            None => remove(rt, alloc, &mut index, &command[1..])?,
+        }
+    }
+    Ok(index)
+}
+
+/// The text of these pieces, each so many times.
+pub(crate) fn built(alloc: Global, pieces: &[(&[u8], usize)]) -> Result<Vec<u8>, Fail> {
+    let mut text = Vec::new(alloc);
+    for (piece, times) in pieces {
+        for _ in 0..*times {
+            text.extend_from_slice(piece)?;
+        }
+    }
+    Ok(text)
+}

@@ -1,0 +1,220 @@
+//! Sets and selections, worked by hand.
+
+ghost use Rattle.std.specs.Prelude.{◌≡◌};
+
+use posting::{List, Postings};
+use std::alloc::{AllocError, Global};
+use std::test::Fail;
+use trigram::{Query, Trigram};
+
+/// Puts those of the numbers into the set that are above all that are in it.
+fn put_all(set: &mut List, numbers: &[u32]) -> Result<(), AllocError> {
+    for number in numbers {
+        if set.numbers().all(|held| held < *number) {
+            set.room_for(*number)?;
+            set.push(*number);
+        }
+    }
+    Ok(())
+}
+
+/// The set of the first of these numbers, from which the second go before the third come.
+fn set_of(alloc: Global, steps: &[&[u32]; 3]) -> Result<List, AllocError> {
+    let [first, gone, later] = steps;
+    let mut set = List::new(alloc);
+    put_all(&mut set, first)?;
+    for number in *gone {
+        set.remove(*number);
+    }
+    put_all(&mut set, later)?;
+    Ok(set)
+}
+
+/// Whether the set has these numbers.
+fn lists(alloc: Global, set: &List, numbers: &[u32]) -> Result<bool, AllocError> {
+    let listed: Vec<u32> = set.numbers().collect(alloc)?;
+    Ok(
+        set.len() == numbers.len()
+            && set.is_empty() == numbers.is_empty()
+            && listed.as_slice() == numbers,
+    )
+}
+
+const FAR: [u32; 6] = [1, 5, 300, 70000, 70001, 4294967295];
+
+const MANY: [u32; 9] = [0, 2, 3, 4, 5, 6, 7, 8, 10];
+
+#[test]
+fn sets_keep_their_numbers_rising(rt: HostRuntime) -> Result<(), Fail> {
+    let alloc = rt.alloc();
+    let rows: [([&[u32]; 3], &[u32]); 8] = [
+        ([&[], &[], &[]], &[]),
+        ([&FAR, &[], &[]], &FAR),
+        ([&FAR, &[300, 301], &[]], &[1, 5, 70000, 70001, 4294967295]),
+        ([&FAR, &FAR, &[0]], &[0]),
+        ([&[5, 300, 70000], &[300], &[]], &[5, 70000]),
+        ([&[0, 1, 128], &[0, 0], &[127, 129]], &[1, 128, 129]),
+        ([&[0, 1, 2, 3, 4, 5], &[0, 1, 2], &[]], &[3, 4, 5]),
+        ([&[0, 1, 2, 3, 4, 5], &[5, 4, 3], &[6]], &[0, 1, 2, 6]),
+    ];
+    for (steps, want) in rows {
+        let set = set_of(alloc, &steps)?;
+        assert!(rt; lists(alloc, &set, want)?, "of {want:?}");
+        assert!(rt; want.iter().all(|number| set.has(*number)), "of {want:?}");
+        assert!(rt; !set.has(301), "of {want:?}");
+    }
+    Ok(())
+}
+
+/// Two sets with what is in one or both of them, and what is in both.
+#[test]
+fn sets_join_and_meet(rt: HostRuntime) -> Result<(), Fail> {
+    let alloc = rt.alloc();
+    let rows: [([&[u32]; 3], [&[u32]; 3], &[u32], &[u32]); 6] = [
+        (
+            [&[2, 9], &[], &[]],
+            [&MANY, &[], &[]],
+            &[0, 2, 3, 4, 5, 6, 7, 8, 9, 10],
+            &[2],
+        ),
+        (
+            [&MANY, &[], &[]],
+            [&[2, 9], &[], &[]],
+            &[0, 2, 3, 4, 5, 6, 7, 8, 9, 10],
+            &[2],
+        ),
+        ([&[], &[], &[]], [&MANY, &[], &[]], &MANY, &[]),
+        ([&MANY, &[], &[]], [&MANY, &[], &[]], &MANY, &MANY),
+        (
+            [&[1], &[], &[]],
+            [&[4294967295], &[], &[]],
+            &[1, 4294967295],
+            &[],
+        ),
+        (
+            [&[0, 2, 4, 6, 8, 10, 12, 14, 16], &[0, 4, 6, 16], &[15, 18]],
+            [&[0, 3, 6, 9, 12, 15], &[0, 6], &[18]],
+            &[2, 3, 8, 9, 10, 12, 14, 15, 18],
+            &[12, 15, 18],
+        ),
+    ];
+    for (left, right, joined, met) in rows {
+        let left = set_of(alloc, &left)?;
+        let right = set_of(alloc, &right)?;
+        assert!(rt;
+            lists(alloc, &left.union(&right)?, joined)?,
+            "of {joined:?}"
+        );
+        assert!(rt; lists(alloc, &left.intersect(&right)?, met)?, "of {met:?}");
+    }
+    Ok(())
+}
+
+/// Takes the numbers below 300 out of a set, in the order of the multiples of a factor, from a first one on,
+/// and tells whether the others always stayed.
+fn go_in_order(alloc: Global, factor: u32, first: u32) -> Result<bool, AllocError> {
+    let mut left = Vec::new(alloc);
+    for number in 0..300 {
+        left.push(number)?;
+    }
+    let mut set = set_of(alloc, &[&left, &[], &[]])?;
+    for i in 0..300u32 {
+        let number = factor.wrapping_mul(i).wrapping_add(first) % 300;
+        set.remove(number);
+        left.retain(|held| *held != number);
+        if !lists(alloc, &set, &left)? {
+            return Ok(false);
+        }
+    }
+    put_all(&mut set, &[77])?;
+    lists(alloc, &set, &[77])
+}
+
+#[test]
+fn numbers_go_in_any_order(rt: HostRuntime) -> Result<(), Fail> {
+    let alloc = rt.alloc();
+    for (factor, first) in [(1, 0), (299, 299), (1, 150), (7, 3)] {
+        assert!(rt; go_in_order(alloc, factor, first)?, "{factor} from {first}");
+    }
+    Ok(())
+}
+
+fn abc() -> Trigram
+    ensures { result ≡ 6382179 }
+{
+    Trigram::of([b'a', b'b', b'c'])
+}
+
+fn bcd() -> Trigram
+    ensures { result ≡ 6447972 }
+{
+    Trigram::of([b'b', b'c', b'd'])
+}
+
+/// Document 1 has the trigrams abc and bcd, document 2 has abc.
+fn two_documents(alloc: Global) -> Result<Postings, AllocError> {
+    let mut postings = Postings::new(alloc);
+    postings.prepare(1, &[abc(), bcd()])?;
+    postings.add(1, &[abc(), bcd()]);
+    postings.prepare(2, &[abc()])?;
+    postings.add(2, &[abc()]);
+    Ok(postings)
+}
+
+/// Whether the query selects these numbers among the live ones.
+fn selects(
+    alloc: Global,
+    postings: &Postings,
+    query: &Query,
+    live: &[u32],
+    numbers: &[u32],
+) -> Result<bool, AllocError> {
+    let live = set_of(alloc, &[live, &[], &[]])?;
+    let chosen = postings.select(alloc, query, &live)?;
+    lists(alloc, &chosen, numbers)
+}
+
+/// The query that has this number in the table of selections.
+fn query_of(alloc: Global, which: u8) -> Result<Query, AllocError> {
+    Ok(match which {
+        0 => Query::Any,
+        1 => Query::None,
+        2 => Query::Has(bcd()),
+        3 => Query::And(Vec::new(alloc)),
+        4 => Query::Or(Vec::new(alloc)),
+        5 => Query::And(vec![in alloc; Query::Has(abc()), Query::Has(bcd())]?),
+        _ => Query::Or(vec![in alloc; Query::Has(abc()), Query::Has(bcd())]?),
+    })
+}
+
+#[test]
+fn queries_select_documents(rt: HostRuntime) -> Result<(), Fail> {
+    let alloc = rt.alloc();
+    let postings = two_documents(alloc)?;
+    for (which, numbers) in [
+        (0, [1, 2].as_slice()),
+        (1, [].as_slice()),
+        (2, [1].as_slice()),
+        (3, [1, 2].as_slice()),
+        (4, [].as_slice()),
+        (5, [1].as_slice()),
+        (6, [1, 2].as_slice()),
+    ] {
+        let query = query_of(alloc, which)?;
+        assert!(rt;
+            selects(alloc, &postings, &query, &[1, 2], numbers)?,
+            "of {query:?}"
+        );
+    }
+    Ok(())
+}
+
+#[test]
+fn withdrawn_documents_are_not_selected(rt: HostRuntime) -> Result<(), Fail> {
+    let alloc = rt.alloc();
+    let mut postings = two_documents(alloc)?;
+    postings.withdraw(1, &[abc(), bcd()]);
+    assert!(rt; selects(alloc, &postings, &Query::Has(abc()), &[2], &[2])?);
+    assert!(rt; selects(alloc, &postings, &Query::Has(bcd()), &[2], &[])?);
+    Ok(())
+}
