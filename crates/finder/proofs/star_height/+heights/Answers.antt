@@ -1,6 +1,6 @@
 use Rattle.std.proofs.Common.{◌≡◌, ◌-◌, true, false, nat_le, ap, sym, ◌∙◌}
 use Rattle.ere.specs.Tree.{form}
-use Rattle.ere.specs.Forms.{form-Empty, form-Set, form-Start, form-End, form-Cat, form-Alt, form-Repeat}
+use Rattle.ere.proofs.Forms.{form-Empty, form-Set, form-Start, form-End, form-Cat, form-Alt, form-Repeat}
 use Rattle.finder.specs.StarHeight.{star_height, is_set}
 use Rattle.finder.proofs.HeightLemmas.{below, empty_height, set_height, start_height, end_height, cat_height, alt_height, bounded_height, set_star_height, star_height_more, one_less, member_passed, member_found, no_member_left}
 use Rattle.finder.proofs.star_height.+heights.Goals as goal

@@ -4,7 +4,7 @@ use Rattle.regex_hir.specs.Meaning.{meaning}
 use Rattle.regex_hir.proofs.MeaningLemmas.{meaning-Empty, meaning-Bytes, meaning-Look, meaning-Repetition, meaning-Concat, meaning-Alternation}
 use Rattle.regex_hir.specs.declared.look.Look.TheVariants.{StartLf, EndLf}
 use Rattle.ere.specs.Tree.{form, trees_of}
-use Rattle.ere.specs.Forms.{form-Empty, form-Set, form-Start, form-End, form-Cat, form-Alt, form-Repeat}
+use Rattle.ere.proofs.Forms.{form-Empty, form-Set, form-Start, form-End, form-Cat, form-Alt, form-Repeat}
 use Rattle.finder.specs.Translation.{StandsFor, StandForEach}
 use Rattle.finder.proofs.NodeLemmas.{empty_stands, set_stands, start_stands, end_stands, cat_stands, alt_stands, repeat_stands, impossible_stands, star_of_star_stands}
 use Rattle.finder.proofs.MemberLemmas.{next_member, nothing_left, map-push}
