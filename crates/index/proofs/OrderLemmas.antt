@@ -7,7 +7,7 @@ use Rattle.std.specs.declared.cmp.Ordering.TheVariants.{Less}
 use Rattle.std.proofs.lemmas.Bool.{false≢true}
 use Rattle.std.proofs.lemmas.Bool.Decides.{nat_tests}
 use Rattle.posting.specs.NumberSet.{has}
-use Rattle.posting.specs.Laws.{has-append}
+use Rattle.posting.proofs.Laws.{has-append}
 use Rattle.std.specs.Ordering.{nat_cmp}
 use Rattle.std.specs.Cmp.Lexicographic.{slice_cmp, nat_list_cmp_total, texts_ties}
 use Rattle.std.specs.List.Sorted.{IsStrictlySortedBy}

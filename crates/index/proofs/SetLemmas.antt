@@ -8,8 +8,8 @@ use Rattle.std.proofs.lemmas.List.{map-append, get_or_default}
 use Rattle.std.proofs.lemmas.List.Kept.{AllPairs-from_increasing}
 use Rattle.std.proofs.lemmas.List.Elements.{All-nil, All-cons, All-filter, All-contains_itself}
 use Rattle.std.proofs.lemmas.Option.{slice_get_within}
-use Rattle.trigram.specs.Trigrams.{ListsTrigrams, trigrams_of_body}
-use Rattle.trigram.specs.Query.{Formula, is_met}
+use Rattle.query.specs.Trigrams.{ListsTrigrams, trigrams_of_body}
+use Rattle.query.specs.Query.{Formula, is_met}
 use Rattle.posting.specs.NumberSet.{has}
 use Rattle.posting.specs.Postings.{holds, trigrams_with, SameSets}
 use Rattle.posting.proofs.Members.{has_at, All-has}

@@ -3,8 +3,8 @@ use Rattle.std.specs.Prelude.{◌≡◌, ℕ, suc, ◌+◌, ◌==◌, ◌||◌, 
 use Rattle.std.specs.Ordering.{nat_cmp}
 use Rattle.std.specs.Cmp.Lexicographic.{slice_cmp}
 use Rattle.std.specs.List.Sorted.{IsStrictlySortedBy}
-use Rattle.trigram.specs.Trigrams.{trigrams_of_body}
-use Rattle.trigram.specs.Query.{Formula, is_met}
+use Rattle.query.specs.Trigrams.{trigrams_of_body}
+use Rattle.query.specs.Query.{Formula, is_met}
 use Rattle.index.specs.declared.command.Command.{Command}
 use Rattle.index.specs.declared.command.Command.TheVariants.{Put, Remove}
 

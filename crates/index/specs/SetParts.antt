@@ -1,6 +1,6 @@
 -- How the sets of an index change.
 use Rattle.std.specs.Prelude.{◌≡◌, ℕ, ◌+◌, length, IsSomeAnd, ◌<◌, Bool, false, ◌&&◌, ◌==◌, IsTrue, List, [], ◌∷◌, All, Option, Some, None, IfSome, map}
-use Rattle.trigram.specs.Trigrams.{TrigramSet, ListsTrigrams, trigrams_of_body}
+use Rattle.query.specs.Trigrams.{TrigramSet, ListsTrigrams, trigrams_of_body}
 use Rattle.posting.specs.NumberSet.{has, HasRoom}
 use Rattle.posting.specs.Postings.{holds, IsPrepared, AllDiffer, KeepsRoom}
 use Rattle.index.specs.declared.sets.Listing.{Listing}

@@ -6,7 +6,7 @@ ghost use Rattle.std.specs.Cmp.Lexicographic.{slice_cmp};
 ghost use Rattle.std.specs.BTreeMap.{IsUnchanged, IsOrdered, get, values};
 ghost use Rattle.std.specs.List.Sorted.{IsStrictlyIncreasing};
 ghost use Rattle.index.specs.declared.command.Command.{Command as CommandValue};
-ghost use Rattle.trigram.specs.Query.{formula_of};
+ghost use Rattle.query.specs.Query.{formula_of};
 ghost use Rattle.posting.specs.NumberSet.{has};
 ghost use Rattle.index.specs.IndexParts.{Notes, kept_if};
 ghost use Rattle.index.specs.SetParts.{IsGone, IsChange};
@@ -17,10 +17,10 @@ use crate::command::Command;
 use crate::error::ApplyError;
 use crate::name::Name;
 use crate::sets::{Change, Listing, Sets, listing_of};
+use query::Query;
 use std::alloc::{AllocError, Global};
 use std::collections::BTreeMap;
 use std::marker::Model;
-use trigram::Query;
 
 /// A list of fewer numbers than this part of all documents is sorted by name; from there on the names of
 /// all documents are gone through.

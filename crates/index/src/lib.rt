@@ -17,4 +17,4 @@ pub use error::{ApplyError, BodyError, BodyErrorKind, NameError};
 pub use journal::{Index, documents_are_puts};
 pub use name::{MAX_NAME, Name};
 pub use posting::List;
-pub use trigram::Query;
+pub use query::Query;

@@ -2,13 +2,13 @@
 
 ghost use Rattle.std.specs.Prelude.{◌≡◌, ℕ, false, not, ◌||◌, ◌&&◌, [], ◌++◌, filter, IfOk, OnOk};
 ghost use Rattle.posting.specs.Postings.{holds, SameSets};
-ghost use Rattle.trigram.specs.Trigrams.{ListsTrigrams};
+ghost use Rattle.query.specs.Trigrams.{ListsTrigrams};
 ghost use Rattle.index.specs.SetParts.{is_of, takes, gives, numbers_of, HasRoomFor, IsNew, KeepsAllRoom};
 
 use crate::body::Body;
 use posting::{List, Postings};
+use query::{Trigram, trigrams_of};
 use std::alloc::{AllocError, Global};
-use trigram::{Trigram, trigrams_of};
 
 /// What the sets hold of a document: its number, and the trigrams of its body.
 #[derive(Drop)]

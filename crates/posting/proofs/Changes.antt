@@ -8,7 +8,7 @@ use Rattle.std.proofs.lemmas.List.Folds.{list_any_more}
 use Rattle.std.proofs.lemmas.List.Elements.{All-from_get_or, All-more, All-weaker}
 use Rattle.posting.specs.NumberSet.{NumberSet, has, without, HasRoom}
 use Rattle.posting.specs.Postings.{set_of, holds, IsPrepared, IsAbove, AllDiffer, SameSets, KeepsRoom}
-use Rattle.posting.specs.Laws.{has-append, has-filter}
+use Rattle.posting.proofs.Laws.{has-append, has-filter}
 use Rattle.posting.proofs.Members.{has_at, lacks_from_all}
 
 pub has-take_more : (trigrams : List ℕ) (i t : ℕ) → i < length trigrams → has (take (i + 1) trigrams) t ≡ (has (take i trigrams) t || get_or trigrams i 0 == t)

@@ -1,3 +1,4 @@
+pub mod Laws
 pub mod Rising
 pub mod Members
 pub mod Merging

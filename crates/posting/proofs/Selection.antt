@@ -11,14 +11,14 @@ use Rattle.std.proofs.lemmas.List.Elements.{filter_agree}
 use Rattle.std.proofs.lemmas.List.Folds.{list_all_more, list_any_more}
 use Rattle.std.proofs.lemmas.List.Kept.{IsStrictlyIncreasing-filter}
 use Rattle.std.proofs.lemmas.Option.{slice_get-get_or, slice_get_read, slice_get_past}
-use Rattle.trigram.specs.Trigrams.{TrigramSet}
-use Rattle.trigram.specs.declared.query.Query.{Query}
-use Rattle.trigram.specs.declared.query.Query.TheVariants as query
-use Rattle.trigram.specs.Query.{all_of, one_of, formula_of, formulas_of, is_met, are_all_met, is_one_met}
-use Rattle.trigram.specs.Forms.{formula_of-Any, formula_of-None, formula_of-Has, formula_of-And, formula_of-Or}
+use Rattle.query.specs.Trigrams.{TrigramSet}
+use Rattle.query.specs.declared.query.Query.{Query}
+use Rattle.query.specs.declared.query.Query.TheVariants as query
+use Rattle.query.specs.Query.{all_of, one_of, formula_of, formulas_of, is_met, are_all_met, is_one_met}
+use Rattle.query.proofs.Forms.{formula_of-Any, formula_of-None, formula_of-Has, formula_of-And, formula_of-Or}
 use Rattle.posting.specs.NumberSet.{NumberSet, has}
 use Rattle.posting.specs.Postings.{set_of, trigrams_with, selected}
-use Rattle.posting.specs.Laws.{has-filter}
+use Rattle.posting.proofs.Laws.{has-filter}
 use Rattle.posting.proofs.Members.{filter_all, filter_none, same_rising}
 
 -- the numbers of a list for which the set of their trigrams passes a test

@@ -1,4 +1,3 @@
 pub mod NumberSet
 pub mod Postings
 pub mod Pages
-pub mod Laws

@@ -1,8 +1,8 @@
 -- One set of numbers for each trigram (the posting lists of Russ Cox's "Regular Expression Matching with a
 -- Trigram Index", 2012), as a table by the trigrams' numbers.
 use Rattle.std.specs.Prelude.{◌≡◌, ◌≢◌, ℕ, ◌<◌, Bool, not, ◌&&◌, ◌||◌, ◌==◌, IsTrue, List, [], All, AllPairs, filter, slice_index_or}
-use Rattle.trigram.specs.Trigrams.{TrigramSet}
-use Rattle.trigram.specs.Query.{Formula, is_met}
+use Rattle.query.specs.Trigrams.{TrigramSet}
+use Rattle.query.specs.Query.{Formula, is_met}
 use Rattle.posting.specs.NumberSet.{NumberSet, has, HasRoom}
 
 -- a set with no number and no room

@@ -5,8 +5,8 @@ ghost use Rattle.posting.specs.NumberSet.{HasRoom};
 ghost use Rattle.posting.specs.Pages.{IsSound, page_at, page_size, set_behind, slot_of, trigram_count};
 
 use crate::list::List;
+use query::Trigram;
 use std::alloc::AllocError;
-use trigram::Trigram;
 
 // How many trigrams have their slots on a page.
 const PAGE: usize = 1024;

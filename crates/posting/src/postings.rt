@@ -2,15 +2,15 @@
 
 ghost use Rattle.std.specs.Prelude.{◌≡◌, ◌≢◌, ℕ, ◌<◌, false, ◌∷◌, [], ◌++◌, All, map, IfOk, IfSome, IfNone, OnOk};
 ghost use Rattle.std.specs.List.Sorted.{IsStrictlyIncreasing};
-ghost use Rattle.trigram.specs.Query.{formula_of, formulas_of, all_of, one_of};
+ghost use Rattle.query.specs.Query.{formula_of, formulas_of, all_of, one_of};
 ghost use Rattle.posting.specs.NumberSet.{without, HasRoom};
 ghost use Rattle.posting.specs.Postings.{set_of, holds, IsPrepared, IsAbove, AllDiffer, SameSets, KeepsRoom, AddsNumber, WithdrawsNumber, selected};
 
 use crate::list::List;
 use crate::pages;
+use query::{Query, Trigram};
 use std::alloc::{AllocError, Global};
 use std::marker::Model;
-use trigram::{Query, Trigram};
 
 /// A set of numbers for each trigram.
 ///

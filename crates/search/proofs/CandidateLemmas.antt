@@ -7,8 +7,8 @@ use Rattle.std.proofs.lemmas.Option.{slice_get_within, get_or_from_slice_get}
 use Rattle.ere.specs.Tree.{Tree}
 use Rattle.ere.specs.Language.{ContainsMatch}
 use Rattle.ere.specs.Lines.{lines_of}
-use Rattle.trigram.specs.Trigrams.{TrigramSet, trigrams_of_body}
-use Rattle.trigram.specs.Query.{Formula, is_met}
+use Rattle.query.specs.Trigrams.{TrigramSet, trigrams_of_body}
+use Rattle.query.specs.Query.{Formula, is_met}
 use Rattle.trigram.specs.Analysis.{condition}
 use Rattle.trigram.proofs.LawLemmas.{matching_line}
 use Rattle.posting.specs.NumberSet.{has}

@@ -4,7 +4,7 @@ use Rattle.std.specs.Option.{ForSome}
 use Rattle.std.specs.Coded.{×_prop, Unit-prop, le_prop}
 use mathlib.Core.Bool.{Bool-set}
 use Rattle.ere.specs.declared.tree.Ere.{Ere}
-use Rattle.trigram.specs.declared.query.Query.{Query}
+use Rattle.query.specs.declared.query.Query.{Query}
 use Rattle.search.specs.Queries.{IsQueryOf}
 use Rattle.ere.specs.Tree.{Tree, empty, set, at_start, at_end, cat, alt, repeat, Trees, none, more, form}
 use Rattle.ere.specs.Limits.{HasTwo, IsProper, AreProper, IsWithinLimits}

@@ -2,9 +2,9 @@
 use Rattle.std.specs.Prelude.{◌≡◌}
 use Rattle.ere.specs.declared.tree.Ere.{Ere}
 use Rattle.ere.specs.Tree.{form}
-use Rattle.trigram.specs.declared.query.Query.{Query}
-use Rattle.trigram.specs.Trigrams.{TrigramSet}
-use Rattle.trigram.specs.Query.{formula_of, is_met}
+use Rattle.query.specs.declared.query.Query.{Query}
+use Rattle.query.specs.Trigrams.{TrigramSet}
+use Rattle.query.specs.Query.{formula_of, is_met}
 use Rattle.trigram.specs.Analysis.{condition}
 
 -- The query is met exactly by the sets of trigrams that meet the condition of the tree.

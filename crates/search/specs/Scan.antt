@@ -7,7 +7,7 @@ use Rattle.std.specs.declared.cmp.Ordering.{Ordering}
 use Rattle.ere.specs.Language.{ContainsMatch}
 use Rattle.ere.specs.Tree.{Tree}
 use Rattle.ere.specs.Lines.{lines_of}
-use Rattle.trigram.specs.Trigrams.{trigrams_of_body}
+use Rattle.query.specs.Trigrams.{trigrams_of_body}
 use Rattle.trigram.specs.Analysis.{condition}
 use Rattle.index.specs.declared.command.Command.{Command}
 use Rattle.index.specs.Documents.{Document, documents_of}

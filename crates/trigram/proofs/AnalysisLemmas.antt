@@ -11,10 +11,10 @@ use Rattle.ere.specs.Tree.{Tree, Trees, form, trees_of}
 use Rattle.ere.specs.Tree as tree
 use Rattle.trigram.specs.declared.analysis.Words.{Words}
 use Rattle.trigram.specs.declared.analysis.Ends.{Ends}
-use Rattle.trigram.specs.declared.query.Query.TheVariants as query
-use Rattle.trigram.specs.Forms.{formula_of-Any}
-use Rattle.trigram.specs.Trigrams.{TrigramSet}
-use Rattle.trigram.specs.Query.{formula_of, is_met}
+use Rattle.query.specs.declared.query.Query.TheVariants as query
+use Rattle.query.proofs.Forms.{formula_of-Any}
+use Rattle.query.specs.Trigrams.{TrigramSet}
+use Rattle.query.specs.Query.{formula_of, is_met}
 use Rattle.trigram.specs.Texts.{Texts, has_text, union, joins, has_all_of_one}
 use Rattle.trigram.specs.Analysis.{SetTest, Analysis, known, loose, just_empty, either, both, copies_of, repeated, bytes_in, one_byte, analysis_of, both_all, either_all, words_analysis, ArePlain, StandFor, EndsStandFor, settle_loose}
 

@@ -4,7 +4,7 @@ use Rattle.std.proofs.lemmas.Bool.{or_left, or_right, and_parts, and_from}
 use Rattle.std.proofs.lemmas.Bool.Decides.{nat_tests}
 use Rattle.std.proofs.lemmas.List.{append_assoc, append-nil}
 use Rattle.ere.proofs.Words.{WordSet, IsPower}
-use Rattle.trigram.specs.Trigrams.{TrigramSet, holds_front, has_all_trigrams}
+use Rattle.query.specs.Trigrams.{TrigramSet, holds_front, has_all_trigrams}
 use Rattle.trigram.specs.Texts.{Texts, has_text, union, joins, has_all_of_one, ending, kept_ends}
 use Rattle.trigram.specs.Analysis.{SetTest, Analysis, known, loose, anything, just_empty, settle_loose, settle_known, are_kept, loosen, is_nullable, fronts_of, backs_of, condition_beside, either, both, joined_fronts, joined_backs, across, copies_of, optional, repeated}
 use Rattle.trigram.proofs.MemberLemmas.{IsIn, has_text-IsIn, IsIn-union_left, IsIn-union_right, IsIn-joins, list_any-IsIn, IsFront, IsBack, IsFront-trans, IsBack-trans, kept_front, kept_back}

@@ -1,5 +1,3 @@
-pub mod BodyLemmas
-pub mod QueryLemmas
 pub mod TextsLemmas
 pub mod AnalysisLemmas
 pub mod MemberLemmas

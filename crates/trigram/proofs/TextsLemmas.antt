@@ -4,10 +4,10 @@ use Rattle.std.specs.declared.alloc.Global.{Global}
 use Rattle.std.specs.declared.vec.Vec.{Vec}
 use Rattle.std.proofs.lemmas.List.{drop_more, drop_all}
 use Rattle.std.proofs.Math.Bool.{and_assoc, or_assoc}
-use Rattle.trigram.specs.declared.query.Connective.{Connective}
-use Rattle.trigram.specs.declared.query.Connective.TheVariants.{And, Or}
-use Rattle.trigram.specs.Trigrams.{TrigramSet, trigram_of, holds_front, has_all_trigrams}
-use Rattle.trigram.specs.Query.{Formula, always, never, has, is_met, joined, IsPlain, IsJoin, IsPlainFor}
+use Rattle.query.specs.declared.query.Connective.{Connective}
+use Rattle.query.specs.declared.query.Connective.TheVariants.{And, Or}
+use Rattle.query.specs.Trigrams.{TrigramSet, trigram_of, holds_front, has_all_trigrams}
+use Rattle.query.specs.Query.{Formula, always, never, has, is_met, joined, IsPlain, IsJoin, IsPlainFor}
 use Rattle.trigram.specs.Texts.{Texts, texts_of, with_text, with_texts}
 
 pub next_text : (texts : List (Vec ℕ Global)) (i : ℕ) (x : Vec ℕ Global) → i < length texts → x ≡ get_or texts i x → texts_of (drop i texts) ≡ x.items ∷ texts_of (drop (i + 1) texts)

@@ -7,11 +7,11 @@ use Rattle.std.specs.List.{list_all, range_with_len}
 use Rattle.ere.specs.ByteSet.{has}
 use Rattle.ere.specs.Tree.{Tree, Trees}
 use Rattle.ere.specs.Tree as tree
-use Rattle.trigram.specs.Trigrams.{TrigramSet}
+use Rattle.query.specs.Trigrams.{TrigramSet}
 use Rattle.trigram.specs.declared.analysis.Ends.{Ends}
 use Rattle.trigram.specs.declared.analysis.Words.{Words}
 use Rattle.trigram.specs.declared.analysis.Words.TheVariants.{Known, Loose}
-use Rattle.trigram.specs.Query.{formula_of, is_met, IsPlain}
+use Rattle.query.specs.Query.{formula_of, is_met, IsPlain}
 use Rattle.trigram.specs.Texts.{Texts, texts_of, has_text, union, joins, has_all_of_one, ending, most_texts, kept_ends}
 
 -- a test of sets of trigrams

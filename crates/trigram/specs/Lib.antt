@@ -1,6 +1,5 @@
-pub mod Trigrams
-pub mod Query
-pub mod Forms
 pub mod Texts
 pub mod Analysis
 pub mod Laws
+pub use Rattle.query.specs.Trigrams
+pub use Rattle.query.specs.Query

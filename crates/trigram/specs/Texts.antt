@@ -7,7 +7,7 @@ use Rattle.std.specs.declared.alloc.Global.{Global}
 use Rattle.std.specs.declared.vec.Vec.{Vec}
 use Rattle.trigram.specs.declared.texts.Side.{Side}
 use Rattle.trigram.specs.declared.texts.Side.TheVariants.{Front, Back}
-use Rattle.trigram.specs.Trigrams.{TrigramSet, has_all_trigrams}
+use Rattle.query.specs.Trigrams.{TrigramSet, has_all_trigrams}
 
 -- the texts of a program's set
 abbrev pub texts_of : List (Vec ℕ Global) → List (List ℕ)

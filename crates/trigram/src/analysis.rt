@@ -4,15 +4,15 @@ ghost use Rattle.std.specs.Prelude.{◌≡◌, IfOk, List, ℕ, map, ◌∷◌, 
 ghost use Rattle.ere.specs.Limits.{IsWithinLimits};
 ghost use Rattle.ere.specs.Tree.{form, trees_of};
 ghost use Rattle.ere.specs.Tree as tree;
-ghost use Rattle.trigram.specs.Query.{formula_of, is_met, IsPlain, IsPlainFor};
+ghost use Rattle.query.specs.Query.{formula_of, is_met, IsPlain, IsPlainFor};
 ghost use Rattle.trigram.specs.Texts.{texts_of, union};
 ghost use Rattle.trigram.specs.Analysis.{just_empty, anything, settle_loose, settle_known, are_kept, loosen, either, both, copies_of, optional, repeated, bytes_in, one_byte, analysis_of, condition, known, words_analysis, ends_analysis, ArePlain, StandFor, EndsStandFor};
 
-use crate::query::{Connective, Query, copied, join};
 use crate::texts::{
     MOST_TEXTS, Side, copied_texts, has_text, joins, kept_ends, query_of_texts, union,
 };
 use ere::{ByteSet, Ere};
+use query::{Connective, Query, copied, join};
 use std::alloc::{AllocError, Global};
 
 /// The length of the longest text that is kept whole, in bytes.

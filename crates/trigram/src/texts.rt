@@ -1,12 +1,11 @@
 //! Sets of texts: each text once, in the order of first appearance.
 
 ghost use Rattle.std.specs.Prelude.{◌≡◌, ◌++◌, IfOk, OnOk, map};
-ghost use Rattle.trigram.specs.Trigrams.{has_all_trigrams};
-ghost use Rattle.trigram.specs.Query.{formula_of, IsPlainFor};
+ghost use Rattle.query.specs.Trigrams.{has_all_trigrams};
+ghost use Rattle.query.specs.Query.{formula_of, IsPlainFor};
 ghost use Rattle.trigram.specs.Texts.{texts_of, has_text, with_text, with_texts, union, joins, kept_ends, cuts, shortest, has_shorter_end, cut_at, has_all_of_one};
 
-use crate::number::Trigram;
-use crate::query::{Connective, Query, join};
+use query::{Connective, Query, Trigram, join};
 use std::alloc::{AllocError, Global};
 
 /// The most texts that are kept.

@@ -1,7 +1,7 @@
 use Rattle.std.proofs.Common.{subst, ◌∙◌, arith}
 use Rattle.std.specs.Prelude.{flat_map}
 use Rattle.index.specs.Documents.{documents_of}
-use Rattle.trigram.specs.Query.{formula_of}
+use Rattle.query.specs.Query.{formula_of}
 use Rattle.search.specs.Found.{found_all}
 use Rattle.search.specs.Prepared.{pattern_of}
 use Rattle.search.specs.Selects.{Selects, IsWanted, lines_at}

@@ -1,6 +1,6 @@
 use Rattle.std.proofs.Common.{ap, ◌∙◌, ◌&&◌, arith}
 use Rattle.std.proofs.lemmas.Result.{IfOk-weaker}
-use Rattle.trigram.specs.Query.{formula_of, is_met}
+use Rattle.query.specs.Query.{formula_of, is_met}
 use Rattle.trigram.specs.Texts.{texts_of, has_all_of_one}
 use Rattle.trigram.proofs.AnalysisLemmas.{both_loose_stands}
 use Rattle.trigram.proofs.analysis.both_loose.Goals as goal

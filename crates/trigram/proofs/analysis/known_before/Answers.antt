@@ -1,6 +1,6 @@
 use Rattle.std.proofs.Common.{arith}
 use Rattle.std.proofs.lemmas.Result.{IfOk-weaker}
-use Rattle.trigram.specs.Query.{formula_of, is_met}
+use Rattle.query.specs.Query.{formula_of, is_met}
 use Rattle.trigram.specs.Texts.{texts_of}
 use Rattle.trigram.proofs.AnalysisLemmas.{known_before_stands}
 use Rattle.trigram.proofs.analysis.known_before.Goals as goal

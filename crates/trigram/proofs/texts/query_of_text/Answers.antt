@@ -1,8 +1,8 @@
 use Rattle.std.proofs.Common.{◌+◌, drop, arith, length-drop}
-use Rattle.trigram.specs.Forms.{formula_of-Any, formula_of-Has}
-use Rattle.trigram.specs.declared.query.Connective.TheVariants.{And}
-use Rattle.trigram.specs.Trigrams.{has_all_trigrams}
-use Rattle.trigram.specs.Query.{formula_of, has}
+use Rattle.query.proofs.Forms.{formula_of-Any, formula_of-Has}
+use Rattle.query.specs.declared.query.Connective.TheVariants.{And}
+use Rattle.query.specs.Trigrams.{has_all_trigrams}
+use Rattle.query.specs.Query.{formula_of, has}
 use Rattle.trigram.proofs.TextsLemmas.{IsQuerySoFar-always, IsQuerySoFar-more, IsPlainFor-and, IsPlainFor-has, trigrams_step, short_text}
 use Rattle.trigram.proofs.texts.query_of_text.Goals as goal
 

@@ -1,8 +1,8 @@
 use Rattle.std.proofs.Common.{drop}
-use Rattle.trigram.specs.Trigrams.{has_all_trigrams}
-use Rattle.trigram.specs.Query.{formula_of}
+use Rattle.query.specs.Trigrams.{has_all_trigrams}
+use Rattle.query.specs.Query.{formula_of}
 use Rattle.trigram.proofs.TextsLemmas.{IsQuerySoFar}
-use Rattle.trigram.specs.declared.query.Connective.TheVariants.{And}
+use Rattle.query.specs.declared.query.Connective.TheVariants.{And}
 use Rattle.trigram.proofs.texts.query_of_text.Given as goal
 
 abbrev pub invariant-loop-i : goal.invariant-loop-i

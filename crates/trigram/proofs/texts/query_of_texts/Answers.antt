@@ -1,8 +1,8 @@
 use Rattle.std.proofs.Common.{◌+◌, drop, ap}
-use Rattle.trigram.specs.Forms.{formula_of-None}
-use Rattle.trigram.specs.declared.query.Connective.TheVariants.{Or}
-use Rattle.trigram.specs.Trigrams.{has_all_trigrams}
-use Rattle.trigram.specs.Query.{formula_of}
+use Rattle.query.proofs.Forms.{formula_of-None}
+use Rattle.query.specs.declared.query.Connective.TheVariants.{Or}
+use Rattle.query.specs.Trigrams.{has_all_trigrams}
+use Rattle.query.specs.Query.{formula_of}
 use Rattle.trigram.specs.Texts.{texts_of, has_all_of_one}
 use Rattle.trigram.proofs.TextsLemmas.{IsQuerySoFar-never, IsQuerySoFar-more, IsPlainFor-or, next_text, no_texts}
 use Rattle.trigram.proofs.texts.query_of_texts.Goals as goal

@@ -1,8 +1,8 @@
 use Rattle.std.proofs.Common.{drop}
 use Rattle.trigram.specs.Texts.{texts_of, has_all_of_one}
-use Rattle.trigram.specs.Query.{formula_of}
+use Rattle.query.specs.Query.{formula_of}
 use Rattle.trigram.proofs.TextsLemmas.{IsQuerySoFar}
-use Rattle.trigram.specs.declared.query.Connective.TheVariants.{Or}
+use Rattle.query.specs.declared.query.Connective.TheVariants.{Or}
 use Rattle.trigram.proofs.texts.query_of_texts.Given as goal
 
 abbrev pub invariant-loop-text : goal.invariant-loop-text

@@ -1,7 +1,7 @@
 use Rattle.std.proofs.Common.{◌≡◌, map, ◌∙◌, subst}
 use Rattle.std.specs.Prelude.{filter}
 use Rattle.std.proofs.lemmas.Result.{IfOk-weaker}
-use Rattle.trigram.specs.Query.{formula_of, is_met}
+use Rattle.query.specs.Query.{formula_of, is_met}
 use Rattle.posting.specs.Postings.{trigrams_with}
 use Rattle.index.specs.Documents.{documents_of, meets}
 use Rattle.index.specs.SetParts.{AreSetsOf}

@@ -1,0 +1,3 @@
+pub mod Trigrams
+pub mod Query
+pub mod QueryParts

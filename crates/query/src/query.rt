@@ -1,0 +1,269 @@
+//! Queries over sets of trigrams.
+
+ghost use Rattle.std.specs.Prelude.{◌≡◌, ◌<◌, ◌↔◌, IfOk, OnOk, IsTrue, length, map, Some, [], ◌∷◌};
+ghost use Rattle.query.specs.Query.{formula_of, formulas_of, IsPlain, IsReduced, AreReducedParts, IsJoin, IsSimplification};
+ghost use Rattle.query.specs.QueryParts.{is_of, idle, constant_of, AreMembersOf, HasTakenIn, IsCompound, AddsNothing};
+
+use crate::number::Trigram;
+use std::alloc::{AllocError, Global};
+
+/// A condition on a set of trigrams.
+#[derive(Clone, Debug, PartialEq, Eq, Drop)]
+pub enum Query {
+    /// Every set meets it.
+    Any,
+    /// No set meets it.
+    None,
+    /// The set has this trigram.
+    Has(Trigram),
+    /// The set meets each of these; with no members it is met by every set.
+    And(Vec<Query>),
+    /// The set meets one of these; with no members it is met by no set.
+    Or(Vec<Query>),
+}
+
+/// How the members of a query are joined.
+#[derive(Clone, Copy)]
+pub enum Connective {
+    And,
+    Or,
+}
+
+/// How many members before it a further conjunct is compared with.
+const NEIGHBOURS: usize = 64;
+
+/// An equal query.
+#[cycle(copied)]
+pub fn copied(alloc: Global, query: &Query) -> Result<Query, AllocError>
+    ensures { IfOk result (λ copy. formula_of copy ≡ formula_of query.now) }
+{
+    match query {
+        Query::Any => Ok(Query::Any),
+        Query::None => Ok(Query::None),
+        Query::Has(trigram) => Ok(Query::Has(*trigram)),
+        Query::And(members) => Ok(Query::And(all_copied(alloc, members.as_slice())?)),
+        Query::Or(members) => Ok(Query::Or(all_copied(alloc, members.as_slice())?)),
+    }
+}
+
+#[cycle(copied)]
+fn all_copied(alloc: Global, members: &[Query]) -> Result<Vec<Query>, AllocError>
+    ensures { IfOk result (λ copies. map formula_of copies.items ≡ map formula_of members.now) }
+{
+    let mut copies = Vec::new(alloc);
+    for member in members {
+        copies.push(copied(alloc, member)?)?;
+    }
+    Ok(copies)
+}
+
+#[cycle(same)]
+fn is_same(left: &Query, right: &Query) -> bool
+    ensures { IsTrue result → formula_of left.now ≡ formula_of right.now }
+{
+    match (left, right) {
+        (Query::Any, Query::Any) => true,
+        (Query::None, Query::None) => true,
+        (Query::Has(one), Query::Has(other)) => one.number() == other.number(),
+        (Query::And(ones), Query::And(others)) => are_same(ones.as_slice(), others.as_slice()),
+        (Query::Or(ones), Query::Or(others)) => are_same(ones.as_slice(), others.as_slice()),
+        _ => false,
+    }
+}
+
+#[cycle(same)]
+fn are_same(ones: &[Query], others: &[Query]) -> bool
+    ensures { IsTrue result → map formula_of ones.now ≡ map formula_of others.now }
+{
+    if ones.len() != others.len() {
+        return false;
+    }
+    for i in 0..ones.len() {
+        if !is_same(&ones[i], &others[i]) {
+            return false;
+        }
+    }
+    true
+}
+
+/// A plain query with the same truth at every set of trigrams. Plain means: it is `Any` or `None`, or it has
+/// neither in it, each `And` and `Or` in it has at least two members, and no `And` stands directly in an
+/// `And`, no `Or` directly in an `Or`.
+///
+/// An `Err` comes where memory runs out; the query is then dropped.
+pub fn simplify(alloc: Global, query: Query) -> Result<Query, AllocError>
+    ensures { IfOk result (λ plain. IsSimplification (formula_of query) (formula_of plain)) }
+{
+    simplified(alloc, &query)
+}
+
+#[cycle(simplified)]
+fn simplified(alloc: Global, query: &Query) -> Result<Query, AllocError>
+    ensures { IfOk result (λ plain. IsSimplification (formula_of query.now) (formula_of plain)) }
+{
+    match query {
+        Query::Any => Ok(Query::Any),
+        Query::None => Ok(Query::None),
+        Query::Has(trigram) => Ok(Query::Has(*trigram)),
+        Query::And(members) => all_simplified(alloc, Connective::And, members.as_slice()),
+        Query::Or(members) => all_simplified(alloc, Connective::Or, members.as_slice()),
+    }
+}
+
+#[cycle(simplified)]
+fn all_simplified(
+    alloc: Global,
+    connective: Connective,
+    members: &[Query],
+) -> Result<Query, AllocError>
+    ensures { IfOk result (λ whole. IsCompound connective (map formula_of members.now) (formula_of whole)) }
+{
+    let mut whole = constant(idle(connective));
+    for member in members {
+        whole = join(alloc, connective, whole, simplified(alloc, member)?)?;
+    }
+    Ok(whole)
+}
+
+/// Two plain queries joined. A conjunct that stands already is left out where it is found soon.
+pub fn join(
+    alloc: Global,
+    connective: Connective,
+    left: Query,
+    right: Query,
+) -> Result<Query, AllocError>
+    requires left { IsPlain (formula_of left) }
+    requires right { IsPlain (formula_of right) }
+    ensures { IfOk result (λ whole. IsJoin connective (formula_of left) (formula_of right) (formula_of whole)) }
+{
+    if let Some(met) = constant_of(&left) {
+        if met == idle(connective) {
+            return Ok(right);
+        }
+        return Ok(left);
+    }
+    if let Some(met) = constant_of(&right) {
+        if met == idle(connective) {
+            return Ok(left);
+        }
+        return Ok(right);
+    }
+    let mut members = members_of(alloc, connective, left)?;
+    let further = members_of(alloc, connective, right)?;
+    take_in(connective, &mut members, further)?;
+    Ok(compound(connective, members))
+}
+
+fn idle(connective: Connective) -> bool
+    ensures { result ≡ idle connective }
+{
+    match connective {
+        Connective::And => true,
+        Connective::Or => false,
+    }
+}
+
+fn constant(met: bool) -> Query
+    ensures { constant_of (formula_of result) ≡ Some met }
+{
+    if met { Query::Any } else { Query::None }
+}
+
+fn constant_of(query: &Query) -> Option<bool>
+    ensures { result ≡ constant_of (formula_of query.now) }
+{
+    match query {
+        Query::Any => Some(true),
+        Query::None => Some(false),
+        Query::Has(_) => None,
+        Query::And(_) => None,
+        Query::Or(_) => None,
+    }
+}
+
+fn is_of(connective: Connective, query: &Query) -> bool
+    ensures { result ≡ is_of connective (formula_of query.now) }
+{
+    match query {
+        Query::Any => false,
+        Query::None => false,
+        Query::Has(_) => false,
+        Query::And(_) => idle(connective),
+        Query::Or(_) => !idle(connective),
+    }
+}
+
+fn members_of(alloc: Global, connective: Connective, query: Query) -> Result<Vec<Query>, AllocError>
+    requires { IsReduced (formula_of query) }
+    ensures { IfOk result (λ members. AreMembersOf connective (formula_of query) (map formula_of members.items)) }
+{
+    if !is_of(connective, &query) {
+        let mut members = Vec::new(alloc);
+        members.push(query)?;
+        return Ok(members);
+    }
+    match query {
+        Query::And(members) => Ok(members),
+        Query::Or(members) => Ok(members),
+        Query::Any => Ok(Vec::new(alloc)),
+        Query::None => Ok(Vec::new(alloc)),
+        Query::Has(_) => Ok(Vec::new(alloc)),
+    }
+}
+
+fn take_in(
+    connective: Connective,
+    members: &mut Vec<Query>,
+    further: Vec<Query>,
+) -> Result<(), AllocError>
+    requires old { AreReducedParts (is_of connective) (formulas_of (map formula_of members.old.items)) }
+    requires further { AreReducedParts (is_of connective) (formulas_of (map formula_of further.items)) }
+    ensures { OnOk result (HasTakenIn connective (map formula_of members.old.items) (map formula_of further.items) (map formula_of members.new.items)) }
+{
+    for member in further {
+        add(connective, members, member)?;
+    }
+    Ok(())
+}
+
+fn add(connective: Connective, members: &mut Vec<Query>, member: Query) -> Result<(), AllocError>
+    requires old { AreReducedParts (is_of connective) (formulas_of (map formula_of members.old.items)) }
+    requires further { AreReducedParts (is_of connective) (formulas_of (formula_of member ∷ [])) }
+    ensures { OnOk result (HasTakenIn connective (map formula_of members.old.items) (formula_of member ∷ []) (map formula_of members.new.items)) }
+{
+    if is_repeated(connective, members.as_slice(), &member) {
+        return Ok(());
+    }
+    members.push(member)?;
+    Ok(())
+}
+
+fn is_repeated(connective: Connective, members: &[Query], member: &Query) -> bool
+    ensures { IsTrue result → AddsNothing connective (map formula_of members.now) (formula_of member.now) }
+{
+    match connective {
+        Connective::Or => false,
+        Connective::And => {
+            for i in members.len().saturating_sub(NEIGHBOURS)..members.len() {
+                if is_same(&members[i], member) {
+                    return true;
+                }
+            }
+            false
+        }
+    }
+}
+
+fn compound(connective: Connective, mut members: Vec<Query>) -> Query
+    requires parts { AreReducedParts (is_of connective) (formulas_of (map formula_of members.items)) }
+    requires some { 0 < length members.items }
+    ensures { IsCompound connective (map formula_of members.items) (formula_of result) }
+{
+    if members.len() == 1 {
+        return members.remove(0);
+    }
+    match connective {
+        Connective::And => Query::And(members),
+        Connective::Or => Query::Or(members),
+    }
+}
