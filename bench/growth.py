@@ -14,7 +14,6 @@ sys.path.insert(0, os.path.dirname(os.path.abspath(__file__)))
 import corpus
 import timed
 
-PROGRAM = os.path.join(os.path.dirname(os.path.abspath(__file__)), "..", "crates", "program", "out", "program")
 MOST_CHANGES = 4000
 WORDS = "alpha beta gamma delta int return static void char const struct if else while for memory index search line".split()
 
@@ -32,7 +31,7 @@ def run(target, parts):
     path = os.path.join(target, "script")
     with open(path, "wb") as script:
         script.writelines(parts)
-    return min((timed.run([PROGRAM, "--max-commands", "1000000", path]) for _ in range(5)), key=lambda r: r["seconds"])
+    return min((timed.run([timed.PROGRAM, "--max-commands", "1000000", path]) for _ in range(5)), key=lambda r: r["seconds"])
 
 
 def times_of_changes(target, puts, names, bodies):
@@ -65,6 +64,7 @@ def files_of(folder, target):
 
 
 def main():
+    timed.need_program()
     print("| documents | to the publish s | resident MB | one search ms | adding ms | removing ms | replacing ms |")
     print("|---|---|---|---|---|---|---|")
     with tempfile.TemporaryDirectory() as target:

@@ -10,7 +10,6 @@ sys.path.insert(0, os.path.dirname(os.path.abspath(__file__)))
 import corpus
 import timed
 
-PROGRAM = os.path.join(os.path.dirname(os.path.abspath(__file__)), "..", "crates", "program", "out", "program")
 PATTERNS = ["e", "int", "^#include", ";$", "[0-9]+", "[A-Za-z_]+\\(", "(if|while|for) *\\(", "a.*b.*c", "(ab|cd)*e", "x{2,5}y?"]
 
 
@@ -43,16 +42,17 @@ def script_of(target, lines, searches):
 
 
 def search_time(target, lines, pattern):
-    base = min(timed.run([PROGRAM, script_of(target, lines, [])])["seconds"] for _ in range(3))
+    base = min(timed.run([timed.PROGRAM, script_of(target, lines, [])])["seconds"] for _ in range(3))
     count = 1
     while True:
-        spent = timed.run([PROGRAM, script_of(target, lines, [pattern] * count)])["seconds"] - base
+        spent = timed.run([timed.PROGRAM, script_of(target, lines, [pattern] * count)])["seconds"] - base
         if spent > 0.3 or count >= 1024:
             return max(spent, 0) / count
         count *= 4
 
 
 def main():
+    timed.need_program()
     env = dict(os.environ, LC_ALL="C")
     with tempfile.TemporaryDirectory() as target:
         lines = lines_of(sys.argv[1], 20000)

@@ -1,8 +1,17 @@
 """Runs a command, and tells its seconds, its resident memory and its output."""
 import os
 import subprocess
+import sys
 import tempfile
 import time
+
+PROGRAM = os.path.join(os.path.dirname(os.path.abspath(__file__)), "..", "crates", "program", "out", "program")
+
+
+def need_program():
+    """Ends with a message where the program is not built."""
+    if not os.access(PROGRAM, os.X_OK):
+        sys.exit(os.path.basename(sys.argv[0]) + ": build the program first: ./tsearch --help")
 
 
 def run(words, stdin=None, env=None):

@@ -12,8 +12,6 @@ sys.path.insert(0, os.path.dirname(os.path.abspath(__file__)))
 import corpus
 import timed
 
-PROGRAM = os.path.join(os.path.dirname(os.path.abspath(__file__)), "..", "crates", "program", "out", "program")
-
 PATTERNS = [
     ("a rare literal", "unlikely_to_be_there_twice|GNU_GETTEXT_REQUIRE"),
     ("a rare literal", "inflateInit2_"),
@@ -42,7 +40,7 @@ def search_time(target, pattern, base):
     """Seconds of one search: more copies of it until they are well above the noise."""
     count = 1
     while True:
-        words = [PROGRAM, "--stats", "--max-commands", "1000000", script_with(target, [pattern] * count)]
+        words = [timed.PROGRAM, "--stats", "--max-commands", "1000000", script_with(target, [pattern] * count)]
         found = min((timed.run(words) for _ in range(3)), key=lambda r: r["seconds"])
         spent = found["seconds"] - base
         if spent > max(0.4, base) or count >= 4096:
@@ -51,11 +49,12 @@ def search_time(target, pattern, base):
 
 
 def main():
+    timed.need_program()
     folder = sys.argv[1]
     with tempfile.TemporaryDirectory() as target:
         taken = corpus.make(folder, target)
         print("files %(files)d, bytes %(bytes)d, refused %(refused)d, by load lines: %(loaded)s" % taken)
-        empty = min((timed.run([PROGRAM, "--max-commands", "1000000", script_with(target, [])]) for _ in range(5)), key=lambda r: r["seconds"])
+        empty = min((timed.run([timed.PROGRAM, "--max-commands", "1000000", script_with(target, [])]) for _ in range(5)), key=lambda r: r["seconds"])
         base = empty["seconds"]
         print("to the first publish %.3f s, %.1f MB/s, resident %.2f bytes a byte" % (base, taken["bytes"] / base / 1e6, empty["memory"] / taken["bytes"]))
         files = os.path.join(target, "files")

@@ -203,6 +203,8 @@ def with_those_below(names, uses):
 
 
 def build(folder):
+    if not shutil.which("rt"):
+        sys.exit("trigrams.py: the command rt of the Rattle kit, which builds the program, is not on the PATH")
     uses = lines_of_crates()
     crates = with_those_below(USES, uses)
     for name in crates:

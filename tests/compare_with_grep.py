@@ -14,6 +14,7 @@ import os
 import pathlib
 import random
 import re
+import resource
 import subprocess
 import sys
 import tempfile
@@ -21,8 +22,11 @@ import tempfile
 TOP = pathlib.Path(__file__).resolve().parent.parent
 PROGRAM = TOP / "crates/program/out/program"
 SEARCHES_OF_A_RUN = 1000
-# Some patterns keep grep busy for minutes; those are counted and passed over.
+# Some patterns keep grep busy for minutes, or make it take all memory; those are counted and passed over.
 SECONDS_OF_GREP = 10
+BYTES_OF_GREP = 2_000_000_000
+# What a thousand searches may take here.
+SECONDS_OF_A_RUN = 600
 CLASSES = "upper lower alpha digit alnum xdigit punct graph print blank space cntrl".split()
 BYTES = b"aaabbbccAB01 .-]^$_\t\xff"
 # Pieces of which texts are made that need not be patterns.
@@ -32,11 +36,11 @@ PIECES += [b"[:", b":]", b"[.", b".]", b"[=a=]", b"\xff", b" "]
 
 
 class TooSlow(Exception):
-    """grep did not end in its time."""
+    """grep did not end in its time or its memory."""
 
 
 class Patterns:
-    """Random patterns that spell a tree, and whether an anchor stands in a repeated group of them."""
+    """Random patterns that spell a tree, and whether an anchor is in a repeated group of them."""
 
     def __init__(self, chance):
         self.chance = chance
@@ -90,7 +94,7 @@ class Patterns:
         return b"|".join(b[0] for b in branches), any(b[1] for b in branches), any(b[2] for b in branches)
 
     def pattern(self):
-        """A pattern, and whether an anchor may stand in a repeated group of it."""
+        """A pattern, and whether an anchor may be in a repeated group of it."""
         if self.chance.randrange(4) > 0:
             text, _, repeated = self.alternatives(3)
             return text, repeated
@@ -103,7 +107,10 @@ def answers(lines, patterns):
     body = b"\n".join(lines)
     script = b"put f %d\n%s\npublish\n" % (len(body), body)
     script += b"".join(b"search " + pattern + b"\n" for pattern in patterns)
-    done = subprocess.run([str(PROGRAM)], input=script, capture_output=True, timeout=600)
+    try:
+        done = subprocess.run([str(PROGRAM)], input=script, capture_output=True, timeout=SECONDS_OF_A_RUN)
+    except subprocess.TimeoutExpired:
+        sys.exit(f"the program did not answer {len(patterns)} searches in {SECONDS_OF_A_RUN} seconds")
     if done.stderr:
         sys.exit(f"the program wrote {done.stderr!r}")
     found = []
@@ -111,16 +118,25 @@ def answers(lines, patterns):
     rest = done.stdout.split(b"\n")
     at = 0
     for number in range(1, len(patterns) + 1):
-        head = rest[at].decode("latin-1")
+        head = rest[at].decode("latin-1") if at < len(rest) else "nothing more"
         refused = re.fullmatch(rf"search {number} refused: (.*?)( at \d+)?", head)
         if refused:
             found.append(refused.group(1))
             at += 1
             continue
-        count = int(re.fullmatch(rf"search {number} version 1 lines (\d+)", head).group(1))
+        answered = re.fullmatch(rf"search {number} version 1 lines (\d+)", head)
+        if not answered:
+            sys.exit(f"the answer to search {number}, {patterns[number - 1]!r}, begins with {head!r}")
+        count = int(answered.group(1))
         found.append({int(line.split(b":", 2)[1]) for line in rest[at + 1 : at + 1 + count]})
         at += 1 + count
     return found
+
+
+def limit_grep():
+    """Ends a grep by the system where this script's own clock would not, and keeps its memory small."""
+    resource.setrlimit(resource.RLIMIT_CPU, (SECONDS_OF_GREP, SECONDS_OF_GREP + 1))
+    resource.setrlimit(resource.RLIMIT_AS, (BYTES_OF_GREP, BYTES_OF_GREP))
 
 
 def grep(path, pattern):
@@ -131,9 +147,12 @@ def grep(path, pattern):
             capture_output=True,
             timeout=SECONDS_OF_GREP,
             env=dict(os.environ, LC_ALL="C"),
+            preexec_fn=limit_grep,
         )
     except subprocess.TimeoutExpired:
         raise TooSlow from None
+    if done.returncode < 0 or b"memory exhausted" in done.stderr or b"stack overflow" in done.stderr:
+        raise TooSlow
     if done.returncode > 1:
         return None
     return {int(line.split(b":", 1)[0]) for line in done.stdout.splitlines()}
@@ -157,6 +176,8 @@ def kind_of(pattern, repeated, ours, theirs):
 
 
 def main():
+    if not PROGRAM.exists():
+        sys.exit("tests/compare_with_grep.py: build the program first: ./tsearch --help")
     options = argparse.ArgumentParser(description="Compares the program with grep -E.")
     options.add_argument("--patterns", type=int, default=4000)
     options.add_argument("--lines", type=int, default=400)

@@ -8,9 +8,9 @@ A case NAME of tests/cases has some of these files:
     NAME.run          a bash script that is run instead, with the paths PROGRAM and SCRIPT
     NAME.setup        a bash script that is run before, in the case's own new folder
     NAME.stdout       what must be written to standard output; no file: nothing
-    NAME.stdout-has   instead, lines each of which must stand somewhere in it
+    NAME.stdout-has   instead, lines each of which must be somewhere in it
     NAME.stderr       what must be written to standard error; no file: nothing
-    NAME.stderr-has   instead, lines each of which must stand somewhere in it
+    NAME.stderr-has   instead, lines each of which must be somewhere in it
     NAME.status       the status; no file: 0
 
 A case whose arguments say nothing of readers is run with each of several numbers of readers too, and must
@@ -22,6 +22,7 @@ Usage: tests/run.py [NAME..]   The last line counts: N passed, M failed.
 
 import os
 import pathlib
+import signal
 import subprocess
 import sys
 import tempfile
@@ -31,6 +32,7 @@ PROGRAM = TOP / "crates/program/out/program"
 CASES = TOP / "tests/cases"
 EXAMPLES = TOP / "examples"
 READERS = ["0", "1", "2", "16"]
+SUFFIXES = {".script", ".args", ".run", ".setup", ".stdout", ".stdout-has", ".stderr", ".stderr-has", ".status"}
 SECONDS = 120
 
 
@@ -44,13 +46,18 @@ def read_bytes(path):
 
 def run(command, folder, stdin, env=None):
     """Runs a command in a folder, and gives its status, standard output and standard error."""
-    try:
-        done = subprocess.run(
-            command, cwd=folder, input=stdin, capture_output=True, timeout=SECONDS, env=env
-        )
-    except subprocess.TimeoutExpired:
-        raise Wrong(f"did not end in {SECONDS} seconds") from None
-    return done.returncode, done.stdout, done.stderr
+    pipe = subprocess.PIPE
+    # in a session of its own, so that what a script started can be ended with it
+    with subprocess.Popen(
+        command, cwd=folder, stdin=pipe, stdout=pipe, stderr=pipe, env=env, start_new_session=True
+    ) as process:
+        try:
+            stdout, stderr = process.communicate(stdin, timeout=SECONDS)
+        except subprocess.TimeoutExpired:
+            os.killpg(process.pid, signal.SIGKILL)
+            process.communicate()
+            raise Wrong(f"did not end in {SECONDS} seconds") from None
+    return process.returncode, stdout, stderr
 
 
 def compare_stream(base, stream, text):
@@ -109,11 +116,18 @@ def run_example(base):
 
 def main():
     if not PROGRAM.exists():
-        sys.exit("tests/run.py: the program is not built; ./tsearch builds it")
-    cases = sorted({path.with_suffix("") for path in CASES.iterdir() if path.is_file()})
+        sys.exit("tests/run.py: build the program first: ./tsearch --help")
+    files = [path for path in CASES.iterdir() if path.is_file()]
+    strange = sorted(path.name for path in files if path.suffix not in SUFFIXES)
+    if strange:
+        sys.exit(f"tests/run.py: no part of a case: {', '.join(strange)}")
+    cases = sorted({path.with_suffix("") for path in files})
     examples = sorted(path.with_suffix("") for path in EXAMPLES.glob("*.script"))
     jobs = [(run_case, base) for base in cases] + [(run_example, base) for base in examples]
     wanted = sys.argv[1:]
+    missing = sorted(set(wanted) - {base.name for _, base in jobs})
+    if missing:
+        sys.exit(f"tests/run.py: no such case: {', '.join(missing)}")
     passed = failed = 0
     for job, base in jobs:
         if wanted and base.name not in wanted:

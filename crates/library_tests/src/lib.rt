@@ -9,15 +9,9 @@ mod answers;
 #[cfg(test)]
 mod documents;
 #[cfg(test)]
-mod filtering;
-#[cfg(test)]
 mod fixtures;
 #[cfg(test)]
 mod lists;
-#[cfg(test)]
-mod matching;
-#[cfg(test)]
-mod patterns;
 #[cfg(test)]
 mod runs;
 #[cfg(test)]

@@ -1,0 +1,99 @@
+//! Lines that contain a match, and lines that contain none.
+
+use crate::fixtures::{built, halves};
+use ere::{MAX_LINE, parse};
+use matcher::matches;
+use std::alloc::Global;
+use std::process::Abort;
+use std::test::Fail;
+
+/// The line contains a match of the pattern, or none.
+fn expect(
+    rt: &impl Abort,
+    alloc: Global,
+    pattern: &[u8],
+    line: &[u8],
+    found: bool,
+) -> Result<(), Fail> {
+    let tree = parse(alloc, pattern)?;
+    assert!(rt; tree.within_limits());
+    assert!(rt; line.len() <= MAX_LINE);
+    assert_eq!(rt; matches(&tree, line), found, "{pattern:?} in {line:?}");
+    Ok(())
+}
+
+/// Each line of a table contains a match of its pattern, or none. The rows are `PATTERN~LINES~LINES`: those with
+/// a match, and those without, parted by bars.
+const SHORT_LINES: &[u8] = b"(a|b$){2}~ab|aab~ba|aba
+(^a)+b~ab~aab
+(^)*ab~xab~xa
+$^~~a
+a{3,}~baaab~aa
+^(a|){2,3}$~|aaa~aaaa
+~|a
+^(ab){2,3}c~ababc|abababc~abc|ababababc
+x[ab]*y~-xaxbaby-|xy~xabcy
+^(ab|ba)+c$~abbaabc~abbaac|c
+a{1}b{2}c{3}d{0,2}$~abbccc|xabbcccdd~abbcc|abbcccddd
+one|two|three|four~xonex|twot|three|four~on|tow|thre|fou
+\xff{2}~a\xff\xff~\xffa\xff";
+
+#[test]
+fn short_lines(rt: HostRuntime) -> Result<(), Fail> {
+    let alloc = rt.alloc();
+    for row in SHORT_LINES.split(|b| *b == b'\n') {
+        let mut pattern = b"".as_slice();
+        for (i, part) in row.split(|b| *b == b'~').enumerate() {
+            if i == 0 {
+                pattern = part;
+            } else {
+                for line in part.split(|b| *b == b'|') {
+                    expect(&rt, alloc, pattern, line, i == 1)?;
+                }
+            }
+        }
+    }
+    // a set with no byte
+    expect(&rt, alloc, b"[^\x01-\xff]", b"a", false)?;
+    expect(&rt, alloc, b"[^\x01-\xff]", b"", false)
+}
+
+/// The rows are `+PATTERN~LINE` where the line contains a match, and `-PATTERN~LINE` where it contains none. Patterns
+/// and lines are of pieces. Each star doubles the work of the star inside it, unless a star of a star takes one
+/// round.
+const LONG_LINES: &[u8] = b"+^a*b$;1~a;63;b;1
++^a*b$;1~a;64;b;1
++^a*b$;1~a;4095;b;1
+-^a*b$;1~a;64
+-^a*b$;1~a;64;cb;1
++^(.{64}){63}.*x$;1~a;4032;x;1
++^(.{64}){63}.*x$;1~a;4095;x;1
+-^(.{64}){63}.*x$;1~a;4031;x;1
+-^(.{64}){63}.*x$;1~a;4096
++^.{64}b;1~a;64;b;1
+-^.{64}b;1~a;63;b;1
+-^.{64}b;1~a;65;b;1
++a{255};1~a;255
+-a{255};1~a;254
++^(a{64}){63}$;1~a;4032
+-^(a{64}){63}$;1~a;4031
+-^(aa)*a;1;*;40;b$;1~a;4000
++^a;1;*;62;b$;1~a;3;b;1
+-^a;1;*;62;b$;1~ac;1
++a|;39;b;1~xb;1
+-a|;39;b;1~xc;1
++^;1;a{2,3};40;$;1~a;120
+-^;1;a{2,3};40;$;1~a;79
+-^;1;a{2,3};40;$;1~a;121";
+
+#[test]
+fn long_lines(rt: HostRuntime) -> Result<(), Fail> {
+    let alloc = rt.alloc();
+    for row in LONG_LINES.split(|b| *b == b'\n') {
+        let found = row.starts_with(b"+");
+        let (pattern, line) = halves(&row[1.min(row.len())..]);
+        let pattern = built(alloc, pattern)?;
+        expect(&rt, alloc, &pattern, &built(alloc, line)?, found)?;
+    }
+    Ok(())
+}
