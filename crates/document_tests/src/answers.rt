@@ -7,7 +7,7 @@ ghost use Rattle.index.specs.declared.command.Command.TheVariants.{Put};
 ghost use Rattle.search.specs.Pattern.{Pattern, IsPatternOf};
 ghost use Rattle.search.specs.Scan.{IsAnswerOf};
 
-use crate::fixtures::{built, document, index_of, put};
+use crate::fixtures::{built, document, index_of};
 use ere::EreErrorKind;
 use index::{Body, Command, Index, Name};
 use search::{Answer, Prepared, Watch, find, find_watched};
@@ -141,27 +141,32 @@ fn rows(rt: HostRuntime) -> Result<(), Fail> {
     Ok(())
 }
 
-/// Of 300 documents every fifth has a match, the next one each has the trigrams without a match, and the
-/// others have no such trigrams.
+/// Commands that put documents, so many: of each five one has the text with a match of `Google.*Search`, one has its
+/// trigrams without a match, and three have few of them.
+fn puts_of(alloc: Global, count: u32) -> Result<Vec<u8>, Fail> {
+    let mut commands = Vec::new(alloc);
+    for i in 0..count {
+        let text = match i % 5 {
+            0 => b" Google Code Search".as_slice(),
+            1 => b" Search\nGoogle".as_slice(),
+            _ => b" Goo".as_slice(),
+        };
+        commands.push(b'|')?;
+        commands.push(b'a' + (i % 16) as u8)?;
+        commands.push(b'a' + (i / 16 % 26) as u8)?;
+        commands.extend_from_slice(text)?;
+    }
+    Ok(commands)
+}
+
 #[test]
 fn a_watch_sees_the_candidates_alone(rt: HostRuntime) -> Result<(), Fail> {
     let alloc = rt.alloc();
-    let mut index = Index::new(alloc);
-    for i in 0..300u32 {
-        let body = match i % 5 {
-            0 => b"Google Code Search".as_slice(),
-            1 => b"Search\nGoogle".as_slice(),
-            _ => b"Goo".as_slice(),
-        };
-        let name = [b'a' + (i % 16) as u8, b'a' + (i / 16) as u8];
-        put(&rt, alloc, &mut index, &name, body)?;
-    }
+    let index = index_of(&rt, alloc, &puts_of(alloc, 300)?)?;
     let mut kept = Kept { times: [0; 512] };
-    let prepared = Prepared::new(alloc, b"Google.*Search")?;
-    let answer = find_watched(alloc, &index, &prepared, &mut kept)?;
-    assert_eq!(rt; answer.candidates(), 120);
-    assert_eq!(rt; answer.documents(), 300);
-    assert_eq!(rt; answer.hits().len(), 60);
+    let text = answer_text(alloc, &index, b"Google.*Search", &mut kept)?;
+    let head = b"search 1 version 300 lines 60 candidates 120 of 300\naa:1:Google Code Search\n";
+    assert!(rt; text.starts_with(head), "{text:?}");
     for i in 0..511usize {
         let times = if i < 300 && i % 5 < 2 { 1 } else { 0 };
         assert_eq!(rt; kept.times[i + 1], times, "document {i}");
@@ -169,29 +174,53 @@ fn a_watch_sees_the_candidates_alone(rt: HostRuntime) -> Result<(), Fail> {
     Ok(())
 }
 
-/// Two documents with `xyz` among thirty with `hay`, by the names of both.
+/// Appends pieces for each of the bytes from `0` to `M`: what is before the byte, it, and what is after it.
+fn append_each(text: &mut Vec<u8>, before: &[u8], after: &[u8]) -> Result<(), Fail> {
+    for byte in b'0'..=b'M' {
+        text.extend_from_slice(before)?;
+        text.push(byte)?;
+        text.extend_from_slice(after)?;
+    }
+    Ok(())
+}
+
+/// Few and many candidates, in the order of their names: two documents with `xyz` among thirty with `hay`.
 #[test]
 fn few_and_many_candidates(rt: HostRuntime) -> Result<(), Fail> {
     let alloc = rt.alloc();
-    let mut index = index_of(&rt, alloc, b"z xyz")?;
-    for i in 0..30u8 {
-        put(&rt, alloc, &mut index, &[b'a', b'0' + i], b"hay")?;
-    }
-    put(&rt, alloc, &mut index, b"a", b"xyz")?;
-    let prepared = Prepared::new(alloc, b"xyz")?;
-    let mut text = Vec::new(alloc);
-    find(alloc, &index, &prepared)?.write_to(1, false, &mut text)?;
-    assert_eq!(rt;
-        text.as_slice(),
-        b"search 1 version 32 lines 2\na:1:xyz\nz:1:xyz\n".as_slice()
-    );
-    let prepared = Prepared::new(alloc, b"hay|xyz")?;
-    let answer = find(alloc, &index, &prepared)?;
-    assert_eq!(rt; answer.hits().len(), 32);
-    let mut last = b"".as_slice();
-    for hit in answer.hits() {
-        assert!(rt; last < hit.name.as_bytes(), "{last:?}");
-        last = hit.name.as_bytes();
+    let mut commands = Vec::from_slice(alloc, b"z xyz|a xyz")?;
+    append_each(&mut commands, b"|a", b" hay")?;
+    let index = index_of(&rt, alloc, &commands)?;
+    let none = b"".as_slice();
+    for (pattern, head, last) in [
+        (
+            b"xyz".as_slice(),
+            b"search 1 version 32 lines 2 candidates 2 of 32\na:1:xyz\n".as_slice(),
+            b"z:1:xyz\n".as_slice(),
+        ),
+        (
+            b"h.*y|hay".as_slice(),
+            b"search 1 version 32 lines 30 candidates 32 of 32\n".as_slice(),
+            none,
+        ),
+        (
+            b"hay".as_slice(),
+            b"search 1 version 32 lines 30 candidates 30 of 32\n".as_slice(),
+            none,
+        ),
+        (
+            b"hay|xyz".as_slice(),
+            b"search 1 version 32 lines 32 candidates 32 of 32\na:1:xyz\n".as_slice(),
+            b"z:1:xyz\n".as_slice(),
+        ),
+    ] {
+        let mut want = Vec::from_slice(alloc, head)?;
+        if pattern.starts_with(b"h") {
+            append_each(&mut want, b"a", b":1:hay\n")?;
+        }
+        want.extend_from_slice(last)?;
+        let text = answer_text(alloc, &index, pattern, &mut Kept { times: [0; 512] })?;
+        assert_eq!(rt; text, want, "of {pattern:?}");
     }
     Ok(())
 }
@@ -200,25 +229,37 @@ fn few_and_many_candidates(rt: HostRuntime) -> Result<(), Fail> {
 #[test]
 fn a_large_body_and_many_searches(rt: HostRuntime) -> Result<(), Fail> {
     let alloc = rt.alloc();
-    let body = built(alloc, &[(b"straw\n", 174_760), (b"a needle\nin hay", 1)])?;
-    assert_eq!(rt; body.len(), 1_048_575);
-    let mut index = Index::new(alloc);
-    put(&rt, alloc, &mut index, b"f", &body)?;
-    let prepared = Prepared::new(alloc, b"n[aeiou]{2}dle")?;
+    let commands = built(
+        alloc,
+        &[(b"f ", 1), (b"straw\n", 174_760), (b"a needle\nin hay", 1)],
+    )?;
+    assert_eq!(rt; commands.len(), 1_048_577);
+    let index = index_of(&rt, alloc, &commands)?;
+    let mut kept = Kept { times: [0; 512] };
     for _ in 0..150 {
-        let answer = find(alloc, &index, &prepared)?;
-        assert_eq!(rt; answer.hits().len(), 1);
-        for hit in answer.hits() {
-            assert_eq!(rt; hit.line, 174_761);
-            assert_eq!(rt; hit.text.as_slice(), b"a needle".as_slice());
-        }
+        let text = answer_text(alloc, &index, b"n[aeiou]{2}dle", &mut kept)?;
+        let want = b"search 1 version 1 lines 1 candidates 1 of 1\nf:174761:a needle\n";
+        assert_eq!(rt; text.as_slice(), want.as_slice());
     }
-    let prepared = Prepared::new(alloc, b"s.*w$")?;
-    assert_eq!(rt; find(alloc, &index, &prepared)?.hits().len(), 174_760);
+    let text = answer_text(alloc, &index, b"s.*w$", &mut kept)?;
+    let head = b"search 1 version 1 lines 174760 candidates 1 of 1\nf:1:straw\n";
+    assert!(rt; text.starts_with(head));
     Ok(())
 }
 
-/// Name patterns, patterns, and the text of their answer.
+/// The text of the answer within names.
+fn text_within(
+    alloc: Global,
+    index: &Index,
+    name_pattern: &[u8],
+    pattern: &[u8],
+) -> Result<Vec<u8>, Fail> {
+    let prepared = Prepared::within(alloc, name_pattern, pattern)?;
+    let mut text = Vec::new(alloc);
+    find(alloc, index, &prepared)?.write_to(7, false, &mut text)?;
+    Ok(text)
+}
+
 #[test]
 fn names_as_lines(rt: HostRuntime) -> Result<(), Fail> {
     let alloc = rt.alloc();
@@ -240,9 +281,7 @@ fn names_as_lines(rt: HostRuntime) -> Result<(), Fail> {
             b"search 7 version 2 lines 0\n".as_slice(),
         ),
     ] {
-        let prepared = Prepared::within(alloc, name_pattern, pattern)?;
-        let mut text = Vec::new(alloc);
-        find(alloc, &index, &prepared)?.write_to(7, false, &mut text)?;
+        let text = text_within(alloc, &index, name_pattern, pattern)?;
         assert_eq!(rt; text.as_slice(), want, "of {pattern:?} in {name_pattern:?}");
     }
     Ok(())

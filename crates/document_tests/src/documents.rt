@@ -2,10 +2,10 @@
 
 use crate::fixtures::{built, index_of};
 use index::{Body, BodyErrorKind, Index, Name, NameError};
+use query::{Query, Trigram};
 use std::alloc::Global;
 use std::process::Abort;
 use std::test::Fail;
-use trigram::{Query, Trigram};
 
 #[test]
 fn names_are_refused(rt: HostRuntime) -> Result<(), Fail> {

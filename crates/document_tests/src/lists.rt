@@ -3,9 +3,9 @@
 ghost use Rattle.std.specs.Prelude.{◌≡◌};
 
 use posting::{List, Postings};
+use query::{Query, Trigram};
 use std::alloc::{AllocError, Global};
 use std::test::Fail;
-use trigram::{Query, Trigram};
 
 /// Puts those of the numbers into the set that are above all that are in it.
 fn put_all(set: &mut List, numbers: &[u32]) -> Result<(), AllocError> {

@@ -2,10 +2,11 @@
 
 use crate::fixtures::halves;
 use ere::parse;
+use query::{Query, Trigram, simplify, trigrams_of};
 use std::alloc::Global;
 use std::process::Abort;
 use std::test::Fail;
-use trigram::{Query, Trigram, analyse, simplify, trigrams_of};
+use trigram::analyse;
 
 fn analysed(rt: &impl Abort, alloc: Global, pattern: &[u8]) -> Result<Query, Fail> {
     let tree = parse(alloc, pattern)?;
