@@ -5,7 +5,7 @@ use Rattle.std.specs.declared.vec.Vec.{Vec}
 use Rattle.std.proofs.lemmas.Bool.{cases_eq}
 use Rattle.std.proofs.lemmas.Bool.Decides.{nat_tests}
 use Rattle.std.proofs.lemmas.List.{get_or-set_same, get_or-set_other, take_all}
-use Rattle.posting.specs.Pages.{page_size, page_at, slot_of}
+use Rattle.posting.specs.Private.Pages.{page_size, page_at, slot_of}
 
 -- an empty page after the others
 page_at-push : (pages : List (Vec ℕ Global)) (page : Vec ℕ Global) (k : ℕ) → page.items ≡ [] → page_at (pages ++ page ∷ []) k ≡ page_at pages k

@@ -11,7 +11,7 @@ use Rattle.std.proofs.lemmas.List.Elements.{filter_agree}
 use Rattle.std.proofs.lemmas.List.Sums.{count_by-le-length, length-filter}
 use Rattle.posting.specs.ListValue.{ListValue, HasRoom}
 use Rattle.posting.specs.Postings.{no_numbers, set_of}
-use Rattle.posting.specs.Pages.{trigram_count, slot_of, set_in_slot, table_of, listed_trigrams, IsSound}
+use Rattle.posting.specs.Private.Pages.{trigram_count, slot_of, set_in_slot, table_of, listed_trigrams, IsSound}
 
 pub below_count : (t : ℕ) → t < 2 ^ 24 → t < trigram_count
 unfolding trigram_count

@@ -1,4 +1,3 @@
 pub mod ListValue
-pub mod ListParts
 pub mod Postings
-pub mod Pages
+pub mod Private

@@ -2,7 +2,7 @@
 
 ghost use Rattle.std.specs.Prelude.{◌≡◌, ℕ, ◌+◌, ◌<◌, ◌≤◌, ◌/◌, if◌then◌else◌, ◌==◌, length, IfOk, OnOk, IsOk};
 ghost use Rattle.posting.specs.ListValue.{HasRoom};
-ghost use Rattle.posting.specs.Pages.{IsSound, page_at, page_size, set_in_slot, slot_of, trigram_count};
+ghost use Rattle.posting.specs.Private.Pages.{IsSound, page_at, page_size, set_in_slot, slot_of, trigram_count};
 
 use crate::list::List;
 use query::Trigram;

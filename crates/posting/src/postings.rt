@@ -25,7 +25,7 @@ pub struct Postings {
 impl Model for Postings {
     ghost use Rattle.std.specs.Prelude.{List};
     ghost use Rattle.posting.specs.ListValue.{ListValue};
-    ghost use Rattle.posting.specs.Pages.{IsSound, table_of};
+    ghost use Rattle.posting.specs.Private.Pages.{IsSound, table_of};
 
     ghost Value = { List ListValue };
 

@@ -11,7 +11,7 @@ use Rattle.query.proofs.Forms.{formula_of-And, formula_of-Or}
 use Rattle.std.proofs.Math.Bool.{and_assoc, or_assoc}
 use Rattle.std.proofs.lemmas.Bool.{true≢false}
 use Rattle.query.specs.Query.{Formula, Formulas, always, never, has, all_of, one_of, none, more, formulas_of, formula_of, is_met, are_all_met, is_one_met, joined, HasTwo, IsPlain, IsReduced, AreReducedParts, IsJoin, IsSimplification}
-use Rattle.query.specs.QueryParts.{are_met, is_of, idle, constant_of, AreMembersOf, HasTakenIn, IsCompound, AddsNothing}
+use Rattle.query.specs.Private.Joining.{are_met, is_of, idle, constant_of, AreMembersOf, HasTakenIn, IsCompound, AddsNothing}
 
 pub and_same : (ones others : Vec Query Global) → map formula_of ones.items ≡ map formula_of others.items → formula_of (query.And ones) ≡ formula_of (query.And others)
 and_same ones others same = formula_of-And ones ∙ ap (λ members. all_of (formulas_of members)) same ∙ sym (formula_of-And others)

@@ -1,3 +1,3 @@
 pub mod Trigrams
 pub mod Query
-pub mod QueryParts
+pub mod Private

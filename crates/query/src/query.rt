@@ -2,7 +2,7 @@
 
 ghost use Rattle.std.specs.Prelude.{◌≡◌, ◌<◌, ◌↔◌, IfOk, OnOk, IsTrue, length, map, Some, [], ◌∷◌};
 ghost use Rattle.query.specs.Query.{formula_of, formulas_of, IsPlain, IsReduced, AreReducedParts, IsJoin, IsSimplification};
-ghost use Rattle.query.specs.QueryParts.{is_of, idle, constant_of, AreMembersOf, HasTakenIn, IsCompound, AddsNothing};
+ghost use Rattle.query.specs.Private.Joining.{is_of, idle, constant_of, AreMembersOf, HasTakenIn, IsCompound, AddsNothing};
 
 use crate::number::Trigram;
 use std::alloc::{AllocError, Global};

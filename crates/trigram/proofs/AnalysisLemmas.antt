@@ -16,7 +16,8 @@ use Rattle.query.proofs.Forms.{formula_of-Any}
 use Rattle.query.specs.Trigrams.{TrigramSet}
 use Rattle.query.specs.Query.{formula_of, is_met}
 use Rattle.trigram.specs.Texts.{Texts, has_text, union, joins, has_all_of_one}
-use Rattle.trigram.specs.Analysis.{SetTest, Analysis, known, loose, just_empty, either, both, copies_of, repeated, bytes_in, one_byte, analysis_of, both_all, either_all, words_analysis, ArePlain, StandFor, EndsStandFor, settle_loose}
+use Rattle.trigram.specs.Analysis.{SetTest, Analysis, known, loose, just_empty, either, both, copies_of, repeated, bytes_in, one_byte, analysis_of, both_all, either_all, settle_loose}
+use Rattle.trigram.specs.Private.Values.{words_analysis, ArePlain, StandFor, EndsStandFor}
 
 pub loose_same : (n : Bool) (p q s t : Texts) (c d : SetTest) → p ≡ q → s ≡ t → ((set : TrigramSet) → c set ≡ d set) → loose n p s c ≡ loose n q t d
 loose_same n p q s t c d fronts backs conditions = ap (λ x. loose n x s c) fronts ∙ ap (λ x. loose n q x c) backs ∙ ap (loose n q t) (fun_ext conditions)
@@ -148,8 +149,8 @@ known_before_stands texts p s q t n m c ends nullable fronts backs h = record {
   is = h.is ∙ settle_same m (has_text texts [] && n) q (joins texts p) t (if n then union s texts else s) c (λ set. true && (c set && true)) nullable fronts backs (λ set. sym (and_true (c set)));
 }
 
-pub known_behind_stands : (texts p s q t : Texts) (n m : Bool) (c : SetTest) (ends : Ends) → m ≡ (n && has_text texts []) → q ≡ (if n then union p texts else p) → t ≡ joins s texts → EndsStandFor (settle_loose m q t c) ends → EndsStandFor (both (loose n p s c) (known texts)) ends
-known_behind_stands texts p s q t n m c ends nullable fronts backs h = record {
+pub known_after_stands : (texts p s q t : Texts) (n m : Bool) (c : SetTest) (ends : Ends) → m ≡ (n && has_text texts []) → q ≡ (if n then union p texts else p) → t ≡ joins s texts → EndsStandFor (settle_loose m q t c) ends → EndsStandFor (both (loose n p s c) (known texts)) ends
+known_after_stands texts p s q t n m c ends nullable fronts backs h = record {
   plain = h.plain;
   is = h.is ∙ settle_same m (n && has_text texts []) q (if n then union p texts else p) t (joins s texts) c (λ set. c set && (true && true)) nullable fronts backs (λ set. sym (and_true (c set)));
 }

@@ -81,8 +81,8 @@ regroup_back words one others w h =
     let first = h.3 in
     (first.0, first.1 ++ h.1, h.2 ∙ ap (λ t. t ++ h.1) first.2 ∙ append_assoc first.0 first.1 h.1, first.3, (first.1, h.1, refl, first.4, h.4))
 
-nothing_behind : (words : WordSet) (w : List ℕ) → Concat words (λ v. v ≡ []) w → words w
-nothing_behind words w h = subst words (sym (h.2 ∙ ap (λ t. h.0 ++ t) h.4 ∙ append-nil h.0)) h.3
+nothing_after : (words : WordSet) (w : List ℕ) → Concat words (λ v. v ≡ []) w → words w
+nothing_after words w h = subst words (sym (h.2 ∙ ap (λ t. h.0 ++ t) h.4 ∙ append-nil h.0)) h.3
 
 nothing_added : (words : WordSet) (w : List ℕ) → words w → Concat words (λ v. v ≡ []) w
 nothing_added words w h = (w, [], sym (append-nil w), h, refl)
@@ -111,7 +111,7 @@ mutual
   covers_tree (tree.repeat body least greatest) d = covers_repeat (analysis_of body) (IsWord body) (covers_tree body d) least greatest
 
   covers_each : (ts : Trees) (a : Analysis) (words : WordSet) → Covers a words → Covers (both_all a ts) (Concat words (IsWordOfEach ts))
-  covers_each tree.none a words h = covers_weaker a words (Concat words (IsWordOfEach tree.none)) (nothing_behind words) h
+  covers_each tree.none a words h = covers_weaker a words (Concat words (IsWordOfEach tree.none)) (nothing_after words) h
   covers_each (tree.more t ts) a words h = covers_weaker (both_all (both a (analysis_of t)) ts) (Concat (Concat words (IsWord t)) (IsWordOfEach ts)) (Concat words (IsWordOfEach (tree.more t ts))) (regroup words (IsWord t) (IsWordOfEach ts)) (covers_each ts (both a (analysis_of t)) (Concat words (IsWord t)) (covers_both a (analysis_of t) words (IsWord t) h (covers_tree t words)))
 
   covers_some : (ts : Trees) (a : Analysis) (words : WordSet) → Covers a words → Covers (either_all a ts) (Either words (IsWordOfSome ts))

@@ -8,7 +8,8 @@ use Rattle.query.specs.declared.query.Connective.{Connective}
 use Rattle.query.specs.declared.query.Connective.TheVariants.{And, Or}
 use Rattle.query.specs.Trigrams.{TrigramSet, trigram_of, holds_front, has_all_trigrams}
 use Rattle.query.specs.Query.{Formula, always, never, has, is_met, joined, IsPlain, IsJoin, IsPlainFor}
-use Rattle.trigram.specs.Texts.{Texts, texts_of, with_text, with_texts}
+use Rattle.trigram.specs.Texts.{Texts, with_text, with_texts}
+use Rattle.trigram.specs.Private.Values.{texts_of}
 
 pub next_text : (texts : List (Vec ℕ Global)) (i : ℕ) (x : Vec ℕ Global) → i < length texts → x ≡ get_or texts i x → texts_of (drop i texts) ≡ x.items ∷ texts_of (drop (i + 1) texts)
 next_text texts i x below read = ap texts_of (drop_more texts i x below ∙ ap (λ y. y ∷ drop (i + 1) texts) (sym read))

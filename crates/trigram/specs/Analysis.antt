@@ -8,11 +8,7 @@ use Rattle.ere.specs.ByteSet.{has}
 use Rattle.ere.specs.Tree.{Tree, Trees}
 use Rattle.ere.specs.Tree as tree
 use Rattle.query.specs.Trigrams.{TrigramSet}
-use Rattle.trigram.specs.declared.analysis.Ends.{Ends}
-use Rattle.trigram.specs.declared.analysis.Words.{Words}
-use Rattle.trigram.specs.declared.analysis.Words.TheVariants.{Known, Loose}
-use Rattle.query.specs.Query.{formula_of, is_met, IsPlain}
-use Rattle.trigram.specs.Texts.{Texts, texts_of, has_text, union, joins, has_all_of_one, ending, most_texts, kept_ends}
+use Rattle.trigram.specs.Texts.{Texts, has_text, union, joins, has_all_of_one, ending, most_texts, kept_ends}
 
 -- a test of sets of trigrams
 abbrev pub SetTest : Type 0
@@ -90,12 +86,12 @@ abbrev pub joined_backs : Analysis → Analysis → Texts
 joined_backs left (known texts) = joins (backs_of left) texts
 joined_backs left (loose nullable fronts backs condition) = if nullable then union backs (backs_of left) else backs
 
--- what stands across the border of two loose neighbours
+-- what is across the border of two loose neighbours
 abbrev pub across : Analysis → Analysis → SetTest
 across (loose nullable fronts backs condition) (loose nullable' fronts' backs' condition') = has_all_of_one (joins backs fronts')
 across _ _ = λ _. true
 
--- two neighbours, one behind the other
+-- two neighbours, one after the other
 abbrev pub both : Analysis → Analysis → Analysis
 both (known left) (known right) = settle_known (joins left right)
 both left right =
@@ -162,26 +158,3 @@ condition tree = condition_of (analysis_of tree)
 -- The set of trigrams meets the condition of the tree.
 abbrev pub Condition : Tree → TrigramSet → Type 0
 Condition tree set = IsTrue (condition tree set)
-
--- the analysis that the program's loose ends stand for
-abbrev pub ends_analysis : Ends → Analysis
-ends_analysis ends = loose ends.nullable (texts_of ends.fronts.items) (texts_of ends.backs.items) (is_met (formula_of ends.condition))
-
--- the analysis that the program's words stand for
-abbrev pub words_analysis : Words → Analysis
-words_analysis (Known texts) = known (texts_of texts.items)
-words_analysis (Loose ends) = ends_analysis ends
-
-abbrev pub ArePlain : Words → Type 0
-ArePlain (Known texts) = Unit {0}
-ArePlain (Loose ends) = IsPlain (formula_of ends.condition)
-
--- The program's words stand for this analysis, and their condition is plain.
-pub record StandFor (analysis : Analysis) (words : Words) : Type 0 where
-  pub plain : ArePlain words
-  pub is : words_analysis words ≡ analysis
-
--- The program's loose ends stand for this analysis, and their condition is plain.
-pub record EndsStandFor (analysis : Analysis) (ends : Ends) : Type 0 where
-  pub plain : IsPlain (formula_of ends.condition)
-  pub is : ends_analysis ends ≡ analysis

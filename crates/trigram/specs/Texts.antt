@@ -3,15 +3,7 @@
 use Rattle.std.specs.Prelude.{ℕ, ◌-◌, Bool, not, ◌&&◌, nat_lt, nat_le, List, [], ◌∷◌, ◌++◌, length, map, filter, take, drop, if◌then◌else◌}
 use Rattle.std.specs.List.{list_any, flat_map}
 use Rattle.std.specs.Str.{bytes_eq}
-use Rattle.std.specs.declared.alloc.Global.{Global}
-use Rattle.std.specs.declared.vec.Vec.{Vec}
-use Rattle.trigram.specs.declared.texts.Side.{Side}
-use Rattle.trigram.specs.declared.texts.Side.TheVariants.{Front, Back}
 use Rattle.query.specs.Trigrams.{TrigramSet, has_all_trigrams}
-
--- the texts of a program's set
-abbrev pub texts_of : List (Vec ℕ Global) → List (List ℕ)
-texts_of texts = map (λ text. text.items) texts
 
 abbrev pub Texts : Type 0
 Texts = List (List ℕ)
@@ -34,7 +26,7 @@ distinct texts = with_texts [] texts
 abbrev pub union : Texts → Texts → Texts
 union left right = distinct (left ++ right)
 
--- every text of the first with every text of the second behind it
+-- every text of the first with every text of the second after it
 abbrev pub joins : Texts → Texts → Texts
 joins left right = distinct (flat_map (λ front. map (λ back. front ++ back) right) left)
 
@@ -49,10 +41,6 @@ ending count text = drop (length text - count) text
 -- how many bytes of a text are cut out at its one end: by `take` from the front, by `ending` from the back
 abbrev pub Cut : Type 0
 Cut = ℕ → List ℕ → List ℕ
-
-abbrev pub cut_at : Side → Cut
-cut_at Front = take
-cut_at Back = ending
 
 abbrev pub cuts : Cut → ℕ → Texts → Texts
 cuts cut count texts = distinct (map (cut count) texts)

@@ -5,8 +5,9 @@ ghost use Rattle.ere.specs.Limits.{IsWithinLimits};
 ghost use Rattle.ere.specs.Tree.{form, trees_of};
 ghost use Rattle.ere.specs.Tree as tree;
 ghost use Rattle.query.specs.Query.{formula_of, is_met, IsPlain, IsPlainFor};
-ghost use Rattle.trigram.specs.Texts.{texts_of, union};
-ghost use Rattle.trigram.specs.Analysis.{just_empty, anything, settle_loose, settle_known, are_kept, loosen, either, both, copies_of, optional, repeated, bytes_in, one_byte, analysis_of, condition, known, words_analysis, ends_analysis, ArePlain, StandFor, EndsStandFor};
+ghost use Rattle.trigram.specs.Texts.{union};
+ghost use Rattle.trigram.specs.Private.Values.{texts_of, words_analysis, ends_analysis, ArePlain, StandFor, EndsStandFor};
+ghost use Rattle.trigram.specs.Analysis.{just_empty, anything, settle_loose, settle_known, are_kept, loosen, either, both, copies_of, optional, repeated, bytes_in, one_byte, analysis_of, condition, known};
 
 use crate::texts::{
     MOST_TEXTS, Side, copied_texts, has_text, joins, kept_ends, query_of_texts, union,
@@ -186,7 +187,7 @@ fn either_loose(alloc: Global, left: Ends, right: Ends) -> Result<Ends, AllocErr
     )
 }
 
-/// Two neighbours, one behind the other.
+/// Two neighbours, one after the other.
 fn both(alloc: Global, left: Words, right: Words) -> Result<Words, AllocError>
     requires left { ArePlain left }
     requires right { ArePlain right }
@@ -201,7 +202,7 @@ fn both(alloc: Global, left: Words, right: Words) -> Result<Words, AllocError>
             Words::Loose(ends) => Ok(Words::Loose(known_before(alloc, fronts, ends)?)),
         },
         Words::Loose(ends) => match right {
-            Words::Known(backs) => Ok(Words::Loose(known_behind(alloc, ends, backs)?)),
+            Words::Known(backs) => Ok(Words::Loose(known_after(alloc, ends, backs)?)),
             Words::Loose(others) => Ok(Words::Loose(both_loose(alloc, ends, others)?)),
         },
     }
@@ -231,7 +232,7 @@ fn known_before(alloc: Global, texts: Vec<Vec<u8>>, ends: Ends) -> Result<Ends, 
     )
 }
 
-fn known_behind(alloc: Global, ends: Ends, texts: Vec<Vec<u8>>) -> Result<Ends, AllocError>
+fn known_after(alloc: Global, ends: Ends, texts: Vec<Vec<u8>>) -> Result<Ends, AllocError>
     requires { IsPlain (formula_of ends.condition) }
     ensures { IfOk result (EndsStandFor (both (ends_analysis ends) (known (texts_of texts.items)))) }
 {
@@ -274,8 +275,8 @@ fn both_loose(alloc: Global, left: Ends, right: Ends) -> Result<Ends, AllocError
     } = right;
     let border = joins(alloc, left_backs.as_slice(), right_fronts.as_slice())?;
     let across = query_of_texts(alloc, border.as_slice())?;
-    let behind = join(alloc, Connective::And, right_condition, across)?;
-    let condition = join(alloc, Connective::And, left_condition, behind)?;
+    let after = join(alloc, Connective::And, right_condition, across)?;
+    let condition = join(alloc, Connective::And, left_condition, after)?;
     let fronts = widened(alloc, left_nullable, left_fronts, right_fronts)?;
     let backs = widened(alloc, right_nullable, right_backs, left_backs)?;
     settle_loose(
@@ -319,7 +320,7 @@ fn copied_words(alloc: Global, words: &Words) -> Result<Words, AllocError>
     }
 }
 
-/// One copy, and so many others, one behind the other.
+/// One copy, and so many others, one after the other.
 fn copies_of(alloc: Global, one: &Words, others: u8) -> Result<Words, AllocError>
     requires { ArePlain one.now }
     ensures { IfOk result (StandFor (copies_of (words_analysis one.now) others)) }

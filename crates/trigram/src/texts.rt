@@ -3,7 +3,8 @@
 ghost use Rattle.std.specs.Prelude.{◌≡◌, ◌++◌, IfOk, OnOk, map};
 ghost use Rattle.query.specs.Trigrams.{has_all_trigrams};
 ghost use Rattle.query.specs.Query.{formula_of, IsPlainFor};
-ghost use Rattle.trigram.specs.Texts.{texts_of, has_text, with_text, with_texts, union, joins, kept_ends, cuts, shortest, has_shorter_end, cut_at, has_all_of_one};
+ghost use Rattle.trigram.specs.Texts.{has_text, with_text, with_texts, union, joins, kept_ends, cuts, shortest, has_shorter_end, has_all_of_one};
+ghost use Rattle.trigram.specs.Private.Values.{texts_of, cut_at};
 
 use query::{Connective, Query, Trigram, join};
 use std::alloc::{AllocError, Global};
@@ -78,7 +79,7 @@ pub(crate) fn copied_texts(alloc: Global, texts: &[Vec<u8>]) -> Result<Vec<Vec<u
     Ok(copies)
 }
 
-/// Every text of the first set with every text of the second behind it.
+/// Every text of the first set with every text of the second after it.
 #[tactic(auto, unfolding(crate::specs::Texts::with_texts))]
 pub(crate) fn joins(
     alloc: Global,

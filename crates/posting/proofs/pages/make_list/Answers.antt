@@ -1,5 +1,5 @@
 use Rattle.std.proofs.Common.{◌≡◌, length, arith}
-use Rattle.posting.specs.Pages.{slot_of}
+use Rattle.posting.specs.Private.Pages.{slot_of}
 use Rattle.posting.proofs.Tables.{Listed, IsSound-same, IsSound-listed, length-listed_trigrams, trigram_count-lt}
 use Rattle.posting.proofs.pages.make_list.Goals as goal
 

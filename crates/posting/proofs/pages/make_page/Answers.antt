@@ -1,5 +1,5 @@
 use Rattle.std.proofs.Common.{◌/◌, arith, ◌∙◌}
-use Rattle.posting.specs.Pages.{page_size}
+use Rattle.posting.specs.Private.Pages.{page_size}
 use Rattle.posting.proofs.Slots.{slot_of-lengthened, slot_of-refused, page_at-set_same}
 use Rattle.posting.proofs.pages.make_page.Goals as goal
 

@@ -1,5 +1,5 @@
 use Rattle.std.proofs.Common.{◌≡◌, ◌+◌, ◌-◌, ℕ, vec_len}
-use Rattle.posting.specs.Pages.{slot_of}
+use Rattle.posting.specs.Private.Pages.{slot_of}
 use Rattle.posting.proofs.pages.make_page.Given as goal
 
 abbrev pub invariant-loop-alloc : goal.invariant-loop-alloc

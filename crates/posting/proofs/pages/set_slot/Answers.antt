@@ -1,6 +1,6 @@
 use Rattle.std.proofs.Common.{◌%◌, refl}
 use Rattle.std.specs.Vec.{with_item}
-use Rattle.posting.specs.Pages.{page_size}
+use Rattle.posting.specs.Private.Pages.{page_size}
 use Rattle.posting.proofs.Slots.{slot_of-written}
 use Rattle.posting.proofs.pages.set_slot.Goals as goal
 

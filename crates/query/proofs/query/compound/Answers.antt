@@ -3,7 +3,7 @@ use Rattle.std.proofs.lemmas.List.{length-map, get_or-map}
 use Rattle.query.specs.declared.query.Connective.{Connective}
 use Rattle.query.proofs.Forms.{formula_of-And, formula_of-Or}
 use Rattle.query.specs.Query.{AreReducedParts, formula_of, formulas_of}
-use Rattle.query.specs.QueryParts.{is_of}
+use Rattle.query.specs.Private.Joining.{is_of}
 use Rattle.query.proofs.QueryLemmas.{compound_and, compound_or, compound_one}
 use Rattle.query.proofs.query.compound.Goals as goal
 

@@ -1,6 +1,6 @@
 use Rattle.std.proofs.Common.{Some, ap, sym, ◌∙◌}
 use Rattle.query.proofs.Forms.{formula_of-Any, formula_of-None}
-use Rattle.query.specs.QueryParts.{constant_of}
+use Rattle.query.specs.Private.Joining.{constant_of}
 use Rattle.query.proofs.query.constant.Goals as goal
 
 pub returns-then-met : goal.returns-then-met

@@ -3,7 +3,7 @@ use Rattle.query.proofs.Forms.{formula_of-Any, formula_of-None, formula_of-Has, 
 use Rattle.query.specs.declared.query.Connective.{Connective}
 use Rattle.query.specs.declared.query.Connective.TheVariants.{And, Or}
 use Rattle.query.specs.Query.{Formulas, always, never, has, all_of, one_of, formula_of, formulas_of}
-use Rattle.query.specs.QueryParts.{is_of, idle}
+use Rattle.query.specs.Private.Joining.{is_of, idle}
 use Rattle.query.proofs.query.is_of.Goals as goal
 
 not_always : (k : Connective) → false ≡ is_of k always

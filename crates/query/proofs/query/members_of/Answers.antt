@@ -1,7 +1,7 @@
 use Rattle.std.proofs.Common.{map, ap, sym, ◌∙◌}
 use Rattle.query.proofs.Forms.{formula_of-Any, formula_of-None, formula_of-Has, formula_of-And, formula_of-Or}
 use Rattle.query.specs.Query.{formula_of}
-use Rattle.query.specs.QueryParts.{is_of}
+use Rattle.query.specs.Private.Joining.{is_of}
 use Rattle.query.proofs.QueryLemmas.{members_itself, members_of_and, members_of_or, not_of_always, not_of_never, not_of_has}
 use Rattle.query.proofs.query.members_of.Goals as goal
 

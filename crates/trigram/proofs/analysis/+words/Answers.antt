@@ -3,9 +3,9 @@ use Rattle.std.proofs.lemmas.Bool.Decides.{nat_tests}
 use Rattle.std.proofs.lemmas.Result.{IfOk-weaker}
 use Rattle.ere.proofs.Forms.{form-Empty, form-Set, form-Start, form-End, form-Cat, form-Alt, form-Repeat}
 use Rattle.ere.specs.Tree.{form, trees_of}
-use Rattle.trigram.specs.Analysis.{known, analysis_of, both_all, either_all, repeated, words_analysis}
+use Rattle.trigram.specs.Analysis.{known, analysis_of, both_all, either_all, repeated}
+use Rattle.trigram.specs.Private.Values.{words_analysis, texts_of}
 use Rattle.ere.specs.Tree as tree
-use Rattle.trigram.specs.Texts.{texts_of}
 use Rattle.trigram.proofs.AnalysisLemmas.{IsAnalysedSoFar, stands_same, next_tree, no_trees, neighbours_first, neighbours_more, neighbours_all, alternatives_first, alternatives_more, alternatives_all, analysis_of-empty, analysis_of-at_start, analysis_of-at_end, analysis_of-set, analysis_of-repeat, analysis_of-cat_none, analysis_of-alt_none}
 use Rattle.trigram.proofs.analysis.+words.Goals as goal
 

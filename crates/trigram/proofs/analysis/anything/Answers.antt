@@ -2,7 +2,7 @@ use Rattle.std.proofs.Common.{true}
 use Rattle.query.proofs.Forms.{formula_of-Any}
 use Rattle.query.specs.declared.query.Query.TheVariants as query
 use Rattle.query.specs.Query.{formula_of, is_met}
-use Rattle.trigram.specs.Texts.{texts_of}
+use Rattle.trigram.specs.Private.Values.{texts_of}
 use Rattle.trigram.specs.Analysis.{just_empty}
 use Rattle.trigram.proofs.AnalysisLemmas.{loose_same, any_is_met}
 use Rattle.trigram.proofs.analysis.anything.Goals as goal

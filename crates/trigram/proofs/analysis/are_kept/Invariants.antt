@@ -1,6 +1,6 @@
 use Rattle.std.proofs.Common.{◌≡◌, nat_le, length, drop}
 use Rattle.std.specs.List.{list_all}
-use Rattle.trigram.specs.Texts.{texts_of}
+use Rattle.trigram.specs.Private.Values.{texts_of}
 use Rattle.trigram.specs.Analysis.{longest_text}
 use Rattle.trigram.proofs.analysis.are_kept.Given as goal
 

@@ -1,6 +1,7 @@
 use Rattle.std.proofs.Common.{◌≡◌, ap, arith}
 use Rattle.std.proofs.lemmas.Result.{IfOk-weaker}
-use Rattle.trigram.specs.Texts.{texts_of, joins}
+use Rattle.trigram.specs.Texts.{joins}
+use Rattle.trigram.specs.Private.Values.{texts_of}
 use Rattle.trigram.specs.Analysis.{settle_known}
 use Rattle.trigram.proofs.AnalysisLemmas.{stands_same}
 use Rattle.trigram.proofs.analysis.both.Goals as goal

@@ -1,5 +1,6 @@
 use Rattle.std.proofs.Common.{ap, sym, ◌∙◌}
-use Rattle.trigram.specs.Analysis.{both, copies_of, words_analysis}
+use Rattle.trigram.specs.Analysis.{both, copies_of}
+use Rattle.trigram.specs.Private.Values.{words_analysis}
 use Rattle.trigram.proofs.AnalysisLemmas.{copies_of-zero, copies_of-more}
 use Rattle.trigram.proofs.analysis.copies_of.Goals as goal
 

@@ -1,4 +1,5 @@
-use Rattle.trigram.specs.Analysis.{copies_of, words_analysis, StandFor}
+use Rattle.trigram.specs.Analysis.{copies_of}
+use Rattle.trigram.specs.Private.Values.{words_analysis, StandFor}
 use Rattle.trigram.proofs.analysis.copies_of.Given as goal
 
 abbrev pub invariant-loop-made : goal.invariant-loop-made

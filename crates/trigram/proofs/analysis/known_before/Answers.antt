@@ -1,7 +1,7 @@
 use Rattle.std.proofs.Common.{arith}
 use Rattle.std.proofs.lemmas.Result.{IfOk-weaker}
 use Rattle.query.specs.Query.{formula_of, is_met}
-use Rattle.trigram.specs.Texts.{texts_of}
+use Rattle.trigram.specs.Private.Values.{texts_of}
 use Rattle.trigram.proofs.AnalysisLemmas.{known_before_stands}
 use Rattle.trigram.proofs.analysis.known_before.Goals as goal
 

@@ -2,7 +2,7 @@ use Rattle.std.proofs.Common.{◌<◌, true, false, length, ap, sym, ◌∙◌, 
 use Rattle.query.proofs.Forms.{formula_of-Any}
 use Rattle.query.specs.declared.query.Query.TheVariants as query
 use Rattle.query.specs.Query.{formula_of, is_met}
-use Rattle.trigram.specs.Texts.{texts_of}
+use Rattle.trigram.specs.Private.Values.{texts_of}
 use Rattle.trigram.specs.Analysis.{just_empty, bytes_in}
 use Rattle.trigram.proofs.AnalysisLemmas.{loose_same, any_is_met, one_byte_loose}
 use Rattle.trigram.proofs.analysis.one_byte.Goals as goal

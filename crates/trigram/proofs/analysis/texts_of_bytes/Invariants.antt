@@ -1,5 +1,5 @@
 use Rattle.std.proofs.Common.{◌≡◌, ◌∷◌, [], ◌++◌, map, drop}
-use Rattle.trigram.specs.Texts.{texts_of}
+use Rattle.trigram.specs.Private.Values.{texts_of}
 use Rattle.trigram.proofs.analysis.texts_of_bytes.Given as goal
 
 abbrev pub invariant-loop-byte : goal.invariant-loop-byte

@@ -1,5 +1,6 @@
 use Rattle.std.proofs.Common.{◌≡◌}
-use Rattle.trigram.specs.Texts.{texts_of, with_texts}
+use Rattle.trigram.specs.Texts.{with_texts}
+use Rattle.trigram.specs.Private.Values.{texts_of}
 use Rattle.std.specs.Vec.Iter.{into_iter_items}
 use Rattle.trigram.proofs.texts.add_all.Given as goal
 

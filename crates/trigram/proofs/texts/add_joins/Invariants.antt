@@ -1,5 +1,6 @@
 use Rattle.std.proofs.Common.{◌≡◌, ◌++◌, map, drop}
-use Rattle.trigram.specs.Texts.{texts_of, with_texts}
+use Rattle.trigram.specs.Texts.{with_texts}
+use Rattle.trigram.specs.Private.Values.{texts_of}
 use Rattle.trigram.proofs.texts.add_joins.Given as goal
 
 abbrev pub invariant-loop-back : goal.invariant-loop-back

@@ -1,5 +1,5 @@
 use Rattle.std.proofs.Common.{◌≡◌, ◌++◌, drop}
-use Rattle.trigram.specs.Texts.{texts_of}
+use Rattle.trigram.specs.Private.Values.{texts_of}
 use Rattle.trigram.proofs.texts.copied_texts.Given as goal
 
 abbrev pub invariant-loop-text : goal.invariant-loop-text

@@ -1,5 +1,6 @@
 use Rattle.std.proofs.Common.{◌≡◌, map, drop}
-use Rattle.trigram.specs.Texts.{texts_of, with_texts, cuts, cut_at}
+use Rattle.trigram.specs.Texts.{with_texts, cuts}
+use Rattle.trigram.specs.Private.Values.{texts_of, cut_at}
 use Rattle.trigram.proofs.texts.cuts.Given as goal
 
 abbrev pub invariant-loop-text : goal.invariant-loop-text

@@ -1,5 +1,6 @@
 use Rattle.std.proofs.Common.{◌≡◌, drop}
-use Rattle.trigram.specs.Texts.{texts_of, has_shorter_end, cut_at}
+use Rattle.trigram.specs.Texts.{has_shorter_end}
+use Rattle.trigram.specs.Private.Values.{texts_of, cut_at}
 use Rattle.trigram.proofs.texts.has_shorter_end.Given as goal
 
 abbrev pub invariant-loop-part : goal.invariant-loop-part

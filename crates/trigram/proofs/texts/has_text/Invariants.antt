@@ -1,5 +1,6 @@
 use Rattle.std.proofs.Common.{◌≡◌, drop}
-use Rattle.trigram.specs.Texts.{texts_of, has_text}
+use Rattle.trigram.specs.Texts.{has_text}
+use Rattle.trigram.specs.Private.Values.{texts_of}
 use Rattle.trigram.proofs.texts.has_text.Given as goal
 
 abbrev pub invariant-loop-other : goal.invariant-loop-other

@@ -1,6 +1,7 @@
 use Rattle.std.proofs.Common.{◌+◌, ◌++◌, map, drop, ap, sym, ◌∙◌}
 use Rattle.std.specs.List.{flat_map}
-use Rattle.trigram.specs.Texts.{Texts, texts_of, with_texts}
+use Rattle.trigram.specs.Texts.{Texts, with_texts}
+use Rattle.trigram.specs.Private.Values.{texts_of}
 use Rattle.trigram.proofs.TextsLemmas.{with_texts-append, next_text}
 use Rattle.trigram.proofs.texts.joins.Goals as goal
 

@@ -1,5 +1,6 @@
 use Rattle.std.proofs.Common.{◌≡◌, ◌++◌, map, drop}
-use Rattle.trigram.specs.Texts.{texts_of, with_texts, joins}
+use Rattle.trigram.specs.Texts.{with_texts, joins}
+use Rattle.trigram.specs.Private.Values.{texts_of}
 use Rattle.std.specs.List.{flat_map}
 use Rattle.trigram.proofs.texts.joins.Given as goal
 

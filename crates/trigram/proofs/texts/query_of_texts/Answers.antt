@@ -3,7 +3,8 @@ use Rattle.query.proofs.Forms.{formula_of-None}
 use Rattle.query.specs.declared.query.Connective.TheVariants.{Or}
 use Rattle.query.specs.Trigrams.{has_all_trigrams}
 use Rattle.query.specs.Query.{formula_of}
-use Rattle.trigram.specs.Texts.{texts_of, has_all_of_one}
+use Rattle.trigram.specs.Texts.{has_all_of_one}
+use Rattle.trigram.specs.Private.Values.{texts_of}
 use Rattle.trigram.proofs.TextsLemmas.{IsQuerySoFar-never, IsQuerySoFar-more, IsPlainFor-or, next_text, no_texts}
 use Rattle.trigram.proofs.texts.query_of_texts.Goals as goal
 

@@ -1,5 +1,6 @@
 use Rattle.std.proofs.Common.{drop}
-use Rattle.trigram.specs.Texts.{texts_of, has_all_of_one}
+use Rattle.trigram.specs.Texts.{has_all_of_one}
+use Rattle.trigram.specs.Private.Values.{texts_of}
 use Rattle.query.specs.Query.{formula_of}
 use Rattle.trigram.proofs.TextsLemmas.{IsQuerySoFar}
 use Rattle.query.specs.declared.query.Connective.TheVariants.{Or}

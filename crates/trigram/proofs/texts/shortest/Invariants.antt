@@ -1,5 +1,6 @@
 use Rattle.std.proofs.Common.{◌≡◌, ◌++◌, filter, drop, not}
-use Rattle.trigram.specs.Texts.{texts_of, shortest, has_shorter_end, cut_at}
+use Rattle.trigram.specs.Texts.{shortest, has_shorter_end}
+use Rattle.trigram.specs.Private.Values.{texts_of, cut_at}
 use Rattle.trigram.proofs.texts.shortest.Given as goal
 
 abbrev pub invariant-loop-text : goal.invariant-loop-text

@@ -1,5 +1,6 @@
 use Rattle.std.proofs.Common.{[], ap, sym, ◌∙◌}
-use Rattle.trigram.specs.Texts.{texts_of, with_texts}
+use Rattle.trigram.specs.Texts.{with_texts}
+use Rattle.trigram.specs.Private.Values.{texts_of}
 use Rattle.trigram.proofs.TextsLemmas.{with_texts-append}
 use Rattle.trigram.proofs.texts.union.Goals as goal
 

@@ -1,5 +1,5 @@
 use Rattle.std.proofs.Common.{◌≡◌, ◌-◌, ◌∙◌, refl, sym, arith}
-use Rattle.posting.specs.Pages.{slot_of}
+use Rattle.posting.specs.Private.Pages.{slot_of}
 use Rattle.posting.proofs.Tables.{Stands, set_of-there, set_of-unlisted}
 use Rattle.posting.proofs.postings.Postings.list.Goals as goal
 

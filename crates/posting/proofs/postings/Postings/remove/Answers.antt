@@ -1,6 +1,6 @@
 use Rattle.std.proofs.Common.{◌≡◌, ◌-◌, ◌≤◌, sym, ap, ◌∙◌, arith, refl}
 use Rattle.posting.specs.ListValue.{HasRoom, without}
-use Rattle.posting.specs.Pages.{slot_of}
+use Rattle.posting.specs.Private.Pages.{slot_of}
 use Rattle.posting.proofs.Tables.{Stands, set_of-there, set_of-written, set_of-kept, set_of-unlisted, written_relate}
 use Rattle.posting.proofs.postings.Postings.remove.Goals as goal
 
