@@ -22,10 +22,12 @@ pub enum Query {
     Or(Vec<Query>),
 }
 
-/// How the members of a query are joined.
+/// How queries are joined.
 #[derive(Clone, Copy)]
 pub enum Connective {
+    /// A set meets all of them.
     And,
+    /// A set meets one of them.
     Or,
 }
 
@@ -33,6 +35,8 @@ pub enum Connective {
 const NEIGHBOURS: usize = 64;
 
 /// An equal query.
+///
+/// An `Err` comes where memory runs out.
 #[cycle(copied)]
 pub fn copied(alloc: Global, query: &Query) -> Result<Query, AllocError>
     ensures { IfOk result (λ copy. formula_of copy ≡ formula_of query.now) }
@@ -125,7 +129,10 @@ fn all_simplified(
     Ok(whole)
 }
 
-/// Two plain queries joined. A conjunct that is there already is left out where it is found soon.
+/// Two plain queries (`simplify` says what that is) joined to a plain one. A conjunct that is there already is
+/// left out where it is found soon.
+///
+/// An `Err` comes where memory runs out; the queries are then dropped.
 pub fn join(
     alloc: Global,
     connective: Connective,
