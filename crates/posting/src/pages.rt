@@ -1,6 +1,6 @@
 //! Where the list of each trigram is.
 
-ghost use Rattle.std.specs.Prelude.{◌≡◌, ℕ, ◌+◌, ◌<◌, ◌≤◌, ◌/◌, if◌then◌else◌, ◌==◌, length, IfOk, OnOk, IsOk};
+ghost use Rattle.std.specs.Prelude.{◌≡◌, ℕ, ◌+◌, ◌<◌, ◌≤◌, ◌/◌, if◌then◌else◌, ◌==◌, length, IfOk, OnOk};
 ghost use Rattle.posting.specs.ListValue.{HasRoom};
 ghost use Rattle.posting.specs.Private.Pages.{IsSound, page_at, page_size, set_in_slot, slot_of, trigram_count};
 

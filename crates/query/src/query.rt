@@ -1,6 +1,6 @@
 //! Queries over sets of trigrams.
 
-ghost use Rattle.std.specs.Prelude.{◌≡◌, ◌<◌, ◌↔◌, IfOk, OnOk, IsTrue, length, map, Some, [], ◌∷◌};
+ghost use Rattle.std.specs.Prelude.{◌≡◌, ◌<◌, IfOk, OnOk, IsTrue, length, map, Some, [], ◌∷◌};
 ghost use Rattle.query.specs.Query.{formula_of, formulas_of, IsPlain, IsReduced, AreReducedParts, IsJoin, IsSimplification};
 ghost use Rattle.query.specs.Private.Joining.{is_of, idle, constant_of, AreMembersOf, HasTakenIn, IsCompound, AddsNothing};
 

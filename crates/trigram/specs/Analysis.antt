@@ -2,7 +2,7 @@
 -- Trigram Index", 2012). The rows for the empty text, one byte, `e?`, `e*`, `e+`, alternation and
 -- concatenation are his; the limits 16 and 64, the cutting to two bytes, the term for two loose neighbours,
 -- byte sets and intervals are this program's.
-use Rattle.std.specs.Prelude.{◌≡◌, ℕ, zero, suc, ◌-◌, Bool, true, false, ◌&&◌, ◌||◌, ◌==◌, nat_le, IsTrue, List, [], ◌∷◌, length, map, filter, take, Option, Some, None, if◌then◌else◌}
+use Rattle.std.specs.Prelude.{ℕ, zero, suc, ◌-◌, Bool, true, false, ◌&&◌, ◌||◌, ◌==◌, nat_le, IsTrue, List, [], ◌∷◌, length, map, filter, take, Option, Some, None, if◌then◌else◌}
 use Rattle.std.specs.List.{list_all, range_with_len}
 use Rattle.ere.specs.ByteSet.{has}
 use Rattle.ere.specs.Tree.{Tree, Trees}

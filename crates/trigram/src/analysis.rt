@@ -1,6 +1,6 @@
 //! The analysis of a pattern into the condition that the document of every matching line meets.
 
-ghost use Rattle.std.specs.Prelude.{◌≡◌, IfOk, List, ℕ, map, ◌∷◌, [], None, Some, if◌then◌else◌};
+ghost use Rattle.std.specs.Prelude.{◌≡◌, IfOk, map, ◌∷◌, [], None, Some, if◌then◌else◌};
 ghost use Rattle.ere.specs.Limits.{IsWithinLimits};
 ghost use Rattle.ere.specs.Tree.{form, trees_of};
 ghost use Rattle.ere.specs.Tree as tree;

@@ -8,7 +8,7 @@ use Rattle.trigram.specs.declared.analysis.Words.{Words}
 use Rattle.trigram.specs.declared.analysis.Words.TheVariants.{Known, Loose}
 use Rattle.trigram.specs.declared.texts.Side.{Side}
 use Rattle.trigram.specs.declared.texts.Side.TheVariants.{Front, Back}
-use Rattle.trigram.specs.Texts.{Texts, Cut, ending}
+use Rattle.trigram.specs.Texts.{Cut, ending}
 use Rattle.trigram.specs.Analysis.{Analysis, known, loose}
 
 -- the texts of a program's set
