@@ -1,9 +1,10 @@
 -- The lines of documents, and the scan of all of them.
-use Rattle.std.proofs.Common.{◌≡◌, ℕ, zero, suc, ◌+◌, ◌-◌, ◌<◌, ◌≤◌, ◌⊎◌, inl, inr, List, [], ◌∷◌, ◌++◌, map, length, drop, get_or, Some, None, Contains, IfSome, refl, sym, ◌∙◌, ap, subst, arith, append_assoc}
+use Rattle.std.proofs.Common.{◌≡◌, ℕ, zero, suc, ◌+◌, ◌-◌, ◌<◌, ◌≤◌, ◌⊎◌, inl, inr, List, [], ◌∷◌, ◌++◌, map, length, length-drop, drop, take, get_or, Some, None, Contains, IfSome, refl, sym, ◌∙◌, ap, subst, arith}
 use Rattle.std.specs.Prelude.{slice_get, flat_map}
 use Rattle.std.proofs.Math.Seq.{drop-cons}
 use Rattle.std.proofs.Math.ListN.{drop_of_length-le}
-use Rattle.std.proofs.lemmas.List.{append-nil}
+use Rattle.std.proofs.lemmas.List.{append-nil, take-append-drop, take_all}
+use Rattle.std.proofs.lemmas.Grind.{flat_map-append}
 use Rattle.std.specs.Ordering.{nat_cmp}
 use Rattle.std.specs.Cmp.Lexicographic.{slice_cmp, nat_list_cmp_total}
 use Rattle.std.proofs.lemmas.Cmp.{tied_itself}
@@ -19,7 +20,7 @@ use Rattle.index.proofs.PutLemmas.{Contains-cons, Contains-head, Contains-tail, 
 use Rattle.search.specs.Pattern.{Pattern}
 use Rattle.search.specs.Scan.{Hit, IsHit, hit_cmp, IsScanOf}
 use Rattle.search.specs.Selects.{found, numbered, lines_of_document, lines_shown, lines_at, Selects, done, Adds, IsWanted}
-use Rattle.search.proofs.SelectsLemmas.{sorted-Selects, Contains-kept, kept-Contains, Selects-same, Selects-none, Selects-append, Adds-none}
+use Rattle.search.proofs.SelectsLemmas.{sorted-Selects, Contains-kept, kept-Contains, Selects-same, Selects-none, Selects-append, Selects-after, Adds-none}
 
 -- ---- the lines of one document
 
@@ -166,21 +167,34 @@ all_lines-sorted (d ∷ documents) rises =
 
 -- ---- from number to number
 
-numbers-next : (documents : List Document) (numbers : List ℕ) (i : ℕ) → i < length numbers → flat_map (lines_at documents) (drop i numbers) ≡ lines_at documents (get_or numbers i 0) ++ flat_map (lines_at documents) (drop (i + 1) numbers)
+pub numbers-next : (documents : List Document) (numbers : List ℕ) (i : ℕ) → i < length numbers → flat_map (lines_at documents) (drop i numbers) ≡ lines_at documents (get_or numbers i 0) ++ flat_map (lines_at documents) (drop (i + 1) numbers)
 numbers-next documents numbers i h =
     let moved : suc i ≡ i + 1 = omega arith in
     ap (λ xs. flat_map (lines_at documents) xs) (drop-cons numbers i 0 h) ∙ ap (λ n. lines_at documents (get_or numbers i 0) ++ flat_map (lines_at documents) (drop n numbers)) moved
 
-pub documents-step : (Has : Hit → Type 0) (documents : List Document) (numbers : List ℕ) (i : ℕ) (whole now new : List Hit) → i < length numbers → Adds Has (lines_at documents (get_or numbers i 0)) now new → ((more : List Hit) → Selects Has (flat_map (lines_at documents) (drop i numbers)) more → Selects Has whole (now ++ more)) → (more : List Hit) → Selects Has (flat_map (lines_at documents) (drop (i + 1) numbers)) more → Selects Has whole (new ++ more)
-documents-step Has documents numbers i whole now new h step before more s =
-    let next = subst (λ all. Selects Has all (step.added ++ more)) (sym (numbers-next documents numbers i h)) (Selects-append step.selected s) in
-    let same : now ++ (step.added ++ more) ≡ new ++ more = sym (append_assoc now step.added more) ∙ ap (λ xs. xs ++ more) (sym step.appended) in
-    subst (λ xs. Selects Has whole xs) same (before (step.added ++ more) next)
+pub documents-step : (Has : Hit → Type 0) (documents : List Document) (numbers : List ℕ) (i : ℕ) (whole old now new : List Hit) → i < length numbers → Adds Has (lines_at documents (get_or numbers i 0)) now new → ((more : List Hit) → Selects Has (flat_map (lines_at documents) (drop i numbers)) more → Adds Has whole old (now ++ more)) → (more : List Hit) → Selects Has (flat_map (lines_at documents) (drop (i + 1) numbers)) more → Adds Has whole old (new ++ more)
+documents-step Has documents numbers i whole old now new h step before =
+    Selects-after Has (lines_at documents (get_or numbers i 0)) (flat_map (lines_at documents) (drop (i + 1) numbers)) whole now old new step
+    (λ more s. before more (subst (λ all. Selects Has all more) (sym (numbers-next documents numbers i h)) s))
 
-pub documents-end : (Has : Hit → Type 0) (documents : List Document) (numbers : List ℕ) (i : ℕ) (whole now : List Hit) → length numbers ≤ i → ((more : List Hit) → Selects Has (flat_map (lines_at documents) (drop i numbers)) more → Selects Has whole (now ++ more)) → Selects Has whole now
-documents-end Has documents numbers i whole now h before =
+pub documents-end : (Has : Hit → Type 0) (documents : List Document) (numbers : List ℕ) (i : ℕ) (whole old now : List Hit) → length numbers ≤ i → ((more : List Hit) → Selects Has (flat_map (lines_at documents) (drop i numbers)) more → Adds Has whole old (now ++ more)) → Adds Has whole old now
+documents-end Has documents numbers i whole old now h before =
     let none : drop i numbers ≡ [] = drop_of_length-le numbers h in
-    subst (λ xs. Selects Has whole xs) (append-nil now) (before [] (subst (λ xs. Selects Has (flat_map (lines_at documents) xs) []) (sym none) done))
+    subst (λ xs. Adds Has whole old xs) (append-nil now) (before [] (subst (λ xs. Selects Has (flat_map (lines_at documents) xs) []) (sym none) done))
+
+-- the documents of a list's first numbers, and those of the others
+pub two-parts : (Has : Hit → Type 0) (documents : List Document) (numbers : List ℕ) (few : ℕ) (one two : List Hit) → Adds Has (flat_map (lines_at documents) (take few numbers)) [] one → Adds Has (flat_map (lines_at documents) (take (length numbers - few) (drop few numbers))) one two → Selects Has (flat_map (lines_at documents) numbers) two
+two-parts Has documents numbers few one two first rest =
+    let whole : take few numbers ++ take (length numbers - few) (drop few numbers) ≡ numbers =
+    ap (λ xs. take few numbers ++ xs) (take_all (length numbers - few) (drop few numbers) (omega (arith, length-drop few numbers))) ∙ take-append-drop few numbers in
+    let lines = sym (flat_map-append (lines_at documents) (take few numbers) (take (length numbers - few) (drop few numbers))) ∙ ap (λ xs. flat_map (lines_at documents) xs) whole in
+    subst (λ all. Selects Has all two) lines
+    (subst (λ hits. Selects Has (flat_map (lines_at documents) (take few numbers) ++ flat_map (lines_at documents) (take (length numbers - few) (drop few numbers))) hits) (sym (rest.appended ∙ ap (λ xs. xs ++ rest.added) first.appended))
+    (Selects-append first.selected rest.selected))
+
+pub no-documents : (Has : Hit → Type 0) (documents : List Document) (numbers : List ℕ) (old : List Hit) → length numbers ≡ 0 → Adds Has (flat_map (lines_at documents) numbers) old old
+no-documents Has documents [] old e = Adds-none Has [] old done
+no-documents Has documents (number ∷ numbers) old e = absurd (omega arith)
 
 -- the lines of a document that is there, and of none
 pub Adds-document : (Has : Hit → Type 0) (documents : List Document) (number : ℕ) (name body : List ℕ) (now new : List Hit) → Some (name, body) ≡ document_at number documents → Adds Has (lines_of_document name body) now new → Adds Has (lines_at documents number) now new

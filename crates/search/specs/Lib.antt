@@ -6,3 +6,4 @@ pub mod Text
 pub mod Queries
 pub mod Limited
 pub mod Selects
+pub mod Ways

@@ -1,5 +1,6 @@
 -- The lines of documents, one after another, and those of them that a search keeps.
-use Rattle.std.specs.Prelude.{◌≡◌, ℕ, suc, List, [], ◌∷◌, ◌++◌, Option, Some, None, IfSome}
+use Rattle.std.specs.Prelude.{◌≡◌, ℕ, suc, List, [], ◌∷◌, ◌++◌, Option, Some, None, IfSome, flat_map}
+use Rattle.ere.specs.Tree.{Tree}
 use Rattle.ere.specs.Language.{ContainsMatch}
 use Rattle.ere.specs.Lines.{lines_of}
 use Rattle.index.specs.Documents.{Document, document_at}
@@ -42,3 +43,24 @@ pub record Adds (Has : Hit → Type 0) (all old new : List Hit) : Type 0 where
 pub record IsWanted (pattern : Pattern) (f : Hit) : Type 0 where
   pub hit : ContainsMatch pattern.tree f.text
   pub name_hit : IfSome pattern.name_tree (λ tree. ContainsMatch tree f.name)
+
+-- the line contains a match of the tree
+abbrev pub HasMatch : Tree → Hit → Type 0
+HasMatch tree f = ContainsMatch tree f.text
+
+-- The number has a document, whose name, taken as a line, contains a match of the tree.
+pub record IsNamed (documents : List Document) (tree : Tree) (number : ℕ) : Type 0 where
+  pub document : List ℕ × List ℕ
+  pub there : document_at number documents ≡ Some document
+  pub name_hit : ContainsMatch tree document.0
+
+-- Of the lines of all the numbers' documents, those that the pattern asks for are the ones with a match among
+-- the lines of the kept ones.
+abbrev pub KeepsNamed : List Document → Pattern → List ℕ → List ℕ → Type 0
+KeepsNamed documents pattern numbers kept =
+    (hits : List Hit) → Selects (HasMatch pattern.tree) (flat_map (lines_at documents) kept) hits → Selects (IsWanted pattern) (flat_map (lines_at documents) numbers) hits
+
+-- the same for every pattern with this name tree
+abbrev pub KeepsNames : List Document → Tree → List ℕ → List ℕ → Type 0
+KeepsNames documents name_tree numbers kept =
+    (pattern : Pattern) → pattern.name_tree ≡ Some name_tree → KeepsNamed documents pattern numbers kept

@@ -1,9 +1,12 @@
-//! Searches of an index, line by line: prepared patterns, answers, and the text of an answer.
+//! Searches of an index: prepared patterns, answers, and the text of an answer.
 #![tactic(auto)]
 
 pub mod answer;
+mod lines;
+mod names;
 pub mod pattern;
 pub mod scan;
+mod way;
 
 pub use answer::{Answer, Hit, append_all};
 pub use pattern::{Prepared, WithinError};

@@ -8,8 +8,6 @@ ghost use Rattle.search.specs.Limited.{IsWithinLimits-prop, ForSome-prop, IsQuer
 ghost use Rattle.search.specs.Queries.{IsQueryOf};
 
 use ere::{Ere, EreError, EreErrorKind, parse};
-use index::Name;
-use matcher::matches;
 use std::alloc::Global;
 use trigram::{Query, analyse};
 
@@ -19,7 +17,7 @@ use trigram::{Query, analyse};
 #[derive(Debug, Drop)]
 pub struct Prepared {
     pub(crate) tree: Ere,
-    name_tree: Option<Ere>,
+    pub(crate) name_tree: Option<Ere>,
     // What the trigrams of a document with a hit satisfy.
     pub(crate) query: Query,
     pub ghost limits: { IsWithinLimits (form tree) } by { IsWithinLimits-prop (form tree) },
@@ -37,8 +35,7 @@ pub struct WithinError {
 }
 
 impl Prepared {
-    ghost use Rattle.std.specs.Prelude.{◌≢◌, ◌↔◌, IsTrue, IfOk, IfErr, IfSome, MatchBool};
-    ghost use Rattle.ere.specs.Language.{ContainsMatch};
+    ghost use Rattle.std.specs.Prelude.{◌≢◌, IfOk, IfErr, MatchBool};
     ghost use Rattle.ere.specs.Limits.{HasNoTree};
     ghost use Rattle.search.specs.Pattern.{IsPatternOf, IsPatternWithin, HasTree};
     ghost use Rattle.search.specs.Prepared.{pattern_of};
@@ -86,17 +83,6 @@ impl Prepared {
                 in_name: false,
                 error,
             }),
-        }
-    }
-
-    /// Whether a document with this name counts: its name, taken as a line, matches the name pattern, or
-    /// there is none.
-    pub fn takes_name(&self, name: &Name) -> bool
-        ensures { IsTrue result ↔ IfSome (pattern_of self.now).name_tree (λ tree. ContainsMatch tree name.now) }
-    {
-        match &self.name_tree {
-            None => true,
-            Some(tree) => matches(tree, name.as_bytes()),
         }
     }
 }

@@ -1,16 +1,15 @@
 use Rattle.std.proofs.Common.{◌≡◌, ◌+◌, ◌≤◌, ◌++◌, false, List, length}
-use Rattle.ere.specs.Language.{ContainsMatch}
 use Rattle.ere.specs.Lines.{lines_of}
 use Rattle.ere.specs.Tree.{form}
 use Rattle.index.specs.Text.{has_long_line}
 use Rattle.search.specs.Scan.{Hit}
 use Rattle.search.specs.Hits.{hits_of}
-use Rattle.search.specs.Selects.{Adds, Selects, numbered, lines_of_document}
-use Rattle.search.proofs.scan.scan_lines.Given as goal
+use Rattle.search.specs.Selects.{HasMatch, Adds, Selects, numbered, lines_of_document}
+use Rattle.search.proofs.lines.scan_lines.Given as goal
 
 abbrev pub invariant-loop-end : goal.invariant-loop-end
 invariant-loop-end l = record {
-  so_far : (more : List Hit) → Selects (λ f. ContainsMatch (form l.tree) f.text) (numbered l.name l.line (lines_of l.rest)) more → Adds (λ f. ContainsMatch (form l.tree) f.text) (lines_of_document l.name l.body) (hits_of l.initial.hits.items) (hits_of l.hits.items ++ more);
+  so_far : (more : List Hit) → Selects (HasMatch (form l.tree)) (numbered l.name l.line (lines_of l.rest)) more → Adds (HasMatch (form l.tree)) (lines_of_document l.name l.body) (hits_of l.initial.hits.items) (hits_of l.hits.items ++ more);
   short : has_long_line l.rest ≡ false;
   room : l.line + length l.rest ≤ 1 + length l.body;
 }

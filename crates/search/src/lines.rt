@@ -1,0 +1,221 @@
+//! The lines of documents that contain a match.
+
+ghost use Rattle.std.specs.Prelude.{◌≡◌, ◌≤◌, [], ◌∷◌, length, flat_map, IfOk, OnOk};
+ghost use Rattle.ere.specs.Tree.{Tree, form};
+ghost use Rattle.ere.specs.Limits.{IsWithinLimits};
+ghost use Rattle.ere.specs.Lines.{lines_of};
+ghost use Rattle.finder.specs.Patterns.{IsFinderOf};
+ghost use Rattle.index.specs.Documents.{documents_of};
+ghost use Rattle.search.specs.Hits.{hits_of};
+ghost use Rattle.search.specs.Selects.{Adds, Selects, HasMatch, found, lines_of_document, lines_at};
+ghost use Rattle.search.specs.Ways.{Finds};
+
+use crate::answer::Hit;
+use crate::scan::Watch;
+use crate::way::{Way, compile, nests_stars, way_by};
+use ere::{Ere, MAX_LINE};
+use finder::Finder;
+use index::{Body, Index, Name};
+use matcher::matches;
+use memchr::memchr;
+use std::alloc::{AllocError, Global};
+
+/// How many bytes of bodies are looked at line by line before a pattern is compiled. To compile one takes
+/// about as long as the matcher takes for so many bytes.
+const FEW_BYTES: usize = 16384;
+
+/// The lines with a match in the documents with these numbers, document after document. The watch is told of
+/// each document. An `Err` comes only where memory ran out.
+pub fn scan_documents<W: Watch>(
+    alloc: Global,
+    index: &Index,
+    tree: &Ere,
+    numbers: &[u32],
+    watch: &mut W,
+) -> Result<Vec<Hit>, AllocError>
+    requires { IsWithinLimits (form tree.now) }
+    ensures { IfOk result (λ hits. Selects (HasMatch (form tree.now))
+        (flat_map (lines_at (documents_of index.now)) numbers.now) (hits_of hits.items)) }
+{
+    let mut hits = Vec::new(alloc);
+    let few = few_documents(index, tree, numbers);
+    let mut way = Way::LineByLine;
+    scan_by(index, tree, &mut way, &numbers[..few], &mut hits, watch)?;
+    scan_compiled(index, tree, &numbers[few..], &mut hits, watch)?;
+    Ok(hits)
+}
+
+// How many documents, from the first on, are so small together that their lines are looked at one by one. No
+// answer depends on it.
+fn few_documents(index: &Index, tree: &Ere, numbers: &[u32]) -> usize
+    ensures { result ≤ length numbers.now }
+{
+    if nests_stars(tree) {
+        return 0;
+    }
+    let mut left = FEW_BYTES;
+    for at in 0..numbers.len() {
+        let size = body_size(index, numbers[at]);
+        if size > left {
+            return at;
+        }
+        left -= size;
+    }
+    numbers.len()
+}
+
+// The bytes of the body of the document with this number, where there is one.
+fn body_size(index: &Index, number: u32) -> usize {
+    match index.document(number) {
+        Some((_, body)) => body.as_bytes().len(),
+        None => 0,
+    }
+}
+
+// Adds the lines with a match in the documents with these numbers, by the compiled pattern. Where there are
+// none, no pattern is compiled.
+fn scan_compiled<W: Watch>(
+    index: &Index,
+    tree: &Ere,
+    numbers: &[u32],
+    hits: &mut Vec<Hit>,
+    watch: &mut W,
+) -> Result<(), AllocError>
+    requires { IsWithinLimits (form tree.now) }
+    ensures { OnOk result (Adds (HasMatch (form tree.now)) (flat_map (lines_at (documents_of index.now)) numbers.now)
+        (hits_of hits.old.items) (hits_of hits.new.items)) }
+{
+    if numbers.is_empty() {
+        return Ok(());
+    }
+    let alloc = *hits.allocator();
+    let compiled = compile(alloc, tree)?;
+    let mut way = way_by(alloc, tree, &compiled)?;
+    scan_by(index, tree, &mut way, numbers, hits, watch)
+}
+
+// Adds the lines with a match in the documents with these numbers, by this way.
+fn scan_by<W: Watch>(
+    index: &Index,
+    tree: &Ere,
+    way: &mut Way<'_>,
+    numbers: &[u32],
+    hits: &mut Vec<Hit>,
+    watch: &mut W,
+) -> Result<(), AllocError>
+    requires limits { IsWithinLimits (form tree.now) }
+    requires way { Finds (form tree.now) way.old }
+    ensures { OnOk result (Adds (HasMatch (form tree.now)) (flat_map (lines_at (documents_of index.now)) numbers.now)
+        (hits_of hits.old.items) (hits_of hits.new.items)) }
+{
+    for number in numbers {
+        if let Some((name, body)) = index.document(*number) {
+            watch.reads(*number);
+            scan_body(tree, way, name, body, hits)?;
+        }
+    }
+    Ok(())
+}
+
+// Adds the lines with a match of one body.
+fn scan_body(
+    tree: &Ere,
+    way: &mut Way<'_>,
+    name: &Name,
+    body: &Body,
+    hits: &mut Vec<Hit>,
+) -> Result<(), AllocError>
+    requires limits { IsWithinLimits (form tree.now) }
+    requires way { Finds (form tree.now) way.old }
+    ensures way { Finds (form tree.now) way.new }
+    ensures hits { OnOk result (Adds (HasMatch (form tree.now)) (lines_of_document name.now body.now)
+        (hits_of hits.old.items) (hits_of hits.new.items)) }
+{
+    let alloc = *hits.allocator();
+    match way {
+        Way::FromMatchToMatch(finder) => sweep_lines(alloc, finder, name, body, hits),
+        Way::LineByLine => scan_lines(alloc, tree, name, body, hits),
+    }
+}
+
+// Adds the lines with a match, each found in what is left after the one before.
+fn sweep_lines(
+    alloc: Global,
+    finder: &mut Finder<'_>,
+    name: &Name,
+    body: &Body,
+    hits: &mut Vec<Hit>,
+) -> Result<(), AllocError>
+    ensures same { (tree : Tree) → IsFinderOf tree finder.old → IsFinderOf tree finder.new }
+    ensures hits { OnOk result ((tree : Tree) → IsFinderOf tree finder.old → Adds (HasMatch tree) (lines_of_document name.now body.now)
+        (hits_of hits.old.items) (hits_of hits.new.items)) }
+{
+    let mut rest = body.as_bytes();
+    let mut line = 1;
+    while let Some(first) = finder.first_line(rest) {
+        line += first.before as u32;
+        let hit = Hit {
+            name: name.copy()?,
+            line,
+            text: Vec::from_slice(alloc, &rest[first.start..first.end])?,
+        };
+        hits.push(hit)?;
+        if first.end == rest.len() {
+            return Ok(());
+        }
+        rest = &rest[first.end + 1..];
+        line += 1;
+    }
+    Ok(())
+}
+
+// Adds the lines with a match, each looked at by itself.
+fn scan_lines(
+    alloc: Global,
+    tree: &Ere,
+    name: &Name,
+    body: &Body,
+    hits: &mut Vec<Hit>,
+) -> Result<(), AllocError>
+    requires { IsWithinLimits (form tree.now) }
+    ensures { OnOk result (Adds (HasMatch (form tree.now)) (lines_of_document name.now body.now)
+        (hits_of hits.old.items) (hits_of hits.new.items)) }
+{
+    let mut rest = body.as_bytes();
+    let mut line = 1;
+    while let Some(end) = memchr(b'\n', rest) {
+        scan_line(alloc, tree, name, line, &rest[..end], hits)?;
+        rest = &rest[end + 1..];
+        line += 1;
+    }
+    if rest.is_empty() {
+        return Ok(());
+    }
+    scan_line(alloc, tree, name, line, rest, hits)
+}
+
+// Adds a line where it contains a match.
+fn scan_line(
+    alloc: Global,
+    tree: &Ere,
+    name: &Name,
+    line: u32,
+    text: &[u8],
+    hits: &mut Vec<Hit>,
+) -> Result<(), AllocError>
+    requires limits { IsWithinLimits (form tree.now) }
+    requires short { length text.now ≤ MAX_LINE }
+    ensures { OnOk result (Adds (HasMatch (form tree.now)) (found name.now line text.now ∷ [])
+        (hits_of hits.old.items) (hits_of hits.new.items)) }
+{
+    if !matches(tree, text) {
+        return Ok(());
+    }
+    let hit = Hit {
+        name: name.copy()?,
+        line,
+        text: Vec::from_slice(alloc, text)?,
+    };
+    hits.push(hit)?;
+    Ok(())
+}

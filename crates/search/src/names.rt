@@ -1,0 +1,99 @@
+//! The documents whose names match the name pattern of a search.
+
+ghost use Rattle.std.specs.Prelude.{◌↔◌, IfOk, IsTrue};
+ghost use Rattle.ere.specs.Tree.{form};
+ghost use Rattle.ere.specs.Language.{ContainsMatch};
+ghost use Rattle.ere.specs.Limits.{IsWithinLimits};
+ghost use Rattle.index.specs.Documents.{documents_of};
+ghost use Rattle.search.specs.Prepared.{pattern_of};
+ghost use Rattle.search.specs.Selects.{KeepsNamed, KeepsNames, IsNamed};
+ghost use Rattle.search.specs.Ways.{Finds};
+
+use crate::pattern::Prepared;
+use crate::way::{Way, compile, nests_stars, way_by};
+use ere::Ere;
+use index::{Index, Name};
+use matcher::matches;
+use std::alloc::{AllocError, Global};
+
+/// Those of the numbers whose documents' names, taken as lines, contain a match of the name pattern, in their
+/// order; all of them where there is no name pattern. An `Err` comes only where memory ran out.
+pub fn named(
+    alloc: Global,
+    index: &Index,
+    prepared: &Prepared,
+    numbers: Vec<u32>,
+) -> Result<Vec<u32>, AllocError>
+    ensures { IfOk result (λ kept. KeepsNamed (documents_of index.now) (pattern_of prepared.now) numbers.items kept.items) }
+{
+    match &prepared.name_tree {
+        None => Ok(numbers),
+        Some(tree) => with_names(alloc, index, tree, numbers.as_slice()),
+    }
+}
+
+// Those whose documents' names match the tree.
+fn with_names(
+    alloc: Global,
+    index: &Index,
+    tree: &Ere,
+    numbers: &[u32],
+) -> Result<Vec<u32>, AllocError>
+    requires { IsWithinLimits (form tree.now) }
+    ensures { IfOk result (λ kept. KeepsNames (documents_of index.now) (form tree.now) numbers.now kept.items) }
+{
+    if numbers.is_empty() || !nests_stars(tree) {
+        // Names are short, and a compiled pattern does not pay.
+        let mut way = Way::LineByLine;
+        return with_names_by(alloc, index, tree, &mut way, numbers);
+    }
+    let compiled = compile(alloc, tree)?;
+    let mut way = way_by(alloc, tree, &compiled)?;
+    with_names_by(alloc, index, tree, &mut way, numbers)
+}
+
+fn with_names_by(
+    alloc: Global,
+    index: &Index,
+    tree: &Ere,
+    way: &mut Way<'_>,
+    numbers: &[u32],
+) -> Result<Vec<u32>, AllocError>
+    requires limits { IsWithinLimits (form tree.now) }
+    requires way { Finds (form tree.now) way.old }
+    ensures { IfOk result (λ kept. KeepsNames (documents_of index.now) (form tree.now) numbers.now kept.items) }
+{
+    let mut kept = Vec::new(alloc);
+    for number in numbers {
+        if is_named(index, tree, way, *number) {
+            kept.push(*number)?;
+        }
+    }
+    Ok(kept)
+}
+
+// Whether the number has a document, and its name matches.
+fn is_named(index: &Index, tree: &Ere, way: &mut Way<'_>, number: u32) -> bool
+    requires limits { IsWithinLimits (form tree.now) }
+    requires way { Finds (form tree.now) way.old }
+    ensures way { Finds (form tree.now) way.new }
+    ensures named { IsTrue result ↔ IsNamed (documents_of index.now) (form tree.now) number }
+{
+    match index.document(number) {
+        Some((name, _)) => matches_name(tree, way, name),
+        None => false,
+    }
+}
+
+// Whether the name, taken as a line, contains a match.
+fn matches_name(tree: &Ere, way: &mut Way<'_>, name: &Name) -> bool
+    requires limits { IsWithinLimits (form tree.now) }
+    requires way { Finds (form tree.now) way.old }
+    ensures way { Finds (form tree.now) way.new }
+    ensures matches { IsTrue result ↔ ContainsMatch (form tree.now) name.now }
+{
+    match way {
+        Way::FromMatchToMatch(finder) => finder.matches(name.as_bytes()),
+        Way::LineByLine => matches(tree, name.as_bytes()),
+    }
+}

@@ -1,0 +1,69 @@
+//! The two ways in which lines that contain a match are found.
+
+ghost use Rattle.std.specs.Prelude.{◌≡◌, IfOk, IfSome, nat_le};
+ghost use Rattle.ere.specs.Tree.{form};
+ghost use Rattle.finder.specs.Patterns.{IsCompiledFrom};
+ghost use Rattle.finder.specs.StarHeight.{star_height};
+ghost use Rattle.search.specs.Ways.{Finds};
+
+use ere::Ere;
+use finder::{Compiled, Finder, has_star_height};
+use std::alloc::{AllocError, Global};
+
+/// How the lines that contain a match of a tree are found. Both ways find the same lines.
+#[derive(Drop)]
+pub enum Way<'p> {
+    /// By the engine, over a whole body at once.
+    FromMatchToMatch(Finder<'p>),
+    /// By the matcher, which looks at each line.
+    LineByLine,
+}
+
+/// Whether the tree has stars inside stars. The matcher's time for a line can then double with each of them, so
+/// that such a tree is the engine's alone, whose time is linear in the text. For every other tree the matcher's
+/// time is at most about the tree's leaves times the third power of the line's length: it goes through a star at
+/// most once for each position of the line, and through a star of a single set inside it likewise.
+pub fn nests_stars(tree: &Ere) -> bool
+    ensures { result ≡ nat_le 2 (star_height (form tree.now)) }
+{
+    has_star_height(tree, 2)
+}
+
+/// The pattern of the tree, compiled. There is none where it would be too large, or memory ran out: the tree is
+/// then searched for line by line. For a tree with stars inside stars the `Err` says that memory ran out.
+pub fn compile(alloc: Global, tree: &Ere) -> Result<Option<Compiled>, AllocError>
+    ensures { IfOk result (λ o. IfSome o (IsCompiledFrom (form tree.now))) }
+{
+    match Compiled::new(alloc, tree) {
+        Ok(compiled) => Ok(compiled),
+        Err(error) => {
+            if nests_stars(tree) {
+                return Err(error);
+            }
+            Ok(None)
+        }
+    }
+}
+
+/// The way by the compiled pattern of the tree, where there is one. An `Err` is as for `compile`.
+pub fn way_by<'p>(
+    alloc: Global,
+    tree: &Ere,
+    compiled: &'p Option<Compiled>,
+) -> Result<Way<'p>, AllocError>
+    requires { IfSome compiled.now (IsCompiledFrom (form tree.now)) }
+    ensures { IfOk result (Finds (form tree.now)) }
+{
+    let Some(compiled) = compiled else {
+        return Ok(Way::LineByLine);
+    };
+    match Finder::new(alloc, compiled) {
+        Ok(finder) => Ok(Way::FromMatchToMatch(finder)),
+        Err(error) => {
+            if nests_stars(tree) {
+                return Err(error);
+            }
+            Ok(Way::LineByLine)
+        }
+    }
+}
