@@ -1,4 +1,5 @@
-pub mod Truths
-pub mod Shifts
+pub mod Bits
+pub mod Shifting
+pub mod Joining
 pub mod Meaning
 pub mod Walks

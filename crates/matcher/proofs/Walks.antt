@@ -8,7 +8,7 @@ use Rattle.matcher.specs.declared.positions.Positions.{Positions}
 use Rattle.matcher.specs.Spans.{Relation, Steps, Spans, SpansEach, SpansSome}
 use Rattle.matcher.specs.PositionSets.{has_position, HasNone, IsEither, IsNew, Moves}
 use Rattle.ere.specs.Language.{ContainsMatch}
-use Rattle.matcher.proofs.Truths.{false≢true}
+use Rattle.matcher.proofs.Bits.{false≢true}
 use Rattle.matcher.proofs.Meaning.{hit_of_spans, spans_of_hit}
 
 not_held : {places : Positions} → HasNone places → (k : ℕ) → IsTrue (has_position places k) → ⊥

@@ -1,10 +1,11 @@
--- Where the members of a set of truth values lie.
-use Rattle.std.specs.Prelude.{◌≡◌, ℕ, ◌≤◌, ◌<◌, Bool, false, IsTrue, List, length, slice_index_or}
-use Rattle.matcher.specs.declared.positions.TheConstants.{POSITIONS}
+-- In which words the positions of a set lie.
+use Rattle.std.specs.Prelude.{◌≡◌, ℕ, ◌≤◌, ◌<◌, List, length, slice_index}
+use Rattle.matcher.specs.declared.words.TheConstants.{WORDS}
 
--- There is a truth value for each position, and all that hold lie from `first` up to but not at `end`.
-pub record IsBounded (held : List Bool) (first end : ℕ) : Type 0 where
-  pub whole : length held ≡ POSITIONS
-  pub inside : end ≤ POSITIONS
-  pub low : (k : ℕ) → IsTrue (slice_index_or held k false) → first ≤ k
-  pub high : (k : ℕ) → IsTrue (slice_index_or held k false) → k < end
+-- All words are there, and those before `first` and from `end` on are empty.
+pub record IsBounded (words : List ℕ) (first end : ℕ) : Type 0 where
+  pub whole : length words ≡ WORDS
+  pub ordered : first ≤ end
+  pub inside : end ≤ WORDS
+  pub low : (i : ℕ) → i < first → slice_index words i ≡ 0
+  pub high : (i : ℕ) → end ≤ i → slice_index words i ≡ 0

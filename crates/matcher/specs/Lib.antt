@@ -1,3 +1,4 @@
-pub mod Bounds
 pub mod Spans
 pub mod PositionSets
+pub mod Bounds
+pub mod Moving

@@ -6,6 +6,7 @@
 
 mod positions;
 mod walk;
+mod words;
 
 ghost use Rattle.std.specs.Prelude.{◌≤◌, ◌↔◌, IsTrue, length};
 ghost use Rattle.ere.specs.Limits.{IsWithinLimits};
@@ -14,6 +15,7 @@ ghost use Rattle.ere.specs.Tree.{form};
 
 use crate::positions::Positions;
 use crate::walk::advance;
+pub use crate::words::{WORDS, step};
 use ere::{Ere, MAX_LINE};
 
 /// Whether some part of the line is a match of the tree.

@@ -1,36 +1,33 @@
 //! Sets of positions of a line.
 
-ghost use Rattle.std.specs.Prelude.{◌≡◌, ◌≤◌, ◌<◌, ℕ, false, not, ◌&&◌, ◌||◌, ◌==◌, nat_le, IsTrue, MatchBool, length, nat_lt, slice_index, slice_index_or};
-ghost use Rattle.ere.specs.ByteSet.{has};
+ghost use Rattle.std.specs.Prelude.{◌≡◌, ◌≤◌, ◌<◌, ℕ, ◌&&◌, ◌==◌, nat_le, IsTrue, MatchBool, length, slice_index};
 ghost use Rattle.ere.specs.Tree.{set};
 ghost use Rattle.matcher.specs.Spans.{Spans, Steps};
 ghost use Rattle.matcher.specs.PositionSets.{has_position, absent, HasNone, IsEither, IsNew, Moves};
 
+use crate::words::{BITS, WORDS, either, every, only_bit, shift, sweep, through_bit, without};
 use ere::{ByteSet, MAX_LINE};
 use std::marker::Model;
 
-/// How many positions a line of the greatest length has.
-const POSITIONS: usize = MAX_LINE + 1;
-
-/// A set of positions of a line. Position i stands before byte i, and the last one behind the last byte.
+/// A set of positions of a line. Position i stands before byte i, and the last one after the last byte.
 #[derive(Drop)]
 pub struct Positions {
-    held: [bool; POSITIONS],
-    // All members lie from `first` up to but not at `end`, so that nothing else is looked at.
+    words: [u64; WORDS],
+    // All members are in the words from `first` up to but not at `end`, so that no other is looked at.
     first: usize,
     end: usize,
 }
 
 impl Model for Positions {
-    ghost use Rattle.std.specs.Prelude.{List, Bool};
+    ghost use Rattle.std.specs.Prelude.{List, ℕ};
 
-    ghost Value = { List Bool };
+    ghost Value = { List ℕ };
 
     ghost use Rattle.matcher.specs.Bounds.{IsBounded};
 
-    ghost view = { λ s. s.held };
+    ghost view = { λ s. s.words };
 
-    ghost invariant = { λ s. IsBounded s.held s.first s.end };
+    ghost invariant = { λ s. IsBounded s.words s.first s.end };
 }
 
 impl Positions {
@@ -39,7 +36,7 @@ impl Positions {
         ensures { HasNone result }
     {
         Positions {
-            held: every(false),
+            words: every(0),
             first: 0,
             end: 0,
         }
@@ -50,25 +47,16 @@ impl Positions {
         requires { last ≤ MAX_LINE }
         ensures { (k : ℕ) → has_position result k ≡ nat_le k last }
     {
-        let mut held = every(false);
-        for at in 0..last + 1 {
-            held[at] = true;
+        let mut words = every(0);
+        let whole = last / BITS;
+        for i in 0..whole {
+            words[i] = through_bit(BITS - 1);
         }
+        words[whole] = through_bit(last % BITS);
         Positions {
-            held,
+            words,
             first: 0,
-            end: last + 1,
-        }
-    }
-
-    /// A second set with the same positions.
-    pub fn copy(&self) -> Positions
-        ensures { result ≡ self.now }
-    {
-        Positions {
-            held: self.held,
-            first: self.first,
-            end: self.end,
+            end: whole + 1,
         }
     }
 
@@ -76,8 +64,8 @@ impl Positions {
     pub fn is_empty(&self) -> bool
         ensures { MatchBool result (HasNone self.now) ((k : ℕ) × IsTrue (has_position self.now k)) }
     {
-        for at in self.first..self.end {
-            if self.held[at] {
+        for i in self.first..self.end {
+            if self.words[i] != 0 {
                 return false;
             }
         }
@@ -86,13 +74,26 @@ impl Positions {
 
     /// Takes every position out.
     pub fn clear(&mut self)
-        ensures { HasNone self.new }
+        ensures none { HasNone self.new }
+        ensures empty { (i : ℕ) → slice_index self.new i ≡ 0 }
     {
-        for at in self.first..self.end {
-            self.held[at] = false;
+        for i in self.first..self.end {
+            self.words[i] = 0;
         }
         self.first = 0;
         self.end = 0;
+    }
+
+    /// Makes the set the same as another.
+    pub fn copy(&mut self, other: &Positions)
+        ensures { self.new ≡ other.now }
+    {
+        self.clear();
+        for i in other.first..other.end {
+            self.words[i] = other.words[i];
+        }
+        self.first = other.first;
+        self.end = other.end;
     }
 
     /// Takes every position but one out.
@@ -100,11 +101,12 @@ impl Positions {
         requires { position ≤ MAX_LINE }
         ensures { (k : ℕ) → has_position self.new k ≡ (k == position && has_position self.old k) }
     {
-        let stays = self.held[position];
+        let i = position / BITS;
+        let stays = only_bit(self.words[i], position % BITS);
         self.clear();
-        self.held[position] = stays;
-        self.first = position;
-        self.end = position + 1;
+        self.words[i] = stays;
+        self.first = i;
+        self.end = i + 1;
     }
 
     /// Puts the positions of `fresh` in, and takes those out of `fresh` that were in already. Whether
@@ -114,25 +116,15 @@ impl Positions {
         ensures new { IsNew fresh.old self.old fresh.new }
         ensures grown { MatchBool result (absent self.new < absent self.old) (HasNone fresh.new) }
     {
-        let mut grown = false;
-        for at in fresh.first..fresh.end {
-            if fresh.held[at] {
-                if self.held[at] {
-                    fresh.held[at] = false;
-                } else {
-                    self.held[at] = true;
-                    grown = true;
-                }
-            }
+        let (first, end) = joined(self.first, self.end, fresh.first, fresh.end);
+        for i in fresh.first..fresh.end {
+            let next = fresh.words[i];
+            fresh.words[i] = without(next, self.words[i]);
+            self.words[i] = either(self.words[i], next);
         }
-        if self.first < self.end {
-            self.first = self.first.min(fresh.first);
-            self.end = self.end.max(fresh.end);
-        } else {
-            self.first = fresh.first;
-            self.end = fresh.end;
-        }
-        grown
+        self.first = first;
+        self.end = end;
+        !fresh.is_empty()
     }
 
     /// Moves each position over the byte behind it, where that is in the set; where it is not, and at
@@ -141,22 +133,7 @@ impl Positions {
         requires { length line.now ≤ MAX_LINE }
         ensures { Moves (Spans line.now (set members.now)) self.old self.new }
     {
-        let mut first = 0;
-        let mut end = 0;
-        let mut passed = false;
-        for at in self.first..POSITIONS.min(self.end + 1) {
-            let passes = self.held[at] && is_followed(at, members, line);
-            self.held[at] = passed;
-            if passed {
-                if end == 0 {
-                    first = at;
-                }
-                end = at + 1;
-            }
-            passed = passes;
-        }
-        self.first = first;
-        self.end = end;
+        self.end = shift(members, line, &mut self.words, self.first, self.end);
     }
 
     /// Moves each position over any number of bytes that are in the set.
@@ -164,30 +141,23 @@ impl Positions {
         requires { length line.now ≤ MAX_LINE }
         ensures { Moves (λ from to. (words : ℕ) × Steps (Spans line.now (set members.now)) words from to) self.old self.new }
     {
-        let mut end = self.end;
-        for at in self.first..line.len() {
-            if at >= end {
-                break;
-            }
-            if self.held[at] && members.has(line[at]) {
-                self.held[at + 1] = true;
-                end = end.max(at + 2);
-            }
-        }
-        self.end = end;
+        self.end = sweep(members, line, &mut self.words, self.first, self.end);
     }
 }
 
-/// Whether a byte of the set stands behind the position.
-fn is_followed(at: usize, members: &ByteSet, line: &[u8]) -> bool
-    ensures { result ≡ (nat_lt at (length line.now) && has members.now (slice_index line.now at)) }
+/// The least range that holds two ranges, of which one that is empty counts for nothing.
+fn joined(first: usize, end: usize, other_first: usize, other_end: usize) -> (usize, usize)
+    requires ordered { (first ≤ end) × (other_first ≤ other_end) }
+    ensures ordered { result.0 ≤ result.1 }
+    ensures inside { (most : ℕ) → end ≤ most → other_end ≤ most → result.1 ≤ most }
+    ensures left { first < end → (result.0 ≤ first) × (end ≤ result.1) }
+    ensures right { other_first < other_end → (result.0 ≤ other_first) × (other_end ≤ result.1) }
 {
-    at < line.len() && members.has(line[at])
-}
-
-fn every(held: bool) -> [bool; POSITIONS]
-    ensures whole { length result ≡ POSITIONS }
-    ensures same { (k : ℕ) → k < POSITIONS → slice_index_or result k false ≡ held }
-{
-    [held; POSITIONS]
+    if first == end {
+        return (other_first, other_end);
+    }
+    if other_first == other_end {
+        return (first, end);
+    }
+    (first.min(other_first), end.max(other_end))
 }

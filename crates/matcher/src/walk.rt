@@ -46,12 +46,13 @@ fn advance_some(members: &[Ere], line: &[u8], at: &mut Positions)
     ensures { Moves (SpansSome line.now (trees_of (map form members.now))) at.old at.new }
 {
     let mut found = Positions::none();
+    let mut one = Positions::none();
     for i in (0..members.len()).rev() {
-        let mut one = at.copy();
+        one.copy(at);
         advance(&members[i], line, &mut one);
         found.add(&mut one);
     }
-    *at = found;
+    at.copy(&found);
 }
 
 /// By `least` words of the body or more, and at most `greatest`, one behind the other.
@@ -101,14 +102,15 @@ fn advance_at_most(body: &Ere, count: u8, line: &[u8], at: &mut Positions)
     requires { length line.now ≤ MAX_LINE }
     ensures { Moves (λ from to. (words : ℕ) × (words ≤ count) × Steps (Spans line.now (form body.now)) words from to) at.old at.new }
 {
-    let mut found = at.copy();
+    let mut found = Positions::none();
+    found.copy(at);
     for _round in 0..count {
         advance(body, line, at);
         if !found.add(at) {
             break;
         }
     }
-    *at = found;
+    at.copy(&found);
 }
 
 /// By any number of words of the body, one behind the other.
@@ -121,7 +123,8 @@ fn advance_any(body: &Ere, line: &[u8], at: &mut Positions)
         at.sweep(members, line);
         return;
     }
-    let mut found = at.copy();
+    let mut found = Positions::none();
+    found.copy(at);
     loop {
         advance(body, line, at);
         let grown = found.add(at);
@@ -129,7 +132,7 @@ fn advance_any(body: &Ere, line: &[u8], at: &mut Positions)
             break;
         }
     }
-    *at = found;
+    at.copy(&found);
 }
 
 /// Whether two words of the tree, one behind the other, are always a word of it: true of a repeat

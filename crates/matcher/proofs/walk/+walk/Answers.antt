@@ -31,16 +31,16 @@ pub advance_any-returns-in-Set : goal.advance_any-returns-in-Set
 advance_any-returns-in-Set t c = rw (ap form c.in-Set.is ∙ form-Set c.in-Set.members) c.sweep.ensures
 
 pub advance_any-loop-grown-init : goal.advance_any-loop-grown-init
-advance_any-loop-grown-init t c = rw c.copy-found.ensures (walks.widened_first (Spans c.args.line.now (form c.args.body.now)) (λ _. Unit {0}) c.args.at.now tt)
+advance_any-loop-grown-init t c = rw c.copy.ensures (walks.widened_first (Spans c.args.line.now (form c.args.body.now)) (λ _. Unit {0}) c.args.at.now tt)
 
 pub advance_any-loop-grown-preserved : goal.advance_any-loop-grown-preserved
 advance_any-loop-grown-preserved t c = walks.widened_more (Spans c.args.line.now (form c.args.body.now)) (λ _. Unit {0}) (λ _. Unit {0}) c.args.at.now c.loop-grown.found c.loop-grown.at c.advance.new.at c.add-grown.new.self c.add-grown.new.fresh c.loop-grown.invariant c.advance.ensures c.add-grown.ensures.both c.add-grown.ensures.new (λ _ _. tt) (λ _ _. tt)
 
 pub advance_any-returns : goal.advance_any-returns
-advance_any-returns t c = walks.moves_any (Spans c.args.line.now (form c.args.body.now)) c.args.at.now c.add-grown.new.self c.add-grown.new.fresh (walks.widened_more (Spans c.args.line.now (form c.args.body.now)) (λ _. Unit {0}) (λ _. Unit {0}) c.args.at.now c.loop-grown.found c.loop-grown.at c.advance.new.at c.add-grown.new.self c.add-grown.new.fresh c.loop-grown.invariant c.advance.ensures c.add-grown.ensures.both c.add-grown.ensures.new (λ _ _. tt) (λ _ _. tt)) (rw c.if-not-grown.true at c.add-grown.ensures.grown)
+advance_any-returns t c = rw c.copy-2.ensures (walks.moves_any (Spans c.args.line.now (form c.args.body.now)) c.args.at.now c.add-grown.new.self c.add-grown.new.fresh (walks.widened_more (Spans c.args.line.now (form c.args.body.now)) (λ _. Unit {0}) (λ _. Unit {0}) c.args.at.now c.loop-grown.found c.loop-grown.at c.advance.new.at c.add-grown.new.self c.add-grown.new.fresh c.loop-grown.invariant c.advance.ensures c.add-grown.ensures.both c.add-grown.ensures.new (λ _ _. tt) (λ _ _. tt)) (rw c.if-not-grown.true at c.add-grown.ensures.grown))
 
 pub advance_at_most-loop-round-init : goal.advance_at_most-loop-round-init
-advance_at_most-loop-round-init t c = rw c.copy-found.ensures (walks.widened_by_none (Spans c.args.line.now (form c.args.body.now)) c.args.at.now)
+advance_at_most-loop-round-init t c = rw c.copy.ensures (walks.widened_by_none (Spans c.args.line.now (form c.args.body.now)) c.args.at.now)
 
 pub advance_at_most-loop-round-preserved : goal.advance_at_most-loop-round-preserved
 advance_at_most-loop-round-preserved t c = walks.widened_by_more (Spans c.args.line.now (form c.args.body.now)) c.loop-round._round (c.loop-round._round + 1) c.args.at.now c.loop-round.found c.loop-round.at c.advance.new.at c.add.new.self c.add.new.fresh refl c.loop-round.invariant c.advance.ensures c.add.ensures.both c.add.ensures.new
@@ -48,13 +48,13 @@ advance_at_most-loop-round-preserved t c = walks.widened_by_more (Spans c.args.l
 pub advance_at_most-returns-after-loop-round : goal.advance_at_most-returns-after-loop-round
 advance_at_most-returns-after-loop-round t c =
     let all_rounds : c.loop-round._round ≡ c.args.count = omega arith in
-    rw (← all_rounds) (walks.moves_few (Spans c.args.line.now (form c.args.body.now)) c.loop-round._round c.args.at.now c.loop-round.found c.loop-round.at c.loop-round.invariant)
+    rw (c.copy-2.ensures, ← all_rounds) (walks.moves_few (Spans c.args.line.now (form c.args.body.now)) c.loop-round._round c.args.at.now c.loop-round.found c.loop-round.at c.loop-round.invariant)
 
 pub advance_at_most-returns-then-not-add : goal.advance_at_most-returns-then-not-add
-advance_at_most-returns-then-not-add t c = walks.moves_few_closed (Spans c.args.line.now (form c.args.body.now)) (c.loop-round._round + 1) c.args.count c.args.at.now c.add.new.self c.add.new.fresh (omega arith) (walks.widened_by_more (Spans c.args.line.now (form c.args.body.now)) c.loop-round._round (c.loop-round._round + 1) c.args.at.now c.loop-round.found c.loop-round.at c.advance.new.at c.add.new.self c.add.new.fresh refl c.loop-round.invariant c.advance.ensures c.add.ensures.both c.add.ensures.new) c.if-not-add.ensures.grown
+advance_at_most-returns-then-not-add t c = rw c.copy-2.ensures (walks.moves_few_closed (Spans c.args.line.now (form c.args.body.now)) (c.loop-round._round + 1) c.args.count c.args.at.now c.add.new.self c.add.new.fresh (omega arith) (walks.widened_by_more (Spans c.args.line.now (form c.args.body.now)) c.loop-round._round (c.loop-round._round + 1) c.args.at.now c.loop-round.found c.loop-round.at c.advance.new.at c.add.new.self c.add.new.fresh refl c.loop-round.invariant c.advance.ensures c.add.ensures.both c.add.ensures.new) c.if-not-add.ensures.grown)
 
 pub advance_counted-returns-then-most-least : goal.advance_counted-returns-then-most-least
-advance_counted-returns-then-most-least t c = rw c.in-Some.is (walks.moves_impossible c.args.line.now (form c.args.body.now) c.args.least c.in-Some.most c.args.at.now c.clear.new.self c.if-most-least.true c.clear.ensures)
+advance_counted-returns-then-most-least t c = rw c.in-Some.is (walks.moves_impossible c.args.line.now (form c.args.body.now) c.args.least c.in-Some.most c.args.at.now c.clear.new.self c.if-most-least.true c.clear.ensures.none)
 
 pub advance_counted-returns-else-most-least : goal.advance_counted-returns-else-most-least
 advance_counted-returns-else-most-least t c = rw c.in-Some.is (walks.moves_between c.args.line.now (form c.args.body.now) c.args.least c.in-Some.most (c.in-Some.most - c.args.least) c.args.at.now c.advance_exactly.new.at c.advance_at_most.new.at (omega arith) c.advance_exactly.ensures c.advance_at_most.ensures)
@@ -97,5 +97,5 @@ pub advance_some-loop-i-preserved : goal.advance_some-loop-i-preserved
 advance_some-loop-i-preserved t c =
     let next : c.loop-i.i ≡ (c.loop-i.i - 1) + 1 = omega arith in
     let rest : Moves (SpansSome c.args.line.now (trees_of (map form (drop ((c.loop-i.i - 1) + 1) c.args.members.now)))) c.args.at.now c.loop-i.found = subst (λ i. Moves (SpansSome c.args.line.now (trees_of (map form (drop i c.args.members.now)))) c.args.at.now c.loop-i.found) next c.loop-i.invariant in
-    let one : Moves (Spans c.args.line.now (form c.index-members-i.result)) c.args.at.now c.advance.new.at = rw c.copy-one.ensures at c.advance.ensures in
+    let one : Moves (Spans c.args.line.now (form c.index-members-i.result)) c.args.at.now c.advance.new.at = rw c.copy.ensures at c.advance.ensures in
     walks.moves_by_member c.args.line.now c.args.members.now (c.loop-i.i - 1) c.index-members-i.result c.args.at.now c.advance.new.at c.loop-i.found c.add.new.self (omega arith) c.index-members-i.is one rest c.add.ensures.both

@@ -1,20 +1,51 @@
-use Rattle.std.proofs.Common.{◌≡◌}
-use Rattle.matcher.specs.PositionSets.{has_position, absent}
-use Rattle.matcher.proofs.Shifts.{added_found, added_fresh, added_fewer}
+use Rattle.std.proofs.Common.{◌≡◌, ◌∙◌, ◌+◌, ◌-◌, ◌*◌, ◌/◌, ◌%◌, ◌<◌, ◌≤◌, ℕ, true, false, refl, sym, ap, subst, get_or, length, arith, rules}
+use Rattle.matcher.specs.declared.words.TheConstants.{WORDS}
+use Rattle.matcher.proofs.Joining.{added_first, added_more, added_found, added_fresh, fresh_bounded, found_bounded, added_grows}
 use Rattle.matcher.proofs.positions.Positions.add.Goals as goal
-use Rattle.matcher.proofs.positions.Positions.add.Goals.{then-self, else-self, Joined-self}
 
-found_is : (c : Joined-self) → c.if-self.self ≡ c.loop-at.self-inside.held
-found_is c = elim c.if-self.branch [ then-self w ↦ w.self-is | else-self w ↦ w.self-is ]
+pub joined-requires : goal.joined-requires
+joined-requires c = (c.self.invariant.ordered, c.fresh.invariant.ordered)
+
+pub loop-i-init : goal.loop-i-init
+loop-i-init c = record {
+  added = added_first c.self.inside.words c.fresh.inside.words c.fresh.inside.first c.fresh.inside.end c.self.invariant.whole c.fresh.invariant;
+  first = refl;
+  end = refl;
+  fresh_first = refl;
+  fresh_end = refl;
+}
+
+pub loop-i-preserved : goal.loop-i-preserved
+loop-i-preserved c = record {
+  added = added_more _ _ _ _ _ _ _ _ c.loop-i.invariant.added (omega arith) (omega (arith, c.fresh.invariant.inside)) c.without.ensures c.either.ensures;
+  first = c.loop-i.invariant.first;
+  end = c.loop-i.invariant.end;
+  fresh_first = c.loop-i.invariant.fresh_first;
+  fresh_end = c.loop-i.invariant.fresh_end;
+}
+
+pub invariant_of-fresh : goal.invariant_of-fresh
+invariant_of-fresh c =
+    let limit : c.loop-i.i ≡ c.fresh.inside.end = omega (arith, c.fresh.invariant.ordered) in
+    rw (c.loop-i.invariant.fresh_first, c.loop-i.invariant.fresh_end) (fresh_bounded c.self.inside.words c.fresh.inside.words c.loop-i.self-inside.words c.loop-i.fresh-inside.words c.fresh.inside.first c.loop-i.i c.fresh.inside.end c.loop-i.invariant.added c.fresh.invariant limit)
+
+pub invariant_of-self : goal.invariant_of-self
+invariant_of-self c =
+    let limit : c.loop-i.i ≡ c.fresh.inside.end = omega (arith, c.fresh.invariant.ordered) in
+    found_bounded c.self.inside.words c.fresh.inside.words c.loop-i.self-inside.words c.loop-i.fresh-inside.words c.fresh.inside.first c.loop-i.i c.fresh.inside.end c.loop-i.invariant.added c.fresh.invariant limit c.self.inside.first c.self.inside.end c.joined.result.0 c.joined.result.1 c.self.invariant c.joined.ensures.ordered (c.joined.ensures.inside WORDS c.self.invariant.inside c.fresh.invariant.inside) c.joined.ensures.right c.joined.ensures.left
 
 pub returns-clause-both : goal.returns-clause-both
-unfolding has_position
-returns-clause-both c = record { each = λ k. rw (found_is c, ← c.self.view_is, ← c.fresh.view_is) (added_found c.self.inside.held c.fresh.inside.held c.loop-at.self-inside.held c.loop-at.fresh-inside.held c.fresh.inside.first c.fresh.inside.end c.loop-at.at c.loop-at.grown c.loop-at.invariant.added c.fresh.invariant c.loop-at-test.false k) }
+returns-clause-both c =
+    let limit : c.loop-i.i ≡ c.fresh.inside.end = omega (arith, c.fresh.invariant.ordered) in
+    rw (← c.self.view_is, ← c.fresh.view_is) (added_found c.self.inside.words c.fresh.inside.words c.loop-i.self-inside.words c.loop-i.fresh-inside.words c.fresh.inside.first c.loop-i.i c.fresh.inside.end c.loop-i.invariant.added c.fresh.invariant limit)
 
 pub returns-clause-new : goal.returns-clause-new
-unfolding has_position
-returns-clause-new c = record { each = λ k. rw (← c.self.view_is, ← c.fresh.view_is) (added_fresh c.self.inside.held c.fresh.inside.held c.loop-at.self-inside.held c.loop-at.fresh-inside.held c.fresh.inside.first c.fresh.inside.end c.loop-at.at c.loop-at.grown c.loop-at.invariant.added c.fresh.invariant c.loop-at-test.false k) }
+returns-clause-new c =
+    let limit : c.loop-i.i ≡ c.fresh.inside.end = omega (arith, c.fresh.invariant.ordered) in
+    rw (← c.self.view_is, ← c.fresh.view_is) (added_fresh c.self.inside.words c.fresh.inside.words c.loop-i.self-inside.words c.loop-i.fresh-inside.words c.fresh.inside.first c.loop-i.i c.fresh.inside.end c.loop-i.invariant.added c.fresh.invariant limit)
 
 pub returns-clause-grown : goal.returns-clause-grown
-unfolding absent has_position
-returns-clause-grown c = rw (found_is c, ← c.self.view_is) (added_fewer c.self.inside.held c.fresh.inside.held c.loop-at.self-inside.held c.loop-at.fresh-inside.held c.fresh.inside.first c.fresh.inside.end c.loop-at.at c.loop-at.grown c.loop-at.invariant.added c.fresh.invariant c.loop-at-test.false)
+returns-clause-grown c =
+    let limit : c.loop-i.i ≡ c.fresh.inside.end = omega (arith, c.fresh.invariant.ordered) in
+    let whole : length c.loop-i.self-inside.words ≡ length c.self.inside.words = c.loop-i.invariant.added.found_whole ∙ sym c.self.invariant.whole in
+    rw (← c.self.view_is) (added_grows c.self.inside.words c.fresh.inside.words c.loop-i.self-inside.words c.loop-i.fresh-inside.words whole (added_found c.self.inside.words c.fresh.inside.words c.loop-i.self-inside.words c.loop-i.fresh-inside.words c.fresh.inside.first c.loop-i.i c.fresh.inside.end c.loop-i.invariant.added c.fresh.invariant limit) (added_fresh c.self.inside.words c.fresh.inside.words c.loop-i.self-inside.words c.loop-i.fresh-inside.words c.fresh.inside.first c.loop-i.i c.fresh.inside.end c.loop-i.invariant.added c.fresh.invariant limit) c.is_empty.result c.is_empty.ensures)

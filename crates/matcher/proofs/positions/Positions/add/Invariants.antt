@@ -1,10 +1,10 @@
 use Rattle.std.proofs.Common.{◌≡◌}
-use Rattle.matcher.proofs.Shifts.{IsAddedTo}
+use Rattle.matcher.proofs.Joining.{IsAddedTo}
 use Rattle.matcher.proofs.positions.Positions.add.Given as goal
 
-abbrev pub invariant-loop-at : goal.invariant-loop-at
-invariant-loop-at l = record {
-  added : IsAddedTo l.initial.self-inside.held l.initial.fresh-inside.held l.self-inside.held l.fresh-inside.held l.at l.grown;
+abbrev pub invariant-loop-i : goal.invariant-loop-i
+invariant-loop-i l = record {
+  added : IsAddedTo l.initial.self-inside.words l.initial.fresh-inside.words l.self-inside.words l.fresh-inside.words l.initial.i l.i;
   first : l.self-inside.first ≡ l.initial.self-inside.first;
   end : l.self-inside.end ≡ l.initial.self-inside.end;
   fresh_first : l.fresh-inside.first ≡ l.initial.fresh-inside.first;

@@ -1,12 +1,9 @@
-use Rattle.std.proofs.Common.{arith}
-use Rattle.matcher.specs.PositionSets.{has_position}
-use Rattle.matcher.proofs.Truths.{false_up_to}
+use Rattle.std.proofs.Common.{◌≡◌, ◌∙◌, ◌+◌, ◌-◌, ◌*◌, ◌/◌, ◌%◌, ◌<◌, ◌≤◌, ℕ, true, false, refl, sym, ap, subst, get_or, length, arith, rules}
+use Rattle.matcher.proofs.Joining.{some_position, none_in_bounds}
 use Rattle.matcher.proofs.positions.Positions.is_empty.Goals as goal
 
-pub returns-then-self-at : goal.returns-then-self-at
-unfolding has_position
-returns-then-self-at c = (c.loop-at.at, rw (← c.self.view_is) c.if-self-at.true)
+pub returns-then-self-i-ne0 : goal.returns-then-self-i-ne0
+returns-then-self-i-ne0 c = rw (← c.self.view_is) (some_position c.self.inside.words c.loop-i.i c.if-self-i-ne0.true (search rules))
 
 pub returns : goal.returns
-unfolding has_position
-returns c = record { none = λ k. rw (← c.self.view_is) (false_up_to c.self.invariant c.loop-at.at (omega arith) c.loop-at.invariant k) }
+returns c = rw (← c.self.view_is) (none_in_bounds c.self.invariant c.loop-i.i c.loop-i-test.false c.loop-i.invariant)

@@ -1,10 +1,10 @@
-use Rattle.matcher.specs.PositionSets.{has_position}
-use Rattle.matcher.proofs.Truths.{false_past, none_bounded}
+use Rattle.std.proofs.Common.{◌≡◌, ◌∙◌, ◌+◌, ◌-◌, ◌*◌, ◌/◌, ◌%◌, ◌<◌, ◌≤◌, ℕ, true, false, refl, sym, ap, subst, get_or, length, arith, rules}
+use Rattle.matcher.proofs.Bits.{none_held}
+use Rattle.matcher.proofs.Joining.{empty_words, empty_bounded}
 use Rattle.matcher.proofs.positions.Positions.none.Goals as goal
 
 pub invariant_of-result : goal.invariant_of-result
-invariant_of-result c = none_bounded c.every.ensures.whole (false_past _ _ c.every.ensures.whole c.every.ensures.same)
+invariant_of-result c = empty_bounded c.every.result c.every.ensures.whole (empty_words c.every.result c.every.ensures.whole c.every.ensures.same)
 
 pub returns : goal.returns
-unfolding has_position
-returns c = record { none = false_past _ _ c.every.ensures.whole c.every.ensures.same }
+returns c = none_held c.every.result (empty_words c.every.result c.every.ensures.whole c.every.ensures.same)

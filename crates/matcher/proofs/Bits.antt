@@ -1,0 +1,187 @@
+-- Single bits of words, and the positions of a set of words.
+use Rattle.std.proofs.Common.{◌≡◌, ◌≢◌, ◌⊎◌, inl, inr, ℕ, zero, suc, ◌+◌, ◌-◌, ◌*◌, ◌/◌, ◌%◌, ◌^◌, ◌≤◌, ◌<◌, max, min, Bool, true, false, not, ◌&&◌, ◌||◌, ◌==◌, nat_le, nat_lt, IsTrue, List, length, get_or, set, refl, sym, ap, subst, ◌∙◌, arith, length-set, w64}
+use Rattle.std.proofs.lemmas.List.{get_or-set_same, get_or-set_other, get_or_past}
+use Rattle.std.proofs.lemmas.Bool.Decides.{nat_tests}
+use Rattle.std.proofs.lemmas.Nat.{and_le_l, shr-shr, mod_low}
+use Rattle.std.proofs.lemmas.Nat.Bits.{bit_at-lt, bit_at_and, bit_at_or, bit_at-zero, bit_at_lowest, shr_and_one, bit_at_not, bit_at_above, bit_at_ones, bit_at_ones_above, ones_shr, bit_at-trailing_zeros, bit_at_set_same, bit_at_set_other, bit_at_clear_same, bit_at_clear_other, bit_at-pow_same, bit_at-pow_other, bit_at_cat_low, bit_at_cat_high}
+use Rattle.std.specs.Prelude.{bit_and, bit_or}
+use Rattle.std.specs.Int.{bit_at, bit_not, trailing_zeros}
+use Rattle.matcher.specs.PositionSets.{has_bit, has_position, HasNone}
+
+pub false≢true : false ≡ true → ⊥
+false≢true h = cc
+
+-- what is not true is false
+pub is_false : (b : Bool) → (IsTrue b → ⊥) → b ≡ false
+is_false true h = absurd (h refl)
+is_false false h = refl
+
+-- tests of numbers below 2
+max_is_or : (x y : ℕ) → x < 2 → y < 2 → (max x y == 1) ≡ ((x == 1) || (y == 1))
+max_is_or zero zero p q = refl
+max_is_or zero (suc zero) p q = refl
+max_is_or (suc zero) zero p q = refl
+max_is_or (suc zero) (suc zero) p q = refl
+max_is_or (suc (suc x)) y p q = absurd (omega arith)
+max_is_or x (suc (suc y)) p q = absurd (omega arith)
+
+min_is_and : (x y : ℕ) → x < 2 → y < 2 → (min x y == 1) ≡ ((x == 1) && (y == 1))
+min_is_and zero zero p q = refl
+min_is_and zero (suc zero) p q = refl
+min_is_and (suc zero) zero p q = refl
+min_is_and (suc zero) (suc zero) p q = refl
+min_is_and (suc (suc x)) y p q = absurd (omega arith)
+min_is_and x (suc (suc y)) p q = absurd (omega arith)
+
+less_is_not : (x : ℕ) → x < 2 → ((1 - x) == 1) ≡ not (x == 1)
+less_is_not zero p = refl
+less_is_not (suc zero) p = refl
+less_is_not (suc (suc x)) p = absurd (omega arith)
+
+pub has_or : (a b i : ℕ) → has_bit (bit_or a b) i ≡ (has_bit a i || has_bit b i)
+has_or a b i = ap (λ n. n == 1) (bit_at_or a b i) ∙ max_is_or (bit_at a i) (bit_at b i) (bit_at-lt a i) (bit_at-lt b i)
+
+pub has_and : (a b i : ℕ) → has_bit (bit_and a b) i ≡ (has_bit a i && has_bit b i)
+has_and a b i = ap (λ n. n == 1) (bit_at_and a b i) ∙ min_is_and (bit_at a i) (bit_at b i) (bit_at-lt a i) (bit_at-lt b i)
+
+pub has_not : (a i : ℕ) → a < 2 ^ 64 → i < 64 → has_bit (bit_not w64 a) i ≡ not (has_bit a i)
+has_not a i small inside = ap (λ n. n == 1) (bit_at_not w64 a i small inside) ∙ less_is_not (bit_at a i) (bit_at-lt a i)
+
+pub has_zero : (i : ℕ) → has_bit 0 i ≡ false
+has_zero i = ap (λ n. n == 1) (bit_at-zero i)
+
+-- `word >> bit & 1 == 1`
+pub tests_bit : (word bit : ℕ) → (bit_and (word / 2 ^ bit) 1 == 1) ≡ has_bit word bit
+tests_bit word bit = ap (λ n. n == 1) (shr_and_one word bit)
+
+-- `1 << bit`
+pub has_one_bit : (bit b : ℕ) → bit < 64 → has_bit (1 * 2 ^ bit % 2 ^ 64) b ≡ (b == bit)
+has_one_bit bit b inside = sym (or_zero (has_bit (1 * 2 ^ bit % 2 ^ 64) b)) ∙ ap (λ t. t || has_bit (1 * 2 ^ bit % 2 ^ 64) b) (sym (has_zero b)) ∙ sym (has_or 0 (1 * 2 ^ bit % 2 ^ 64) b) ∙ go (b == bit) refl
+  where
+    or_zero : (t : Bool) → (false || t) ≡ t
+    or_zero t = refl
+
+    go : (t : Bool) → (b == bit) ≡ t → has_bit (bit_or 0 (1 * 2 ^ bit % 2 ^ 64)) b ≡ (b == bit)
+    go true e = let same : b ≡ bit = grind (arith, nat_tests) in rw (e, same) (ap (λ n. n == 1) (bit_at_set_same w64 0 bit inside))
+    go false e = let other : b ≢ bit = grind (arith, nat_tests) in rw e (ap (λ n. n == 1) (bit_at_set_other w64 0 bit inside b other) ∙ has_zero b)
+
+pub has_with : (word bit b : ℕ) → bit < 64 → has_bit (bit_or word (1 * 2 ^ bit % 2 ^ 64)) b ≡ (has_bit word b || b == bit)
+has_with word bit b inside = has_or word (1 * 2 ^ bit % 2 ^ 64) b ∙ ap (λ t. has_bit word b || t) (has_one_bit bit b inside)
+
+and_swap : (x y : Bool) → (x && y) ≡ (y && x)
+and_swap true true = refl
+and_swap true false = refl
+and_swap false true = refl
+and_swap false false = refl
+
+pub has_only : (word bit b : ℕ) → bit < 64 → has_bit (bit_and word (1 * 2 ^ bit % 2 ^ 64)) b ≡ (b == bit && has_bit word b)
+has_only word bit b inside = has_and word (1 * 2 ^ bit % 2 ^ 64) b ∙ ap (λ t. has_bit word b && t) (has_one_bit bit b inside) ∙ and_swap (has_bit word b) (b == bit)
+
+one_bit_small : (bit : ℕ) → bit < 64 → 1 * 2 ^ bit % 2 ^ 64 < 2 ^ 64
+one_bit_small bit inside = omega arith
+
+pub has_without : (word other b : ℕ) → other < 2 ^ 64 → b < 64 → has_bit (bit_and word (bit_not w64 other)) b ≡ (has_bit word b && not (has_bit other b))
+has_without word other b small inside = has_and word (bit_not w64 other) b ∙ ap (λ t. has_bit word b && t) (has_not other b small inside)
+
+pub has_cleared : (word bit b : ℕ) → bit < 64 → b < 64 → has_bit (bit_and word (bit_not w64 (1 * 2 ^ bit % 2 ^ 64))) b ≡ (has_bit word b && not (b == bit))
+has_cleared word bit b inside within = has_without word (1 * 2 ^ bit % 2 ^ 64) b (one_bit_small bit inside) within ∙ ap (λ t. has_bit word b && not t) (has_one_bit bit b inside)
+
+pub bit_is_one : (word bit : ℕ) → IsTrue (has_bit word bit) → bit_at word bit ≡ 1
+bit_is_one word bit h = grind (arith, nat_tests)
+
+pub cleared_smaller : (word bit : ℕ) → bit < 64 → IsTrue (has_bit word bit) → bit_and word (bit_not w64 (1 * 2 ^ bit % 2 ^ 64)) < word
+cleared_smaller word bit inside h =
+    let gone : bit_at (bit_and word (bit_not w64 (1 * 2 ^ bit % 2 ^ 64))) bit ≡ 0 = bit_at_clear_same w64 word bit inside in
+    let there : bit_at word bit ≡ 1 = bit_is_one word bit h in
+    let other : bit_and word (bit_not w64 (1 * 2 ^ bit % 2 ^ 64)) ≢ word = λ same. let both : bit_at (bit_and word (bit_not w64 (1 * 2 ^ bit % 2 ^ 64))) bit ≡ bit_at word bit = ap (λ x. bit_at x bit) same in omega arith in
+    omega (arith, and_le_l word (bit_not w64 (1 * 2 ^ bit % 2 ^ 64)), other)
+
+-- the lowest bit of a word that is not 0
+pub some_bit : (word : ℕ) → 0 < word → word < 2 ^ 64 → (trailing_zeros w64 word < 64) × IsTrue (has_bit word (trailing_zeros w64 word))
+some_bit word some small = let lowest = bit_at-trailing_zeros w64 word some small in (lowest.0, ap (λ n. n == 1) lowest.1)
+
+-- `MAX >> 63 - last`
+pub has_through : (last b : ℕ) → last < 64 → has_bit ((2 ^ 64 - 1) / 2 ^ (63 - last)) b ≡ nat_le b last
+has_through last b inside = ap (λ n. has_bit n b) (ones_shr 64 (63 - last) (omega arith) ∙ ap (λ n. 2 ^ n - 1) width) ∙ go (nat_le b last) refl
+  where
+    width : 64 - (63 - last) ≡ last + 1
+    width = omega arith
+
+    go : (t : Bool) → nat_le b last ≡ t → has_bit (2 ^ (last + 1) - 1) b ≡ nat_le b last
+    go true e = let low : b < last + 1 = grind (arith, nat_tests) in rw e (ap (λ n. n == 1) (bit_at_ones (last + 1) b low))
+    go false e = let high : last + 1 ≤ b = grind (arith, nat_tests) in rw e (ap (λ n. n == 1) (bit_at_ones_above (last + 1) b high))
+
+-- bits moved up by one
+split_word : (word : ℕ) → word ≡ word / 2 ^ 63 * 2 ^ 63 + word % 2 ^ 63
+split_word word = omega arith
+
+moved_word : (word : ℕ) → word < 2 ^ 64 → word * 2 ^ 1 % 2 ^ 64 ≡ word % 2 ^ 63 * 2 ^ 1 + 0
+moved_word word small = omega arith
+
+pub moved_lowest : (word carried : ℕ) → word < 2 ^ 64 → has_bit (bit_or (word * 2 ^ 1 % 2 ^ 64) carried) 0 ≡ has_bit carried 0
+moved_lowest word carried small =
+    has_or (word * 2 ^ 1 % 2 ^ 64) carried 0 ∙ ap (λ n. has_bit n 0 || has_bit carried 0) (moved_word word small) ∙ ap (λ n. n == 1 || has_bit carried 0) (bit_at_cat_low (word % 2 ^ 63) 1 0 0 (omega arith))
+
+one_small : (carried b : ℕ) → carried < 2 → has_bit carried (b + 1) ≡ false
+one_small carried b small = ap (λ n. n == 1) (bit_at_above carried 1 (b + 1) (omega arith) (omega arith))
+
+pub or_none : (t : Bool) → (t || false) ≡ t
+or_none true = refl
+or_none false = refl
+
+pub moved_others : (word carried b : ℕ) → word < 2 ^ 64 → carried < 2 → b < 63 → has_bit (bit_or (word * 2 ^ 1 % 2 ^ 64) carried) (b + 1) ≡ has_bit word b
+moved_others word carried b small bit inside =
+    let back : b + 1 - 1 ≡ b = omega arith in
+    let low : bit_at (word % 2 ^ 63) b ≡ bit_at word b = sym (bit_at_cat_low (word / 2 ^ 63) 63 (word % 2 ^ 63) b inside) ∙ ap (λ n. bit_at n b) (sym (split_word word)) in
+    let up : bit_at (word % 2 ^ 63 * 2 ^ 1 + 0) (b + 1) ≡ bit_at word b = bit_at_cat_high (word % 2 ^ 63) 1 0 (b + 1) (omega arith) (omega arith) ∙ ap (λ n. bit_at (word % 2 ^ 63) n) back ∙ low in
+    has_or (word * 2 ^ 1 % 2 ^ 64) carried (b + 1) ∙ ap (λ t. has_bit (word * 2 ^ 1 % 2 ^ 64) (b + 1) || t) (one_small carried b bit) ∙ or_none (has_bit (word * 2 ^ 1 % 2 ^ 64) (b + 1)) ∙ ap (λ n. has_bit n (b + 1)) (moved_word word small) ∙ ap (λ n. n == 1) up
+
+pub highest_is : (word : ℕ) → has_bit (word / 2 ^ 63) 0 ≡ has_bit word 63
+highest_is word = ap (λ n. n == 1) (bit_at_lowest (word / 2 ^ 63))
+
+pub highest_small : (word : ℕ) → word < 2 ^ 64 → word / 2 ^ 63 < 2
+highest_small word small = omega arith
+
+-- from a bit on there is none
+pub none_from : (word bit b : ℕ) → word / 2 ^ bit ≡ 0 → bit ≤ b → has_bit word b ≡ false
+none_from word bit b none far =
+    let sum : bit + (b - bit) ≡ b = omega arith in
+    let moved : bit_at word b ≡ bit_at (word / 2 ^ bit) (b - bit) = sym (ap (λ n. n % 2) (shr-shr word bit (b - bit)) ∙ ap (λ n. bit_at word n) sum) in
+    ap (λ n. n == 1) (moved ∙ ap (λ n. bit_at n (b - bit)) none ∙ bit_at-zero (b - bit))
+
+-- positions of words
+pub position_in : (words : List ℕ) (i b : ℕ) → b < 64 → has_position words (i * 64 + b) ≡ has_bit (get_or words i 0) b
+unfolding has_position
+position_in words i b inside =
+    let word : (i * 64 + b) / 64 ≡ i = omega arith in
+    let bit : (i * 64 + b) % 64 ≡ b = omega arith in
+    rw (word, bit) refl
+
+pub position_is : (words : List ℕ) (k : ℕ) → has_position words k ≡ has_bit (get_or words (k / 64) 0) (k % 64)
+unfolding has_position
+position_is words k = refl
+
+pub same_word : (left right : List ℕ) (k : ℕ) → get_or left (k / 64) 0 ≡ get_or right (k / 64) 0 → has_position left k ≡ has_position right k
+unfolding has_position
+same_word left right k e = ap (λ n. has_bit n (k % 64)) e
+
+pub empty_word : (words : List ℕ) (k : ℕ) → get_or words (k / 64) 0 ≡ 0 → has_position words k ≡ false
+unfolding has_position
+empty_word words k e = ap (λ n. has_bit n (k % 64)) e ∙ has_zero (k % 64)
+
+pub position_set_same : (words : List ℕ) (i word b : ℕ) → i < length words → b < 64 → has_position (set words i word) (i * 64 + b) ≡ has_bit word b
+position_set_same words i word b inside within = position_in (set words i word) i b within ∙ ap (λ n. has_bit n b) (get_or-set_same words i word 0 inside)
+
+pub position_set_other : (words : List ℕ) (i word k : ℕ) → k / 64 ≢ i → has_position (set words i word) k ≡ has_position words k
+position_set_other words i word k other = same_word (set words i word) words k (get_or-set_other words i (k / 64) word 0 other)
+
+-- each position is a bit of a word
+pub split_position : (k : ℕ) → (k / 64 * 64 + k % 64 ≡ k) × (k % 64 < 64)
+split_position k = (omega arith, omega arith)
+
+pub none_held : (words : List ℕ) → ((i : ℕ) → get_or words i 0 ≡ 0) → HasNone words
+none_held words none = record { none = λ k. empty_word words k (none (k / 64)) }
+
+pub and_all : (t : Bool) → (t && true) ≡ t
+and_all true = refl
+and_all false = refl

@@ -1,0 +1,490 @@
+-- What a step over a set of bytes, and a sweep, have done up to a word.
+use Rattle.std.proofs.Common.{◌≡◌, ◌≢◌, ◌⊎◌, inl, inr, ℕ, zero, suc, ◌+◌, ◌-◌, ◌*◌, ◌/◌, ◌%◌, ◌≤◌, ◌<◌, ◌↔◌, Bool, true, false, not, ◌&&◌, ◌||◌, ◌==◌, nat_le, nat_lt, IsTrue, List, length, get_or, set, refl, sym, ap, subst, ◌∙◌, arith, length-set}
+use Rattle.std.proofs.lemmas.List.{get_or-set_same, get_or-set_other, get_or_past}
+use Rattle.std.proofs.lemmas.Bool.Decides.{nat_tests}
+use Rattle.std.proofs.lemmas.Nat.Bits.{bit_at_above}
+use Rattle.ere.specs.ByteSet.{has}
+use Rattle.ere.specs.Tree as tree
+use Rattle.matcher.specs.declared.words.TheConstants.{WORDS}
+use Rattle.matcher.specs.Bounds.{IsBounded}
+use Rattle.matcher.specs.Moving.{passes, arrives, comes, flood}
+use Rattle.matcher.specs.Spans.{Spans, Steps}
+use Rattle.matcher.specs.PositionSets.{has_bit, has_position, HasNone, Moves}
+use Rattle.matcher.proofs.Bits.{false≢true, is_false, has_or, has_zero, position_in, position_is, same_word, empty_word, position_set_same, position_set_other, split_position}
+
+and_false : (a b : Bool) → b ≡ false → (a && b) ≡ false
+and_false true b e = e
+and_false false b e = refl
+
+-- at the line's end, and from there on, no byte follows
+pub none_passes : (members : List Bool) (line : List ℕ) (k : ℕ) → length line ≤ k → passes members line k ≡ false
+none_passes members line k far = let test : nat_lt k (length line) ≡ false = grind (arith, nat_tests) in rw test refl
+
+-- words from the end on, and before the first, hold no position
+pub none_before : {words : List ℕ} {first end : ℕ} → IsBounded words first end → (k : ℕ) → k < first * 64 → has_position words k ≡ false
+none_before {words} bounds k low = empty_word words k (bounds.low (k / 64) (omega arith))
+
+pub none_after : {words : List ℕ} {first end : ℕ} → IsBounded words first end → (k : ℕ) → end * 64 ≤ k → has_position words k ≡ false
+none_after {words} bounds k far = empty_word words k (bounds.high (k / 64) (omega arith))
+
+-- The step is made up to the word `i`.
+pub record IsShifted (members : List Bool) (line old new : List ℕ) (first i carried : ℕ) : Type 0 where
+  pub whole : length new ≡ WORDS
+  pub low : (j : ℕ) → j < first → get_or new j 0 ≡ 0
+  pub below : (k : ℕ) → k < i * 64 → has_position new k ≡ arrives members line old k
+  pub above : (j : ℕ) → i ≤ j → get_or new j 0 ≡ get_or old j 0
+  pub is_bit : carried < 2
+  pub carry : has_bit carried 0 ≡ arrives members line old (i * 64)
+
+pub shifted_first : (members : List Bool) (line old : List ℕ) (first end : ℕ) → IsBounded old first end → IsShifted members line old old first first 0
+shifted_first members line old first end bounds = record {
+  whole = bounds.whole;
+  low = bounds.low;
+  below = λ k l. none_before bounds k l ∙ sym (none k (omega arith));
+  above = λ j l. refl;
+  is_bit = omega arith;
+  carry = has_zero 0 ∙ sym (none (first * 64) (omega arith));
+}
+  where
+    none : (k : ℕ) → k ≤ first * 64 → arrives members line old k ≡ false
+    none zero l = refl
+    none (suc k) l = rw (none_before bounds k (omega arith)) refl
+
+pub shifted_more : (members : List Bool) (line old new : List ℕ) (first i carried passing moved next : ℕ) → IsShifted members line old new first i carried → first ≤ i → i < WORDS
+    → ((b : ℕ) → b < 64 → has_bit passing b ≡ (has_bit (get_or new i 0) b && passes members line (i * 64 + b)))
+    → has_bit moved 0 ≡ has_bit carried 0 → ((b : ℕ) → b < 63 → has_bit moved (b + 1) ≡ has_bit passing b)
+    → next < 2 → has_bit next 0 ≡ has_bit passing 63
+    → IsShifted members line old (set new i moved) first (i + 1) next
+shifted_more members line old new first i carried passing moved next h begun inside followed lowest others is_bit highest = record {
+  whole = length-set new i moved ∙ h.whole;
+  low = λ j l. get_or-set_other new i j moved 0 (omega arith) ∙ h.low j l;
+  below = λ k l. below k l (nat_lt k (i * 64)) refl;
+  above = λ j l. get_or-set_other new i j moved 0 (omega arith) ∙ h.above j (omega arith);
+  is_bit = is_bit;
+  carry = highest ∙ passed 63 (omega arith) ∙ ap (λ k. arrives members line old k) last;
+}
+  where
+    within : i < length new
+    within = omega (arith, h.whole)
+
+    last : suc (i * 64 + 63) ≡ (i + 1) * 64
+    last = omega arith
+
+    passed : (b : ℕ) → b < 64 → has_bit passing b ≡ arrives members line old (suc (i * 64 + b))
+    passed b l = followed b l ∙ ap (λ t. t && passes members line (i * 64 + b)) (ap (λ n. has_bit n b) (h.above i (omega arith)) ∙ sym (position_in old i b l))
+
+    at : (b : ℕ) → b < 64 → has_bit moved b ≡ arrives members line old (i * 64 + b)
+    at zero l = let place : i * 64 ≡ i * 64 + 0 = omega arith in lowest ∙ h.carry ∙ ap (λ k. arrives members line old k) place
+    at (suc b) l =
+        let next_bit : suc b ≡ b + 1 = omega arith in
+        let place : suc (i * 64 + b) ≡ i * 64 + suc b = omega arith in
+        ap (λ n. has_bit moved n) next_bit ∙ others b (omega arith) ∙ passed b (omega arith) ∙ ap (λ k. arrives members line old k) place
+
+    below : (k : ℕ) → k < (i + 1) * 64 → (t : Bool) → nat_lt k (i * 64) ≡ t → has_position (set new i moved) k ≡ arrives members line old k
+    below k l true e =
+        let low : k < i * 64 = grind (arith, nat_tests) in
+        position_set_other new i moved k (omega arith) ∙ h.below k low
+    below k l false e =
+        let high : i * 64 ≤ k = grind (arith, nat_tests) in
+        let place : i * 64 + (k - i * 64) ≡ k = omega arith in
+        let bit : k - i * 64 < 64 = omega arith in
+        subst (λ n. has_position (set new i moved) n ≡ arrives members line old n) place (position_set_same new i moved (k - i * 64) within bit ∙ at (k - i * 64) bit)
+
+-- What is carried out of the last word lies in the next, or there is none.
+module _ (members : List Bool) (line old new : List ℕ) (first end carried : ℕ) (h : IsShifted members line old new first end carried) (bounds : IsBounded old first end) where
+  arrives_after : (k : ℕ) → end * 64 < k → arrives members line old k ≡ false
+  arrives_after zero l = refl
+  arrives_after (suc k) l = rw (none_after bounds k (omega arith)) refl
+
+  past : (k : ℕ) → end * 64 < k → has_position new k ≡ arrives members line old k
+  past k l = same_word new old k (h.above (k / 64) (omega arith)) ∙ none_after bounds k (omega arith) ∙ sym (arrives_after k l)
+
+  pub shifted_end : has_bit carried 0 ≡ false → (k : ℕ) → has_position new k ≡ arrives members line old k
+  shifted_end none k = go (nat_lt k (end * 64)) (k == end * 64) refl refl
+    where
+      go : (t u : Bool) → nat_lt k (end * 64) ≡ t → (k == end * 64) ≡ u → has_position new k ≡ arrives members line old k
+      go true u e f = h.below k (grind (arith, nat_tests))
+      go false true e f =
+          let same : k ≡ end * 64 = grind (arith, nat_tests) in
+          rw same (none_after_new ∙ sym none ∙ h.carry)
+        where
+          none_after_new : has_position new (end * 64) ≡ false
+          none_after_new = same_word new old (end * 64) (h.above (end * 64 / 64) (omega arith)) ∙ none_after bounds (end * 64) (omega arith)
+      go false false e f = past k (grind (arith, nat_tests))
+
+  pub shifted_end_bounded : IsBounded new first end
+  shifted_end_bounded = record {
+    whole = h.whole;
+    ordered = bounds.ordered;
+    inside = bounds.inside;
+    low = h.low;
+    high = λ j l. h.above j l ∙ bounds.high j l;
+  }
+
+  pub shifted_on : end < WORDS → (k : ℕ) → has_position (set new end carried) k ≡ arrives members line old k
+  shifted_on inside k = go (nat_lt k (end * 64)) (nat_lt k (end * 64 + 64)) refl refl
+    where
+      none_above : (b : ℕ) → 0 < b → has_bit carried b ≡ false
+      none_above b some = ap (λ n. n == 1) (bit_at_above carried 1 b (omega (arith, h.is_bit)) some)
+
+      at : (b : ℕ) → has_bit carried b ≡ arrives members line old (end * 64 + b)
+      at zero = let place : end * 64 ≡ end * 64 + 0 = omega arith in h.carry ∙ ap (λ n. arrives members line old n) place
+      at (suc b) = none_above (suc b) (omega arith) ∙ sym (arrives_after (end * 64 + suc b) (omega arith))
+
+      go : (t u : Bool) → nat_lt k (end * 64) ≡ t → nat_lt k (end * 64 + 64) ≡ u → has_position (set new end carried) k ≡ arrives members line old k
+      go true u e f =
+          let low : k < end * 64 = grind (arith, nat_tests) in
+          position_set_other new end carried k (omega arith) ∙ h.below k low
+      go false true e f =
+          let high : end * 64 ≤ k = grind (arith, nat_tests) in
+          let low : k < end * 64 + 64 = grind (arith, nat_tests) in
+          let place : end * 64 + (k - end * 64) ≡ k = omega arith in
+          subst (λ n. has_position (set new end carried) n ≡ arrives members line old n) place (position_set_same new end carried (k - end * 64) (omega (arith, h.whole)) (omega arith) ∙ at (k - end * 64))
+      go false false e f =
+          let high : end * 64 + 64 ≤ k = grind (arith, nat_tests) in
+          position_set_other new end carried k (omega arith) ∙ past k (omega arith)
+
+  pub shifted_on_bounded : end < WORDS → IsBounded (set new end carried) first (end + 1)
+  shifted_on_bounded inside = record {
+    whole = length-set new end carried ∙ h.whole;
+    ordered = omega (arith, bounds.ordered);
+    inside = omega arith;
+    low = λ j l. get_or-set_other new end j carried 0 (omega (arith, bounds.ordered)) ∙ h.low j l;
+    high = λ j l. get_or-set_other new end j carried 0 (omega arith) ∙ h.above j (omega arith) ∙ bounds.high j (omega arith);
+  }
+
+-- at the end of all words nothing is carried
+pub none_carried : (members : List Bool) (line old : List ℕ) (end : ℕ) → length line < end * 64 → arrives members line old (end * 64) ≡ false
+none_carried members line old end short = go (end * 64) refl
+  where
+    go : (k : ℕ) → k ≡ end * 64 → arrives members line old k ≡ false
+    go zero e = refl
+    go (suc k) e = and_false (has_position old k) (passes members line k) (none_passes members line k (omega arith))
+
+-- The sweep is made up to the word `i`.
+pub record IsSwept (members : List Bool) (line old new : List ℕ) (first i carried : ℕ) : Type 0 where
+  pub whole : length new ≡ WORDS
+  pub low : (j : ℕ) → j < first → get_or new j 0 ≡ 0
+  pub below : (k : ℕ) → k < i * 64 → has_position new k ≡ flood (has_position old) (passes members line) k
+  pub above : (j : ℕ) → i ≤ j → get_or new j 0 ≡ get_or old j 0
+  pub is_bit : carried < 2
+  pub carry : has_bit carried 0 ≡ comes (has_position old) (passes members line) (i * 64)
+
+-- where nothing is held, nothing comes
+comes_none : (held pass : ℕ → Bool) (start k : ℕ) → comes held pass start ≡ false → ((j : ℕ) → start ≤ j → j < k → held j ≡ false) → start ≤ k → comes held pass k ≡ false
+comes_none held pass start zero none empty far = rw (← at) none
+  where
+    at : start ≡ 0
+    at = omega arith
+comes_none held pass start (suc k) none empty far =
+    go (nat_le start k) refl (λ before. comes_none held pass start k none (λ j low high. empty j low (omega arith)) before)
+  where
+    go : (t : Bool) → nat_le start k ≡ t → (start ≤ k → comes held pass k ≡ false) → comes held pass (suc k) ≡ false
+    go true e earlier =
+        let before : start ≤ k = grind (arith, nat_tests) in
+        rw (empty k before (omega arith), earlier before) refl
+    go false e earlier =
+        let same : start ≡ suc k = let past : k < start = grind (arith, nat_tests) in omega arith in
+        rw (← same) none
+
+pub swept_first : (members : List Bool) (line old : List ℕ) (first end : ℕ) → IsBounded old first end → IsSwept members line old old first first 0
+swept_first members line old first end bounds = record {
+  whole = bounds.whole;
+  low = bounds.low;
+  below = λ k l. none_before bounds k l ∙ sym (rw (none_before bounds k l, none k (omega arith)) refl);
+  above = λ j l. refl;
+  is_bit = omega arith;
+  carry = has_zero 0 ∙ sym (none (first * 64) (omega arith));
+}
+  where
+    none : (k : ℕ) → k ≤ first * 64 → comes (has_position old) (passes members line) k ≡ false
+    none k l = comes_none (has_position old) (passes members line) 0 k refl (λ j low high. none_before bounds j (omega arith)) (omega arith)
+
+-- the flood of one word is that of all
+comes_word : (held pass : ℕ → Bool) (word carried base : ℕ) → ((b : ℕ) → b < 64 → has_bit word b ≡ (held (base + b) || has_bit carried b)) → ((b : ℕ) → 0 < b → has_bit carried b ≡ false) → has_bit carried 0 ≡ comes held pass base → (b : ℕ) → b < 64 → flood (has_bit word) (λ n. pass (base + n)) b ≡ flood held pass (base + b)
+comes_word held pass word carried base bits small start b inside = go b inside
+  where
+    or_none : (t : Bool) → (t || false) ≡ t
+    or_none true = refl
+    or_none false = refl
+
+    go : (b : ℕ) → b < 64 → flood (has_bit word) (λ n. pass (base + n)) b ≡ flood held pass (base + b)
+    go zero l =
+        let place : base ≡ base + 0 = omega arith in
+        or_none (has_bit word 0) ∙ bits 0 l ∙ ap (λ t. held (base + 0) || t) (start ∙ ap (λ n. comes held pass n) place)
+    go (suc b) l =
+        let place : suc (base + b) ≡ base + suc b = omega arith in
+        let own : has_bit word (suc b) ≡ held (base + suc b) = bits (suc b) l ∙ ap (λ t. held (base + suc b) || t) (small (suc b) (omega arith)) ∙ or_none (held (base + suc b)) in
+        let before : comes (has_bit word) (λ n. pass (base + n)) (suc b) ≡ comes held pass (suc (base + b)) = ap (λ t. t && pass (base + b)) (go b (omega arith)) in
+        rw own (ap (λ t. held (base + suc b) || t) (before ∙ ap (λ n. comes held pass n) place))
+
+pub swept_more : (members : List Bool) (line old new : List ℕ) (first i carried joined reached next : ℕ) → IsSwept members line old new first i carried → first ≤ i → i < WORDS
+    → ((b : ℕ) → has_bit joined b ≡ (has_bit (get_or new i 0) b || has_bit carried b))
+    → ((b : ℕ) → b < 64 → has_bit reached b ≡ flood (has_bit joined) (λ n. passes members line (i * 64 + n)) b)
+    → next < 2 → has_bit next 0 ≡ (has_bit reached 63 && passes members line (i * 64 + 63))
+    → IsSwept members line old (set new i reached) first (i + 1) next
+swept_more members line old new first i carried joined reached next h begun inside joins floods is_bit carry = record {
+  whole = length-set new i reached ∙ h.whole;
+  low = λ j l. get_or-set_other new i j reached 0 (omega arith) ∙ h.low j l;
+  below = λ k l. below k l (nat_lt k (i * 64)) refl;
+  above = λ j l. get_or-set_other new i j reached 0 (omega arith) ∙ h.above j (omega arith);
+  is_bit = is_bit;
+  carry = carry ∙ ap (λ t. t && passes members line (i * 64 + 63)) (at 63 (omega arith)) ∙ ap (λ n. comes (has_position old) (passes members line) n) last;
+}
+  where
+    last : suc (i * 64 + 63) ≡ (i + 1) * 64
+    last = omega arith
+
+    at : (b : ℕ) → b < 64 → has_bit reached b ≡ flood (has_position old) (passes members line) (i * 64 + b)
+    at b l = floods b l ∙ comes_word (has_position old) (passes members line) joined carried (i * 64) (λ n inside. joins n ∙ ap (λ t. t || has_bit carried n) (ap (λ w. has_bit w n) (h.above i (omega arith)) ∙ sym (position_in old i n inside))) (λ n some. ap (λ x. x == 1) (bit_at_above carried 1 n (omega (arith, h.is_bit)) some)) h.carry b l
+
+    below : (k : ℕ) → k < (i + 1) * 64 → (t : Bool) → nat_lt k (i * 64) ≡ t → has_position (set new i reached) k ≡ flood (has_position old) (passes members line) k
+    below k l true e =
+        let low : k < i * 64 = grind (arith, nat_tests) in
+        position_set_other new i reached k (omega arith) ∙ h.below k low
+    below k l false e =
+        let high : i * 64 ≤ k = grind (arith, nat_tests) in
+        let place : i * 64 + (k - i * 64) ≡ k = omega arith in
+        let bit : k - i * 64 < 64 = omega arith in
+        subst (λ n. has_position (set new i reached) n ≡ flood (has_position old) (passes members line) n) place (position_set_same new i reached (k - i * 64) (omega (arith, h.whole)) bit ∙ at (k - i * 64) bit)
+
+-- the whole sweep, where it stops early, and where it has been through all words
+module _ (members : List Bool) (line old new : List ℕ) (first i carried end : ℕ) (h : IsSwept members line old new first i carried) (bounds : IsBounded old first end) (after : end ≤ i) where
+  pub swept_all : has_bit carried 0 ≡ false → (k : ℕ) → has_position new k ≡ flood (has_position old) (passes members line) k
+  swept_all none k = go (nat_lt k (i * 64)) refl
+    where
+      go : (t : Bool) → nat_lt k (i * 64) ≡ t → has_position new k ≡ flood (has_position old) (passes members line) k
+      go true e = h.below k (grind (arith, nat_tests))
+      go false e =
+          let far : i * 64 ≤ k = grind (arith, nat_tests) in
+          let empty : has_position old k ≡ false = none_after bounds k (omega arith) in
+          let nothing : comes (has_position old) (passes members line) k ≡ false = comes_none (has_position old) (passes members line) (i * 64) k (sym h.carry ∙ none) (λ j low high. none_after bounds j (omega arith)) far in
+          same_word new old k (h.above (k / 64) (omega arith)) ∙ empty ∙ sym (rw (empty, nothing) refl)
+
+  pub swept_bounded : i ≤ WORDS → IsBounded new first i
+  swept_bounded inside = record {
+    whole = h.whole;
+    ordered = omega (arith, bounds.ordered);
+    inside = inside;
+    low = h.low;
+    high = λ j l. h.above j l ∙ bounds.high j (omega arith);
+  }
+
+-- after the last word nothing is carried
+pub none_swept_on : (members : List Bool) (line old : List ℕ) (i : ℕ) → length line < i * 64 → comes (has_position old) (passes members line) (i * 64) ≡ false
+none_swept_on members line old i short = go (i * 64) refl
+  where
+    go : (k : ℕ) → k ≡ i * 64 → comes (has_position old) (passes members line) k ≡ false
+    go zero e = refl
+    go (suc k) e = and_false (has_position old k || comes (has_position old) (passes members line) k) (passes members line k) (none_passes members line k (omega arith))
+
+-- The flood of a word is found up to a bit.
+pub record IsFlooded (word found bit : ℕ) (pass : ℕ → Bool) : Type 0 where
+  pub below : (b : ℕ) → b ≤ bit → has_bit found b ≡ flood (has_bit word) pass b
+  pub above : (b : ℕ) → bit < b → has_bit found b ≡ has_bit word b
+
+or_no : (t : Bool) → t ≡ (t || false)
+or_no true = refl
+or_no false = refl
+
+pub flooded_first : (word : ℕ) (pass : ℕ → Bool) → IsFlooded word word 0 pass
+flooded_first word pass = record { below = λ b l. at b l; above = λ b l. refl }
+  where
+    at : (b : ℕ) → b ≤ 0 → has_bit word b ≡ flood (has_bit word) pass b
+    at zero l = or_no (has_bit word 0)
+    at (suc b) l = absurd (omega arith)
+
+or_some : (t : Bool) → (t || true) ≡ true
+or_some true = refl
+or_some false = refl
+
+pub flooded_next : (word found wider bit : ℕ) (pass : ℕ → Bool) (moves : Bool) → IsFlooded word found bit pass → moves ≡ (has_bit found bit && pass bit) → ((b : ℕ) → has_bit wider b ≡ (has_bit found b || (moves && b == bit + 1))) → IsFlooded word wider (bit + 1) pass
+flooded_next word found wider bit pass moves h moved wide = record {
+  below = λ b l. below b l (nat_le b bit) refl;
+  above = λ b l. other b (omega arith) ∙ h.above b (omega arith);
+}
+  where
+    other : (b : ℕ) → b ≢ bit + 1 → has_bit wider b ≡ has_bit found b
+    other b apart =
+        let test : b == bit + 1 ≡ false = grind (arith, nat_tests) in
+        wide b ∙ ap (λ t. has_bit found b || t) (and_false moves (b == bit + 1) test) ∙ sym (or_no (has_bit found b))
+
+    and_true : (t : Bool) → (t && true) ≡ t
+    and_true true = refl
+    and_true false = refl
+
+    own : (b : ℕ) → b ≡ bit + 1 → has_bit wider b ≡ (has_bit word b || moves)
+    own b same =
+        let test : b == bit + 1 ≡ true = grind (arith, nat_tests) in
+        wide b ∙ ap (λ t. has_bit found b || (moves && t)) test ∙ ap (λ t. has_bit found b || t) (and_true moves) ∙ ap (λ t. t || moves) (h.above b (omega arith))
+
+    next : has_bit wider (suc bit) ≡ flood (has_bit word) pass (suc bit)
+    next = own (suc bit) (omega arith) ∙ ap (λ t. has_bit word (suc bit) || t) (moved ∙ ap (λ t. t && pass bit) (h.below bit (omega arith)))
+
+    below : (b : ℕ) → b ≤ bit + 1 → (t : Bool) → nat_le b bit ≡ t → has_bit wider b ≡ flood (has_bit word) pass b
+    below b l true e = let low : b ≤ bit = grind (arith, nat_tests) in other b (omega arith) ∙ h.below b low
+    below b l false e =
+        let last : suc bit ≡ b = let past : bit < b = grind (arith, nat_tests) in omega arith in
+        subst (λ n. has_bit wider n ≡ flood (has_bit word) pass n) last next
+
+-- where no bit is left, nothing more comes
+pub flooded_early : (word found bit : ℕ) (pass : ℕ → Bool) → IsFlooded word found bit pass → ((b : ℕ) → bit ≤ b → has_bit found b ≡ false) → (b : ℕ) → has_bit found b ≡ flood (has_bit word) pass b
+flooded_early word found bit pass h none b = go (nat_le b bit) refl
+  where
+    go : (t : Bool) → nat_le b bit ≡ t → has_bit found b ≡ flood (has_bit word) pass b
+    go true e = h.below b (grind (arith, nat_tests))
+    go false e =
+        let far : bit < b = grind (arith, nat_tests) in
+        let own : has_bit word b ≡ false = sym (h.above b far) ∙ none b (omega arith) in
+        let first : comes (has_bit word) pass (suc bit) ≡ false = ap (λ t. t && pass bit) (sym (h.below bit (omega arith)) ∙ none bit (omega arith)) in
+        let nothing : comes (has_bit word) pass b ≡ false = comes_none (has_bit word) pass (suc bit) b first (λ j low high. sym (h.above j (omega arith)) ∙ none j (omega arith)) (omega arith) in
+        none b (omega arith) ∙ sym (rw (own, nothing) refl)
+
+-- by one byte of the set, and by any number
+and_parts : (a b c : Bool) → IsTrue (a && (b && c)) → IsTrue a × IsTrue b × IsTrue c
+and_parts true true true h = (refl, refl, refl)
+and_parts true true false h = absurd (false≢true h)
+and_parts true false c h = absurd (false≢true h)
+and_parts false b c h = absurd (false≢true h)
+
+and_made : (a b c : Bool) → IsTrue a → IsTrue b → IsTrue c → IsTrue (a && (b && c))
+and_made true true true x y z = refl
+and_made true true false x y z = z
+and_made true false c x y z = y
+and_made false b c x y z = x
+
+pub moves_shifted : (line : List ℕ) (members : List Bool) (old new : List ℕ) → ((k : ℕ) → has_position new k ≡ arrives members line old k) → Moves (Spans line (tree.set members)) old new
+unfolding Spans
+moves_shifted line members old new each = record {
+  sound = λ k holds. sound k (sym (each k) ∙ holds);
+  complete = λ start k held leads. complete start k held leads;
+}
+  where
+    sound : (k : ℕ) → IsTrue (arrives members line old k) → (start : ℕ) × IsTrue (has_position old start) × Spans line (tree.set members) start k
+    sound zero h = absurd (false≢true h)
+    sound (suc k) h =
+        let parts = and_parts (has_position old k) (nat_lt k (length line)) (has members (get_or line k 0)) h in
+        let test : IsTrue (nat_lt k (length line)) = parts.1 in
+        (k, parts.0, (refl, grind (arith, nat_tests), parts.2))
+
+    complete : (start k : ℕ) → IsTrue (has_position old start) → Spans line (tree.set members) start k → IsTrue (has_position new k)
+    complete start k held leads =
+        let inside : start < length line = leads.1 in
+        let test : IsTrue (nat_lt start (length line)) = grind (arith, nat_tests) in
+        let at_next : IsTrue (has_position new (suc start)) = each (suc start) ∙ and_made (has_position old start) (nat_lt start (length line)) (has members (get_or line start 0)) held test leads.2 in
+        subst (λ (n : ℕ). IsTrue (has_position new n)) (sym leads.0) at_next
+
+-- the public words for one step
+pub step_is : (line : List ℕ) (members : List Bool) (old new : List ℕ) → ((k : ℕ) → has_position new k ≡ arrives members line old k) → (k : ℕ) → IsTrue (has_position new k) ↔ ((1 ≤ k) × (k ≤ length line) × IsTrue (has_position old (k - 1)) × IsTrue (has members (get_or line (k - 1) 0)))
+step_is line members old new each zero = (λ h. absurd (false≢true (sym (each 0) ∙ h)), λ h. absurd (omega (arith, h.0)))
+step_is line members old new each (suc k) = rw back (there, back_again)
+  where
+    back : suc k - 1 ≡ k
+    back = omega arith
+
+    there : IsTrue (has_position new (suc k)) → (1 ≤ suc k) × (suc k ≤ length line) × IsTrue (has_position old k) × IsTrue (has members (get_or line k 0))
+    there h =
+        let parts = and_parts (has_position old k) (nat_lt k (length line)) (has members (get_or line k 0)) (sym (each (suc k)) ∙ h) in
+        let test : IsTrue (nat_lt k (length line)) = parts.1 in
+        (omega arith, grind (arith, nat_tests), parts.0, parts.2)
+
+    back_again : (1 ≤ suc k) × (suc k ≤ length line) × IsTrue (has_position old k) × IsTrue (has members (get_or line k 0)) → IsTrue (has_position new (suc k))
+    back_again h =
+        let inside : suc k ≤ length line = h.1 in
+        let test : IsTrue (nat_lt k (length line)) = grind (arith, nat_tests) in
+        each (suc k) ∙ and_made (has_position old k) (nat_lt k (length line)) (has members (get_or line k 0)) h.2 test h.3
+
+either : (a b : Bool) → IsTrue (a || b) → IsTrue a ⊎ IsTrue b
+either true b h = inl refl
+either false b h = inr h
+
+or_left : (a b : Bool) → IsTrue a → IsTrue (a || b)
+or_left true b h = refl
+or_left false b h = absurd (false≢true h)
+
+or_right : (a b : Bool) → IsTrue b → IsTrue (a || b)
+or_right true b h = refl
+or_right false b h = h
+
+Comes : List ℕ → List Bool → List ℕ → ℕ → Type 0
+Comes line members old k = (start : ℕ) × IsTrue (has_position old start) × ((words : ℕ) × Steps (Spans line (tree.set members)) words start k)
+
+pub moves_swept : (line : List ℕ) (members : List Bool) (old new : List ℕ) → ((k : ℕ) → has_position new k ≡ flood (has_position old) (passes members line) k) → Moves (λ from to. (words : ℕ) × Steps (Spans line (tree.set members)) words from to) old new
+unfolding Spans Steps
+moves_swept line members old new each = record {
+  sound = λ k h. sound k (sym (each k) ∙ h);
+  complete = λ start k held r. each k ∙ complete r.0 start k held r.1;
+}
+  where
+    more : (k : ℕ) → Comes line members old k → IsTrue (nat_lt k (length line)) → IsTrue (has members (get_or line k 0)) → Comes line members old (suc k)
+    more k w test member = (w.0, w.1, (suc w.2.0, (k, w.2.1, (refl, grind (arith, nat_tests), member))))
+
+    next : (k : ℕ) → (IsTrue (flood (has_position old) (passes members line) k) → Comes line members old k) → IsTrue (has_position old (suc k)) ⊎ IsTrue (flood (has_position old) (passes members line) k && passes members line k) → Comes line members old (suc k)
+    next k before (inl x) = (suc k, x, (0, refl))
+    next k before (inr x) = let parts = and_parts (flood (has_position old) (passes members line) k) (nat_lt k (length line)) (has members (get_or line k 0)) x in more k (before parts.0) parts.1 parts.2
+
+    sound : (k : ℕ) → IsTrue (flood (has_position old) (passes members line) k) → Comes line members old k
+    sound zero h = pick (either (has_position old 0) false h)
+      where
+        pick : IsTrue (has_position old 0) ⊎ IsTrue false → Comes line members old 0
+        pick (inl x) = (0, x, (0, refl))
+        pick (inr x) = absurd (false≢true x)
+    sound (suc k) h = next k (sound k) (either (has_position old (suc k)) (flood (has_position old) (passes members line) k && passes members line k) h)
+
+    held_reached : (k : ℕ) → IsTrue (has_position old k) → IsTrue (flood (has_position old) (passes members line) k)
+    held_reached k h = or_left (has_position old k) (comes (has_position old) (passes members line) k) h
+
+    complete : (words start k : ℕ) → IsTrue (has_position old start) → Steps (Spans line (tree.set members)) words start k → IsTrue (flood (has_position old) (passes members line) k)
+    complete zero start k held r = held_reached k (subst (λ (n : ℕ). IsTrue (has_position old n)) r held)
+    complete (suc words) start k held r =
+        let before = complete words start r.0 held r.1 in
+        let inside : r.0 < length line = r.2.1 in
+        let test : IsTrue (nat_lt r.0 (length line)) = grind (arith, nat_tests) in
+        let next : IsTrue (flood (has_position old) (passes members line) (suc r.0)) = or_right (has_position old (suc r.0)) (flood (has_position old) (passes members line) r.0 && passes members line r.0) (and_made (flood (has_position old) (passes members line) r.0) (nat_lt r.0 (length line)) (has members (get_or line r.0 0)) before test r.2.2) in
+        subst (λ n. IsTrue (flood (has_position old) (passes members line) n)) (sym r.2.0) next
+
+-- Of a word the bits that are no longer in `rest` have been kept or dropped.
+pub record IsKept (word base : ℕ) (members : List Bool) (line : List ℕ) (kept rest : ℕ) : Type 0 where
+  pub bits : (b : ℕ) → b < 64 → has_bit kept b ≡ (has_bit word b && (has_bit rest b || passes members line (base + b)))
+
+pub kept_first : (word base : ℕ) (members : List Bool) (line : List ℕ) → IsKept word base members line word word
+kept_first word base members line = record { bits = λ b l. absorb (has_bit word b) (passes members line (base + b)) }
+  where
+    absorb : (w p : Bool) → w ≡ (w && (w || p))
+    absorb true p = refl
+    absorb false p = refl
+
+pub kept_more : (word base : ℕ) (members : List Bool) (line : List ℕ) (kept rest kept_next rest_next bit : ℕ) (stays : Bool) → IsKept word base members line kept rest → IsTrue (has_bit rest bit) → stays ≡ passes members line (base + bit)
+    → ((b : ℕ) → b < 64 → has_bit kept_next b ≡ (has_bit kept b && (stays || not (b == bit))))
+    → ((b : ℕ) → b < 64 → has_bit rest_next b ≡ (has_bit rest b && not (b == bit)))
+    → IsKept word base members line kept_next rest_next
+kept_more word base members line kept rest kept_next rest_next bit stays h there test keeps rests = record { bits = λ b l. go b l (b == bit) refl }
+  where
+    own : (w p : Bool) → ((w && true) && (p || false)) ≡ (w && p)
+    own true true = refl
+    own true false = refl
+    own false p = refl
+
+    other : (k s : Bool) → (k && (s || true)) ≡ k
+    other true true = refl
+    other true false = refl
+    other false s = refl
+
+    stay : (r : Bool) → r ≡ (r && true)
+    stay true = refl
+    stay false = refl
+
+    go : (b : ℕ) → b < 64 → (t : Bool) → (b == bit) ≡ t → has_bit kept_next b ≡ (has_bit word b && (has_bit rest_next b || passes members line (base + b)))
+    go b l true e =
+        let same : b ≡ bit = grind (arith, nat_tests) in
+        let held : has_bit rest b ≡ true = rw same there in
+        let pass_is : stays ≡ passes members line (base + b) = test ∙ ap (λ n. passes members line (base + n)) (sym same) in
+        let was : has_bit kept b ≡ (has_bit word b && true) = h.bits b l ∙ ap (λ t. has_bit word b && (t || passes members line (base + b))) held in
+        let gone : has_bit rest_next b ≡ false = rests b l ∙ ap (λ t. has_bit rest b && not t) e ∙ and_false (has_bit rest b) false refl in
+        keeps b l ∙ ap (λ t. has_bit kept b && (stays || not t)) e ∙ ap (λ t. t && (stays || false)) was ∙ ap (λ t. (has_bit word b && true) && (t || false)) pass_is ∙ own (has_bit word b) (passes members line (base + b)) ∙ ap (λ t. has_bit word b && (t || passes members line (base + b))) (sym gone)
+    go b l false e =
+        let rest_is : has_bit rest b ≡ has_bit rest_next b = stay (has_bit rest b) ∙ ap (λ t. has_bit rest b && not t) (sym e) ∙ sym (rests b l) in
+        keeps b l ∙ ap (λ t. has_bit kept b && (stays || not t)) e ∙ other (has_bit kept b) stays ∙ h.bits b l ∙ ap (λ t. has_bit word b && (t || passes members line (base + b))) rest_is
+
+pub kept_all : (word base : ℕ) (members : List Bool) (line : List ℕ) (kept rest : ℕ) → IsKept word base members line kept rest → rest ≡ 0 → (b : ℕ) → b < 64 → has_bit kept b ≡ (has_bit word b && passes members line (base + b))
+kept_all word base members line kept rest h none b l = h.bits b l ∙ ap (λ t. has_bit word b && (t || passes members line (base + b))) (ap (λ n. has_bit n b) none ∙ has_zero b)

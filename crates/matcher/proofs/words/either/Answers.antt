@@ -1,0 +1,6 @@
+use Rattle.std.proofs.Common.{◌≡◌, ◌∙◌, ◌+◌, ◌-◌, ◌*◌, ◌/◌, ◌%◌, ◌<◌, ◌≤◌, ℕ, true, false, refl, sym, ap, subst, get_or, length, arith, rules}
+use Rattle.matcher.proofs.Bits.{has_or}
+use Rattle.matcher.proofs.words.either.Goals as goal
+
+pub returns : goal.returns
+returns c = λ b. has_or c.args.left c.args.right b

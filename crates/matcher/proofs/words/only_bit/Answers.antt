@@ -1,0 +1,6 @@
+use Rattle.std.proofs.Common.{◌≡◌, ◌∙◌, ◌+◌, ◌-◌, ◌*◌, ◌/◌, ◌%◌, ◌<◌, ◌≤◌, ℕ, true, false, refl, sym, ap, subst, get_or, length, arith, rules}
+use Rattle.matcher.proofs.Bits.{has_only}
+use Rattle.matcher.proofs.words.only_bit.Goals as goal
+
+pub returns : goal.returns
+returns c = λ b. has_only c.args.word c.args.bit b c.requires

@@ -1,0 +1,6 @@
+use Rattle.std.proofs.Common.{◌≡◌, ◌∙◌, ◌+◌, ◌-◌, ◌*◌, ◌/◌, ◌<◌, ℕ, refl, sym, ap, get_or, arith}
+use Rattle.matcher.proofs.Bits.{has_through}
+use Rattle.matcher.proofs.words.through_bit.Goals as goal
+
+pub returns : goal.returns
+returns c = λ b. has_through c.args.last b c.requires

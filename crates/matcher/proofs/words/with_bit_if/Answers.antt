@@ -1,0 +1,10 @@
+use Rattle.std.proofs.Common.{◌≡◌, ◌∙◌, ◌+◌, ◌-◌, ◌*◌, ◌/◌, ◌%◌, ◌<◌, ◌≤◌, ℕ, true, false, refl, sym, ap, subst, get_or, length, arith, rules}
+use Rattle.matcher.specs.PositionSets.{has_bit}
+use Rattle.matcher.proofs.Bits.{has_with, or_none}
+use Rattle.matcher.proofs.words.with_bit_if.Goals as goal
+
+pub returns-then-comes : goal.returns-then-comes
+returns-then-comes c = λ b. rw c.if-comes.true (has_with c.args.word c.args.bit b c.requires)
+
+pub returns-else-comes : goal.returns-else-comes
+returns-else-comes c = λ b. rw c.if-comes.false (sym (or_none (has_bit c.args.word b)))

@@ -1,0 +1,6 @@
+use Rattle.std.proofs.Common.{◌≡◌, ◌∙◌, ◌+◌, ◌-◌, ◌*◌, ◌/◌, ◌%◌, ◌<◌, ◌≤◌, ℕ, true, false, refl, sym, ap, subst, get_or, length, arith, rules}
+use Rattle.matcher.proofs.Bits.{has_without}
+use Rattle.matcher.proofs.words.without.Goals as goal
+
+pub returns : goal.returns
+returns c = λ b inside. has_without c.args.word c.args.other b (omega arith) inside

@@ -1,0 +1,22 @@
+-- Where bytes of a set lead.
+use Rattle.std.specs.Prelude.{ℕ, zero, suc, Bool, false, ◌&&◌, ◌||◌, List, length, nat_lt, slice_index}
+use Rattle.ere.specs.ByteSet.{has}
+use Rattle.matcher.specs.PositionSets.{has_position}
+
+-- whether a byte of the set stands after the position
+abbrev pub passes : List Bool → List ℕ → ℕ → Bool
+passes members line at = nat_lt at (length line) && has members (slice_index line at)
+
+-- whether one byte of the set leads to the position
+abbrev pub arrives : List Bool → List ℕ → List ℕ → ℕ → Bool
+arrives members line words zero = false
+arrives members line words (suc k) = has_position words k && passes members line k
+
+-- whether positions that are held lead to a position by one or more that pass
+abbrev pub comes : (ℕ → Bool) → (ℕ → Bool) → ℕ → Bool
+comes held pass zero = false
+comes held pass (suc k) = (held k || comes held pass k) && pass k
+
+-- or by none
+abbrev pub flood : (ℕ → Bool) → (ℕ → Bool) → ℕ → Bool
+flood held pass k = held k || comes held pass k

@@ -1,0 +1,236 @@
+//! Sets of positions as words of 64 bits: position k is bit k mod 64 of word k / 64.
+
+ghost use Rattle.std.specs.Prelude.{◌≡◌, ℕ, ◌+◌, ◌-◌, ◌≤◌, ◌<◌, ◌↔◌, ◌&&◌, ◌||◌, ◌==◌, nat_le, not, IsTrue, length, slice_index};
+ghost use Rattle.ere.specs.ByteSet.{has};
+ghost use Rattle.matcher.specs.PositionSets.{has_bit, has_position};
+ghost use Rattle.matcher.specs.Bounds.{IsBounded};
+ghost use Rattle.matcher.specs.Moving.{passes, arrives, flood};
+
+use ere::{ByteSet, MAX_LINE};
+
+/// How many positions a word has.
+pub(crate) const BITS: usize = 64;
+
+/// How many words the positions of a line of the greatest length need.
+pub const WORDS: usize = MAX_LINE / BITS + 1;
+
+/// The positions to which one byte of the set leads from the positions given.
+///
+/// Position k stands before the line's byte k, counted from 0, and is bit k mod 64 of word k / 64. It is
+/// in the answer exactly where position k - 1 is among those given and the byte between the two is in
+/// the set. The line has at most `MAX_LINE` bytes.
+pub fn step(members: &ByteSet, line: &[u8], from: &[u64; WORDS]) -> [u64; WORDS]
+    requires { length line.now ≤ MAX_LINE }
+    ensures { (k : ℕ) → IsTrue (has_position result k) ↔ ((1 ≤ k) × (k ≤ length line.now) × IsTrue (has_position from.now (k - 1)) × IsTrue (has members.now (slice_index line.now (k - 1)))) }
+{
+    let mut to = *from;
+    shift(members, line, &mut to, 0, WORDS);
+    to
+}
+
+/// Moves each position over the byte after it, where that is in the set, and loses the others. All
+/// positions are in the words from `first` up to but not at `end`; the answer is that end afterwards.
+pub(crate) fn shift(
+    members: &ByteSet,
+    line: &[u8],
+    words: &mut [u64; WORDS],
+    first: usize,
+    end: usize,
+) -> usize
+    requires line { length line.now ≤ MAX_LINE }
+    requires bounds { IsBounded words.old first end }
+    ensures bounded { IsBounded words.new first result }
+    ensures moved { (k : ℕ) → has_position words.new k ≡ arrives members.now line.now words.old k }
+{
+    let mut carried = 0;
+    for i in first..end {
+        let passing = followed(words[i], i * BITS, members, line);
+        words[i] = moved_up(passing, carried);
+        carried = highest(passing);
+    }
+    if carried != 0 && end < WORDS {
+        words[end] = carried;
+        return end + 1;
+    }
+    end
+}
+
+/// Adds each position to which bytes of the set lead from positions of the set. All positions are in the
+/// words from `first` up to but not at `end`; the answer is that end afterwards.
+pub(crate) fn sweep(
+    members: &ByteSet,
+    line: &[u8],
+    words: &mut [u64; WORDS],
+    first: usize,
+    end: usize,
+) -> usize
+    requires line { length line.now ≤ MAX_LINE }
+    requires bounds { IsBounded words.old first end }
+    ensures bounded { IsBounded words.new first result }
+    ensures moved { (k : ℕ) → has_position words.new k ≡ flood (has_position words.old) (passes members.now line.now) k }
+{
+    let mut carried = 0;
+    for i in first..WORDS {
+        if i >= end && carried == 0 {
+            return i;
+        }
+        let word = reached(either(words[i], carried), i * BITS, members, line);
+        words[i] = word;
+        let comes = leads_on(word, BITS - 1, i * BITS, members, line);
+        carried = bit_if(comes);
+    }
+    WORDS
+}
+
+/// The positions of a word that have a byte of the set after them. `base` is the word's first position.
+fn followed(word: u64, base: usize, members: &ByteSet, line: &[u8]) -> u64
+    requires { base ≤ MAX_LINE }
+    ensures { (bit : ℕ) → bit < 64 → has_bit result bit ≡ (has_bit word bit && passes members.now line.now (base + bit)) }
+{
+    let mut kept = word;
+    let mut rest = word;
+    while rest != 0 {
+        let bit = lowest(rest);
+        let stays = is_followed(base + bit, members, line);
+        kept = without_bit_unless(kept, bit, stays);
+        rest = without_bit(rest, bit);
+    }
+    kept
+}
+
+/// The positions of a word to which its positions lead over bytes of the set.
+fn reached(word: u64, base: usize, members: &ByteSet, line: &[u8]) -> u64
+    requires { base ≤ MAX_LINE }
+    ensures { (bit : ℕ) → bit < 64 → has_bit result bit ≡ flood (has_bit word) (λ b. passes members.now line.now (base + b)) bit }
+{
+    let mut reached = word;
+    for bit in 0..BITS - 1 {
+        if reached >> bit == 0 {
+            return reached;
+        }
+        let comes = leads_on(reached, bit, base, members, line);
+        reached = with_bit_if(reached, bit + 1, comes);
+    }
+    reached
+}
+
+/// Whether the word has the position and a byte of the set stands after it.
+fn leads_on(word: u64, bit: usize, base: usize, members: &ByteSet, line: &[u8]) -> bool
+    requires base { base ≤ MAX_LINE }
+    requires bit { bit < 64 }
+    ensures { result ≡ (has_bit word bit && passes members.now line.now (base + bit)) }
+{
+    has_at(word, bit) && is_followed(base + bit, members, line)
+}
+
+/// Whether a byte of the set stands after the position.
+fn is_followed(at: usize, members: &ByteSet, line: &[u8]) -> bool
+    ensures { result ≡ passes members.now line.now at }
+{
+    at < line.len() && members.has(line[at])
+}
+
+/// Whether the word has the bit.
+fn has_at(word: u64, bit: usize) -> bool
+    requires { bit < 64 }
+    ensures { result ≡ has_bit word bit }
+{
+    word >> bit & 1 == 1
+}
+
+/// The lowest bit of a word that is not 0.
+fn lowest(word: u64) -> usize
+    requires { 0 < word }
+    ensures inside { result < 64 }
+    ensures held { IsTrue (has_bit word result) }
+{
+    word.trailing_zeros() as usize
+}
+
+/// The word with the bit, where it comes.
+fn with_bit_if(word: u64, bit: usize, comes: bool) -> u64
+    requires { bit < 64 }
+    ensures { (b : ℕ) → has_bit result b ≡ (has_bit word b || (comes && b == bit)) }
+{
+    if comes { word | 1u64 << bit } else { word }
+}
+
+/// The word without the bit.
+fn without_bit(word: u64, bit: usize) -> u64
+    requires { bit < 64 }
+    ensures bits { (b : ℕ) → b < 64 → has_bit result b ≡ (has_bit word b && not (b == bit)) }
+    ensures smaller { IsTrue (has_bit word bit) → result < word }
+{
+    word & !(1u64 << bit)
+}
+
+/// The word without the bit, unless it stays.
+fn without_bit_unless(word: u64, bit: usize, stays: bool) -> u64
+    requires { bit < 64 }
+    ensures { (b : ℕ) → b < 64 → has_bit result b ≡ (has_bit word b && (stays || not (b == bit))) }
+{
+    if stays { word } else { without_bit(word, bit) }
+}
+
+/// The word with no bit but this one, where it has it.
+pub(crate) fn only_bit(word: u64, bit: usize) -> u64
+    requires { bit < 64 }
+    ensures { (b : ℕ) → has_bit result b ≡ (b == bit && has_bit word b) }
+{
+    word & 1u64 << bit
+}
+
+/// The bits from 0 to the last one given.
+pub(crate) fn through_bit(last: usize) -> u64
+    requires { last < 64 }
+    ensures { (b : ℕ) → has_bit result b ≡ nat_le b last }
+{
+    u64::MAX >> 63 - last
+}
+
+/// The bits of the word that the other one has not.
+pub(crate) fn without(word: u64, other: u64) -> u64
+    ensures { (b : ℕ) → b < 64 → has_bit result b ≡ (has_bit word b && not (has_bit other b)) }
+{
+    word & !other
+}
+
+/// The bits of both words.
+pub(crate) fn either(left: u64, right: u64) -> u64
+    ensures { (b : ℕ) → has_bit result b ≡ (has_bit left b || has_bit right b) }
+{
+    left | right
+}
+
+/// Each bit of the word moved up by one, and the bit carried in as the lowest.
+fn moved_up(word: u64, carried: u64) -> u64
+    requires { carried < 2 }
+    ensures lowest { has_bit result 0 ≡ has_bit carried 0 }
+    ensures others { (b : ℕ) → b < 63 → has_bit result (b + 1) ≡ has_bit word b }
+{
+    word << 1 | carried
+}
+
+/// The highest bit of the word, as 0 or 1.
+fn highest(word: u64) -> u64
+    ensures is_bit { result < 2 }
+    ensures same { has_bit result 0 ≡ has_bit word 63 }
+{
+    word >> 63
+}
+
+/// 1 or 0.
+fn bit_if(comes: bool) -> u64
+    ensures is_bit { result < 2 }
+    ensures same { has_bit result 0 ≡ comes }
+{
+    if comes { 1 } else { 0 }
+}
+
+/// All words the same.
+pub(crate) fn every(word: u64) -> [u64; WORDS]
+    ensures whole { length result ≡ WORDS }
+    ensures same { (i : ℕ) → i < WORDS → slice_index result i ≡ word }
+{
+    [word; WORDS]
+}
