@@ -78,4 +78,5 @@ def main():
             print("| %d | %.2f |" % (n, 1000 * search_time(target, lines, pattern)), flush=True)
 
 
-main()
+if __name__ == "__main__":
+    main()

@@ -6,7 +6,8 @@ use Rattle.std.proofs.lemmas.Nat.{and_le_l, shr-shr, mod_low}
 use Rattle.std.proofs.lemmas.Nat.Bits.{bit_at-lt, bit_at_and, bit_at_or, bit_at-zero, bit_at_lowest, shr_and_one, bit_at_not, bit_at_above, bit_at_ones, bit_at_ones_above, ones_shr, bit_at-trailing_zeros, bit_at_set_same, bit_at_set_other, bit_at_clear_same, bit_at_clear_other, bit_at-pow_same, bit_at-pow_other, bit_at_cat_low, bit_at_cat_high}
 use Rattle.std.specs.Prelude.{bit_and, bit_or}
 use Rattle.std.specs.Int.{bit_at, bit_not, trailing_zeros}
-use Rattle.matcher.specs.PositionSets.{has_bit, has_position, HasNone}
+use Rattle.matcher.specs.PositionSets.{has_bit, has_position}
+use Rattle.matcher.specs.Private.Moves.{HasNone}
 
 pub false≢true : false ≡ true → ⊥
 false≢true h = cc

@@ -6,10 +6,11 @@ use Rattle.std.proofs.lemmas.Nat.Bits.{bit_at_above}
 use Rattle.ere.specs.ByteSet.{has}
 use Rattle.ere.specs.Tree as tree
 use Rattle.matcher.specs.declared.words.TheConstants.{WORDS}
-use Rattle.matcher.specs.Bounds.{IsBounded}
-use Rattle.matcher.specs.Moving.{passes, arrives, comes, flood}
-use Rattle.matcher.specs.Spans.{Spans, Steps}
-use Rattle.matcher.specs.PositionSets.{has_bit, has_position, HasNone, Moves}
+use Rattle.matcher.specs.Private.Bounds.{IsBounded}
+use Rattle.matcher.specs.Private.Moving.{passes, arrives, comes, flood}
+use Rattle.matcher.specs.Private.Spans.{Spans, Steps}
+use Rattle.matcher.specs.PositionSets.{has_bit, has_position}
+use Rattle.matcher.specs.Private.Moves.{HasNone, Moves}
 use Rattle.matcher.proofs.Bits.{false≢true, is_false, has_or, has_zero, position_in, position_is, same_word, empty_word, position_set_same, position_set_other, split_position}
 
 and_false : (a b : Bool) → b ≡ false → (a && b) ≡ false

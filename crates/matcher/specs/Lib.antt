@@ -1,4 +1,2 @@
-pub mod Spans
 pub mod PositionSets
-pub mod Bounds
-pub mod Moving
+pub mod Private

@@ -2,8 +2,9 @@
 
 ghost use Rattle.std.specs.Prelude.{◌≡◌, ◌≤◌, ◌<◌, ℕ, ◌&&◌, ◌==◌, nat_le, IsTrue, MatchBool, length, slice_index};
 ghost use Rattle.ere.specs.Tree.{set};
-ghost use Rattle.matcher.specs.Spans.{Spans, Steps};
-ghost use Rattle.matcher.specs.PositionSets.{has_position, absent, HasNone, IsEither, IsNew, Moves};
+ghost use Rattle.matcher.specs.Private.Spans.{Spans, Steps};
+ghost use Rattle.matcher.specs.PositionSets.{has_position};
+ghost use Rattle.matcher.specs.Private.Moves.{absent, HasNone, IsEither, IsNew, Moves};
 
 use crate::words::{BITS, WORDS, either, every, only_bit, shift, sweep, through_bit, without};
 use ere::{ByteSet, MAX_LINE};
@@ -23,7 +24,7 @@ impl Model for Positions {
 
     ghost Value = { List ℕ };
 
-    ghost use Rattle.matcher.specs.Bounds.{IsBounded};
+    ghost use Rattle.matcher.specs.Private.Bounds.{IsBounded};
 
     ghost view = { λ s. s.words };
 

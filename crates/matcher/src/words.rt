@@ -3,8 +3,8 @@
 ghost use Rattle.std.specs.Prelude.{◌≡◌, ℕ, ◌+◌, ◌-◌, ◌≤◌, ◌<◌, ◌↔◌, ◌&&◌, ◌||◌, ◌==◌, nat_le, not, IsTrue, length, slice_index};
 ghost use Rattle.ere.specs.ByteSet.{has};
 ghost use Rattle.matcher.specs.PositionSets.{has_bit, has_position};
-ghost use Rattle.matcher.specs.Bounds.{IsBounded};
-ghost use Rattle.matcher.specs.Moving.{passes, arrives, flood};
+ghost use Rattle.matcher.specs.Private.Bounds.{IsBounded};
+ghost use Rattle.matcher.specs.Private.Moving.{passes, arrives, flood};
 
 use ere::{ByteSet, MAX_LINE};
 

@@ -1,5 +1,5 @@
 use Rattle.std.proofs.Common.{◌≡◌, ◌∙◌, ◌+◌, ◌-◌, ◌*◌, ◌/◌, ◌%◌, ◌<◌, ◌≤◌, ℕ, true, false, refl, sym, ap, subst, get_or, length, arith, rules}
-use Rattle.matcher.specs.Moving.{passes}
+use Rattle.matcher.specs.Private.Moving.{passes}
 use Rattle.matcher.proofs.Bits.{none_from}
 use Rattle.matcher.proofs.Shifting.{flooded_first, flooded_next, flooded_early}
 use Rattle.matcher.proofs.words.reached.Goals as goal

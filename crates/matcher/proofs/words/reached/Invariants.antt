@@ -1,5 +1,5 @@
 use Rattle.std.proofs.Common.{◌+◌}
-use Rattle.matcher.specs.Moving.{passes}
+use Rattle.matcher.specs.Private.Moving.{passes}
 use Rattle.matcher.proofs.Shifting.{IsFlooded}
 use Rattle.matcher.proofs.words.reached.Given as goal
 

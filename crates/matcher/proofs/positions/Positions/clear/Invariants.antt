@@ -1,4 +1,4 @@
-use Rattle.matcher.specs.Bounds.{IsBounded}
+use Rattle.matcher.specs.Private.Bounds.{IsBounded}
 use Rattle.matcher.proofs.positions.Positions.clear.Given as goal
 
 abbrev pub invariant-loop-i : goal.invariant-loop-i

@@ -1,0 +1,4 @@
+pub mod Spans
+pub mod Moves
+pub mod Bounds
+pub mod Moving
