@@ -1,4 +1,5 @@
 pub mod Bits
+pub mod Flooding
 pub mod Shifting
 pub mod Joining
 pub mod Meaning

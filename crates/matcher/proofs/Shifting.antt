@@ -279,68 +279,6 @@ none_swept_on members line old i short = go (i * 64) refl
     go zero e = refl
     go (suc k) e = and_false (has_position old k || comes (has_position old) (passes members line) k) (passes members line k) (none_passes members line k (omega arith))
 
--- The flood of a word is found up to a bit.
-pub record IsFlooded (word found bit : ℕ) (pass : ℕ → Bool) : Type 0 where
-  pub below : (b : ℕ) → b ≤ bit → has_bit found b ≡ flood (has_bit word) pass b
-  pub above : (b : ℕ) → bit < b → has_bit found b ≡ has_bit word b
-
-or_no : (t : Bool) → t ≡ (t || false)
-or_no true = refl
-or_no false = refl
-
-pub flooded_first : (word : ℕ) (pass : ℕ → Bool) → IsFlooded word word 0 pass
-flooded_first word pass = record { below = λ b l. at b l; above = λ b l. refl }
-  where
-    at : (b : ℕ) → b ≤ 0 → has_bit word b ≡ flood (has_bit word) pass b
-    at zero l = or_no (has_bit word 0)
-    at (suc b) l = absurd (omega arith)
-
-or_some : (t : Bool) → (t || true) ≡ true
-or_some true = refl
-or_some false = refl
-
-pub flooded_next : (word found wider bit : ℕ) (pass : ℕ → Bool) (moves : Bool) → IsFlooded word found bit pass → moves ≡ (has_bit found bit && pass bit) → ((b : ℕ) → has_bit wider b ≡ (has_bit found b || (moves && b == bit + 1))) → IsFlooded word wider (bit + 1) pass
-flooded_next word found wider bit pass moves h moved wide = record {
-  below = λ b l. below b l (nat_le b bit) refl;
-  above = λ b l. other b (omega arith) ∙ h.above b (omega arith);
-}
-  where
-    other : (b : ℕ) → b ≢ bit + 1 → has_bit wider b ≡ has_bit found b
-    other b apart =
-        let test : b == bit + 1 ≡ false = grind (arith, nat_tests) in
-        wide b ∙ ap (λ t. has_bit found b || t) (and_false moves (b == bit + 1) test) ∙ sym (or_no (has_bit found b))
-
-    and_true : (t : Bool) → (t && true) ≡ t
-    and_true true = refl
-    and_true false = refl
-
-    own : (b : ℕ) → b ≡ bit + 1 → has_bit wider b ≡ (has_bit word b || moves)
-    own b same =
-        let test : b == bit + 1 ≡ true = grind (arith, nat_tests) in
-        wide b ∙ ap (λ t. has_bit found b || (moves && t)) test ∙ ap (λ t. has_bit found b || t) (and_true moves) ∙ ap (λ t. t || moves) (h.above b (omega arith))
-
-    next : has_bit wider (suc bit) ≡ flood (has_bit word) pass (suc bit)
-    next = own (suc bit) (omega arith) ∙ ap (λ t. has_bit word (suc bit) || t) (moved ∙ ap (λ t. t && pass bit) (h.below bit (omega arith)))
-
-    below : (b : ℕ) → b ≤ bit + 1 → (t : Bool) → nat_le b bit ≡ t → has_bit wider b ≡ flood (has_bit word) pass b
-    below b l true e = let low : b ≤ bit = grind (arith, nat_tests) in other b (omega arith) ∙ h.below b low
-    below b l false e =
-        let last : suc bit ≡ b = let past : bit < b = grind (arith, nat_tests) in omega arith in
-        subst (λ n. has_bit wider n ≡ flood (has_bit word) pass n) last next
-
--- where no bit is left, nothing more comes
-pub flooded_early : (word found bit : ℕ) (pass : ℕ → Bool) → IsFlooded word found bit pass → ((b : ℕ) → bit ≤ b → has_bit found b ≡ false) → (b : ℕ) → has_bit found b ≡ flood (has_bit word) pass b
-flooded_early word found bit pass h none b = go (nat_le b bit) refl
-  where
-    go : (t : Bool) → nat_le b bit ≡ t → has_bit found b ≡ flood (has_bit word) pass b
-    go true e = h.below b (grind (arith, nat_tests))
-    go false e =
-        let far : bit < b = grind (arith, nat_tests) in
-        let own : has_bit word b ≡ false = sym (h.above b far) ∙ none b (omega arith) in
-        let first : comes (has_bit word) pass (suc bit) ≡ false = ap (λ t. t && pass bit) (sym (h.below bit (omega arith)) ∙ none bit (omega arith)) in
-        let nothing : comes (has_bit word) pass b ≡ false = comes_none (has_bit word) pass (suc bit) b first (λ j low high. sym (h.above j (omega arith)) ∙ none j (omega arith)) (omega arith) in
-        none b (omega arith) ∙ sym (rw (own, nothing) refl)
-
 -- by one byte of the set, and by any number
 and_parts : (a b c : Bool) → IsTrue (a && (b && c)) → IsTrue a × IsTrue b × IsTrue c
 and_parts true true true h = (refl, refl, refl)
@@ -444,48 +382,26 @@ moves_swept line members old new each = record {
         let next : IsTrue (flood (has_position old) (passes members line) (suc r.0)) = or_right (has_position old (suc r.0)) (flood (has_position old) (passes members line) r.0 && passes members line r.0) (and_made (flood (has_position old) (passes members line) r.0) (nat_lt r.0 (length line)) (has members (get_or line r.0 0)) before test r.2.2) in
         subst (λ n. IsTrue (flood (has_position old) (passes members line) n)) (sym r.2.0) next
 
--- Of a word the bits that are no longer in `rest` have been kept or dropped.
-pub record IsKept (word base : ℕ) (members : List Bool) (line : List ℕ) (kept rest : ℕ) : Type 0 where
-  pub bits : (b : ℕ) → b < 64 → has_bit kept b ≡ (has_bit word b && (has_bit rest b || passes members line (base + b)))
-
-pub kept_first : (word base : ℕ) (members : List Bool) (line : List ℕ) → IsKept word base members line word word
-kept_first word base members line = record { bits = λ b l. absorb (has_bit word b) (passes members line (base + b)) }
+-- The flood needs the tests only from the first position that is held on.
+pub flood_from : (held pass other : ℕ → Bool) (first : ℕ) → ((b : ℕ) → b < first → held b ≡ false) → ((b : ℕ) → first ≤ b → b < 64 → other b ≡ pass b) → (b : ℕ) → b < 64 → flood held other b ≡ flood held pass b
+flood_from held pass other first none same b inside = ap (λ t. held b || t) (comes_from b inside)
   where
-    absorb : (w p : Bool) → w ≡ (w && (w || p))
-    absorb true p = refl
-    absorb false p = refl
+    comes_from : (b : ℕ) → b < 64 → comes held other b ≡ comes held pass b
+    comes_from zero l = refl
+    comes_from (suc b) l = go (nat_le first b) refl (comes_from b (omega arith))
+      where
+        go : (t : Bool) → nat_le first b ≡ t → comes held other b ≡ comes held pass b → comes held other (suc b) ≡ comes held pass (suc b)
+        go true e before =
+            let from : first ≤ b = grind (arith, nat_tests) in
+            ap (λ t. (held b || comes held other b) && t) (same b from (omega arith)) ∙ ap (λ t. (held b || t) && pass b) before
+        go false e before =
+            let low : b < first = grind (arith, nat_tests) in
+            let own : held b ≡ false = none b low in
+            let nothing : comes held pass b ≡ false = comes_none held pass 0 b refl (λ j from to. none j (omega arith)) (omega arith) in
+            let others : comes held other b ≡ false = before ∙ nothing in
+            rw (own, others, nothing) refl
 
-pub kept_more : (word base : ℕ) (members : List Bool) (line : List ℕ) (kept rest kept_next rest_next bit : ℕ) (stays : Bool) → IsKept word base members line kept rest → IsTrue (has_bit rest bit) → stays ≡ passes members line (base + bit)
-    → ((b : ℕ) → b < 64 → has_bit kept_next b ≡ (has_bit kept b && (stays || not (b == bit))))
-    → ((b : ℕ) → b < 64 → has_bit rest_next b ≡ (has_bit rest b && not (b == bit)))
-    → IsKept word base members line kept_next rest_next
-kept_more word base members line kept rest kept_next rest_next bit stays h there test keeps rests = record { bits = λ b l. go b l (b == bit) refl }
-  where
-    own : (w p : Bool) → ((w && true) && (p || false)) ≡ (w && p)
-    own true true = refl
-    own true false = refl
-    own false p = refl
-
-    other : (k s : Bool) → (k && (s || true)) ≡ k
-    other true true = refl
-    other true false = refl
-    other false s = refl
-
-    stay : (r : Bool) → r ≡ (r && true)
-    stay true = refl
-    stay false = refl
-
-    go : (b : ℕ) → b < 64 → (t : Bool) → (b == bit) ≡ t → has_bit kept_next b ≡ (has_bit word b && (has_bit rest_next b || passes members line (base + b)))
-    go b l true e =
-        let same : b ≡ bit = grind (arith, nat_tests) in
-        let held : has_bit rest b ≡ true = rw same there in
-        let pass_is : stays ≡ passes members line (base + b) = test ∙ ap (λ n. passes members line (base + n)) (sym same) in
-        let was : has_bit kept b ≡ (has_bit word b && true) = h.bits b l ∙ ap (λ t. has_bit word b && (t || passes members line (base + b))) held in
-        let gone : has_bit rest_next b ≡ false = rests b l ∙ ap (λ t. has_bit rest b && not t) e ∙ and_false (has_bit rest b) false refl in
-        keeps b l ∙ ap (λ t. has_bit kept b && (stays || not t)) e ∙ ap (λ t. t && (stays || false)) was ∙ ap (λ t. (has_bit word b && true) && (t || false)) pass_is ∙ own (has_bit word b) (passes members line (base + b)) ∙ ap (λ t. has_bit word b && (t || passes members line (base + b))) (sym gone)
-    go b l false e =
-        let rest_is : has_bit rest b ≡ has_bit rest_next b = stay (has_bit rest b) ∙ ap (λ t. has_bit rest b && not t) (sym e) ∙ sym (rests b l) in
-        keeps b l ∙ ap (λ t. has_bit kept b && (stays || not t)) e ∙ other (has_bit kept b) stays ∙ h.bits b l ∙ ap (λ t. has_bit word b && (t || passes members line (base + b))) rest_is
-
-pub kept_all : (word base : ℕ) (members : List Bool) (line : List ℕ) (kept rest : ℕ) → IsKept word base members line kept rest → rest ≡ 0 → (b : ℕ) → b < 64 → has_bit kept b ≡ (has_bit word b && passes members line (base + b))
-kept_all word base members line kept rest h none b l = h.bits b l ∙ ap (λ t. has_bit word b && (t || passes members line (base + b))) (ap (λ n. has_bit n b) none ∙ has_zero b)
+pub flood_none : (held pass : ℕ → Bool) → ((b : ℕ) → held b ≡ false) → (b : ℕ) → flood held pass b ≡ false
+flood_none held pass none b =
+    let nothing : comes held pass b ≡ false = comes_none held pass 0 b refl (λ j from to. none j) (omega arith) in
+    rw (none b, nothing) refl

@@ -1,6 +1,6 @@
 //! Sets of positions as words of 64 bits: position k is bit k mod 64 of word k / 64.
 
-ghost use Rattle.std.specs.Prelude.{◌≡◌, ℕ, ◌+◌, ◌-◌, ◌≤◌, ◌<◌, ◌↔◌, ◌&&◌, ◌||◌, ◌==◌, nat_le, not, IsTrue, length, slice_index};
+ghost use Rattle.std.specs.Prelude.{◌≡◌, ℕ, ◌+◌, ◌-◌, ◌≤◌, ◌<◌, ◌↔◌, ◌&&◌, ◌||◌, ◌==◌, nat_le, nat_lt, not, IsTrue, length, slice_index};
 ghost use Rattle.ere.specs.ByteSet.{has};
 ghost use Rattle.matcher.specs.PositionSets.{has_bit, has_position};
 ghost use Rattle.matcher.specs.Private.Bounds.{IsBounded};
@@ -87,15 +87,13 @@ fn followed(word: u64, base: usize, members: &ByteSet, line: &[u8]) -> u64
     requires { base ≤ MAX_LINE }
     ensures { (bit : ℕ) → bit < 64 → has_bit result bit ≡ (has_bit word bit && passes members.now line.now (base + bit)) }
 {
-    let mut kept = word;
-    let mut rest = word;
-    while rest != 0 {
-        let bit = lowest(rest);
-        let stays = is_followed(base + bit, members, line);
-        kept = without_bit_unless(kept, bit, stays);
-        rest = without_bit(rest, bit);
+    if word == 0 {
+        return 0;
     }
-    kept
+    both(
+        word,
+        passing(lowest(word), width(word), base, members, line),
+    )
 }
 
 /// The positions of a word to which its positions lead over bytes of the set.
@@ -103,15 +101,24 @@ fn reached(word: u64, base: usize, members: &ByteSet, line: &[u8]) -> u64
     requires { base ≤ MAX_LINE }
     ensures { (bit : ℕ) → bit < 64 → has_bit result bit ≡ flood (has_bit word) (λ b. passes members.now line.now (base + b)) bit }
 {
-    let mut reached = word;
-    for bit in 0..BITS - 1 {
-        if reached >> bit == 0 {
-            return reached;
-        }
-        let comes = leads_on(reached, bit, base, members, line);
-        reached = with_bit_if(reached, bit + 1, comes);
+    if word == 0 {
+        return 0;
     }
-    reached
+    flooded(word, passing(lowest(word), BITS, base, members, line))
+}
+
+/// The positions of a word from `first` up to but not at `end` that have a byte of the set after them.
+fn passing(first: usize, end: usize, base: usize, members: &ByteSet, line: &[u8]) -> u64
+    requires base { base ≤ MAX_LINE }
+    requires end { end ≤ 64 }
+    ensures { (b : ℕ) → b < 64 → has_bit result b ≡ ((nat_le first b && nat_lt b end) && passes members.now line.now (base + b)) }
+{
+    let mut passing = 0;
+    for bit in first..end {
+        let passes = is_followed(base + bit, members, line);
+        passing = with_bit_if(passing, bit, passes);
+    }
+    passing
 }
 
 /// Whether the word has the position and a byte of the set stands after it.
@@ -142,9 +149,17 @@ fn has_at(word: u64, bit: usize) -> bool
 fn lowest(word: u64) -> usize
     requires { 0 < word }
     ensures inside { result < 64 }
-    ensures held { IsTrue (has_bit word result) }
+    ensures none_below { (b : ℕ) → b < result → has_bit word b ≡ false }
 {
     word.trailing_zeros() as usize
+}
+
+/// One more than the highest bit of a word, or 0 where it has none.
+fn width(word: u64) -> usize
+    ensures inside { result ≤ 64 }
+    ensures none_above { (b : ℕ) → result ≤ b → has_bit word b ≡ false }
+{
+    BITS - word.leading_zeros() as usize
 }
 
 /// The word with the bit, where it comes.
@@ -153,23 +168,6 @@ fn with_bit_if(word: u64, bit: usize, comes: bool) -> u64
     ensures { (b : ℕ) → has_bit result b ≡ (has_bit word b || (comes && b == bit)) }
 {
     if comes { word | 1u64 << bit } else { word }
-}
-
-/// The word without the bit.
-fn without_bit(word: u64, bit: usize) -> u64
-    requires { bit < 64 }
-    ensures bits { (b : ℕ) → b < 64 → has_bit result b ≡ (has_bit word b && not (b == bit)) }
-    ensures smaller { IsTrue (has_bit word bit) → result < word }
-{
-    word & !(1u64 << bit)
-}
-
-/// The word without the bit, unless it stays.
-fn without_bit_unless(word: u64, bit: usize, stays: bool) -> u64
-    requires { bit < 64 }
-    ensures { (b : ℕ) → b < 64 → has_bit result b ≡ (has_bit word b && (stays || not (b == bit))) }
-{
-    if stays { word } else { without_bit(word, bit) }
 }
 
 /// The word with no bit but this one, where it has it.
@@ -195,11 +193,28 @@ pub(crate) fn without(word: u64, other: u64) -> u64
     word & !other
 }
 
-/// The bits of both words.
+/// The bits that both words have.
+fn both(left: u64, right: u64) -> u64
+    ensures { (b : ℕ) → has_bit result b ≡ (has_bit left b && has_bit right b) }
+{
+    left & right
+}
+
+/// The bits of either word.
 pub(crate) fn either(left: u64, right: u64) -> u64
     ensures { (b : ℕ) → has_bit result b ≡ (has_bit left b || has_bit right b) }
 {
     left | right
+}
+
+/// The bits of a word, and those to which they lead over bits that pass: each that passes leads to the next.
+///
+/// In the sum of the bits that pass and of those among them that the word has, a bit is carried into exactly
+/// those places to which the word's bits lead.
+fn flooded(word: u64, passing: u64) -> u64
+    ensures { (b : ℕ) → b < 64 → has_bit result b ≡ flood (has_bit word) (has_bit passing) b }
+{
+    word | (word & passing).wrapping_add(passing) ^ passing
 }
 
 /// Each bit of the word moved up by one, and the bit carried in as the lowest.

@@ -1,15 +1,11 @@
-use Rattle.std.proofs.Common.{◌≡◌, ◌∙◌, ◌+◌, ◌-◌, ◌*◌, ◌/◌, ◌%◌, ◌<◌, ◌≤◌, ℕ, true, false, refl, sym, ap, subst, get_or, length, arith, rules}
-use Rattle.matcher.proofs.Shifting.{kept_first, kept_more, kept_all}
+use Rattle.std.proofs.Common.{◌≡◌, ◌∙◌, ◌+◌, ◌-◌, ◌*◌, ◌/◌, ◌%◌, ◌<◌, ◌≤◌, ℕ, Bool, true, false, ◌&&◌, nat_le, nat_lt, refl, sym, ap, subst, get_or, length, arith, rules}
+use Rattle.matcher.specs.PositionSets.{has_bit}
+use Rattle.matcher.specs.Private.Moving.{passes}
+use Rattle.matcher.proofs.Bits.{has_zero, followed_is}
 use Rattle.matcher.proofs.words.followed.Goals as goal
 
-pub loop-rest-init : goal.loop-rest-init
-loop-rest-init c = kept_first c.args.word c.args.base c.args.members.now c.args.line.now
-
-pub loop-rest-preserved : goal.loop-rest-preserved
-loop-rest-preserved c = kept_more c.args.word c.args.base c.args.members.now c.args.line.now c.loop-rest.kept c.loop-rest.rest c.without_bit_unless.result c.without_bit.result c.lowest-bit.result c.is_followed-stays.result c.loop-rest.invariant c.lowest-bit.ensures.held c.is_followed-stays.ensures c.without_bit_unless.ensures c.without_bit.ensures.bits
-
-pub loop-rest-smaller : goal.loop-rest-smaller
-loop-rest-smaller c = c.without_bit.ensures.smaller c.lowest-bit.ensures.held
+pub returns-then-word-eq0 : goal.returns-then-word-eq0
+returns-then-word-eq0 c = λ b inside. rw c.if-word-eq0.true (has_zero b ∙ sym (ap (λ t. t && passes c.args.members.now c.args.line.now (c.args.base + b)) (has_zero b)))
 
 pub returns : goal.returns
-returns c = kept_all c.args.word c.args.base c.args.members.now c.args.line.now c.loop-rest.kept c.loop-rest.rest c.loop-rest.invariant c.loop-rest-test.false
+returns c = λ b inside. c.both.ensures b ∙ ap (λ t. has_bit c.args.word b && t) (c.passing.ensures b inside) ∙ followed_is (has_bit c.args.word b) (passes c.args.members.now c.args.line.now (c.args.base + b)) c.lowest.result c.width.result b (c.lowest.ensures.none_below b) (c.width.ensures.none_above b)

@@ -1,17 +1,12 @@
-use Rattle.std.proofs.Common.{◌≡◌, ◌∙◌, ◌+◌, ◌-◌, ◌*◌, ◌/◌, ◌%◌, ◌<◌, ◌≤◌, ℕ, true, false, refl, sym, ap, subst, get_or, length, arith, rules}
-use Rattle.matcher.specs.Private.Moving.{passes}
-use Rattle.matcher.proofs.Bits.{none_from}
-use Rattle.matcher.proofs.Shifting.{flooded_first, flooded_next, flooded_early}
+use Rattle.std.proofs.Common.{◌≡◌, ◌∙◌, ◌+◌, ◌-◌, ◌*◌, ◌/◌, ◌%◌, ◌<◌, ◌≤◌, ℕ, Bool, true, false, ◌&&◌, nat_le, nat_lt, refl, sym, ap, subst, get_or, length, arith, rules}
+use Rattle.matcher.specs.PositionSets.{has_bit}
+use Rattle.matcher.specs.Private.Moving.{passes, flood}
+use Rattle.matcher.proofs.Bits.{has_zero, passing_from}
+use Rattle.matcher.proofs.Shifting.{flood_from, flood_none}
 use Rattle.matcher.proofs.words.reached.Goals as goal
 
-pub loop-bit-init : goal.loop-bit-init
-loop-bit-init c = flooded_first c.args.word (λ b. passes c.args.members.now c.args.line.now (c.args.base + b))
-
-pub loop-bit-preserved : goal.loop-bit-preserved
-loop-bit-preserved c = flooded_next c.args.word c.loop-bit.reached c.with_bit_if.result c.loop-bit.bit (λ b. passes c.args.members.now c.args.line.now (c.args.base + b)) c.leads_on-comes.result c.loop-bit.invariant c.leads_on-comes.ensures c.with_bit_if.ensures
-
-pub returns-then-reached-bit-eq0 : goal.returns-then-reached-bit-eq0
-returns-then-reached-bit-eq0 c = λ b inside. flooded_early c.args.word c.loop-bit.reached c.loop-bit.bit (λ b. passes c.args.members.now c.args.line.now (c.args.base + b)) c.loop-bit.invariant (λ b far. none_from c.loop-bit.reached c.loop-bit.bit b c.if-reached-bit-eq0.true far) b
+pub returns-then-word-eq0 : goal.returns-then-word-eq0
+returns-then-word-eq0 c = λ b inside. has_zero b ∙ sym (rw c.if-word-eq0.true (flood_none (has_bit 0) (λ n. passes c.args.members.now c.args.line.now (c.args.base + n)) has_zero b))
 
 pub returns : goal.returns
-returns c = λ b inside. c.loop-bit.invariant.below b (omega arith)
+returns c = λ b inside. c.flooded.ensures b inside ∙ flood_from (has_bit c.args.word) (λ n. passes c.args.members.now c.args.line.now (c.args.base + n)) (has_bit c.passing.result) c.lowest.result c.lowest.ensures.none_below (λ n from within. c.passing.ensures n within ∙ passing_from c.lowest.result n (passes c.args.members.now c.args.line.now (c.args.base + n)) from within) b inside

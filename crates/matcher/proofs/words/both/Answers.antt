@@ -1,0 +1,6 @@
+use Rattle.std.proofs.Common.{◌≡◌, ◌∙◌, ◌+◌, ◌-◌, ◌*◌, ◌/◌, ◌%◌, ◌<◌, ◌≤◌, ℕ, Bool, true, false, ◌&&◌, nat_le, nat_lt, refl, sym, ap, subst, get_or, length, arith, rules}
+use Rattle.matcher.proofs.Bits.{has_and}
+use Rattle.matcher.proofs.words.both.Goals as goal
+
+pub returns : goal.returns
+returns c = λ b. has_and c.args.left c.args.right b

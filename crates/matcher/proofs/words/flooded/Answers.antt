@@ -1,0 +1,6 @@
+use Rattle.std.proofs.Common.{◌≡◌, ◌∙◌, ◌+◌, ◌-◌, ◌*◌, ◌/◌, ◌%◌, ◌<◌, ◌≤◌, ℕ, Bool, true, false, ◌&&◌, nat_le, nat_lt, refl, sym, ap, subst, get_or, length, arith, rules}
+use Rattle.matcher.proofs.Flooding.{has_flooded}
+use Rattle.matcher.proofs.words.flooded.Goals as goal
+
+pub returns : goal.returns
+returns c = λ b inside. has_flooded c.args.word c.args.passing b inside

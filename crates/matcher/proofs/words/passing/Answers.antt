@@ -1,0 +1,10 @@
+use Rattle.std.proofs.Common.{◌≡◌, ◌∙◌, ◌+◌, ◌-◌, ◌*◌, ◌/◌, ◌%◌, ◌<◌, ◌≤◌, ℕ, Bool, true, false, ◌&&◌, nat_le, nat_lt, refl, sym, ap, subst, get_or, length, arith, rules}
+use Rattle.matcher.specs.Private.Moving.{passes}
+use Rattle.matcher.proofs.Bits.{passing_none, passing_more}
+use Rattle.matcher.proofs.words.passing.Goals as goal
+
+pub loop-bit-init : goal.loop-bit-init
+loop-bit-init c = λ b inside. passing_none (λ b. passes c.args.members.now c.args.line.now (c.args.base + b)) c.args.first b
+
+pub loop-bit-preserved : goal.loop-bit-preserved
+loop-bit-preserved c = λ b inside. passing_more (λ b. passes c.args.members.now c.args.line.now (c.args.base + b)) c.loop-bit.passing c.with_bit_if.result c.args.first c.loop-bit.bit c.is_followed-passes.result (omega arith) (λ b l. c.loop-bit.invariant b l) c.is_followed-passes.ensures c.with_bit_if.ensures b inside
