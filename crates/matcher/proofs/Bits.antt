@@ -96,6 +96,15 @@ none_from_end word b small far =
     let sum : count_leading_zeros 64 word + length_of.0 ≡ 64 = length_of.1 in
     ap (λ n. n == 1) (bit_at_above word length_of.0 b length_of.2 (omega arith))
 
+pub below_end : (word b : ℕ) → word < 2 ^ 64 → IsTrue (has_bit word b) → b < 64 - count_leading_zeros 64 word
+below_end word b small held = go (nat_lt b (64 - count_leading_zeros 64 word)) refl
+  where
+    go : (t : Bool) → nat_lt b (64 - count_leading_zeros 64 word) ≡ t → b < 64 - count_leading_zeros 64 word
+    go true e = grind (arith, nat_tests)
+    go false e =
+        let far : 64 - count_leading_zeros 64 word ≤ b = grind (arith, nat_tests) in
+        absurd (false≢true (sym (none_from_end word b small far) ∙ held))
+
 -- bits that pass, within a range
 pub passing_none : (pass : ℕ → Bool) (first b : ℕ) → has_bit 0 b ≡ ((nat_le first b && nat_lt b first) && pass b)
 passing_none pass first b = has_zero b ∙ go (nat_le first b) (nat_lt b first) refl refl

@@ -8,7 +8,7 @@ use Rattle.matcher.specs.Private.Moving.{comes, flood}
 use Rattle.matcher.proofs.Bits.{has_or}
 
 -- what is carried into a place of a sum, of which `carried` comes into the lowest
-carry : ℕ → ℕ → ℕ → ℕ → ℕ
+abbrev carry : ℕ → ℕ → ℕ → ℕ → ℕ
 carry a b carried zero = carried
 carry a b carried (suc k) = carry (a / 2) (b / 2) ((a % 2 + b % 2 + carried) / 2) k
 

@@ -27,6 +27,31 @@ some_position words i some small =
     let bit = some_bit (get_or words i 0) (omega arith) small in
     (i * 64 + trailing_zeros w64 (get_or words i 0), position_in words i (trailing_zeros w64 (get_or words i 0)) bit.0 ∙ bit.1)
 
+-- without the empty words before the first position
+pub trimmed : (words : List ℕ) (first end at : ℕ) → IsBounded words first end → (first ≤ at) × (at ≤ end) → ((i : ℕ) → first ≤ i → i < at → get_or words i 0 ≡ 0) → IsBounded words at end
+trimmed words first end at bounds between none = record { whole = bounds.whole; ordered = between.1; inside = bounds.inside; low = λ i l. low i l (nat_lt i first) refl; high = bounds.high }
+  where
+    low : (i : ℕ) → i < at → (t : Bool) → nat_lt i first ≡ t → get_or words i 0 ≡ 0
+    low i l true e = bounds.low i (grind (arith, nat_tests))
+    low i l false e = none i (grind (arith, nat_tests)) l
+
+pub none_since : (words : List ℕ) (first at : ℕ) → ((i : ℕ) → first ≤ i → i < at → get_or words i 0 ≡ 0) → get_or words at 0 ≡ 0 → (i : ℕ) → first ≤ i → i < at + 1 → get_or words i 0 ≡ 0
+none_since words first at none here i low inside = go (i == at) refl
+  where
+    go : (t : Bool) → (i == at) ≡ t → get_or words i 0 ≡ 0
+    go true e = let same : i ≡ at = grind (arith, nat_tests) in rw same here
+    go false e = let apart : i ≢ at = grind (arith, nat_tests) in none i low (omega arith)
+
+pub none_yet : (words : List ℕ) (first end : ℕ) → IsBounded words first end → (i : ℕ) → i < first → get_or words i 0 ≡ 0
+none_yet words first end bounds = bounds.low
+
+pub none_still : (words : List ℕ) (at : ℕ) → ((i : ℕ) → i < at → get_or words i 0 ≡ 0) → get_or words at 0 ≡ 0 → (i : ℕ) → i < at + 1 → get_or words i 0 ≡ 0
+none_still words at none here i inside = go (i == at) refl
+  where
+    go : (t : Bool) → (i == at) ≡ t → get_or words i 0 ≡ 0
+    go true e = let same : i ≡ at = grind (arith, nat_tests) in rw same here
+    go false e = let apart : i ≢ at = grind (arith, nat_tests) in none i (omega arith)
+
 -- words of which none has a position
 pub empty_words : (words : List ℕ) → length words ≡ WORDS → ((i : ℕ) → i < WORDS → get_or words i 0 ≡ 0) → (i : ℕ) → get_or words i 0 ≡ 0
 empty_words words whole none i = go (nat_lt i WORDS) refl

@@ -145,14 +145,23 @@ module _ (members : List Bool) (line old new : List ℕ) (first end carried : �
           let high : end * 64 + 64 ≤ k = grind (arith, nat_tests) in
           position_set_other new end carried k (omega arith) ∙ past k (omega arith)
 
-  pub shifted_on_bounded : end < WORDS → IsBounded (set new end carried) first (end + 1)
+  pub shifted_on_bounded : end < WORDS → IsBounded (set new end carried) first (end + carried)
   shifted_on_bounded inside = record {
     whole = length-set new end carried ∙ h.whole;
     ordered = omega (arith, bounds.ordered);
-    inside = omega arith;
+    inside = omega (arith, h.is_bit);
     low = λ j l. get_or-set_other new end j carried 0 (omega (arith, bounds.ordered)) ∙ h.low j l;
-    high = λ j l. get_or-set_other new end j carried 0 (omega arith) ∙ h.above j (omega arith) ∙ bounds.high j (omega arith);
+    high = λ j l. high j l (j == end) refl;
   }
+    where
+      high : (j : ℕ) → end + carried ≤ j → (t : Bool) → (j == end) ≡ t → get_or (set new end carried) j 0 ≡ 0
+      high j l true e =
+          let same : j ≡ end = grind (arith, nat_tests) in
+          let none : carried ≡ 0 = omega arith in
+          rw same (get_or-set_same new end carried 0 (omega (arith, h.whole)) ∙ none)
+      high j l false e =
+          let apart : j ≢ end = grind (arith, nat_tests) in
+          get_or-set_other new end j carried 0 apart ∙ h.above j (omega arith) ∙ bounds.high j (omega arith)
 
 -- at the end of all words nothing is carried
 pub none_carried : (members : List Bool) (line old : List ℕ) (end : ℕ) → length line < end * 64 → arrives members line old (end * 64) ≡ false
@@ -186,7 +195,7 @@ comes_none held pass start (suc k) none empty far =
         rw (empty k before (omega arith), earlier before) refl
     go false e earlier =
         let same : start ≡ suc k = let past : k < start = grind (arith, nat_tests) in omega arith in
-        rw (← same) none
+        subst (λ n. comes held pass n ≡ false) same none
 
 pub swept_first : (members : List Bool) (line old : List ℕ) (first end : ℕ) → IsBounded old first end → IsSwept members line old old first first 0
 swept_first members line old first end bounds = record {
@@ -345,7 +354,7 @@ or_right : (a b : Bool) → IsTrue b → IsTrue (a || b)
 or_right true b h = refl
 or_right false b h = h
 
-Comes : List ℕ → List Bool → List ℕ → ℕ → Type 0
+abbrev Comes : List ℕ → List Bool → List ℕ → ℕ → Type 0
 Comes line members old k = (start : ℕ) × IsTrue (has_position old start) × ((words : ℕ) × Steps (Spans line (tree.set members)) words start k)
 
 pub moves_swept : (line : List ℕ) (members : List Bool) (old new : List ℕ) → ((k : ℕ) → has_position new k ≡ flood (has_position old) (passes members line) k) → Moves (λ from to. (words : ℕ) × Steps (Spans line (tree.set members)) words from to) old new

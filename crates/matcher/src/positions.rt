@@ -6,7 +6,9 @@ ghost use Rattle.matcher.specs.Private.Spans.{Spans, Steps};
 ghost use Rattle.matcher.specs.PositionSets.{has_position};
 ghost use Rattle.matcher.specs.Private.Moves.{absent, HasNone, IsEither, IsNew, Moves};
 
-use crate::words::{BITS, WORDS, either, every, only_bit, shift, sweep, through_bit, without};
+use crate::words::{
+    BITS, WORDS, either, every, first_held, only_bit, shift, sweep, through_bit, without,
+};
 use ere::{ByteSet, MAX_LINE};
 use std::marker::Model;
 
@@ -135,6 +137,7 @@ impl Positions {
         ensures { Moves (Spans line.now (set members.now)) self.old self.new }
     {
         self.end = shift(members, line, &mut self.words, self.first, self.end);
+        self.first = first_held(&self.words, self.first, self.end);
     }
 
     /// Moves each position over any number of bytes that are in the set.

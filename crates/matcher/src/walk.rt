@@ -107,7 +107,8 @@ fn advance_at_most(body: &Ere, count: u8, line: &[u8], at: &mut Positions)
     for _round in 0..count {
         advance(body, line, at);
         if !found.add(at) {
-            break;
+            at.copy(&found);
+            return;
         }
     }
     at.copy(&found);

@@ -1,6 +1,6 @@
 //! Sets of positions as words of 64 bits: position k is bit k mod 64 of word k / 64.
 
-ghost use Rattle.std.specs.Prelude.{◌≡◌, ℕ, ◌+◌, ◌-◌, ◌≤◌, ◌<◌, ◌↔◌, ◌&&◌, ◌||◌, ◌==◌, nat_le, nat_lt, not, IsTrue, length, slice_index};
+ghost use Rattle.std.specs.Prelude.{◌≡◌, ℕ, ◌+◌, ◌-◌, ◌≤◌, ◌<◌, ◌↔◌, ◌&&◌, ◌||◌, ◌==◌, nat_le, nat_lt, false, not, IsTrue, length, slice_index};
 ghost use Rattle.ere.specs.ByteSet.{has};
 ghost use Rattle.matcher.specs.PositionSets.{has_bit, has_position};
 ghost use Rattle.matcher.specs.Private.Bounds.{IsBounded};
@@ -48,9 +48,24 @@ pub(crate) fn shift(
         words[i] = moved_up(passing, carried);
         carried = highest(passing);
     }
-    if carried != 0 && end < WORDS {
+    if end < WORDS {
         words[end] = carried;
-        return end + 1;
+        return end + carried as usize;
+    }
+    end
+}
+
+/// The first word of a range that is not empty, or the range's end.
+pub(crate) fn first_held(words: &[u64; WORDS], first: usize, end: usize) -> usize
+    requires ordered { first ≤ end }
+    requires inside { end ≤ WORDS }
+    ensures between { (first ≤ result) × (result ≤ end) }
+    ensures none { (i : ℕ) → first ≤ i → i < result → slice_index words.now i ≡ 0 }
+{
+    for i in first..end {
+        if words[i] != 0 {
+            return i;
+        }
     }
     end
 }
@@ -110,6 +125,7 @@ fn reached(word: u64, base: usize, members: &ByteSet, line: &[u8]) -> u64
 /// The positions of a word from `first` up to but not at `end` that have a byte of the set after them.
 fn passing(first: usize, end: usize, base: usize, members: &ByteSet, line: &[u8]) -> u64
     requires base { base ≤ MAX_LINE }
+    requires ordered { first < end }
     requires end { end ≤ 64 }
     ensures { (b : ℕ) → b < 64 → has_bit result b ≡ ((nat_le first b && nat_lt b end) && passes members.now line.now (base + b)) }
 {
@@ -149,6 +165,7 @@ fn has_at(word: u64, bit: usize) -> bool
 fn lowest(word: u64) -> usize
     requires { 0 < word }
     ensures inside { result < 64 }
+    ensures held { IsTrue (has_bit word result) }
     ensures none_below { (b : ℕ) → b < result → has_bit word b ≡ false }
 {
     word.trailing_zeros() as usize
@@ -157,6 +174,7 @@ fn lowest(word: u64) -> usize
 /// One more than the highest bit of a word, or 0 where it has none.
 fn width(word: u64) -> usize
     ensures inside { result ≤ 64 }
+    ensures all_below { (b : ℕ) → IsTrue (has_bit word b) → b < result }
     ensures none_above { (b : ℕ) → result ≤ b → has_bit word b ≡ false }
 {
     BITS - word.leading_zeros() as usize

@@ -45,13 +45,13 @@ advance_at_most-loop-round-init t c = rw c.copy.ensures (walks.widened_by_none (
 pub advance_at_most-loop-round-preserved : goal.advance_at_most-loop-round-preserved
 advance_at_most-loop-round-preserved t c = walks.widened_by_more (Spans c.args.line.now (form c.args.body.now)) c.loop-round._round (c.loop-round._round + 1) c.args.at.now c.loop-round.found c.loop-round.at c.advance.new.at c.add.new.self c.add.new.fresh refl c.loop-round.invariant c.advance.ensures c.add.ensures.both c.add.ensures.new
 
-pub advance_at_most-returns-after-loop-round : goal.advance_at_most-returns-after-loop-round
-advance_at_most-returns-after-loop-round t c =
+pub advance_at_most-returns : goal.advance_at_most-returns
+advance_at_most-returns t c =
     let all_rounds : c.loop-round._round ≡ c.args.count = omega arith in
     rw (c.copy-2.ensures, ← all_rounds) (walks.moves_few (Spans c.args.line.now (form c.args.body.now)) c.loop-round._round c.args.at.now c.loop-round.found c.loop-round.at c.loop-round.invariant)
 
 pub advance_at_most-returns-then-not-add : goal.advance_at_most-returns-then-not-add
-advance_at_most-returns-then-not-add t c = rw c.copy-2.ensures (walks.moves_few_closed (Spans c.args.line.now (form c.args.body.now)) (c.loop-round._round + 1) c.args.count c.args.at.now c.add.new.self c.add.new.fresh (omega arith) (walks.widened_by_more (Spans c.args.line.now (form c.args.body.now)) c.loop-round._round (c.loop-round._round + 1) c.args.at.now c.loop-round.found c.loop-round.at c.advance.new.at c.add.new.self c.add.new.fresh refl c.loop-round.invariant c.advance.ensures c.add.ensures.both c.add.ensures.new) c.if-not-add.ensures.grown)
+advance_at_most-returns-then-not-add t c = rw c.copy-then-not-add.ensures (walks.moves_few_closed (Spans c.args.line.now (form c.args.body.now)) (c.loop-round._round + 1) c.args.count c.args.at.now c.add.new.self c.add.new.fresh (omega arith) (walks.widened_by_more (Spans c.args.line.now (form c.args.body.now)) c.loop-round._round (c.loop-round._round + 1) c.args.at.now c.loop-round.found c.loop-round.at c.advance.new.at c.add.new.self c.add.new.fresh refl c.loop-round.invariant c.advance.ensures c.add.ensures.both c.add.ensures.new) c.if-not-add.ensures.grown)
 
 pub advance_counted-returns-then-most-least : goal.advance_counted-returns-then-most-least
 advance_counted-returns-then-most-least t c = rw c.in-Some.is (walks.moves_impossible c.args.line.now (form c.args.body.now) c.args.least c.in-Some.most c.args.at.now c.clear.new.self c.if-most-least.true c.clear.ensures.none)

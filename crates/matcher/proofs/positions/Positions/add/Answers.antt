@@ -3,8 +3,8 @@ use Rattle.matcher.specs.declared.words.TheConstants.{WORDS}
 use Rattle.matcher.proofs.Joining.{added_first, added_more, added_found, added_fresh, fresh_bounded, found_bounded, added_grows}
 use Rattle.matcher.proofs.positions.Positions.add.Goals as goal
 
-pub joined-requires : goal.joined-requires
-joined-requires c = (c.self.invariant.ordered, c.fresh.invariant.ordered)
+pub joined-first-requires : goal.joined-first-requires
+joined-first-requires c = record { ordered = (c.self.invariant.ordered, c.fresh.invariant.ordered) }
 
 pub loop-i-init : goal.loop-i-init
 loop-i-init c = record {
@@ -32,7 +32,7 @@ invariant_of-fresh c =
 pub invariant_of-self : goal.invariant_of-self
 invariant_of-self c =
     let limit : c.loop-i.i ≡ c.fresh.inside.end = omega (arith, c.fresh.invariant.ordered) in
-    found_bounded c.self.inside.words c.fresh.inside.words c.loop-i.self-inside.words c.loop-i.fresh-inside.words c.fresh.inside.first c.loop-i.i c.fresh.inside.end c.loop-i.invariant.added c.fresh.invariant limit c.self.inside.first c.self.inside.end c.joined.result.0 c.joined.result.1 c.self.invariant c.joined.ensures.ordered (c.joined.ensures.inside WORDS c.self.invariant.inside c.fresh.invariant.inside) c.joined.ensures.right c.joined.ensures.left
+    found_bounded c.self.inside.words c.fresh.inside.words c.loop-i.self-inside.words c.loop-i.fresh-inside.words c.fresh.inside.first c.loop-i.i c.fresh.inside.end c.loop-i.invariant.added c.fresh.invariant limit c.self.inside.first c.self.inside.end c.joined-first.result.0 c.joined-first.result.1 c.self.invariant c.joined-first.ensures.ordered (c.joined-first.ensures.inside WORDS c.self.invariant.inside c.fresh.invariant.inside) c.joined-first.ensures.right c.joined-first.ensures.left
 
 pub returns-clause-both : goal.returns-clause-both
 returns-clause-both c =

@@ -3,7 +3,7 @@ use Rattle.matcher.proofs.Joining.{copied_first, copied_more, copied_all}
 use Rattle.matcher.proofs.positions.Positions.copy.Goals as goal
 
 pub loop-i-init : goal.loop-i-init
-loop-i-init c = copied_first _ _ _ _ c.self-2.invariant.whole (λ i. rw c.self-2.view_is (c.clear.ensures.empty i)) c.other.invariant
+loop-i-init c = copied_first _ _ _ _ c.self.invariant.whole (λ i. rw c.self.view_is (c.clear.ensures.empty i)) c.other.invariant
 
 pub loop-i-preserved : goal.loop-i-preserved
 loop-i-preserved c = copied_more _ _ _ c.loop-i.invariant (omega (arith, c.other.invariant.inside))
