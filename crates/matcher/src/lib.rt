@@ -20,7 +20,11 @@ use ere::{Ere, MAX_LINE};
 
 /// Whether some part of the line is a match of the tree.
 ///
-/// The tree is within the limits, and the line has at most `MAX_LINE` bytes.
+/// The tree is within the limits, and the line has at most `MAX_LINE` bytes. No memory is taken.
+///
+/// The time is mostly that of the line's length times the tree's leaves. Each level of repeats without a
+/// greatest count inside one another can double it, as in `((a*a)*a)*` and `((a*|b)*|c)*`, but where a
+/// repeat is the whole body of the next, as in `((a*)*)*`.
 pub fn matches(tree: &Ere, line: &[u8]) -> bool
     requires within_limits { IsWithinLimits (form tree.now) }
     requires line { length line.now ≤ MAX_LINE }

@@ -1,8 +1,8 @@
 //! Lines that contain a match, and lines that contain none.
 
 use crate::fixtures::{built, halves};
-use ere::{MAX_LINE, parse};
-use matcher::matches;
+use ere::{ByteSet, MAX_LINE, parse};
+use matcher::{WORDS, matches, step};
 use std::alloc::Global;
 use std::process::Abort;
 use std::test::Fail;
@@ -94,6 +94,22 @@ fn long_lines(rt: HostRuntime) -> Result<(), Fail> {
         let (pattern, line) = halves(&row[1.min(row.len())..]);
         let pattern = built(alloc, pattern)?;
         expect(&rt, alloc, &pattern, &built(alloc, line)?, found)?;
+    }
+    Ok(())
+}
+
+/// From the last position of a word alone, one step leads to the first position of the next word alone.
+#[test]
+fn step_into_the_next_word(rt: HostRuntime) -> Result<(), Fail> {
+    let mut members = ByteSet::empty();
+    members.insert(b'a');
+    let mut from = [0; WORDS];
+    from[0] = 1u64 << 63;
+    let to = step(&members, &[b'a'; 64], &from);
+    assert_eq!(rt; to[0], 0);
+    assert_eq!(rt; to[1], 1);
+    for i in 2..WORDS {
+        assert_eq!(rt; to[i], 0);
     }
     Ok(())
 }
