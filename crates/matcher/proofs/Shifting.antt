@@ -182,10 +182,7 @@ pub record IsSwept (members : List Bool) (line old new : List ℕ) (first i carr
 
 -- where nothing is held, nothing comes
 comes_none : (held pass : ℕ → Bool) (start k : ℕ) → comes held pass start ≡ false → ((j : ℕ) → start ≤ j → j < k → held j ≡ false) → start ≤ k → comes held pass k ≡ false
-comes_none held pass start zero none empty far = rw (← at) none
-  where
-    at : start ≡ 0
-    at = omega arith
+comes_none held pass start zero none empty far = refl
 comes_none held pass start (suc k) none empty far =
     go (nat_le start k) refl (λ before. comes_none held pass start k none (λ j low high. empty j low (omega arith)) before)
   where
