@@ -1,6 +1,6 @@
 -- What a step over a set of bytes, and a sweep, have done up to a word.
-use Rattle.std.proofs.Common.{◌≡◌, ◌≢◌, ◌⊎◌, inl, inr, ℕ, zero, suc, ◌+◌, ◌-◌, ◌*◌, ◌/◌, ◌%◌, ◌≤◌, ◌<◌, ◌↔◌, Bool, true, false, not, ◌&&◌, ◌||◌, ◌==◌, nat_le, nat_lt, IsTrue, List, length, get_or, set, refl, sym, ap, subst, ◌∙◌, arith, length-set}
-use Rattle.std.proofs.lemmas.List.{get_or-set_same, get_or-set_other, get_or_past}
+use Rattle.std.proofs.Common.{◌≡◌, ◌≢◌, ◌⊎◌, inl, inr, ℕ, zero, suc, ◌+◌, ◌-◌, ◌*◌, ◌/◌, ◌≤◌, ◌<◌, ◌↔◌, Bool, true, false, ◌&&◌, ◌||◌, ◌==◌, nat_le, nat_lt, IsTrue, List, length, get_or, set, refl, sym, ap, subst, ◌∙◌, arith, length-set}
+use Rattle.std.proofs.lemmas.List.{get_or-set_same, get_or-set_other}
 use Rattle.std.proofs.lemmas.Bool.Decides.{nat_tests}
 use Rattle.std.proofs.lemmas.Nat.Bits.{bit_at_above}
 use Rattle.ere.specs.ByteSet.{has}
@@ -10,8 +10,8 @@ use Rattle.matcher.specs.Private.Bounds.{IsBounded}
 use Rattle.matcher.specs.Private.Moving.{passes, arrives, comes, flood}
 use Rattle.matcher.specs.Private.Spans.{Spans, Steps}
 use Rattle.matcher.specs.PositionSets.{has_bit, has_position}
-use Rattle.matcher.specs.Private.Moves.{HasNone, Moves}
-use Rattle.matcher.proofs.Bits.{false≢true, is_false, has_or, has_zero, position_in, position_is, same_word, empty_word, position_set_same, position_set_other, split_position}
+use Rattle.matcher.specs.Private.Moves.{Moves}
+use Rattle.matcher.proofs.Bits.{false≢true, has_zero, position_in, same_word, empty_word, position_set_same, position_set_other}
 
 and_false : (a b : Bool) → b ≡ false → (a && b) ≡ false
 and_false true b e = e

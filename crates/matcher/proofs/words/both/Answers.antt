@@ -1,4 +1,3 @@
-use Rattle.std.proofs.Common.{◌≡◌, ◌∙◌, ◌+◌, ◌-◌, ◌*◌, ◌/◌, ◌%◌, ◌<◌, ◌≤◌, ℕ, Bool, true, false, ◌&&◌, nat_le, nat_lt, refl, sym, ap, subst, get_or, length, arith, rules}
 use Rattle.matcher.proofs.Bits.{has_and}
 use Rattle.matcher.proofs.words.both.Goals as goal
 

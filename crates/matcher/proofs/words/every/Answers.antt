@@ -1,4 +1,3 @@
-use Rattle.std.proofs.Common.{◌≡◌, ◌∙◌, ◌+◌, ◌-◌, ◌*◌, ◌/◌, ◌%◌, ◌<◌, ◌≤◌, ℕ, true, false, refl, sym, ap, subst, get_or, length, arith, rules}
 use Rattle.std.proofs.lemmas.List.{get_or-replicate}
 use Rattle.matcher.specs.declared.words.TheConstants.{WORDS}
 use Rattle.matcher.proofs.words.every.Goals as goal

@@ -1,4 +1,3 @@
-use Rattle.std.proofs.Common.{◌≡◌, ◌∙◌, ◌+◌, ◌-◌, ◌*◌, ◌/◌, ◌%◌, ◌<◌, ◌≤◌, ℕ, refl, sym, ap, subst, get_or, length, arith, rules}
 use Rattle.matcher.proofs.Joining.{none_since}
 use Rattle.matcher.proofs.words.first_held.Goals as goal
 

@@ -1,4 +1,4 @@
-use Rattle.std.proofs.Common.{◌≡◌, ◌∙◌, ◌+◌, ◌-◌, ◌*◌, ◌/◌, ◌%◌, ◌<◌, ◌≤◌, ℕ, Bool, true, false, ◌&&◌, nat_le, nat_lt, refl, sym, ap, subst, get_or, length, arith, rules}
+use Rattle.std.proofs.Common.{arith}
 use Rattle.matcher.proofs.Bits.{some_bit, lowest_bit}
 use Rattle.matcher.proofs.words.lowest.Goals as goal
 

@@ -1,4 +1,4 @@
-use Rattle.std.proofs.Common.{◌≡◌, ◌∙◌, ◌+◌, ◌-◌, ◌*◌, ◌/◌, ◌<◌, ℕ, refl, sym, ap, get_or, arith}
+use Rattle.std.proofs.Common.{arith}
 use Rattle.matcher.proofs.Bits.{moved_lowest, moved_others}
 use Rattle.matcher.proofs.words.moved_up.Goals as goal
 

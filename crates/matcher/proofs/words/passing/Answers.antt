@@ -1,4 +1,4 @@
-use Rattle.std.proofs.Common.{◌≡◌, ◌∙◌, ◌+◌, ◌-◌, ◌*◌, ◌/◌, ◌%◌, ◌<◌, ◌≤◌, ℕ, Bool, true, false, ◌&&◌, nat_le, nat_lt, refl, sym, ap, subst, get_or, length, arith, rules}
+use Rattle.std.proofs.Common.{◌≡◌, ◌+◌, ◌&&◌, nat_le, nat_lt, subst, arith}
 use Rattle.matcher.specs.PositionSets.{has_bit}
 use Rattle.matcher.specs.Private.Moving.{passes}
 use Rattle.matcher.proofs.Bits.{passing_none, passing_more}

@@ -1,6 +1,6 @@
-use Rattle.std.proofs.Common.{◌≡◌, ◌∙◌, ◌+◌, ◌-◌, ◌*◌, ◌/◌, ◌%◌, ◌<◌, ◌≤◌, ℕ, Bool, true, false, ◌&&◌, nat_le, nat_lt, refl, sym, ap, subst, get_or, length, arith, rules}
+use Rattle.std.proofs.Common.{◌∙◌, ◌+◌, sym}
 use Rattle.matcher.specs.PositionSets.{has_bit}
-use Rattle.matcher.specs.Private.Moving.{passes, flood}
+use Rattle.matcher.specs.Private.Moving.{passes}
 use Rattle.matcher.proofs.Bits.{has_zero, passing_from}
 use Rattle.matcher.proofs.Shifting.{flood_from, flood_none}
 use Rattle.matcher.proofs.words.reached.Goals as goal

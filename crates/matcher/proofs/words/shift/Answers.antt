@@ -1,4 +1,4 @@
-use Rattle.std.proofs.Common.{◌≡◌, ◌∙◌, ◌+◌, ◌-◌, ◌*◌, ◌/◌, ◌%◌, ◌<◌, ◌≤◌, ℕ, Bool, true, false, ◌&&◌, nat_le, nat_lt, refl, sym, ap, subst, get_or, length, arith, rules}
+use Rattle.std.proofs.Common.{◌≡◌, ◌∙◌, subst, arith}
 use Rattle.matcher.proofs.Shifting.{IsShifted, shifted_first, shifted_more, shifted_end, shifted_end_bounded, shifted_on, shifted_on_bounded, none_carried}
 use Rattle.matcher.proofs.words.shift.Goals as goal
 

@@ -1,4 +1,3 @@
-use Rattle.std.proofs.Common.{◌≡◌, ◌∙◌, ◌+◌, ◌-◌, ◌*◌, ◌/◌, ◌%◌, ◌<◌, ◌≤◌, ℕ, true, false, refl, sym, ap, subst, get_or, length, arith, rules}
 use Rattle.matcher.proofs.Shifting.{step_is}
 use Rattle.matcher.proofs.words.step.Goals as goal
 

@@ -1,4 +1,3 @@
-use Rattle.std.proofs.Common.{◌≡◌, ◌∙◌, ◌+◌, ◌-◌, ◌*◌, ◌/◌, ◌<◌, ℕ, refl, sym, ap, get_or, arith}
 use Rattle.matcher.proofs.Bits.{has_through}
 use Rattle.matcher.proofs.words.through_bit.Goals as goal
 

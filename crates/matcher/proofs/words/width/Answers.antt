@@ -1,4 +1,4 @@
-use Rattle.std.proofs.Common.{◌≡◌, ◌∙◌, ◌+◌, ◌-◌, ◌*◌, ◌/◌, ◌%◌, ◌<◌, ◌≤◌, ℕ, Bool, true, false, ◌&&◌, nat_le, nat_lt, refl, sym, ap, subst, get_or, length, arith, rules}
+use Rattle.std.proofs.Common.{arith}
 use Rattle.matcher.proofs.Bits.{none_from_end, below_end}
 use Rattle.matcher.proofs.words.width.Goals as goal
 

@@ -1,4 +1,4 @@
-use Rattle.std.proofs.Common.{◌≡◌, ◌∙◌, ◌+◌, ◌-◌, ◌*◌, ◌/◌, ◌%◌, ◌<◌, ◌≤◌, ℕ, true, false, refl, sym, ap, subst, get_or, length, arith, rules}
+use Rattle.std.proofs.Common.{sym}
 use Rattle.matcher.specs.PositionSets.{has_bit}
 use Rattle.matcher.proofs.Bits.{has_with, or_none}
 use Rattle.matcher.proofs.words.with_bit_if.Goals as goal

@@ -1,4 +1,4 @@
-use Rattle.std.proofs.Common.{◌≡◌, ◌∙◌, ◌+◌, ◌-◌, ◌*◌, ◌/◌, ◌%◌, ◌<◌, ◌≤◌, ℕ, true, false, refl, sym, ap, subst, get_or, length, arith, rules}
+use Rattle.std.proofs.Common.{arith}
 use Rattle.matcher.proofs.Bits.{has_without}
 use Rattle.matcher.proofs.words.without.Goals as goal
 

@@ -1,4 +1,4 @@
-use Rattle.std.proofs.Common.{◌≡◌, ◌∙◌, ◌+◌, ◌-◌, ◌*◌, ◌/◌, ◌%◌, ◌<◌, ◌≤◌, ℕ, true, false, refl, sym, ap, subst, get_or, length, arith, rules}
+use Rattle.std.proofs.Common.{◌≡◌, ◌∙◌, refl, sym, length, arith}
 use Rattle.matcher.specs.declared.words.TheConstants.{WORDS}
 use Rattle.matcher.proofs.Joining.{added_first, added_more, added_found, added_fresh, fresh_bounded, found_bounded, added_grows}
 use Rattle.matcher.proofs.positions.Positions.add.Goals as goal

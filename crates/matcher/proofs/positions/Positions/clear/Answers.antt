@@ -1,4 +1,3 @@
-use Rattle.std.proofs.Common.{◌≡◌, ◌∙◌, ◌+◌, ◌-◌, ◌*◌, ◌/◌, ◌%◌, ◌<◌, ◌≤◌, ℕ, true, false, refl, sym, ap, subst, get_or, length, arith, rules}
 use Rattle.matcher.proofs.Bits.{none_held}
 use Rattle.matcher.proofs.Joining.{empty_bounded, cleared_more, cleared_all}
 use Rattle.matcher.proofs.positions.Positions.clear.Goals as goal

@@ -1,4 +1,4 @@
-use Rattle.std.proofs.Common.{◌≡◌, ◌∙◌, ◌+◌, ◌-◌, ◌*◌, ◌/◌, ◌%◌, ◌<◌, ◌≤◌, ℕ, true, false, refl, sym, ap, subst, get_or, length, arith, rules}
+use Rattle.std.proofs.Common.{arith}
 use Rattle.matcher.proofs.Joining.{copied_first, copied_more, copied_all}
 use Rattle.matcher.proofs.positions.Positions.copy.Goals as goal
 

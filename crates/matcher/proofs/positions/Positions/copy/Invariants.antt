@@ -1,4 +1,3 @@
-use Rattle.std.proofs.Common.{◌≡◌}
 use Rattle.matcher.proofs.Joining.{IsCopied}
 use Rattle.matcher.proofs.positions.Positions.copy.Given as goal
 

@@ -1,4 +1,4 @@
-use Rattle.std.proofs.Common.{◌≡◌, ◌∙◌, ◌+◌, ◌-◌, ◌*◌, ◌/◌, ◌%◌, ◌<◌, ◌≤◌, ℕ, true, false, refl, sym, ap, subst, get_or, length, arith, rules}
+use Rattle.std.proofs.Common.{rules}
 use Rattle.matcher.proofs.Joining.{some_position, none_in_bounds, none_yet, none_still}
 use Rattle.matcher.proofs.positions.Positions.is_empty.Goals as goal
 

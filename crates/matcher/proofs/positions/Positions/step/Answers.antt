@@ -1,4 +1,3 @@
-use Rattle.std.proofs.Common.{◌≡◌, ◌∙◌, ◌+◌, ◌-◌, ◌*◌, ◌/◌, ◌%◌, ◌<◌, ◌≤◌, ℕ, refl, sym, ap, subst, get_or, length, arith, rules}
 use Rattle.matcher.proofs.Shifting.{moves_shifted}
 use Rattle.matcher.proofs.Joining.{trimmed}
 use Rattle.matcher.proofs.positions.Positions.step.Goals as goal

@@ -1,4 +1,3 @@
-use Rattle.std.proofs.Common.{◌≡◌, ◌∙◌, ◌+◌, ◌-◌, ◌*◌, ◌/◌, ◌%◌, ◌<◌, ◌≤◌, ℕ, true, false, refl, sym, ap, subst, get_or, length, arith, rules}
 use Rattle.matcher.proofs.Shifting.{moves_swept}
 use Rattle.matcher.proofs.positions.Positions.sweep.Goals as goal
 

@@ -1,4 +1,4 @@
-use Rattle.std.proofs.Common.{◌≡◌, ◌∙◌, ◌+◌, ◌-◌, ◌*◌, ◌/◌, ◌%◌, ◌<◌, ◌≤◌, ℕ, true, false, refl, sym, ap, subst, get_or, length, arith, rules}
+use Rattle.std.proofs.Common.{◌≡◌, ◌/◌, refl, subst, arith}
 use Rattle.matcher.proofs.Joining.{empty_words, IsFilled, filled_first, filled_more, filled_all, filled_bounded}
 use Rattle.matcher.proofs.positions.Positions.through.Goals as goal
 
