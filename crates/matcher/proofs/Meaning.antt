@@ -5,7 +5,7 @@ use Rattle.std.proofs.Math.Seq.{get_or-append_seam}
 use Rattle.ere.specs.ByteSet.{has}
 use Rattle.ere.specs.Tree.{Tree, empty, set, at_start, at_end, cat, alt, repeat, Trees, none, more}
 use Rattle.ere.specs.Language.{Language, InCopies, InLanguage, InEach, InSome, ContainsMatch}
-use Rattle.matcher.specs.Private.Spans.{Relation, Steps, Spans, SpansEach, SpansSome}
+use Rattle.matcher.specs.Spans.{Relation, Steps, Spans, SpansEach, SpansSome}
 
 -- ends of a text behind another
 end_of_nothing : (x w : List ℕ) → w ≡ [] → length x ≡ length (x ++ w)

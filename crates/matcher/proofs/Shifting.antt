@@ -8,7 +8,7 @@ use Rattle.ere.specs.Tree as tree
 use Rattle.matcher.specs.declared.words.TheConstants.{WORDS}
 use Rattle.matcher.specs.Private.Bounds.{IsBounded}
 use Rattle.matcher.specs.Private.Moving.{passes, arrives, comes, flood}
-use Rattle.matcher.specs.Private.Spans.{Spans, Steps}
+use Rattle.matcher.specs.Spans.{Spans, Steps}
 use Rattle.matcher.specs.PositionSets.{has_bit, has_position}
 use Rattle.matcher.specs.Private.Moves.{Moves}
 use Rattle.matcher.proofs.Bits.{false≢true, has_zero, position_in, same_word, empty_word, position_set_same, position_set_other}

@@ -5,7 +5,7 @@ use Rattle.std.proofs.lemmas.List.{at_drop_more, at_drop_all}
 use Rattle.ere.specs.declared.tree.Ere.{Ere}
 use Rattle.ere.specs.Tree.{form, trees_of, Tree, empty, at_start, at_end, cat, alt, repeat, Trees, none, more}
 use Rattle.matcher.specs.declared.positions.Positions.{Positions}
-use Rattle.matcher.specs.Private.Spans.{Relation, Steps, Spans, SpansEach, SpansSome}
+use Rattle.matcher.specs.Spans.{Relation, Steps, Spans, SpansEach, SpansSome}
 use Rattle.matcher.specs.PositionSets.{has_position}
 use Rattle.matcher.specs.Private.Moves.{HasNone, IsEither, IsNew, Moves}
 use Rattle.ere.specs.Language.{ContainsMatch}

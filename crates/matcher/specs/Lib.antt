@@ -1,2 +1,3 @@
 pub mod PositionSets
 pub mod Private
+pub mod Spans

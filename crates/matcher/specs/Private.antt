@@ -1,4 +1,3 @@
-pub mod Spans
 pub mod Moves
 pub mod Bounds
 pub mod Moving

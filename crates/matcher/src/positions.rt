@@ -2,7 +2,7 @@
 
 ghost use Rattle.std.specs.Prelude.{◌≡◌, ◌≤◌, ◌<◌, ℕ, ◌&&◌, ◌==◌, nat_le, IsTrue, MatchBool, length, slice_index};
 ghost use Rattle.ere.specs.Tree.{set};
-ghost use Rattle.matcher.specs.Private.Spans.{Spans, Steps};
+ghost use Rattle.matcher.specs.Spans.{Spans, Steps};
 ghost use Rattle.matcher.specs.PositionSets.{has_position};
 ghost use Rattle.matcher.specs.Private.Moves.{absent, HasNone, IsEither, IsNew, Moves};
 

@@ -2,7 +2,7 @@
 
 ghost use Rattle.std.specs.Prelude.{ℕ, ◌≤◌, IsTrue, List, length, map};
 ghost use Rattle.ere.specs.Tree.{form, repeat, trees_of};
-ghost use Rattle.matcher.specs.Private.Spans.{Spans, SpansEach, SpansSome, Steps};
+ghost use Rattle.matcher.specs.Spans.{Spans, SpansEach, SpansSome, Steps};
 ghost use Rattle.matcher.specs.Private.Moves.{Moves};
 
 use crate::positions::Positions;

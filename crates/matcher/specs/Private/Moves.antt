@@ -1,7 +1,7 @@
 -- Sets of positions, which are seen by `has_position` and `absent` alone, and how they move.
 use Rattle.std.specs.Prelude.{◌≡◌, ℕ, zero, suc, ◌*◌, Bool, true, false, not, ◌&&◌, ◌||◌, IsTrue, List, length}
 use Rattle.matcher.specs.PositionSets.{has_position}
-use Rattle.matcher.specs.Private.Spans.{Relation}
+use Rattle.matcher.specs.Spans.{Relation}
 
 -- one more, unless it is there
 abbrev pub more_unless : Bool → ℕ → ℕ

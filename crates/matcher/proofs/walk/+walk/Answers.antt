@@ -1,7 +1,7 @@
 use Rattle.std.proofs.Common.{◌≡◌, ◌+◌, ◌-◌, refl, length, map, drop, ap, subst, ◌∙◌, arith}
 use Rattle.ere.specs.Tree.{form, trees_of}
 use Rattle.ere.proofs.Forms.{form-Empty, form-Set, form-Start, form-End, form-Cat, form-Alt, form-Repeat}
-use Rattle.matcher.specs.Private.Spans.{Spans, SpansEach, SpansSome, Steps}
+use Rattle.matcher.specs.Spans.{Spans, SpansEach, SpansSome, Steps}
 use Rattle.matcher.specs.Private.Moves.{Moves}
 use Rattle.matcher.proofs.Walks as walks
 use Rattle.matcher.proofs.walk.+walk.Goals as goal

@@ -1,7 +1,7 @@
 use Rattle.std.proofs.Common.{map, drop}
 use Rattle.ere.specs.Tree.{form, trees_of}
 use Rattle.matcher.specs.declared.positions.Positions.{Positions}
-use Rattle.matcher.specs.Private.Spans.{Spans, SpansEach, SpansSome, Steps}
+use Rattle.matcher.specs.Spans.{Spans, SpansEach, SpansSome, Steps}
 use Rattle.matcher.specs.Private.Moves.{absent, Moves}
 use Rattle.matcher.proofs.Walks.{IsWidened, IsWidenedBy}
 use Rattle.matcher.proofs.walk.+walk.Given as goal
