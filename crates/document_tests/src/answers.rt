@@ -59,6 +59,10 @@ fn answer_text<W: Watch>(
     Ok(text)
 }
 
+/// Two documents with `xyz` among thirty with `hay`.
+const TWO_OF_MANY: &[u8] =
+    b"z xyz|a xyz|a0 hay|a1 hay|a2 hay|a3 hay|a4 hay|a5 hay|a6 hay|a7 hay|a8 hay|a9 hay|a: hay|a; hay|a< hay|a= hay|a> hay|a? hay|a@ hay|aA hay|aB hay|aC hay|aD hay|aE hay|aF hay|aG hay|aH hay|aI hay|aJ hay|aK hay|aL hay|aM hay";
+
 /// Commands, a pattern, the text of its answer, and the numbers of the documents that are looked at.
 #[test]
 fn rows(rt: HostRuntime) -> Result<(), Fail> {
@@ -124,6 +128,25 @@ fn rows(rt: HostRuntime) -> Result<(), Fail> {
             b"search 1 version 1 lines 0 candidates 1 of 1\n".as_slice(),
             b"\x01".as_slice(),
         ),
+        // few and many candidates, in the order of their names
+        (
+            TWO_OF_MANY,
+            b"xyz".as_slice(),
+            b"search 1 version 32 lines 2 candidates 2 of 32\na:1:xyz\nz:1:xyz\n".as_slice(),
+            b"\x01\x02".as_slice(),
+        ),
+        (
+            TWO_OF_MANY,
+            b"hay".as_slice(),
+            b"search 1 version 32 lines 30 candidates 30 of 32\na0:1:hay\na1:1:hay\na2:1:hay\na3:1:hay\na4:1:hay\na5:1:hay\na6:1:hay\na7:1:hay\na8:1:hay\na9:1:hay\na::1:hay\na;:1:hay\na<:1:hay\na=:1:hay\na>:1:hay\na?:1:hay\na@:1:hay\naA:1:hay\naB:1:hay\naC:1:hay\naD:1:hay\naE:1:hay\naF:1:hay\naG:1:hay\naH:1:hay\naI:1:hay\naJ:1:hay\naK:1:hay\naL:1:hay\naM:1:hay\n".as_slice(),
+            b"\x03\x04\x05\x06\x07\x08\x09\x0a\x0b\x0c\x0d\x0e\x0f\x10\x11\x12\x13\x14\x15\x16\x17\x18\x19\x1a\x1b\x1c\x1d\x1e\x1f\x20".as_slice(),
+        ),
+        (
+            TWO_OF_MANY,
+            b"hay|xyz".as_slice(),
+            b"search 1 version 32 lines 32 candidates 32 of 32\na:1:xyz\na0:1:hay\na1:1:hay\na2:1:hay\na3:1:hay\na4:1:hay\na5:1:hay\na6:1:hay\na7:1:hay\na8:1:hay\na9:1:hay\na::1:hay\na;:1:hay\na<:1:hay\na=:1:hay\na>:1:hay\na?:1:hay\na@:1:hay\naA:1:hay\naB:1:hay\naC:1:hay\naD:1:hay\naE:1:hay\naF:1:hay\naG:1:hay\naH:1:hay\naI:1:hay\naJ:1:hay\naK:1:hay\naL:1:hay\naM:1:hay\nz:1:xyz\n".as_slice(),
+            b"\x01\x02\x03\x04\x05\x06\x07\x08\x09\x0a\x0b\x0c\x0d\x0e\x0f\x10\x11\x12\x13\x14\x15\x16\x17\x18\x19\x1a\x1b\x1c\x1d\x1e\x1f\x20".as_slice(),
+        ),
     ] {
         let index = index_of(&rt, alloc, documents)?;
         let mut kept = Kept { times: [0; 512] };
@@ -171,57 +194,6 @@ fn a_watch_sees_the_candidates_alone(rt: HostRuntime) -> Result<(), Fail> {
     for i in 0..511usize {
         let times = if i < 300 && i % 5 < 2 { 1 } else { 0 };
         assert_eq!(rt; kept.times[i + 1], times, "document {i}");
-    }
-    Ok(())
-}
-
-/// Appends pieces for each of the bytes from `0` to `M`: what is before the byte, it, and what is after it.
-fn append_each(text: &mut Vec<u8>, before: &[u8], after: &[u8]) -> Result<(), Fail> {
-    for byte in b'0'..=b'M' {
-        text.extend_from_slice(before)?;
-        text.push(byte)?;
-        text.extend_from_slice(after)?;
-    }
-    Ok(())
-}
-
-/// Few and many candidates, in the order of their names: two documents with `xyz` among thirty with `hay`.
-#[test]
-fn few_and_many_candidates(rt: HostRuntime) -> Result<(), Fail> {
-    let alloc = rt.alloc();
-    let mut commands = Vec::from_slice(alloc, b"z xyz|a xyz")?;
-    append_each(&mut commands, b"|a", b" hay")?;
-    let index = index_of(&rt, alloc, &commands)?;
-    let none = b"".as_slice();
-    for (pattern, head, last) in [
-        (
-            b"xyz".as_slice(),
-            b"search 1 version 32 lines 2 candidates 2 of 32\na:1:xyz\n".as_slice(),
-            b"z:1:xyz\n".as_slice(),
-        ),
-        (
-            b"h.*y|hay".as_slice(),
-            b"search 1 version 32 lines 30 candidates 32 of 32\n".as_slice(),
-            none,
-        ),
-        (
-            b"hay".as_slice(),
-            b"search 1 version 32 lines 30 candidates 30 of 32\n".as_slice(),
-            none,
-        ),
-        (
-            b"hay|xyz".as_slice(),
-            b"search 1 version 32 lines 32 candidates 32 of 32\na:1:xyz\n".as_slice(),
-            b"z:1:xyz\n".as_slice(),
-        ),
-    ] {
-        let mut want = Vec::from_slice(alloc, head)?;
-        if pattern.starts_with(b"h") {
-            append_each(&mut want, b"a", b":1:hay\n")?;
-        }
-        want.extend_from_slice(last)?;
-        let text = answer_text(alloc, &index, pattern, &mut Kept { times: [0; 512] })?;
-        assert_eq!(rt; text, want, "of {pattern:?}");
     }
     Ok(())
 }
