@@ -42,8 +42,6 @@ fn lists(alloc: Global, set: &List, numbers: &[u32]) -> Result<bool, AllocError>
 
 const FAR: [u32; 6] = [1, 5, 300, 70000, 70001, 4294967295];
 
-const MANY: [u32; 9] = [0, 2, 3, 4, 5, 6, 7, 8, 10];
-
 #[test]
 fn sets_keep_their_numbers_rising(rt: HostRuntime) -> Result<(), Fail> {
     let alloc = rt.alloc();
@@ -66,46 +64,50 @@ fn sets_keep_their_numbers_rising(rt: HostRuntime) -> Result<(), Fail> {
     Ok(())
 }
 
-/// Two sets with what is in one or both of them, and what is in both.
+/// The set of a text: each small letter puts its number in, and a capital takes the small letter's number out.
+fn set_of_text(alloc: Global, text: &[u8]) -> Result<List, AllocError> {
+    let mut set = List::new(alloc);
+    for byte in text {
+        let number = (*byte | 32) as u32;
+        match *byte {
+            b'A'..=b'Z' => set.remove(number),
+            _ => put_all(&mut set, &[number])?,
+        }
+    }
+    Ok(set)
+}
+
+/// Whether the set has the numbers of these small letters.
+fn has_letters(alloc: Global, set: &List, letters: &[u8]) -> Result<bool, AllocError> {
+    let mut numbers = Vec::new(alloc);
+    for letter in letters {
+        numbers.push(*letter as u32)?;
+    }
+    lists(alloc, set, &numbers)
+}
+
+/// Whether the sets of two texts together have the third's letters, and share the fourth's.
+fn join_and_meet(alloc: Global, texts: [&[u8]; 4]) -> Result<bool, AllocError> {
+    let [left, right, joined, met] = texts;
+    let left = set_of_text(alloc, left)?;
+    let right = set_of_text(alloc, right)?;
+    let union = left.union(&right)?;
+    let shared = left.intersect(&right)?;
+    Ok(has_letters(alloc, &union, joined)? && has_letters(alloc, &shared, met)?)
+}
+
 #[test]
 fn sets_join_and_meet(rt: HostRuntime) -> Result<(), Fail> {
     let alloc = rt.alloc();
-    let rows: [([&[u32]; 3], [&[u32]; 3], &[u32], &[u32]); 6] = [
-        (
-            [&[2, 9], &[], &[]],
-            [&MANY, &[], &[]],
-            &[0, 2, 3, 4, 5, 6, 7, 8, 9, 10],
-            &[2],
-        ),
-        (
-            [&MANY, &[], &[]],
-            [&[2, 9], &[], &[]],
-            &[0, 2, 3, 4, 5, 6, 7, 8, 9, 10],
-            &[2],
-        ),
-        ([&[], &[], &[]], [&MANY, &[], &[]], &MANY, &[]),
-        ([&MANY, &[], &[]], [&MANY, &[], &[]], &MANY, &MANY),
-        (
-            [&[1], &[], &[]],
-            [&[4294967295], &[], &[]],
-            &[1, 4294967295],
-            &[],
-        ),
-        (
-            [&[0, 2, 4, 6, 8, 10, 12, 14, 16], &[0, 4, 6, 16], &[15, 18]],
-            [&[0, 3, 6, 9, 12, 15], &[0, 6], &[18]],
-            &[2, 3, 8, 9, 10, 12, 14, 15, 18],
-            &[12, 15, 18],
-        ),
+    let rows: [[&[u8]; 4]; 5] = [
+        [b"cj", b"acdefghik", b"acdefghijk", b"c"],
+        [b"acdefghik", b"cj", b"acdefghijk", b"c"],
+        [b"", b"acdefghik", b"acdefghik", b""],
+        [b"acdefghik", b"acdefghik", b"acdefghik", b"acdefghik"],
+        [b"acegikmoqAEGQrs", b"adgjmprAGs", b"cdijkmoprs", b"mrs"],
     ];
-    for (left, right, joined, met) in rows {
-        let left = set_of(alloc, &left)?;
-        let right = set_of(alloc, &right)?;
-        assert!(rt;
-            lists(alloc, &left.union(&right)?, joined)?,
-            "of {joined:?}"
-        );
-        assert!(rt; lists(alloc, &left.intersect(&right)?, met)?, "of {met:?}");
+    for texts in rows {
+        assert!(rt; join_and_meet(alloc, texts)?, "of {texts:?}");
     }
     Ok(())
 }
