@@ -1,3 +1,2 @@
-pub mod Options
+pub mod Answer
 pub mod Reads
-pub mod Run

@@ -1,11 +1,15 @@
-//! Why the program has no transcript written whole.
+//! Why the program has no answer.
 
+use cli::ArgumentError;
 use thiserror::Error;
 use tsearch::{RunError, WriteError};
 
-/// Why the program ends before its transcript is written whole. Its text is the line for standard error.
+/// Why the program ends before its answer is written whole. Its text is for standard error.
 #[derive(Debug, Drop, Error)]
 pub enum ProgramError {
+    /// The arguments are not taken. The text ends with a line feed, and that of each other error does not.
+    #[error(transparent)]
+    Arguments(ArgumentError),
     /// The file or standard input could not be read.
     #[error("tsearch: cannot read the script")]
     CannotRead,

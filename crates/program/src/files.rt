@@ -5,26 +5,27 @@ ghost use Rattle.std.specs.IoError.{error_kind};
 ghost use Rattle.std.specs.Str.{IsUtf8};
 ghost use Rattle.program.specs.Reads.{IsLoadFrom};
 
-use crate::input::read_file_at_most;
+use crate::disk::Disk;
 use index::MAX_BODY;
 use std::alloc::Global;
 use std::io::{self, ErrorKind};
-use std::rt::Files;
 use tsearch::{Fault, Source};
 
-/// The files that a script's loads name by their paths. What stands at a path is not known to contracts.
+/// The files that a script's loads name by their paths, and how often they have failed.
 #[derive(Drop)]
-pub struct FileSource<'a, R> {
-    files: &'a R,
+pub struct FileSource<'a, D> {
+    /// Where the files are.
+    pub disk: &'a D,
     failures: u64,
 }
 
-impl<'a, R: Files> FileSource<'a, R> {
-    /// Files that have not failed.
-    pub fn new(files: &'a R) -> FileSource<'a, R>
-        ensures { result.failures ≡ 0 }
+impl<'a, D: Disk> FileSource<'a, D> {
+    /// The files of a disk, which have not failed.
+    pub fn new(disk: &'a D) -> FileSource<'a, D>
+        ensures disk { result.disk ≡ disk.entry }
+        ensures failures { result.failures ≡ 0 }
     {
-        FileSource { files, failures: 0 }
+        FileSource { disk, failures: 0 }
     }
 
     /// Reads a file. Of one that is longer than a body may be it reads one byte more than that.
@@ -32,14 +33,14 @@ impl<'a, R: Files> FileSource<'a, R> {
     /// `OutOfMemory` comes where memory ran out for the bytes, and `Failed` where the path is not UTF-8, or the
     /// file cannot be opened or the reading fails.
     fn read_file(&self, alloc: Global, path: &[u8]) -> Result<Vec<u8>, Fault>
-        ensures bytes { IfOk result (λ bytes. IsLoadFrom R.File.remaining (MAX_BODY + 1) path.now bytes.items) }
+        ensures bytes { IfOk result (λ bytes. IsLoadFrom (D.has self.now.disk.now) path.now bytes.items) }
         ensures no_text { ¬ IsUtf8 path.now → IsErrOf result Fault.Failed }
     {
         let Ok(path) = str::from_utf8(path) else {
             return Err(Fault::Failed);
         };
         let most = MAX_BODY as u64 + 1;
-        match read_file_at_most(self.files, alloc, path, most) {
+        match self.disk.read_at_most(alloc, path, most) {
             Ok(bytes) => Ok(bytes),
             Err(error) => Err(fault_of_load(&error)),
         }
@@ -72,10 +73,8 @@ fn failures_after(failures: u64, read: &Result<Vec<u8>, Fault>) -> u64
     }
 }
 
-impl<R: Files> Source for FileSource<'_, R> {
-    ghost use Rattle.index.specs.declared.body.TheConstants.{MAX_BODY};
-
-    ghost holds = { λ _ path bytes. IsLoadFrom R.File.remaining (MAX_BODY + 1) path bytes };
+impl<D: Disk> Source for FileSource<'_, D> {
+    ghost holds = { λ source path bytes. IsLoadFrom (D.has source.disk.now) path bytes };
 
     ghost failed = { λ source. source.failures };
 

@@ -1,8 +1,9 @@
 //! The transcript's text, written through a buffer.
 
-ghost use Rattle.std.specs.Prelude.{IfOk};
+ghost use Rattle.std.specs.Prelude.{IfOk, IfErr};
 ghost use Rattle.std.specs.Io.KnownBytes.{Appends};
 ghost use Rattle.tsearch.specs.Transcript.{text_of_transcript};
+ghost use Rattle.program.specs.Answer.{IsFailureOfRun};
 
 use crate::error::ProgramError;
 use std::alloc::Global;
@@ -22,7 +23,8 @@ pub fn write_text<W: Write + Drop>(
     stats: bool,
     writer: W,
 ) -> Result<W, ProgramError>
-    ensures { IfOk result (λ written. Appends (W.contents writer) (W.contents written) (text_of_transcript stats transcript.now.entries.items)) }
+    ensures written { IfOk result (λ written. Appends (W.contents writer) (W.contents written) (text_of_transcript stats transcript.now.entries.items)) }
+    ensures failed { IfErr result IsFailureOfRun }
 {
     let mut out = match BufWriter::with_capacity(alloc, OUTPUT_BUFFER, writer) {
         Ok(out) => out,

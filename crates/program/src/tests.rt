@@ -1,10 +1,11 @@
-//! The words, reads up to a limit, and what is written.
+//! Answers over files in memory, reads up to a limit, and what is written.
 
+use crate::answer::respond;
+use crate::disk::{Disk, read_at_most};
 use crate::error::ProgramError;
 use crate::files::FileSource;
-use crate::input::read_at_most;
 use crate::output::write_text;
-use crate::words::{Settings, read_words};
+use cli::HELP;
 use std::alloc::Global;
 use std::io::{self, Read, Write};
 use std::process::Abort;
@@ -12,109 +13,74 @@ use std::test::Fail;
 use tsearch::run::run;
 use tsearch::{Options, Transcript};
 
-/// The program's words, its name before them.
-fn words(alloc: Global, texts: &[&str]) -> Result<Vec<String>, Fail> {
-    let mut words = vec![in alloc; String::from_str(alloc, "tsearch")?]?;
-    for text in texts {
-        words.push(String::from_str(alloc, text)?)?;
-    }
-    Ok(words)
+/// Files in memory: paths with their bytes.
+#[derive(Drop)]
+struct Memory {
+    files: &'static [(&'static str, &'static [u8])],
 }
 
-fn assert_refused(rt: &impl Abort, alloc: Global, texts: &[&str]) -> Result<(), Fail> {
-    let words = words(alloc, texts)?;
-    match read_words(alloc, &words) {
-        Ok(_) => return Err(Fail::from("words that were to be refused")),
-        Err(error) => assert!(rt; error.exit_code() == 2),
-    }
-    Ok(())
-}
+impl Disk for Memory {
+    ghost has = { λ _ _ _ _. Unit {0} };
 
-#[test]
-fn words_have_defaults(rt: HostRuntime) -> Result<(), Fail> {
-    let words = words(rt.alloc(), &[])?;
-    let options = Options {
-        readers: 2,
-        max_commands: 65536,
-    };
-    let wanted = Settings {
-        options,
-        stats: false,
-        file: None,
-    };
-    assert!(rt; read_words(rt.alloc(), &words)? == wanted);
-    Ok(())
-}
-
-#[test]
-fn words_are_read(rt: HostRuntime) -> Result<(), Fail> {
-    let texts = [
-        "--readers",
-        "16",
-        "--stats",
-        "a file",
-        "--max-commands=1000000",
-    ];
-    let words = words(rt.alloc(), &texts)?;
-    let options = Options {
-        readers: 16,
-        max_commands: 1_000_000,
-    };
-    let wanted = Settings {
-        options,
-        stats: true,
-        file: Some("a file"),
-    };
-    assert!(rt; read_words(rt.alloc(), &words)? == wanted);
-    Ok(())
-}
-
-#[test]
-fn least_numbers_are_read(rt: HostRuntime) -> Result<(), Fail> {
-    let words = words(rt.alloc(), &["--readers=0", "--max-commands", "1", "-"])?;
-    let options = Options {
-        readers: 0,
-        max_commands: 1,
-    };
-    let wanted = Settings {
-        options,
-        stats: false,
-        file: Some("-"),
-    };
-    assert!(rt; read_words(rt.alloc(), &words)? == wanted);
-    Ok(())
-}
-
-#[test]
-fn numbers_outside_their_limits_are_refused(rt: HostRuntime) -> Result<(), Fail> {
-    assert_refused(&rt, rt.alloc(), &["--readers", "17"])?;
-    assert_refused(&rt, rt.alloc(), &["--readers", "4294967297"])?;
-    assert_refused(&rt, rt.alloc(), &["--readers", "-1"])?;
-    assert_refused(&rt, rt.alloc(), &["--readers", ""])?;
-    assert_refused(&rt, rt.alloc(), &["--max-commands", "0"])?;
-    assert_refused(&rt, rt.alloc(), &["--max-commands", "1000001"])?;
-    assert_refused(&rt, rt.alloc(), &["--max-commands", "many"])
-}
-
-#[test]
-fn other_words_are_refused(rt: HostRuntime) -> Result<(), Fail> {
-    assert_refused(&rt, rt.alloc(), &["a", "b"])?;
-    assert_refused(&rt, rt.alloc(), &["--readers"])?;
-    assert_refused(&rt, rt.alloc(), &["--stats=yes"])?;
-    assert_refused(&rt, rt.alloc(), &["--version"])
-}
-
-#[test]
-fn words_ask_for_help(rt: HostRuntime) -> Result<(), Fail> {
-    let words = words(rt.alloc(), &["--help"])?;
-    match read_words(rt.alloc(), &words) {
-        Ok(_) => Err(Fail::from("words that ask for help")),
-        Err(error) => {
-            assert!(rt; error.exit_code() == 0);
-            assert!(rt; !error.use_stderr());
-            Ok(())
+    fn read_at_most(&self, alloc: Global, path: &str, most: u64) -> io::Result<Vec<u8>> {
+        match self.files.iter().find(|file| file.0 == path) {
+            Some(file) => read_at_most(alloc, file.1, most),
+            None => Err(io::Error::from(io::ErrorKind::NotFound)),
         }
     }
+}
+
+const FILES: &[(&str, &[u8])] = &[
+    ("script", b"load a notes\npublish\nsearch bb\n"),
+    ("notes", b"aaa\nabba\n"),
+];
+
+/// The program over these files and this input gives this status, and writes this to standard output.
+fn assert_answers<R: Abort + Eprint + AllocGlobal>(
+    rt: &R,
+    texts: &[&str],
+    input: &[u8],
+    wanted: (u8, &[u8]),
+) -> Result<(), Fail> {
+    let alloc = rt.alloc();
+    let mut arguments = vec![in alloc; String::from_str(alloc, "tsearch")?]?;
+    for text in texts {
+        arguments.push(String::from_str(alloc, text)?)?;
+    }
+    let memory = Memory { files: FILES };
+    let mut source = FileSource::new(&memory);
+    let mut written: Vec<u8> = Vec::new(alloc);
+    let status = respond(rt, alloc, &arguments, &mut source, input, &mut written);
+    assert!(rt; status == wanted.0);
+    assert!(rt; written.as_slice() == wanted.1);
+    Ok(())
+}
+
+#[test]
+fn the_script_is_run_from_the_file_that_is_named(rt: HostRuntime) -> Result<(), Fail> {
+    let found: &[u8] = b"search 1 version 1 lines 1\na:2:abba\n";
+    assert_answers(&rt, &["script"], b"", (0, found))?;
+    let with_stats: &[u8] = b"search 1 version 1 lines 1 candidates 1 of 1\na:2:abba\n";
+    assert_answers(&rt, &["--stats", "script"], b"", (0, with_stats))?;
+    assert_answers(&rt, &["missing"], b"search x\n", (2, b""))
+}
+
+#[test]
+fn the_script_is_run_from_the_input_where_no_file_is_named(rt: HostRuntime) -> Result<(), Fail> {
+    let none: &[u8] = b"search 1 version 0 lines 0\n";
+    assert_answers(&rt, &[], b"search x\n", (1, none))?;
+    let refused: &[u8] = b"line 1 refused: cannot load\n";
+    assert_answers(&rt, &[], b"load a missing\n", (2, refused))?;
+    let full: &[u8] = b"line 2 refused: full\n";
+    let script = b"load a notes\nload b notes\n";
+    assert_answers(&rt, &["--max-commands", "1"], script, (2, full))
+}
+
+#[test]
+fn the_help_is_written_and_refused_arguments_write_nothing(rt: HostRuntime) -> Result<(), Fail> {
+    assert_answers(&rt, &["--help"], b"", (0, HELP.as_bytes()))?;
+    assert_answers(&rt, &["--reader", "1"], b"", (2, b""))?;
+    assert_answers(&rt, &["script", "notes"], b"", (2, b""))
 }
 
 #[test]
@@ -200,7 +166,12 @@ fn one_hit(rt: &HostRuntime) -> Result<Transcript, Fail> {
         max_commands: 1,
     };
     let script = b"put a 1\nx\npublish\nsearch x\n";
-    Ok(run(rt.alloc(), script, options, &mut FileSource::new(rt))?)
+    Ok(run(
+        rt.alloc(),
+        script,
+        options,
+        &mut FileSource::new(&Memory { files: FILES }),
+    )?)
 }
 
 #[test]

@@ -2,7 +2,7 @@
 use Rattle.std.proofs.Common.{◌≡◌, ◌⊎◌, ◌∙◌, ◌<◌, ◌≤◌, ap, ℕ, true, List, [], ◌∷◌, length, Option, Some, None, refl, sym, subst, inl, inr, arith, ◌^◌, zero, suc, codes}
 use Rattle.std.specs.List.{All, slice_index_or}
 use Rattle.std.specs.Str.{bytes_eq}
-use Rattle.std.specs.Prelude.{unwrap_or, pos, Result}
+use Rattle.std.specs.Prelude.{pos, Result}
 use Rattle.std.specs.Borrow.{Bor}
 use Rattle.std.specs.Str.Parse.{ParsesUnsigned}
 use Rattle.std.proofs.lemmas.Slice.Eq.{bytes_eq-Decides}
@@ -23,7 +23,7 @@ use Rattle.clap.specs.declared.parser.matches.ArgMatches.{ArgMatches}
 use Rattle.clap.specs.declared.parser.matches.MatchedArg.{MatchedArg}
 use Rattle.clap.proofs.CallerLemmas.{entry_by_id, same_rules_by_id}
 use Rattle.clap.proofs.CallerReads.{signed_reads}
-use Rattle.program.specs.Options.{HasOptions, TakesNumber}
+use Rattle.cli.proofs.Options.{HasOptions, TakesNumber}
 
 -- an option of the command by its place: the only one with its name
 pub record IsOption (c : Command) (k : ℕ) (id : List ℕ) : Type 0 where
@@ -56,15 +56,15 @@ module _ (old : Command) (m : ArgMatches) (p : IsParsedFrom old m) (options : Ha
       rw parser at (sym any.4.1)
 
   module _ (E : Type 0) (G : List ℕ → Result ℕ E → Type 0) (only : (u : List ℕ) (x : Result ℕ E) → G u x → ParsesUnsigned 32 10 u x) (fits : high < 2 ^ 32)
-      (r : Option ℕ) (none : one_text (found_of m) id ≡ None → r ≡ None)
+      (r : Option ℕ)
       (value : (t : List ℕ) → one_text (found_of m) id ≡ Some t → ReadsOne G t r) where
-    -- the option's number, where it is given
+    -- the option's number, where it has a text
     abbrev pub IsNumber : Type 0
-    IsNumber = (r ≡ None) ⊎ ((n : ℕ) × (r ≡ Some n) × (low ≤ n) × (n ≤ high))
+    IsNumber = (one_text (found_of m) id ≡ None) ⊎ ((n : ℕ) × (r ≡ Some n) × (low ≤ n) × (n ≤ high))
 
     from_values : (x : MatchedArg) (vs : List (Bor (List ℕ))) → matched_of (found_of m) id ≡ Some x → x.vals.items ≡ vs → x.reading ≡ WithoutMinus
         → All (λ v. PassesArg p.built id v.now) vs → IsNumber
-    from_values x [] found vals reading all = inl (none (rw (found, vals) refl))
+    from_values x [] found vals reading all = inl (rw (found, vals) refl)
     from_values x (v ∷ vs) found vals reading all =
         let text : one_text (found_of m) id ≡ Some (without_minus v.now) = rw (found, vals, reading) refl in
         let passed = passes v.now (All-get_or (λ w. PassesArg p.built id w.now) (v ∷ vs) 0 v (omega arith) all) in
@@ -93,17 +93,11 @@ module _ (old : Command) (m : ArgMatches) (p : IsParsedFrom old m) (options : Ha
     number_given = go (matched_of (found_of m) id) refl
       where
         go : (o : Option MatchedArg) → matched_of (found_of m) id ≡ o → IsNumber
-        go None found = inl (none (rw found refl))
+        go None found = inl (rw found refl)
         go (Some x) found =
             let parsed = p.parsed (p.from.globals ∙ options.local) in
             let got = entry_by_id (EntryPasses p.built) (found_of m).entries.items id x parsed.values found in
             from_entry x got.0 found got.1 ((bytes_eq-Decides got.0.0.now id).0 got.2) got.3
-
--- a number in its limits, or else a default in them
-pub or_default : (r : Option ℕ) (low high d : ℕ) → ((r ≡ None) ⊎ ((n : ℕ) × (r ≡ Some n) × (low ≤ n) × (n ≤ high))) → low ≤ d → d ≤ high
-    → (low ≤ unwrap_or r d) × (unwrap_or r d ≤ high)
-or_default r low high d (inl none) above below = rw none (above, below)
-or_default r low high d (inr some) above below = rw some.1 (some.2, some.3)
 
 abbrev option_names : List (List ℕ)
 option_names = codes "readers" ∷ codes "stats" ∷ codes "max-commands" ∷ codes "FILE" ∷ []

@@ -1,0 +1,75 @@
+-- The options of a command that is read as the command line, by their places, for the numbers that a parse checks.
+use Rattle.std.proofs.Common.{◌≡◌, ◌∙◌, ap, sym, refl, true, false, ℕ, List, [], ◌∷◌, Option, Some, None, length, map, pos, codes, arith, ◌<◌}
+use Rattle.std.specs.List.{list_all, slice_index_or}
+use Rattle.std.proofs.lemmas.List.{get_or-map, length-map}
+use Rattle.clap.specs.Facts.{args_of}
+use Rattle.clap.specs.Built.{IsPlain}
+use Rattle.clap.specs.Faults.{has_free_rules, is_simple_and_free}
+use Rattle.clap.specs.Simple.{App, IsSimple, Shape, app_of, is_ready, is_ready_leaf, is_simple, shape_of}
+use Rattle.clap.specs.Walk.{Rule, rule_of}
+use Rattle.clap.specs.declared.builder.arg.Arg.{Arg}
+use Rattle.clap.specs.declared.builder.command.Command.{Command}
+use Rattle.clap.specs.declared.builder.command.Command.TheViews.{out-Command}
+use Rattle.clap.specs.declared.builder.value_parser.ValueParser.{ValueParser}
+use Rattle.clap.specs.declared.builder.value_parser.ValueParser.TheVariants.{Signed}
+use Rattle.clap.proofs.FaultLemmas.{free_args}
+use Rattle.clap.proofs.OnLiterals.{clap_on_literals}
+use Rattle.clap.proofs.SimpleLemmas.{ready_simple, simple_groups}
+use Rattle.cli.specs.CommandLine.{command_line}
+
+-- the argument at a place takes a number from `low` to `high`
+abbrev pub TakesNumber : Command → ℕ → ℕ → ℕ → Type 0
+TakesNumber c place low high =
+    (d : Arg) → (slice_index_or (args_of c) place d).value_parser ≡ Some (Signed (pos low) (pos high))
+
+-- the command has the program's options, of which two take a number in its limits, and none excludes another
+pub record HasOptions (c : Command) : Type 0 where
+  pub names : map (λ a. a.id.now) (args_of c)
+      ≡ codes "readers" ∷ codes "stats" ∷ codes "max-commands" ∷ codes "FILE" ∷ []
+  pub readers : TakesNumber c 0 0 16
+  pub max_commands : TakesNumber c 2 1 1000000
+  pub plain : IsPlain c
+  pub local : (out-Command c).has_globals ≡ false
+
+pub line_is_simple : is_simple command_line ≡ true
+unfolding clap_on_literals
+line_is_simple = refl
+
+pub line_is_free : is_simple_and_free command_line ≡ true
+unfolding clap_on_literals
+line_is_free = refl
+
+line_is_ready : is_ready command_line.top ≡ true
+unfolding clap_on_literals
+line_is_ready = refl
+
+map_rules : {X : Type 0} (f : Rule → X) (xs : List Arg) → map (λ a. f (rule_of a)) xs ≡ map f (map rule_of xs)
+map_rules f [] = refl
+map_rules f (x ∷ xs) = ap (λ l. f (rule_of x) ∷ l) (map_rules f xs)
+
+fields : {X : Type 0} (f : Rule → X) (c : Command) → app_of c ≡ command_line → map (λ a. f (rule_of a)) (args_of c) ≡ map f command_line.top.rules
+fields f c is = map_rules f (args_of c) ∙ ap (λ (a : App). map f a.top.rules) is
+
+abbrev parsers : List (Option ValueParser)
+parsers = Some (Signed (pos 0) (pos 16)) ∷ None ∷ Some (Signed (pos 1) (pos 1000000)) ∷ None ∷ []
+
+pub has_options : (c : Command) → app_of c ≡ command_line → HasOptions c
+has_options c is =
+    let shape : shape_of c ≡ command_line.top = ap (λ (a : App). a.top) is in
+    let simple : IsSimple c = ready_simple c (ap is_ready shape ∙ line_is_ready) (ap (λ (a : App). list_all is_ready_leaf a.subs) is) in
+    let free = free_args c simple (ap has_free_rules shape) in
+    let alone = simple_groups c (ap (λ (s : Shape). list_all (λ (a : Rule). a.is_simple) s.rules) shape) in
+    let names = fields (λ (r : Rule). r.id) c is in
+    let takes : map (λ (a : Arg). a.value_parser) (args_of c) ≡ parsers = fields (λ (r : Rule). r.parser) c is in
+    let four : length (args_of c) ≡ 4 = sym (length-map (args_of c) (λ (a : Arg). a.value_parser)) ∙ ap length takes in
+    record {
+      names = names;
+      readers = λ d.
+          let low : 0 < length (args_of c) = rw four (omega arith) in
+          sym (get_or-map (λ (a : Arg). a.value_parser) (args_of c) 0 d None low) ∙ ap (λ (l : List (Option ValueParser)). slice_index_or l 0 None) takes;
+      max_commands = λ d.
+          let low : 2 < length (args_of c) = rw four (omega arith) in
+          sym (get_or-map (λ (a : Arg). a.value_parser) (args_of c) 2 d None low) ∙ ap (λ (l : List (Option ValueParser)). slice_index_or l 2 None) takes;
+      plain = (λ k d low. ((free k d low).exclusive, (free k d low).conflicts, (free k d low).overrides, alone k d low), simple.groups);
+      local = simple.globals;
+    }

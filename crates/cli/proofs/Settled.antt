@@ -1,0 +1,42 @@
+-- What a getter gives of an argument's text, with the default where there is none.
+use Rattle.std.proofs.Common.{◌≡◌, ◌∙◌, ◌⊎◌, ◌≤◌, ap, sym, refl, subst, inl, inr, true, false, Bool, arith, ℕ, List, [], Option, Some, None, codes}
+use Rattle.std.specs.List.{slice_index_or}
+use Rattle.std.specs.Prelude.{◌↔◌, Result, Ok, unwrap_or}
+use Rattle.std.specs.Str.Parse.{ParsesBool, ParsesUnsigned}
+use Rattle.clap.specs.Matches.{ReadsOne}
+use Rattle.cli.specs.CommandLine.{number_or}
+
+module _ (E : Type 0) (G : List ℕ → Result ℕ E → Type 0) (only : (u : List ℕ) (x : Result ℕ E) → G u x → ParsesUnsigned 32 10 u x) where
+  -- a number in its limits, or a default in them
+  pub settled_number : (text : Option (List ℕ)) (read : Option ℕ) (v low high d : ℕ) → v ≡ unwrap_or read d
+      → (text ≡ None → read ≡ None) → ((t : List ℕ) → text ≡ Some t → ReadsOne G t read)
+      → ((text ≡ None) ⊎ ((n : ℕ) × (read ≡ Some n) × (low ≤ n) × (n ≤ high))) → low ≤ d → d ≤ high
+      → (v ≡ number_or d text) × (low ≤ v) × (v ≤ high)
+  settled_number None read v low high d is none value given above below =
+      let at : v ≡ d = is ∙ ap (λ (o : Option ℕ). unwrap_or o d) (none refl) in
+      (at, rw at above, rw at below)
+  settled_number (Some t) read v low high d is none value (inl bad) above below = cc
+  settled_number (Some t) read v low high d is none value (inr some) above below =
+      let at : v ≡ some.0 = is ∙ ap (λ (o : Option ℕ). unwrap_or o d) some.1 in
+      let parsed = only t (Ok some.0) (subst (λ (o : Option ℕ). ReadsOne G t o) some.1 (value t refl)) in
+      (at ∙ parsed.1, rw at some.2, rw at some.3)
+
+-- a flag is set where its text is `true`
+pub settled_flag : (E : Type 0) (text : Option (List ℕ)) (read : Option Bool) (v : Bool) → v ≡ unwrap_or read false
+    → (text ≡ None → read ≡ None) → ((t : List ℕ) → text ≡ Some t → ReadsOne (ParsesBool {E = E}) t read)
+    → (v ≡ true) ↔ (text ≡ Some (codes "true"))
+settled_flag E None read v is none value =
+    let at : v ≡ false = is ∙ ap (λ (o : Option Bool). unwrap_or o false) (none refl) in
+    (λ set. cc, λ some. cc)
+settled_flag E (Some t) (Some true) v is none value = (λ set. ap Some (value t refl), λ some. is)
+settled_flag E (Some t) (Some false) v is none value =
+    let at : v ≡ false = is in
+    let text : t ≡ codes "false" = value t refl in (
+      λ set. cc,
+      λ some.
+          let bad : 116 ≡ 102 = ap (λ (o : Option (List ℕ)). slice_index_or (unwrap_or o []) 0 0) (sym some ∙ ap Some text) in
+          absurd (omega arith),
+    )
+settled_flag E (Some t) None v is none value =
+    let at : v ≡ false = is in
+    (λ set. cc, λ some. absurd ((value t refl).1.0 (ap (λ (o : Option (List ℕ)). unwrap_or o t) some)))

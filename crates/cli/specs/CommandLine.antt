@@ -1,0 +1,79 @@
+-- The command line `tsearch [--readers N] [--stats] [--max-commands N] [FILE]`, and what arguments ask for by it.
+use Rattle.std.specs.Prelude.{◌≡◌, ◌≢◌, ◌≤◌, ◌<◌, ◌↔◌, ℕ, List, [], Option, Some, None, true, codes, option_map, pos, ⊤}
+use Rattle.std.specs.Str.Parse.{digits_value, without_leading_plus}
+use Rattle.clap.specs.Kinds.{IsAmong, Kinds}
+use Rattle.clap.specs.Faults.{fault_of}
+use Rattle.clap.specs.Simple.{App, matches_of, new_app, new_rule, with_rule}
+use Rattle.clap.specs.Values.{kind_of}
+use Rattle.clap.specs.Walk.{Row, Rule, Text, first_of, one_of}
+use Rattle.clap.specs.declared.builder.action.ArgAction.TheVariants.{SetTrue}
+use Rattle.clap.specs.declared.builder.value_parser.ValueParser.TheVariants.{Signed}
+use Rattle.clap.specs.declared.error.kind.ErrorKind.TheVariants.{DisplayHelp}
+use Rattle.cli.specs.declared.arguments.Request.{Request}
+use Rattle.cli.specs.declared.arguments.Request.TheVariants.{Run, Help}
+use Rattle.cli.specs.declared.arguments.Settings.{Settings}
+use Rattle.cli.specs.declared.error.ArgumentError.{ArgumentError}
+use Rattle.cli.specs.declared.error.ArgumentError.TheVariants as error
+
+-- `--name N`, a number from `low` to `high`
+abbrev pub number_option : Text → ℕ → ℕ → Rule
+number_option name low high =
+    record (new_rule name) { long = Some name; value_names = 1; parser = Some (Signed (pos low) (pos high)) }
+
+-- `--name`
+abbrev pub flag : Text → Rule
+flag name = record (new_rule name) { long = Some name; action = Some SetTrue }
+
+abbrev pub command_line : App
+command_line = with_rule (with_rule (with_rule (with_rule (new_app (codes "tsearch"))
+    (number_option (codes "readers") 0 16))
+    (flag (codes "stats")))
+    (number_option (codes "max-commands") 1 1000000))
+    (new_rule (codes "FILE"))
+
+-- what is found in the arguments, and what is wrong with them, if anything is: `clap`'s reading of a command line
+abbrev pub found_in : List Text → List Row
+found_in arguments = matches_of command_line arguments
+
+abbrev pub faults_of : List Text → Kinds
+faults_of arguments = fault_of command_line arguments
+
+-- the number that is written, and else the default
+abbrev pub number_or : ℕ → Option Text → ℕ
+number_or default (Some text) = digits_value 10 (without_leading_plus text)
+number_or default None = default
+
+-- The settings are those that are found, each under its name, with the defaults for those that are not.
+pub record IsSettingsIn (found : List Row) (settings : Settings) : Type 0 where
+  pub readers : settings.readers ≡ number_or 2 (one_of (codes "readers") found)
+  pub max_commands : settings.max_commands ≡ number_or 65536 (one_of (codes "max-commands") found)
+  pub stats : (settings.stats ≡ true) ↔ (one_of (codes "stats") found ≡ Some (codes "true"))
+  pub file : option_map (λ path. path.now) settings.file ≡ first_of (codes "FILE") found
+
+pub record IsInLimits (settings : Settings) : Type 0 where
+  pub readers : settings.readers ≤ 16
+  pub some_commands : 0 < settings.max_commands
+  pub few_commands : settings.max_commands ≤ 1000000
+
+-- Nothing is wrong with the arguments, and they give these settings.
+pub record SpellSettings (arguments : List Text) (settings : Settings) : Type 0 where
+  pub taken : faults_of arguments ≡ []
+  pub found : IsSettingsIn (found_in arguments) settings
+  pub limits : IsInLimits settings
+
+-- The arguments ask for the help.
+abbrev pub AskForHelp : List Text → Type 0
+AskForHelp arguments = IsAmong DisplayHelp (faults_of arguments)
+
+-- Something else is wrong with them.
+pub record AreRefused (arguments : List Text) : Type 0 where
+  pub faulty : faults_of arguments ≢ []
+  pub no_help : AskForHelp arguments → ⊥
+
+abbrev pub IsRequestOf : List Text → Request → Type 0
+IsRequestOf arguments (Run settings) = SpellSettings arguments settings
+IsRequestOf arguments Help = AskForHelp arguments
+
+abbrev pub IsRefusalOf : List Text → ArgumentError → Type 0
+IsRefusalOf arguments (error.Refused e) = IsAmong (kind_of e) (faults_of arguments)
+IsRefusalOf arguments error.OutOfMemory = ⊤

@@ -1,0 +1,114 @@
+//! The arguments of the program, and the settings that they give.
+
+ghost use Rattle.std.specs.Prelude.{◌≡◌, IfOk, IfErr, map, string_bytes};
+ghost use Rattle.clap.specs.Kinds.{FailsBy};
+ghost use Rattle.clap.specs.Simple.{app_of};
+ghost use Rattle.cli.specs.CommandLine.{IsRefusalOf, IsRequestOf, SpellSettings, command_line, faults_of};
+
+use crate::error::ArgumentError;
+use crate::help::HELP;
+use clap::error::ErrorKind;
+use clap::{Arg, ArgAction, Command, Error, value_parser};
+use std::alloc::{AllocError, Global};
+
+/// The number of readers where the arguments give none.
+const DEFAULT_READERS: u32 = 2;
+
+/// The greatest number of accepted commands where the arguments give none.
+const DEFAULT_MAX_COMMANDS: u32 = 65536;
+
+/// How the arguments set a run.
+#[derive(Clone, Copy, Debug, PartialEq, Eq)]
+pub struct Settings<'a> {
+    /// `--readers`: how many readers there are, 0 to 16, by default 2.
+    pub readers: u32,
+    /// `--max-commands`: how many commands are accepted at most, 1 to 1,000,000, by default 65,536.
+    pub max_commands: u32,
+    /// `--stats`: whether each answer tells its candidates.
+    pub stats: bool,
+    /// `FILE`: the path of the script, where it is not standard input.
+    pub file: Option<&'a str>,
+}
+
+/// What arguments ask for.
+#[derive(Clone, Copy, Debug, PartialEq, Eq)]
+pub enum Request<'a> {
+    /// A run with these settings.
+    Run(Settings<'a>),
+    /// The help, which is `HELP`.
+    Help,
+}
+
+/// Reads the arguments, of which the first is the program's name, as `clap` reads them.
+///
+/// `Refused` comes where `clap` refuses them, and `OutOfMemory` where memory ran out.
+pub fn read_arguments<'a>(
+    alloc: Global,
+    arguments: &'a [String],
+) -> Result<Request<'a>, ArgumentError>
+    ensures request { IfOk result (IsRequestOf (map string_bytes arguments.entry.now)) }
+    ensures refused { IfErr result (IsRefusalOf (map string_bytes arguments.entry.now)) }
+{
+    match parse(alloc, arguments) {
+        Ok(settings) => Ok(Request::Run(settings)),
+        Err(error) => match error.kind() {
+            ErrorKind::DisplayHelp => Ok(Request::Help),
+            ErrorKind::OutOfMemory => Err(ArgumentError::OutOfMemory),
+            _ => Err(ArgumentError::Refused(error)),
+        },
+    }
+}
+
+/// The error that refuses arguments that are no text.
+pub fn not_text(alloc: Global) -> ArgumentError {
+    let message = "invalid UTF-8 was detected in one or more arguments";
+    let refused = match command(alloc) {
+        Ok(mut command) => command.error(ErrorKind::InvalidValue, message),
+        Err(error) => Err(error),
+    };
+    match refused {
+        Ok(error) => ArgumentError::Refused(error),
+        Err(_) => ArgumentError::OutOfMemory,
+    }
+}
+
+/// Reads the arguments by the command line, and takes the defaults for those that are not there.
+fn parse<'a>(alloc: Global, arguments: &'a [String]) -> Result<Settings<'a>, Error>
+    ensures settings { IfOk result (SpellSettings (map string_bytes arguments.entry.now)) }
+    ensures kinds { FailsBy (faults_of (map string_bytes arguments.entry.now)) result }
+{
+    let matches = command(alloc)?.try_get_matches_from(arguments)?;
+    let readers = matches.get_one::<u32>("readers");
+    let max_commands = matches.get_one::<u32>("max-commands");
+    let stats = matches.get_one::<bool>("stats");
+    Ok(Settings {
+        readers: readers.unwrap_or(DEFAULT_READERS),
+        max_commands: max_commands.unwrap_or(DEFAULT_MAX_COMMANDS),
+        stats: stats.unwrap_or(false),
+        file: matches.get_str("FILE"),
+    })
+}
+
+/// The command line: what `clap` reads the arguments by.
+fn command<'a>(alloc: Global) -> Result<Command<'a>, AllocError>
+    ensures command_line { IfOk result (λ command. app_of command ≡ command_line) }
+{
+    let readers = Arg::new(alloc, "readers")
+        .long("readers")
+        .value_name("N")
+        .value_parser(value_parser!(u32).range(0..=16));
+    let stats = Arg::new(alloc, "stats")
+        .long("stats")
+        .action(ArgAction::SetTrue);
+    let max_commands = Arg::new(alloc, "max-commands")
+        .long("max-commands")
+        .value_name("N")
+        .value_parser(value_parser!(u32).range(1..=1_000_000));
+    let file = Arg::new(alloc, "FILE");
+    Command::new(alloc, "tsearch")
+        .override_help(HELP)
+        .arg(readers)?
+        .arg(stats)?
+        .arg(max_commands)?
+        .arg(file)
+}

@@ -1,0 +1,41 @@
+//! The text of `--help`.
+
+/// What `--help` and `-h` show. It ends with a line feed.
+pub const HELP: &str = "\
+Searches named texts, line by line, by extended regular expressions, as a script tells it.
+
+Usage: tsearch [OPTIONS] [FILE]
+
+Arguments:
+  [FILE]  The script; without it standard input is read
+
+Options:
+      --readers <N>       A number of reader threads, 0 to 16 [default: 2]. It is checked,
+                          but no reader threads are there yet: searches are answered
+                          one after the other
+      --stats             Tells of each answer how many documents its trigrams left to be searched
+      --max-commands <N>  How many puts, loads and removes are accepted, 1 to 1000000 [default: 65536]
+  -h, --help              Print help
+
+A script is a list of lines:
+  put NAME N          takes the next N bytes, and the line feed after them, as the text NAME
+  load NAME PATH      takes the file PATH as the text NAME
+  remove NAME         removes the text NAME
+  publish             lets searches see all puts, loads and removes so far
+  search ERE          lists the lines with a match of the expression ERE
+  searchin NAMES ERE  does so in the texts whose names match the expression NAMES
+  sync                waits until the searches before it are answered
+  # REMARK            does nothing, and neither does an empty line
+
+Names and NAMES have no space. An ERE is everything after its space. A text has at
+most 1048576 bytes, in lines of at most 4096 bytes, and no byte 0.
+
+Each search prints `search K version V lines L`, and then each line as NAME:LINE:TEXT.
+What is refused is printed too, with its reason, and the script goes on. Only a put
+with no count or a wrong one ends the script.
+
+The status is 0 if a search listed a line, 1 if none did, 2 if anything was refused.
+
+An example:
+  printf 'load notes notes.txt\\npublish\\nsearch ^[0-9]+ apples?\\n' | tsearch
+";

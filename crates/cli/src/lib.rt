@@ -1,0 +1,16 @@
+//! The command line of `tsearch`: `tsearch [--readers N] [--stats] [--max-commands N] [FILE]`.
+//!
+//! `read_arguments` turns the arguments of the program into its settings, or says that they ask for the help,
+//! or why they are refused. The arguments are read as `clap` reads them.
+#![tactic(auto)]
+
+pub mod arguments;
+pub mod error;
+pub mod help;
+
+pub use arguments::{Request, Settings, read_arguments};
+pub use error::ArgumentError;
+pub use help::HELP;
+
+#[cfg(test)]
+mod tests;

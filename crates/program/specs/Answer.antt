@@ -1,0 +1,50 @@
+-- What the program answers to its arguments.
+use Rattle.std.specs.Prelude.{◌≡◌, ◌⊎◌, ℕ, List, [], Option, ⊤}
+use Rattle.std.specs.Io.KnownBytes.{Appends}
+use Rattle.cli.specs.CommandLine.{AskForHelp, IsRefusalOf, SpellSettings, faults_of}
+use Rattle.cli.specs.declared.arguments.Settings.{Settings}
+use Rattle.cli.specs.declared.help.TheConstants.{HELP}
+use Rattle.tsearch.specs.Legal.{IsLegal}
+use Rattle.tsearch.specs.Transcript.{status_of, text_of_transcript}
+use Rattle.tsearch.specs.declared.run.Options.{Options}
+use Rattle.tsearch.specs.declared.transcript.Entry.{Entry}
+use Rattle.program.specs.Reads.{IsLoadFrom, IsScriptFrom}
+use Rattle.program.specs.declared.error.ProgramError.{ProgramError}
+use Rattle.program.specs.declared.error.ProgramError.TheVariants as error
+
+abbrev pub options_of : Settings → Options
+options_of settings = record { readers = settings.readers; max_commands = settings.max_commands }
+
+-- A run as the settings say: the script is read from their file or from the input, a transcript that is legal for
+-- it under their options is written, once and as text, and the status is the transcript's. has: the bytes of the
+-- files. input: what standard input has left. failed, failed': how often files have failed, before and after.
+-- old, new: what has been written, before and after.
+pub record IsRunOf (has : List ℕ → ℕ → List ℕ → Type 0) (input : Option (List ℕ)) (failed failed' : ℕ) (old new : Option (List ℕ))
+    (settings : Settings) (status : ℕ) : Type 0 where
+  pub script : List ℕ
+  pub entries : List Entry
+  pub is_script : IsScriptFrom has input settings.file script
+  pub legal : IsLegal script (options_of settings) (IsLoadFrom has) failed failed' entries
+  pub written : Appends old new (text_of_transcript settings.stats entries)
+  pub is_status : status ≡ status_of entries
+
+-- Arguments that spell settings lead to their run, and those that ask for the help to the help and 0.
+pub data IsAnswer (arguments : List (List ℕ)) (has : List ℕ → ℕ → List ℕ → Type 0) (input : Option (List ℕ)) (failed failed' : ℕ)
+    (old new : Option (List ℕ)) (status : ℕ) : Type 0 where
+  ran : (settings : Settings) → SpellSettings arguments settings → IsRunOf has input failed failed' old new settings status
+      → IsAnswer arguments has input failed failed' old new status
+  helped : AskForHelp arguments → Appends old new HELP.now → status ≡ 0 → IsAnswer arguments has input failed failed' old new status
+
+-- What may keep a run from its answer.
+abbrev pub IsFailureOfRun : ProgramError → Type 0
+IsFailureOfRun (error.Arguments fault) = ⊥
+IsFailureOfRun _ = ⊤
+
+-- What may keep the program from an answer to the arguments.
+abbrev pub IsFailure : List (List ℕ) → ProgramError → Type 0
+IsFailure arguments (error.Arguments fault) = IsRefusalOf arguments fault
+IsFailure arguments error.OutOfMemory = faults_of arguments ≡ []
+IsFailure arguments error.CannotWrite = (faults_of arguments ≡ []) ⊎ AskForHelp arguments
+IsFailure arguments error.CannotRead = faults_of arguments ≡ []
+IsFailure arguments (error.Run fault) = faults_of arguments ≡ []
+IsFailure arguments (error.Write fault) = faults_of arguments ≡ []

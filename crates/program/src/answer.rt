@@ -1,0 +1,118 @@
+//! The way from the arguments to the bytes that are written and the status.
+
+ghost use Rattle.std.specs.Prelude.{◌≡◌, ◌⊎◌, IfOk, IfErr, map, string_bytes};
+ghost use Rattle.std.specs.Io.KnownBytes.{Appends};
+ghost use Rattle.cli.specs.CommandLine.{AreRefused, IsInLimits};
+ghost use Rattle.program.specs.Answer.{IsAnswer, IsFailure, IsFailureOfRun, IsRunOf};
+
+use crate::disk::Disk;
+use crate::error::ProgramError;
+use crate::files::FileSource;
+use crate::input::read_script;
+use crate::output::write_text;
+use cli::{HELP, Request, Settings, read_arguments};
+use std::alloc::Global;
+use std::io::{Read, Write};
+use tsearch::Options;
+use tsearch::run::run;
+
+/// The status where an argument is refused, or the program has no answer or cannot write it.
+pub const REFUSED: u8 = 2;
+
+/// Does what the arguments ask for, of which the first is the program's name, and gives the status.
+///
+/// A run reads its script from the file that the arguments name, or from `input`, and its loads from the
+/// files of the source. Its transcript is written to `out`, or the help where they ask for that. What keeps
+/// the program from it is said on standard error; where that takes nothing either, the status alone says it.
+#[tactic(auto, using(crate::proofs::AnswerLemmas::refused_have_none))]
+pub fn respond<R: Eprint, D: Disk, I: Read + Drop, O: Write + Drop>(
+    rt: &R,
+    alloc: Global,
+    arguments: &[String],
+    source: &mut FileSource<'_, D>,
+    input: I,
+    out: O,
+) -> u8
+    ensures answered { ((written : O) × IsAnswer (map string_bytes arguments.now) (D.has source.old.disk.now) (I.remaining input)
+        source.old.failures source.new.failures (O.contents out) (O.contents written) result) ⊎ (result ≡ 2) }
+    ensures refused { AreRefused (map string_bytes arguments.now) → result ≡ 2 }
+{
+    match answer(alloc, arguments, source, input, out) {
+        Ok(answered) => answered.0,
+        Err(error) => {
+            report(rt, &error);
+            REFUSED
+        }
+    }
+}
+
+/// Says on standard error why there is no answer.
+pub fn report<R: Eprint>(rt: &R, error: &ProgramError) {
+    // Where standard error takes nothing, the status alone says it.
+    let _ = match error {
+        ProgramError::Arguments(refused) => rt.eprint(refused),
+        other => rt.eprintln(other),
+    };
+}
+
+/// Does what the arguments ask for, and gives the status and the writer with what was written.
+#[tactic(auto, using(crate::proofs::AnswerLemmas::run_answers, crate::proofs::AnswerLemmas::run_fails, crate::proofs::AnswerLemmas::help_answers, crate::proofs::AnswerLemmas::help_fails))]
+fn answer<D: Disk, I: Read + Drop, O: Write + Drop>(
+    alloc: Global,
+    arguments: &[String],
+    source: &mut FileSource<'_, D>,
+    input: I,
+    out: O,
+) -> Result<(u8, O), ProgramError>
+    ensures answered { IfOk result (λ answered. IsAnswer (map string_bytes arguments.now) (D.has source.old.disk.now) (I.remaining input)
+        source.old.failures source.new.failures (O.contents out) (O.contents answered.1) answered.0) }
+    ensures failed { IfErr result (IsFailure (map string_bytes arguments.now)) }
+{
+    match read_arguments(alloc, arguments) {
+        Ok(Request::Run(settings)) => run_script(alloc, &settings, source, input, out),
+        Ok(Request::Help) => show_help(out),
+        Err(error) => Err(ProgramError::Arguments(error)),
+    }
+}
+
+/// Writes the help. The status is 0.
+#[tactic(auto, using(crate::proofs::AnswerLemmas::written_and_kept))]
+fn show_help<O: Write + Drop>(mut out: O) -> Result<(u8, O), ProgramError>
+    ensures shown { IfOk result (λ shown. (shown.0 ≡ 0) × Appends (O.contents out) (O.contents shown.1) HELP.now) }
+    ensures failed { IfErr result (λ error. error ≡ ProgramError.CannotWrite) }
+{
+    match out.write_all(HELP.as_bytes()) {
+        Ok(()) => {}
+        Err(_) => return Err(ProgramError::CannotWrite),
+    }
+    match out.flush() {
+        Ok(()) => Ok((0, out)),
+        Err(_) => Err(ProgramError::CannotWrite),
+    }
+}
+
+/// Reads the script, runs it and writes its transcript, and gives the status of the run.
+fn run_script<D: Disk, I: Read + Drop, O: Write + Drop>(
+    alloc: Global,
+    settings: &Settings<'_>,
+    source: &mut FileSource<'_, D>,
+    input: I,
+    out: O,
+) -> Result<(u8, O), ProgramError>
+    requires limits { IsInLimits settings.now }
+    ensures run { IfOk result (λ done. IsRunOf (D.has source.old.disk.now) (I.remaining input) source.old.failures source.new.failures
+        (O.contents out) (O.contents done.1) settings.now done.0) }
+    ensures failed { IfErr result IsFailureOfRun }
+{
+    let script = read_script(alloc, source.disk, settings.file, input)?;
+    let options = Options {
+        readers: settings.readers,
+        max_commands: settings.max_commands,
+    };
+    let transcript = match run(alloc, &script, options, source) {
+        Ok(transcript) => transcript,
+        Err(error) => return Err(ProgramError::Run(error)),
+    };
+    let written = write_text(alloc, &transcript, settings.stats, out)?;
+    Ok((tsearch::status(&transcript), written))
+}
