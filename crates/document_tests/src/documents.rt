@@ -152,12 +152,26 @@ fn live_numbers_and_candidates(rt: HostRuntime) -> Result<(), Fail> {
             [].as_slice(),
         ),
     ] {
-        let index = index_of(&rt, alloc, commands)?;
-        assert!(rt; is_live(alloc, &index, live)?, "of {commands:?}");
-        assert!(rt; has(alloc, &index, *b"abc", live)?, "of {commands:?}");
-        assert!(rt; has(alloc, &index, *b"bcd", with_bcd)?, "of {commands:?}");
+        let are = are_numbers(&rt, alloc, commands, live, with_bcd)?;
+        assert!(rt; are, "of {commands:?}");
     }
     Ok(())
+}
+
+/// Whether the commands leave these live documents, all with the trigram abc, and those with bcd.
+fn are_numbers(
+    rt: &impl Abort,
+    alloc: Global,
+    commands: &[u8],
+    live: &[u32],
+    with_bcd: &[u32],
+) -> Result<bool, Fail> {
+    let index = index_of(rt, alloc, commands)?;
+    Ok(
+        is_live(alloc, &index, live)?
+            && has(alloc, &index, *b"abc", live)?
+            && has(alloc, &index, *b"bcd", with_bcd)?,
+    )
 }
 
 /// Whether these are the numbers of the live documents, and the candidates of the query that all satisfy.
