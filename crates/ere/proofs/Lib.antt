@@ -11,3 +11,4 @@ mod PartLemmas
 mod ReaderSteps
 mod TreeLaws
 mod Sizes
+pub mod OneWay

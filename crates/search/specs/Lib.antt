@@ -4,6 +4,5 @@ pub mod Scan
 pub mod Hits
 pub mod Text
 pub mod Queries
-pub mod Limited
 pub mod Selects
 pub mod Ways

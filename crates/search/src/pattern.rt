@@ -4,7 +4,10 @@ ghost use Rattle.std.specs.Prelude.{◌≢◌, IfOk, IfErr, MatchBool};
 ghost use Rattle.std.specs.Option.{ForSome};
 ghost use Rattle.ere.specs.Tree.{form};
 ghost use Rattle.ere.specs.Limits.{IsWithinLimits, HasNoTree, IsTreeOf};
-ghost use Rattle.search.specs.Limited.{IsWithinLimits-prop, ForSome-prop, IsQueryOf-prop};
+ghost use Rattle.ere.proofs.OneWay.{IsWithinLimits-prop, ForSome-prop};
+ghost use Rattle.query.specs.Query.{formula_of, is_met};
+ghost use Rattle.trigram.specs.Analysis.{condition};
+ghost use Rattle.trigram.proofs.Sameness.{same-prop};
 ghost use Rattle.search.specs.Queries.{IsQueryOf};
 
 use ere::{Ere, EreError, EreErrorKind, parse};
@@ -22,7 +25,7 @@ pub struct Prepared {
     pub(crate) query: Query,
     pub ghost limits: { IsWithinLimits (form tree) } by { IsWithinLimits-prop (form tree) },
     pub ghost name_limits: { ForSome name_tree (λ e. IsWithinLimits (form e)) } by { ForSome-prop name_tree },
-    pub ghost filter: { IsQueryOf tree query } by { IsQueryOf-prop tree query },
+    pub ghost filter: { IsQueryOf tree query } by { same-prop (is_met (formula_of query)) (condition (form tree)) },
 }
 
 /// Why a search with a name pattern is refused.

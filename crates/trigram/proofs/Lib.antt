@@ -4,3 +4,4 @@ pub mod MemberLemmas
 pub mod CoverLemmas
 pub mod ExactLemmas
 pub mod LawLemmas
+pub mod Sameness

@@ -1,11 +1,8 @@
--- A tree is within the limits in one way at most, and a query is that of a tree in one way at most.
+-- A tree is within the limits in one way at most.
 use Rattle.std.specs.Prelude.{ℕ, ◌≤◌, Option, Some, None, IfSome}
 use Rattle.std.specs.Option.{ForSome}
 use Rattle.std.specs.Coded.{×_prop, Unit-prop, le_prop}
-use mathlib.Core.Bool.{Bool-set}
 use Rattle.ere.specs.declared.tree.Ere.{Ere}
-use Rattle.query.specs.declared.query.Query.{Query}
-use Rattle.search.specs.Queries.{IsQueryOf}
 use Rattle.ere.specs.Tree.{Tree, empty, set, at_start, at_end, cat, alt, repeat, Trees, none, more, form}
 use Rattle.ere.specs.Limits.{HasTwo, IsProper, AreProper, IsWithinLimits}
 
@@ -39,6 +36,3 @@ IsWithinLimits-prop tree = hlevel (IsProper-prop tree, le_prop)
 
 pub ForSome-prop : (tree : Option Ere) → IsProp (ForSome tree (λ e. IsWithinLimits (form e)))
 ForSome-prop tree = hlevel IsWithinLimits-prop
-
-pub IsQueryOf-prop : (tree : Ere) (query : Query) → IsProp (IsQueryOf tree query)
-IsQueryOf-prop tree query = hlevel (Bool-set)
