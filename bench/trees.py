@@ -1,10 +1,13 @@
-"""tsearch beside `grep -rE` and `csearch` on the same files: python3 bench/trees.py FOLDER.
+"""tsearch beside `csearch`, `rg` and `grep -rE` on the same files: python3 bench/trees.py FOLDER.
 
-Prints the time from the script's first byte to the first publish, the resident memory, and for each pattern the time
-of one search, its candidates, and what the other tools take. Nothing is asserted.
+Prints the time from the script's first byte to the first publish, the resident memory, and for each pattern the lines
+found, the candidates, and what a search takes in tsearch and in the other tools, all on one thread and with their
+output in a file: the least and the median of five runs, in milliseconds. Nothing is asserted.
 """
 import os
 import re
+import shutil
+import statistics
 import sys
 import tempfile
 
@@ -12,16 +15,40 @@ sys.path.insert(0, os.path.dirname(os.path.abspath(__file__)))
 import corpus
 import timed
 
+RUNS = 5
+
 PATTERNS = [
-    ("a rare literal", "unlikely_to_be_there_twice|GNU_GETTEXT_REQUIRE"),
-    ("a rare literal", "inflateInit2_"),
-    ("a common literal", "return"),
+    ("rare literal", "inflateInit2_"),
+    ("rare literal", "GNU_GETTEXT_REQUIRE"),
+    ("common literal", "return"),
+    ("common literal", "include"),
     ("two literals", "static.*inline"),
-    ("an alternation", "memcpy|memmove|memset"),
-    ("a class with a literal", "[A-Z]+_MAX"),
-    ("a bounded repeat", "0x[0-9a-f]{8}"),
-    ("no trigram", "[0-9]+"),
-    ("no match", "zzqqxxyy"),
+    ("two literals", "if.*NULL.*return"),
+    ("alternation", "memcpy|memmove|memset"),
+    ("alternation", "(if|while|for) *\\("),
+    ("class with literal", "[A-Z]+_MAX"),
+    ("class with literal", "str[a-z]+\\("),
+    ("anchored", "^#define"),
+    ("anchored", "^static .*\\{$"),
+    ("bounded", "0x[0-9a-f]{8}"),
+    ("bounded", "^(.{64}){3}x"),
+    ("classes of case", "[Ee][Rr][Rr][Oo][Rr]"),
+    ("classes of case", "[Tt][Oo][Dd][Oo]"),
+    ("no trigram", "[a-z]+[0-9]+ [a-z]+"),
+    ("no trigram", "x.*y.*z"),
+    ("many hits", "[0-9]+"),
+    ("many hits", "e"),
+    ("none", "zzqqxxyy"),
+    ("none", "return.*zzqq"),
+    ("nested repeats", "((a*|b)*|c)*d"),
+    ("nested repeats", "^(([a-z]+_)+[a-z]+ )+=$"),
+]
+
+# A name pattern, the file names as a glob, and the pattern.
+NAMED = [
+    ("\\.h$", "*.h", "return"),
+    ("\\.c$", "*.c", "[0-9]+"),
+    ("(^|/)[^/]*test[^/]*$", "*test*", "static"),
 ]
 
 
@@ -29,23 +56,51 @@ def script_with(target, searches):
     path = os.path.join(target, "script")
     with open(path, "wb") as script:
         with open(os.path.join(target, "puts"), "rb") as puts:
-            script.write(puts.read())
+            shutil.copyfileobj(puts, script)
         script.write(b"publish\n")
         for search in searches:
-            script.write(b"search " + search.encode() + b"\n")
+            script.write(search.encode() + b"\n")
     return path
 
 
-def search_time(target, pattern, base):
-    """Seconds of one search: more copies of it until they are well above the noise."""
+def spent(words, env=None):
+    """The seconds of each of some runs."""
+    return [timed.run(words, env=env)["seconds"] for _ in range(RUNS)]
+
+
+def search_times(target, search, base):
+    """The seconds of one search in each of some runs, of so many copies of it that they are above the noise."""
     count = 1
     while True:
-        words = [timed.PROGRAM, "--stats", "--max-commands", "1000000", script_with(target, [pattern] * count)]
-        found = min((timed.run(words) for _ in range(3)), key=lambda r: r["seconds"])
-        spent = found["seconds"] - base
-        if spent > max(0.4, base) or count >= 4096:
-            return max(spent, 0) / count, found["output"]
+        words = [timed.PROGRAM, "--stats", "--readers", "0", "--max-commands", "1000000", script_with(target, [search] * count)]
+        found = timed.run(words)
+        if found["seconds"] - base > max(0.3, base) or count >= 4096:
+            break
         count *= 4
+    head = re.match(rb"search 1 version \d+ lines (\d+) candidates (\d+) of (\d+)", found["output"])
+    return [max(seconds - base, 0) / count for seconds in spent(words)], head
+
+
+def shown(seconds):
+    return "%.2f / %.2f" % (1000 * min(seconds), 1000 * statistics.median(seconds))
+
+
+def others(files, env, pattern, name=None, glob=None):
+    """What the other tools take. csearch takes names as a regular expression, and the others as a glob."""
+    named = {"csearch": ["-f", name] if name else [], "rg": ["-g", glob] if glob else [], "grep": ["--include=" + glob] if glob else []}
+    words = {
+        "csearch": ["csearch", "-n"] + named["csearch"] + [pattern],
+        "rg": ["rg", "-j1", "-uuu", "-a", "--no-unicode", "-n", "--no-heading"] + named["rg"] + ["-e", pattern, files],
+        "grep": ["grep", "-rnE"] + named["grep"] + ["-e", pattern, files],
+    }
+    return [shown(spent(words[tool], env)) if shutil.which(tool) else "-" for tool in ("csearch", "rg", "grep")]
+
+
+def row(target, files, env, base, what, search, pattern, name=None, glob=None):
+    seconds, head = search_times(target, search, base)
+    lines, candidates = (head[1].decode(), head[2].decode()) if head else ("?", "?")
+    cells = [what, "`%s`" % (pattern if name is None else name + " " + pattern).replace("|", "\\|"), lines, candidates, shown(seconds)]
+    print("| " + " | ".join(cells + others(files, env, pattern, name, glob)) + " |", flush=True)
 
 
 def main():
@@ -54,23 +109,20 @@ def main():
     with tempfile.TemporaryDirectory() as target:
         taken = corpus.make(folder, target)
         print("files %(files)d, bytes %(bytes)d, refused %(refused)d, by load lines: %(loaded)s" % taken)
-        empty = min((timed.run([timed.PROGRAM, "--max-commands", "1000000", script_with(target, [])]) for _ in range(5)), key=lambda r: r["seconds"])
-        base = empty["seconds"]
-        print("to the first publish %.3f s, %.1f MB/s, resident %.2f bytes a byte" % (base, taken["bytes"] / base / 1e6, empty["memory"] / taken["bytes"]))
+        words = [timed.PROGRAM, "--readers", "0", "--max-commands", "1000000", script_with(target, [])]
+        empty = [timed.run(words) for _ in range(RUNS)]
+        base = statistics.median(run["seconds"] for run in empty)
+        print("to the first publish %s ms, %.1f MB/s, resident %.2f bytes a byte" % (shown([run["seconds"] for run in empty]), taken["bytes"] / base / 1e6, empty[0]["memory"] / taken["bytes"]))
         files = os.path.join(target, "files")
-        index = dict(os.environ, CSEARCHINDEX=os.path.join(target, "csearchindex"), LC_ALL="C")
-        has_csearch = timed.run(["sh", "-c", "command -v csearch"])["status"] == 0
-        if has_csearch:
-            timed.run(["cindex", files], env=index)
-        print("| pattern | | lines | candidates | tsearch ms | grep -rE ms | csearch ms |")
-        print("|---|---|---|---|---|---|---|")
+        env = dict(os.environ, CSEARCHINDEX=os.path.join(target, "csearchindex"), LC_ALL="C")
+        if shutil.which("cindex"):
+            timed.run(["cindex", files], env=env)
+        print("| kind | pattern | lines | candidates | tsearch | csearch | rg -j1 | grep -rE |\n|---|---|---|---|---|---|---|---|")
         for what, pattern in PATTERNS:
-            seconds, output = search_time(target, pattern, base)
-            head = re.match(rb"search 1 version \d+ lines (\d+) candidates (\d+) of (\d+)", output)
-            lines, candidates = (head[1].decode(), head[2].decode() + " of " + head[3].decode()) if head else ("?", "?")
-            grep = min(timed.run(["grep", "-rnE", pattern, files], env=index)["seconds"] for _ in range(3))
-            other = "%.1f" % (1000 * min(timed.run(["csearch", "-n", pattern], env=index)["seconds"] for _ in range(3))) if has_csearch else "-"
-            print("| `%s` | %s | %s | %s | %.2f | %.1f | %s |" % (pattern.replace("|", "\\|"), what, lines, candidates, 1000 * seconds, 1000 * grep, other), flush=True)
+            row(target, files, env, base, what, "search " + pattern, pattern)
+        for name, glob, pattern in NAMED:
+            row(target, files, env, base, "by name", "searchin %s %s" % (name, pattern), pattern, name, glob)
 
 
-main()
+if __name__ == "__main__":
+    main()

@@ -1,0 +1,96 @@
+#!/usr/bin/env python3
+"""Compares the two ways in which the built program finds lines, on random patterns and lines.
+
+Each pattern is searched in two documents with the same lines: a small one, which is looked at line by line, and one that
+has them several times and is so large that the pattern is compiled and goes over it from match to match. (Patterns that
+are too large to compile, and those with stars inside stars, go one way in both.) The two are implementations of one
+contract: any difference ends the comparison with status 1.
+
+Usage: tests/compare_two_ways.py [--patterns N] [--lines N] [--seed N]
+"""
+
+import argparse
+import pathlib
+import random
+import re
+import subprocess
+import sys
+
+sys.path.insert(0, str(pathlib.Path(__file__).resolve().parent))
+import compare_with_grep as grep
+
+# The first so many bytes of candidates are looked at line by line.
+FEW_BYTES = 16384
+SEARCHES_OF_A_RUN = 500
+
+
+def small_body(chance, count):
+    """Random lines, all in less than half of the bytes that are looked at line by line."""
+    lines = []
+    for _ in range(count):
+        length = chance.choice([0, 1, 2, 3, 5, 8, 20, 60])
+        line = bytes(chance.choice(grep.BYTES) for _ in range(length))
+        if sum(map(len, lines)) + len(lines) + length < FEW_BYTES // 2:
+            lines.append(line)
+    return lines
+
+
+def hits_of(output):
+    """For each search, its hits by document, as pairs of a line's number and its text; None where it was refused."""
+    hits, now = [], None
+    for row in output.split(b"\n"):
+        if row.startswith(b"search ") and re.match(rb"search \d+ version \d+ lines \d+$", row):
+            now = {b"a": [], b"b": []}
+            hits.append(now)
+        elif row.startswith(b"search ") and b" refused: " in row:
+            hits.append(None)
+        elif now is not None and row[:2] in (b"a:", b"b:"):
+            name, line, text = row.split(b":", 2)
+            now[name].append((int(line), text))
+    return hits
+
+
+def differs(found, count, times):
+    """Whether the large document's hits are not those of the small one, as often as it has its lines."""
+    want = [(line + count * time, text) for time in range(times) for line, text in found[b"a"]]
+    return found[b"b"] != want
+
+
+def compare(chance, patterns, lines):
+    """The patterns of a run whose two ways differ, and how many of them were searched."""
+    texts = [line + b"\n" for line in small_body(chance, lines)]
+    small = b"".join(texts)
+    times = FEW_BYTES // len(small) + 1
+    script = b"put a %d\n%s\nput b %d\n%s\npublish\n" % (len(small), small, len(small) * times, small * times)
+    made = [pattern for pattern in patterns if b"\n" not in pattern and b"\0" not in pattern]
+    script += b"".join(b"search " + pattern + b"\n" for pattern in made)
+    run = subprocess.run([grep.PROGRAM, "--readers", "0"], input=script, stdout=subprocess.PIPE, check=False)
+    hits = hits_of(run.stdout)
+    assert len(hits) == len(made), "%d answers to %d searches" % (len(hits), len(made))
+    searched = [(pattern, found) for pattern, found in zip(made, hits) if found is not None]
+    return [pattern for pattern, found in searched if differs(found, len(texts), times)], len(searched)
+
+
+def main():
+    words = argparse.ArgumentParser(description="Compares the two ways of finding lines.")
+    words.add_argument("--patterns", type=int, default=5000)
+    words.add_argument("--lines", type=int, default=300)
+    words.add_argument("--seed", type=int, default=1)
+    given = words.parse_args()
+    chance = random.Random(given.seed)
+    source = grep.Patterns(chance)
+    searched, left = 0, given.patterns
+    while left > 0:
+        count = min(left, SEARCHES_OF_A_RUN)
+        patterns = [source.alternatives(chance.randint(0, 3))[0] for _ in range(count)]
+        different, done = compare(chance, patterns, given.lines)
+        for pattern in different:
+            print("the two ways differ: %r" % pattern)
+        if different:
+            sys.exit(1)
+        searched, left = searched + done, left - count
+    print("%d patterns searched by both ways, no difference" % searched)
+
+
+if __name__ == "__main__":
+    main()
