@@ -202,20 +202,21 @@ def with_those_below(names, uses):
     return found
 
 
-def build(folder):
+def build(folder, source=METER, used=USES):
+    """Builds a program over these crates in a folder, and returns its path."""
     if not shutil.which("rt"):
         sys.exit("trigrams.py: the command rt of the Rattle kit, which builds the program, is not on the PATH")
     uses = lines_of_crates()
-    crates = with_those_below(USES, uses)
+    crates = with_those_below(used, uses)
     for name in crates:
         shutil.copytree(os.path.join(ROOT, "crates", name), os.path.join(folder, "crates", name))
     with open(os.path.join(folder, "crates.txt"), "w") as file:
         file.writelines("%s: %s\n" % (name, " ".join(uses[name])) for name in crates)
-        file.write("meter: %s\n" % " ".join(USES))
+        file.write("meter: %s\n" % " ".join(used))
     meter = os.path.join(folder, "crates", "meter")
     os.makedirs(os.path.join(meter, "src"))
     with open(os.path.join(meter, "src", "main.rt"), "w") as file:
-        file.write(METER)
+        file.write(source)
     subprocess.run(["git", "init", "-q", folder], check=True)
     built = subprocess.run(["rt", "run"], cwd=meter, capture_output=True, text=True)
     if built.returncode != 0:

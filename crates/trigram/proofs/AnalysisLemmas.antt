@@ -9,7 +9,7 @@ use Rattle.ere.specs.declared.tree.Ere.{Ere}
 use Rattle.ere.specs.ByteSet.{has}
 use Rattle.ere.specs.Tree.{Tree, Trees, form, trees_of}
 use Rattle.ere.specs.Tree as tree
-use Rattle.trigram.specs.declared.analysis.Words.{Words}
+use Rattle.trigram.specs.declared.analysis.Analysis as program
 use Rattle.trigram.specs.declared.analysis.Ends.{Ends}
 use Rattle.query.specs.declared.query.Query.TheVariants as query
 use Rattle.query.proofs.Forms.{formula_of-Any}
@@ -17,7 +17,7 @@ use Rattle.query.specs.Trigrams.{TrigramSet}
 use Rattle.query.specs.Query.{formula_of, is_met}
 use Rattle.trigram.specs.Texts.{Texts, has_text, union, joins, has_all_of_one}
 use Rattle.trigram.specs.Analysis.{SetTest, Analysis, known, loose, just_empty, either, both, copies_of, repeated, bytes_in, one_byte, analysis_of, both_all, either_all, settle_loose}
-use Rattle.trigram.specs.Private.Values.{words_analysis, ArePlain, StandFor, EndsStandFor}
+use Rattle.trigram.specs.Private.Values.{shown_analysis, ArePlain, StandFor, EndsStandFor}
 
 pub loose_same : (n : Bool) (p q s t : Texts) (c d : SetTest) → p ≡ q → s ≡ t → ((set : TrigramSet) → c set ≡ d set) → loose n p s c ≡ loose n q t d
 loose_same n p q s t c d fronts backs conditions = ap (λ x. loose n x s c) fronts ∙ ap (λ x. loose n q x c) backs ∙ ap (loose n q t) (fun_ext conditions)
@@ -35,9 +35,9 @@ unfolding copies_of
 copies_of-more one n = rw add-one refl
 
 -- What a loop keeps that joins neighbours or alternatives: what is known so far, with those that are left, is the whole.
-pub record IsAnalysedSoFar (all : Analysis → Trees → Analysis) (rest : Trees) (whole : Analysis) (words : Words) : Type 0 where
-  pub plain : ArePlain words
-  pub is : all (words_analysis words) rest ≡ whole
+pub record IsAnalysedSoFar (all : Analysis → Trees → Analysis) (rest : Trees) (whole : Analysis) (analysis : program.Analysis) : Type 0 where
+  pub plain : ArePlain analysis
+  pub is : all (shown_analysis analysis) rest ≡ whole
 
 pub both_all-none : (a : Analysis) → both_all a tree.none ≡ a
 unfolding both_all
@@ -55,31 +55,31 @@ pub either_all-more : (a : Analysis) (t : Tree) (ts : Trees) → either_all a (t
 unfolding either_all
 either_all-more a t ts = refl
 
-pub neighbours_first : (t : Tree) (ts : Trees) (words : Words) → StandFor (analysis_of t) words → IsAnalysedSoFar both_all ts (analysis_of (tree.cat (tree.more t ts))) words
+pub neighbours_first : (t : Tree) (ts : Trees) (analysis : program.Analysis) → StandFor (analysis_of t) analysis → IsAnalysedSoFar both_all ts (analysis_of (tree.cat (tree.more t ts))) analysis
 unfolding analysis_of
-neighbours_first t ts words h = record { plain = h.plain; is = ap (λ a. both_all a ts) h.is }
+neighbours_first t ts analysis h = record { plain = h.plain; is = ap (λ a. both_all a ts) h.is }
 
-pub neighbours_more : (t : Tree) (ts : Trees) (whole : Analysis) (words next longer : Words) → IsAnalysedSoFar both_all (tree.more t ts) whole words → StandFor (analysis_of t) next → StandFor (both (words_analysis words) (words_analysis next)) longer → IsAnalysedSoFar both_all ts whole longer
-neighbours_more t ts whole words next longer h one j = record {
+pub neighbours_more : (t : Tree) (ts : Trees) (whole : Analysis) (analysis next longer : program.Analysis) → IsAnalysedSoFar both_all (tree.more t ts) whole analysis → StandFor (analysis_of t) next → StandFor (both (shown_analysis analysis) (shown_analysis next)) longer → IsAnalysedSoFar both_all ts whole longer
+neighbours_more t ts whole analysis next longer h one j = record {
   plain = j.plain;
-  is = ap (λ a. both_all a ts) (j.is ∙ ap (both (words_analysis words)) one.is) ∙ sym (both_all-more (words_analysis words) t ts) ∙ h.is;
+  is = ap (λ a. both_all a ts) (j.is ∙ ap (both (shown_analysis analysis)) one.is) ∙ sym (both_all-more (shown_analysis analysis) t ts) ∙ h.is;
 }
 
-pub neighbours_all : (whole : Analysis) (words : Words) → IsAnalysedSoFar both_all tree.none whole words → StandFor whole words
-neighbours_all whole words h = record { plain = h.plain; is = sym (both_all-none (words_analysis words)) ∙ h.is }
+pub neighbours_all : (whole : Analysis) (analysis : program.Analysis) → IsAnalysedSoFar both_all tree.none whole analysis → StandFor whole analysis
+neighbours_all whole analysis h = record { plain = h.plain; is = sym (both_all-none (shown_analysis analysis)) ∙ h.is }
 
-pub alternatives_first : (t : Tree) (ts : Trees) (words : Words) → StandFor (analysis_of t) words → IsAnalysedSoFar either_all ts (analysis_of (tree.alt (tree.more t ts))) words
+pub alternatives_first : (t : Tree) (ts : Trees) (analysis : program.Analysis) → StandFor (analysis_of t) analysis → IsAnalysedSoFar either_all ts (analysis_of (tree.alt (tree.more t ts))) analysis
 unfolding analysis_of
-alternatives_first t ts words h = record { plain = h.plain; is = ap (λ a. either_all a ts) h.is }
+alternatives_first t ts analysis h = record { plain = h.plain; is = ap (λ a. either_all a ts) h.is }
 
-pub alternatives_more : (t : Tree) (ts : Trees) (whole : Analysis) (words next longer : Words) → IsAnalysedSoFar either_all (tree.more t ts) whole words → StandFor (analysis_of t) next → StandFor (either (words_analysis words) (words_analysis next)) longer → IsAnalysedSoFar either_all ts whole longer
-alternatives_more t ts whole words next longer h one j = record {
+pub alternatives_more : (t : Tree) (ts : Trees) (whole : Analysis) (analysis next longer : program.Analysis) → IsAnalysedSoFar either_all (tree.more t ts) whole analysis → StandFor (analysis_of t) next → StandFor (either (shown_analysis analysis) (shown_analysis next)) longer → IsAnalysedSoFar either_all ts whole longer
+alternatives_more t ts whole analysis next longer h one j = record {
   plain = j.plain;
-  is = ap (λ a. either_all a ts) (j.is ∙ ap (either (words_analysis words)) one.is) ∙ sym (either_all-more (words_analysis words) t ts) ∙ h.is;
+  is = ap (λ a. either_all a ts) (j.is ∙ ap (either (shown_analysis analysis)) one.is) ∙ sym (either_all-more (shown_analysis analysis) t ts) ∙ h.is;
 }
 
-pub alternatives_all : (whole : Analysis) (words : Words) → IsAnalysedSoFar either_all tree.none whole words → StandFor whole words
-alternatives_all whole words h = record { plain = h.plain; is = sym (either_all-none (words_analysis words)) ∙ h.is }
+pub alternatives_all : (whole : Analysis) (analysis : program.Analysis) → IsAnalysedSoFar either_all tree.none whole analysis → StandFor whole analysis
+alternatives_all whole analysis h = record { plain = h.plain; is = sym (either_all-none (shown_analysis analysis)) ∙ h.is }
 
 pub analysis_of-cat_none : analysis_of (tree.cat tree.none) ≡ known just_empty
 unfolding analysis_of
@@ -161,8 +161,8 @@ both_loose_stands n m k p s q t u v c d e ends nullable fronts backs conditions 
   is = h.is ∙ settle_same k (n && m) u (if n then union p q else p) v (if m then union t s else t) e (λ set. c set && (d set && has_all_of_one (joins s q) set)) nullable fronts backs conditions;
 }
 
-pub stands_same : (a b : Analysis) (words : Words) → a ≡ b → StandFor a words → StandFor b words
-stands_same a b words same h = record { plain = h.plain; is = h.is ∙ same }
+pub stands_same : (a b : Analysis) (analysis : program.Analysis) → a ≡ b → StandFor a analysis → StandFor b analysis
+stands_same a b analysis same h = record { plain = h.plain; is = h.is ∙ same }
 
 pub one_byte_loose : (set : List Bool) → 16 < length (bytes_in set) → one_byte set ≡ loose false just_empty just_empty (λ _. true)
 one_byte_loose set above =

@@ -1,14 +1,15 @@
 -- Sets of texts: one more text of a list, and queries for texts.
-use Rattle.std.proofs.Common.{◌≡◌, ℕ, ◌+◌, ◌<◌, ◌≤◌, Bool, true, false, ◌&&◌, ◌||◌, List, [], ◌∷◌, ◌++◌, length, drop, get_or, refl, sym, ap, ◌∙◌, arith}
+use Rattle.std.proofs.Common.{◌≡◌, ℕ, ◌+◌, ◌<◌, ◌≤◌, Bool, true, false, cond, ◌&&◌, ◌||◌, List, [], ◌∷◌, ◌++◌, length, map, drop, get_or, refl, sym, ap, ◌∙◌, arith}
 use Rattle.std.specs.declared.alloc.Global.{Global}
 use Rattle.std.specs.declared.vec.Vec.{Vec}
-use Rattle.std.proofs.lemmas.List.{drop_more, drop_all}
+use Rattle.std.proofs.Math.Nat.{le_trans}
+use Rattle.std.proofs.lemmas.List.{drop_more, drop_all, length-append}
 use Rattle.std.proofs.Math.Bool.{and_assoc, or_assoc}
 use Rattle.query.specs.declared.query.Connective.{Connective}
 use Rattle.query.specs.declared.query.Connective.TheVariants.{And, Or}
 use Rattle.query.specs.Trigrams.{TrigramSet, trigram_of, holds_front, has_all_trigrams}
 use Rattle.query.specs.Query.{Formula, always, never, has, is_met, joined, IsPlain, IsJoin, IsPlainFor}
-use Rattle.trigram.specs.Texts.{Texts, with_text, with_texts}
+use Rattle.trigram.specs.Texts.{Texts, has_text, with_text, with_texts}
 use Rattle.trigram.specs.Private.Values.{texts_of}
 
 pub next_text : (texts : List (Vec ℕ Global)) (i : ℕ) (x : Vec ℕ Global) → i < length texts → x ≡ get_or texts i x → texts_of (drop i texts) ≡ x.items ∷ texts_of (drop (i + 1) texts)
@@ -98,3 +99,27 @@ short_text [] set h = refl
 short_text (a ∷ []) set h = refl
 short_text (a ∷ b ∷ []) set h = refl
 short_text (a ∷ b ∷ c ∷ text) set h = absurd (omega arith)
+
+with_text-longer : (texts : Texts) (text : List ℕ) → length texts ≤ length (with_text texts text)
+with_text-longer texts text = go (has_text texts text)
+  where
+    go : (b : Bool) → length texts ≤ length (cond b texts (texts ++ text ∷ []))
+    go true = omega arith
+    go false = rw (length-append texts (text ∷ [])) (omega arith)
+
+-- more texts take none away
+pub with_texts-longer : (texts others : Texts) → length texts ≤ length (with_texts texts others)
+unfolding with_texts
+with_texts-longer texts [] = omega arith
+with_texts-longer texts (text ∷ others) = le_trans (with_text-longer texts text) (with_texts-longer (with_text texts text) others)
+
+-- where one text of a list makes the ends more than so many, all of them are
+pub many_ends : (end : List ℕ → List ℕ) (texts : List (Vec ℕ Global)) (i : ℕ) (x : Vec ℕ Global) (before now whole : Texts) (n : ℕ) → i < length texts → x ≡ get_or texts i x → with_texts before (map end (texts_of (drop i texts))) ≡ whole → now ≡ with_text before (end x.items) → n < length now → n < length whole
+many_ends end texts i x before now whole n below read is one many =
+    let rest = map end (texts_of (drop (i + 1) texts)) in
+    let split : with_texts now rest ≡ whole =
+    ap (λ ts. with_texts ts rest) one
+    ∙ sym (with_texts-cons before (end x.items) rest)
+    ∙ ap (λ ts. with_texts before (map end ts)) (sym (next_text texts i x below read))
+    ∙ is in
+    omega (arith, with_texts-longer now rest, ap length split)

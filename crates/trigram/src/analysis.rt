@@ -6,7 +6,7 @@ ghost use Rattle.ere.specs.Tree.{form, trees_of};
 ghost use Rattle.ere.specs.Tree as tree;
 ghost use Rattle.query.specs.Query.{formula_of, is_met, IsPlain, IsPlainFor};
 ghost use Rattle.trigram.specs.Texts.{union};
-ghost use Rattle.trigram.specs.Private.Values.{texts_of, words_analysis, ends_analysis, ArePlain, StandFor, EndsStandFor};
+ghost use Rattle.trigram.specs.Private.Values.{texts_of, shown_analysis, ends_analysis, ArePlain, StandFor, EndsStandFor};
 ghost use Rattle.trigram.specs.Analysis.{just_empty, anything, settle_loose, settle_known, are_kept, loosen, either, both, copies_of, optional, repeated, bytes_in, one_byte, analysis_of, condition, known};
 
 use crate::texts::{
@@ -21,7 +21,7 @@ const LONGEST_TEXT: usize = 64;
 
 /// What is known of the words of a pattern.
 #[derive(Drop)]
-pub(crate) enum Words {
+pub(crate) enum Analysis {
     /// They are these texts.
     Known(Vec<Vec<u8>>),
     /// Only their ends are known, and a condition.
@@ -50,9 +50,9 @@ pub fn analyse(alloc: Global, tree: &Ere) -> Result<Query, AllocError>
     requires { IsWithinLimits (form tree.now) }
     ensures { IfOk result (λ query. IsPlainFor (condition (form tree.now)) (formula_of query)) }
 {
-    match words_of(alloc, tree)? {
-        Words::Known(texts) => query_of_texts(alloc, texts.as_slice()),
-        Words::Loose(ends) => Ok(condition_of(ends)),
+    match analysis_of(alloc, tree)? {
+        Analysis::Known(texts) => query_of_texts(alloc, texts.as_slice()),
+        Analysis::Loose(ends) => Ok(condition_of(ends)),
     }
 }
 
@@ -103,37 +103,31 @@ fn settle_loose(alloc: Global, ends: Ends) -> Result<Ends, AllocError>
 fn loosen_known(alloc: Global, texts: Vec<Vec<u8>>) -> Result<Ends, AllocError>
     ensures { IfOk result (EndsStandFor (loosen (known (texts_of texts.items)))) }
 {
-    let nullable = has_text(texts.as_slice(), &[]);
-    let condition = query_of_texts(alloc, texts.as_slice())?;
-    let backs = copied_texts(alloc, texts.as_slice())?;
-    settle_loose(
-        alloc,
-        Ends {
-            nullable,
-            fronts: texts,
-            backs,
-            condition,
-        },
-    )
+    Ok(Ends {
+        nullable: has_text(texts.as_slice(), &[]),
+        fronts: kept_ends(alloc, Side::Front, texts.as_slice())?,
+        backs: kept_ends(alloc, Side::Back, texts.as_slice())?,
+        condition: query_of_texts(alloc, texts.as_slice())?,
+    })
 }
 
-fn loosen(alloc: Global, words: Words) -> Result<Ends, AllocError>
-    requires { ArePlain words }
-    ensures { IfOk result (EndsStandFor (loosen (words_analysis words))) }
+fn loosen(alloc: Global, analysis: Analysis) -> Result<Ends, AllocError>
+    requires { ArePlain analysis }
+    ensures { IfOk result (EndsStandFor (loosen (shown_analysis analysis))) }
 {
-    match words {
-        Words::Known(texts) => loosen_known(alloc, texts),
-        Words::Loose(ends) => Ok(ends),
+    match analysis {
+        Analysis::Known(texts) => loosen_known(alloc, texts),
+        Analysis::Loose(ends) => Ok(ends),
     }
 }
 
-fn settle_known(alloc: Global, texts: Vec<Vec<u8>>) -> Result<Words, AllocError>
+fn settle_known(alloc: Global, texts: Vec<Vec<u8>>) -> Result<Analysis, AllocError>
     ensures { IfOk result (StandFor (settle_known (texts_of texts.items))) }
 {
     if are_kept(texts.as_slice()) {
-        return Ok(Words::Known(texts));
+        return Ok(Analysis::Known(texts));
     }
-    Ok(Words::Loose(loosen_known(alloc, texts)?))
+    Ok(Analysis::Loose(loosen_known(alloc, texts)?))
 }
 
 fn are_kept(texts: &[Vec<u8>]) -> bool
@@ -151,22 +145,22 @@ fn are_kept(texts: &[Vec<u8>]) -> bool
 }
 
 /// Two alternatives.
-fn either(alloc: Global, left: Words, right: Words) -> Result<Words, AllocError>
+fn either(alloc: Global, left: Analysis, right: Analysis) -> Result<Analysis, AllocError>
     requires left { ArePlain left }
     requires right { ArePlain right }
-    ensures { IfOk result (StandFor (either (words_analysis left) (words_analysis right))) }
+    ensures { IfOk result (StandFor (either (shown_analysis left) (shown_analysis right))) }
 {
     match left {
-        Words::Known(texts) => match right {
-            Words::Known(others) => settle_known(alloc, union(alloc, texts, others)?),
-            Words::Loose(ends) => {
+        Analysis::Known(texts) => match right {
+            Analysis::Known(others) => settle_known(alloc, union(alloc, texts, others)?),
+            Analysis::Loose(ends) => {
                 let front = loosen_known(alloc, texts)?;
-                Ok(Words::Loose(either_loose(alloc, front, ends)?))
+                Ok(Analysis::Loose(either_loose(alloc, front, ends)?))
             }
         },
-        Words::Loose(ends) => {
+        Analysis::Loose(ends) => {
             let other = loosen(alloc, right)?;
-            Ok(Words::Loose(either_loose(alloc, ends, other)?))
+            Ok(Analysis::Loose(either_loose(alloc, ends, other)?))
         }
     }
 }
@@ -188,22 +182,22 @@ fn either_loose(alloc: Global, left: Ends, right: Ends) -> Result<Ends, AllocErr
 }
 
 /// Two neighbours, one after the other.
-fn both(alloc: Global, left: Words, right: Words) -> Result<Words, AllocError>
+fn both(alloc: Global, left: Analysis, right: Analysis) -> Result<Analysis, AllocError>
     requires left { ArePlain left }
     requires right { ArePlain right }
-    ensures { IfOk result (StandFor (both (words_analysis left) (words_analysis right))) }
+    ensures { IfOk result (StandFor (both (shown_analysis left) (shown_analysis right))) }
 {
     match left {
-        Words::Known(fronts) => match right {
-            Words::Known(backs) => {
+        Analysis::Known(fronts) => match right {
+            Analysis::Known(backs) => {
                 let texts = joins(alloc, fronts.as_slice(), backs.as_slice())?;
                 settle_known(alloc, texts)
             }
-            Words::Loose(ends) => Ok(Words::Loose(known_before(alloc, fronts, ends)?)),
+            Analysis::Loose(ends) => Ok(Analysis::Loose(known_before(alloc, fronts, ends)?)),
         },
-        Words::Loose(ends) => match right {
-            Words::Known(backs) => Ok(Words::Loose(known_after(alloc, ends, backs)?)),
-            Words::Loose(others) => Ok(Words::Loose(both_loose(alloc, ends, others)?)),
+        Analysis::Loose(ends) => match right {
+            Analysis::Known(backs) => Ok(Analysis::Loose(known_after(alloc, ends, backs)?)),
+            Analysis::Loose(others) => Ok(Analysis::Loose(both_loose(alloc, ends, others)?)),
         },
     }
 }
@@ -305,13 +299,13 @@ fn widened(
     Ok(own)
 }
 
-fn copied_words(alloc: Global, words: &Words) -> Result<Words, AllocError>
-    requires { ArePlain words.now }
-    ensures { IfOk result (StandFor (words_analysis words.now)) }
+fn copied_analysis(alloc: Global, analysis: &Analysis) -> Result<Analysis, AllocError>
+    requires { ArePlain analysis.now }
+    ensures { IfOk result (StandFor (shown_analysis analysis.now)) }
 {
-    match words {
-        Words::Known(texts) => Ok(Words::Known(copied_texts(alloc, texts.as_slice())?)),
-        Words::Loose(ends) => Ok(Words::Loose(Ends {
+    match analysis {
+        Analysis::Known(texts) => Ok(Analysis::Known(copied_texts(alloc, texts.as_slice())?)),
+        Analysis::Loose(ends) => Ok(Analysis::Loose(Ends {
             nullable: ends.nullable,
             fronts: copied_texts(alloc, ends.fronts.as_slice())?,
             backs: copied_texts(alloc, ends.backs.as_slice())?,
@@ -321,22 +315,22 @@ fn copied_words(alloc: Global, words: &Words) -> Result<Words, AllocError>
 }
 
 /// One copy, and so many others, one after the other.
-fn copies_of(alloc: Global, one: &Words, others: u8) -> Result<Words, AllocError>
+fn copies_of(alloc: Global, one: &Analysis, others: u8) -> Result<Analysis, AllocError>
     requires { ArePlain one.now }
-    ensures { IfOk result (StandFor (copies_of (words_analysis one.now) others)) }
+    ensures { IfOk result (StandFor (copies_of (shown_analysis one.now) others)) }
 {
-    let mut whole = copied_words(alloc, one)?;
+    let mut whole = copied_analysis(alloc, one)?;
     for _made in 0..others {
-        let next = copied_words(alloc, one)?;
+        let next = copied_analysis(alloc, one)?;
         whole = both(alloc, whole, next)?;
     }
     Ok(whole)
 }
 
-fn anything(alloc: Global) -> Result<Words, AllocError>
+fn anything(alloc: Global) -> Result<Analysis, AllocError>
     ensures { IfOk result (StandFor anything) }
 {
-    Ok(Words::Loose(Ends {
+    Ok(Analysis::Loose(Ends {
         nullable: true,
         fronts: just_empty(alloc)?,
         backs: just_empty(alloc)?,
@@ -345,25 +339,30 @@ fn anything(alloc: Global) -> Result<Words, AllocError>
 }
 
 /// No copy, or up to the most.
-fn optional(alloc: Global, one: Words, most: u8) -> Result<Words, AllocError>
+fn optional(alloc: Global, one: Analysis, most: u8) -> Result<Analysis, AllocError>
     requires { ArePlain one }
-    ensures { IfOk result (StandFor (optional (words_analysis one) most)) }
+    ensures { IfOk result (StandFor (optional (shown_analysis one) most)) }
 {
     if most == 0 {
-        return Ok(Words::Known(just_empty(alloc)?));
+        return Ok(Analysis::Known(just_empty(alloc)?));
     }
     if most > 1 {
         return anything(alloc);
     }
     match one {
-        Words::Known(texts) => settle_known(alloc, union(alloc, texts, just_empty(alloc)?)?),
-        Words::Loose(_) => anything(alloc),
+        Analysis::Known(texts) => settle_known(alloc, union(alloc, texts, just_empty(alloc)?)?),
+        Analysis::Loose(_) => anything(alloc),
     }
 }
 
-fn repeated(alloc: Global, one: Words, least: u8, greatest: Option<u8>) -> Result<Words, AllocError>
+fn repeated(
+    alloc: Global,
+    one: Analysis,
+    least: u8,
+    greatest: Option<u8>,
+) -> Result<Analysis, AllocError>
     requires { ArePlain one }
-    ensures { IfOk result (StandFor (repeated (words_analysis one) least greatest)) }
+    ensures { IfOk result (StandFor (repeated (shown_analysis one) least greatest)) }
 {
     match greatest {
         None => at_least(alloc, one, least),
@@ -371,24 +370,24 @@ fn repeated(alloc: Global, one: Words, least: u8, greatest: Option<u8>) -> Resul
     }
 }
 
-fn at_least(alloc: Global, one: Words, least: u8) -> Result<Words, AllocError>
+fn at_least(alloc: Global, one: Analysis, least: u8) -> Result<Analysis, AllocError>
     requires { ArePlain one }
-    ensures { IfOk result (StandFor (repeated (words_analysis one) least None)) }
+    ensures { IfOk result (StandFor (repeated (shown_analysis one) least None)) }
 {
     if least == 0 {
         return anything(alloc);
     }
     if least == 1 {
-        return Ok(Words::Loose(loosen(alloc, one)?));
+        return Ok(Analysis::Loose(loosen(alloc, one)?));
     }
     let front = copies_of(alloc, &one, least - 2)?;
-    let back = Words::Loose(loosen(alloc, one)?);
+    let back = Analysis::Loose(loosen(alloc, one)?);
     both(alloc, front, back)
 }
 
-fn between(alloc: Global, one: Words, least: u8, most: u8) -> Result<Words, AllocError>
+fn between(alloc: Global, one: Analysis, least: u8, most: u8) -> Result<Analysis, AllocError>
     requires { ArePlain one }
-    ensures { IfOk result (StandFor (repeated (words_analysis one) least (Some most))) }
+    ensures { IfOk result (StandFor (repeated (shown_analysis one) least (Some most))) }
 {
     if least == 0 {
         return optional(alloc, one, most);
@@ -401,14 +400,14 @@ fn between(alloc: Global, one: Words, least: u8, most: u8) -> Result<Words, Allo
     both(alloc, front, back)
 }
 
-fn one_byte(alloc: Global, set: &ByteSet) -> Result<Words, AllocError>
+fn one_byte(alloc: Global, set: &ByteSet) -> Result<Analysis, AllocError>
     ensures { IfOk result (StandFor (one_byte set.now)) }
 {
     let bytes = bytes_in(alloc, set)?;
     if bytes.len() <= MOST_TEXTS {
-        return Ok(Words::Known(texts_of_bytes(alloc, bytes.as_slice())?));
+        return Ok(Analysis::Known(texts_of_bytes(alloc, bytes.as_slice())?));
     }
-    Ok(Words::Loose(Ends {
+    Ok(Analysis::Loose(Ends {
         nullable: false,
         fronts: just_empty(alloc)?,
         backs: just_empty(alloc)?,
@@ -441,49 +440,49 @@ fn texts_of_bytes(alloc: Global, bytes: &[u8]) -> Result<Vec<Vec<u8>>, AllocErro
     Ok(texts)
 }
 
-#[cycle(words)]
-fn words_of(alloc: Global, tree: &Ere) -> Result<Words, AllocError>
+#[cycle(analysis)]
+fn analysis_of(alloc: Global, tree: &Ere) -> Result<Analysis, AllocError>
     ensures { IfOk result (StandFor (analysis_of (form tree.now))) }
 {
     match tree {
-        Ere::Empty => Ok(Words::Known(just_empty(alloc)?)),
-        Ere::Start => Ok(Words::Known(just_empty(alloc)?)),
-        Ere::End => Ok(Words::Known(just_empty(alloc)?)),
+        Ere::Empty => Ok(Analysis::Known(just_empty(alloc)?)),
+        Ere::Start => Ok(Analysis::Known(just_empty(alloc)?)),
+        Ere::End => Ok(Analysis::Known(just_empty(alloc)?)),
         Ere::Set(set) => one_byte(alloc, set),
-        Ere::Cat(members) => words_of_neighbours(alloc, members.as_slice()),
-        Ere::Alt(members) => words_of_alternatives(alloc, members.as_slice()),
+        Ere::Cat(members) => analysis_of_neighbours(alloc, members.as_slice()),
+        Ere::Alt(members) => analysis_of_alternatives(alloc, members.as_slice()),
         Ere::Repeat(body, least, greatest) => {
-            let one = words_of(alloc, body)?;
+            let one = analysis_of(alloc, body)?;
             repeated(alloc, one, *least, *greatest)
         }
     }
 }
 
-#[cycle(words)]
-fn words_of_neighbours(alloc: Global, members: &[Ere]) -> Result<Words, AllocError>
+#[cycle(analysis)]
+fn analysis_of_neighbours(alloc: Global, members: &[Ere]) -> Result<Analysis, AllocError>
     ensures { IfOk result (StandFor (analysis_of (tree.cat (trees_of (map form members.now))))) }
 {
     if members.is_empty() {
-        return Ok(Words::Known(just_empty(alloc)?));
+        return Ok(Analysis::Known(just_empty(alloc)?));
     }
-    let mut whole = words_of(alloc, &members[0])?;
+    let mut whole = analysis_of(alloc, &members[0])?;
     for i in 1..members.len() {
-        let next = words_of(alloc, &members[i])?;
+        let next = analysis_of(alloc, &members[i])?;
         whole = both(alloc, whole, next)?;
     }
     Ok(whole)
 }
 
-#[cycle(words)]
-fn words_of_alternatives(alloc: Global, members: &[Ere]) -> Result<Words, AllocError>
+#[cycle(analysis)]
+fn analysis_of_alternatives(alloc: Global, members: &[Ere]) -> Result<Analysis, AllocError>
     ensures { IfOk result (StandFor (analysis_of (tree.alt (trees_of (map form members.now))))) }
 {
     if members.is_empty() {
-        return Ok(Words::Known(Vec::new(alloc)));
+        return Ok(Analysis::Known(Vec::new(alloc)));
     }
-    let mut whole = words_of(alloc, &members[0])?;
+    let mut whole = analysis_of(alloc, &members[0])?;
     for i in 1..members.len() {
-        let next = words_of(alloc, &members[i])?;
+        let next = analysis_of(alloc, &members[i])?;
         whole = either(alloc, whole, next)?;
     }
     Ok(whole)

@@ -1,10 +1,11 @@
 //! Sets of texts: each text once, in the order of first appearance.
 
-ghost use Rattle.std.specs.Prelude.{◌≡◌, ◌++◌, IfOk, OnOk, map};
+ghost use Rattle.std.specs.Prelude.{◌≡◌, ◌≤◌, ◌<◌, ◌++◌, IfOk, IfSome, IfNone, OnOk, IsTrue, length, map, flat_map};
+ghost use Rattle.std.specs.Str.{bytes_eq};
 ghost use Rattle.query.specs.Trigrams.{has_all_trigrams};
 ghost use Rattle.query.specs.Query.{formula_of, IsPlainFor};
 ghost use Rattle.trigram.specs.Texts.{has_text, with_text, with_texts, union, joins, kept_ends, cuts, shortest, has_shorter_end, has_all_of_one};
-ghost use Rattle.trigram.specs.Private.Values.{texts_of, cut_at};
+ghost use Rattle.trigram.specs.Private.Values.{texts_of, cut_at, AreDistinct};
 
 use query::{Connective, Query, Trigram, join};
 use std::alloc::{AllocError, Global};
@@ -24,11 +25,25 @@ pub(crate) fn has_text(texts: &[Vec<u8>], text: &[u8]) -> bool
     ensures { result ≡ has_text (texts_of texts.now) text.now }
 {
     for other in texts {
-        if other.as_slice() == text {
+        if is_same(other.as_slice(), text) {
             return true;
         }
     }
     false
+}
+
+/// Whether the texts are equal. Most of those that are not differ in their length or in their last byte.
+fn is_same(one: &[u8], other: &[u8]) -> bool
+    ensures { result ≡ bytes_eq one.now other.now }
+{
+    let length = one.len();
+    if length != other.len() {
+        return false;
+    }
+    if length == 0 {
+        return true;
+    }
+    one[length - 1] == other[length - 1] && one == other
 }
 
 /// Puts the text into the set.
@@ -39,6 +54,17 @@ fn add(texts: &mut Vec<Vec<u8>>, text: Vec<u8>) -> Result<(), AllocError>
         return Ok(());
     }
     texts.push(text)?;
+    Ok(())
+}
+
+/// Puts a copy of the text into the set.
+fn add_copy(alloc: Global, texts: &mut Vec<Vec<u8>>, text: &[u8]) -> Result<(), AllocError>
+    ensures { OnOk result (texts_of texts.new.items ≡ with_text (texts_of texts.old.items) text.now) }
+{
+    if has_text(texts.as_slice(), text) {
+        return Ok(());
+    }
+    texts.push(Vec::from_slice(alloc, text)?)?;
     Ok(())
 }
 
@@ -88,11 +114,67 @@ pub(crate) fn joins(
 ) -> Result<Vec<Vec<u8>>, AllocError>
     ensures { IfOk result (λ whole. texts_of whole.items ≡ joins (texts_of left.now) (texts_of right.now)) }
 {
+    if are_all_different(left, right) {
+        return all_joins(alloc, left, right);
+    }
     let mut whole = Vec::new(alloc);
     for front in left {
         add_joins(alloc, &mut whole, front.as_slice(), right)?;
     }
     Ok(whole)
+}
+
+/// Whether no two joinings of the texts are equal, as where the texts of each set are of one length. It may say
+/// no where none are.
+#[tactic(auto, using(crate::proofs::DistinctLemmas::joins_of_distinct))]
+fn are_all_different(left: &[Vec<u8>], right: &[Vec<u8>]) -> bool
+    ensures { IsTrue result → joins (texts_of left.now) (texts_of right.now) ≡ flat_map (λ front. map (λ back. front ++ back) (texts_of right.now)) (texts_of left.now) }
+{
+    let Some(front) = left.first() else {
+        return false;
+    };
+    let Some(back) = right.first() else {
+        return false;
+    };
+    are_distinct(left, front.len()) && are_distinct(right, back.len())
+}
+
+/// Whether the texts are all different, and of this length.
+#[cycle(are_distinct)]
+fn are_distinct(texts: &[Vec<u8>], size: usize) -> bool
+    ensures { IsTrue result → AreDistinct size (texts_of texts.now) }
+{
+    match texts.split_first() {
+        None => true,
+        Some((text, rest)) => {
+            text.len() == size && !has_text(rest, text.as_slice()) && are_distinct(rest, size)
+        }
+    }
+}
+
+/// The joinings, none of which is looked for among the others.
+fn all_joins(alloc: Global, left: &[Vec<u8>], right: &[Vec<u8>]) -> Result<Vec<Vec<u8>>, AllocError>
+    ensures { IfOk result (λ whole. texts_of whole.items ≡ flat_map (λ front. map (λ back. front ++ back) (texts_of right.now)) (texts_of left.now)) }
+{
+    let mut whole = Vec::new(alloc);
+    for front in left {
+        push_joins(alloc, &mut whole, front.as_slice(), right)?;
+    }
+    Ok(whole)
+}
+
+fn push_joins(
+    alloc: Global,
+    whole: &mut Vec<Vec<u8>>,
+    front: &[u8],
+    backs: &[Vec<u8>],
+) -> Result<(), AllocError>
+    ensures { OnOk result (texts_of whole.new.items ≡ texts_of whole.old.items ++ map (λ back. front.now ++ back) (texts_of backs.now)) }
+{
+    for back in backs {
+        whole.push(joined(alloc, front, back.as_slice())?)?;
+    }
+    Ok(())
 }
 
 #[tactic(auto, unfolding(crate::specs::Texts::with_texts))]
@@ -113,7 +195,8 @@ fn add_joins(
 fn joined(alloc: Global, front: &[u8], back: &[u8]) -> Result<Vec<u8>, AllocError>
     ensures { IfOk result (λ text. text.items ≡ front.now ++ back.now) }
 {
-    let mut text = Vec::from_slice(alloc, front)?;
+    let mut text = Vec::with_capacity(alloc, front.len().saturating_add(back.len()))?;
+    text.extend_from_slice(front)?;
     text.extend_from_slice(back)?;
     Ok(text)
 }
@@ -127,16 +210,36 @@ pub(crate) fn kept_ends(
 ) -> Result<Vec<Vec<u8>>, AllocError>
     ensures { IfOk result (λ ends. texts_of ends.items ≡ kept_ends (cut_at side) (texts_of texts.now)) }
 {
-    let two = cuts(alloc, side, 2, texts)?;
-    if two.len() <= MOST_TEXTS {
+    if let Some(two) = few_cuts(alloc, side, 2, texts)? {
         return shortest(alloc, side, two.as_slice());
     }
-    let one = cuts(alloc, side, 1, texts)?;
-    if one.len() <= MOST_TEXTS {
+    if let Some(one) = few_cuts(alloc, side, 1, texts)? {
         return shortest(alloc, side, one.as_slice());
     }
     let none = cuts(alloc, side, 0, texts)?;
     shortest(alloc, side, none.as_slice())
+}
+
+/// The ends of so many bytes, where there are at most 16 of them.
+#[tactic(auto, unfolding(crate::specs::Texts::with_texts))]
+fn few_cuts(
+    alloc: Global,
+    side: Side,
+    count: usize,
+    texts: &[Vec<u8>],
+) -> Result<Option<Vec<Vec<u8>>>, AllocError>
+    ensures some { IfOk result (λ o. IfSome o (λ ends. texts_of ends.items ≡ cuts (cut_at side) count (texts_of texts.now))) }
+    ensures few { IfOk result (λ o. IfSome o (λ ends. length ends.items ≤ MOST_TEXTS)) }
+    ensures many { IfOk result (λ o. IfNone o (MOST_TEXTS < length (cuts (cut_at side) count (texts_of texts.now)))) }
+{
+    let mut ends = Vec::new(alloc);
+    for text in texts {
+        add_copy(alloc, &mut ends, cut(side, count, text.as_slice()))?;
+        if ends.len() > MOST_TEXTS {
+            return Ok(None);
+        }
+    }
+    Ok(Some(ends))
 }
 
 #[tactic(auto, unfolding(crate::specs::Texts::with_texts))]
@@ -150,10 +253,7 @@ fn cuts(
 {
     let mut ends = Vec::new(alloc);
     for text in texts {
-        add(
-            &mut ends,
-            Vec::from_slice(alloc, cut(side, count, text.as_slice()))?,
-        )?;
+        add_copy(alloc, &mut ends, cut(side, count, text.as_slice()))?;
     }
     Ok(ends)
 }

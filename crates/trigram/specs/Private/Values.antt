@@ -1,19 +1,24 @@
 -- What the values of the program that makes the analysis are: sets of texts, and what is known of words.
-use Rattle.std.specs.Prelude.{◌≡◌, ℕ, List, map, take}
+use Rattle.std.specs.Prelude.{◌≡◌, ℕ, false, List, [], ◌∷◌, length, map, take}
 use Rattle.std.specs.declared.alloc.Global.{Global}
 use Rattle.std.specs.declared.vec.Vec.{Vec}
 use Rattle.query.specs.Query.{formula_of, is_met, IsPlain}
 use Rattle.trigram.specs.declared.analysis.Ends.{Ends}
-use Rattle.trigram.specs.declared.analysis.Words.{Words}
-use Rattle.trigram.specs.declared.analysis.Words.TheVariants.{Known, Loose}
+use Rattle.trigram.specs.declared.analysis.Analysis as program
+use Rattle.trigram.specs.declared.analysis.Analysis.TheVariants.{Known, Loose}
 use Rattle.trigram.specs.declared.texts.Side.{Side}
 use Rattle.trigram.specs.declared.texts.Side.TheVariants.{Front, Back}
-use Rattle.trigram.specs.Texts.{Cut, ending}
+use Rattle.trigram.specs.Texts.{Cut, ending, has_text}
 use Rattle.trigram.specs.Analysis.{Analysis, known, loose}
 
 -- the texts of a program's set
 abbrev pub texts_of : List (Vec ℕ Global) → List (List ℕ)
 texts_of texts = map (λ text. text.items) texts
+
+-- the texts are all different, and of this length
+abbrev pub AreDistinct : ℕ → List (List ℕ) → Type 0
+AreDistinct size [] = Unit {0}
+AreDistinct size (text ∷ texts) = (length text ≡ size) × (has_text texts text ≡ false) × AreDistinct size texts
 
 -- the cut at one end
 abbrev pub cut_at : Side → Cut
@@ -24,19 +29,19 @@ cut_at Back = ending
 abbrev pub ends_analysis : Ends → Analysis
 ends_analysis ends = loose ends.nullable (texts_of ends.fronts.items) (texts_of ends.backs.items) (is_met (formula_of ends.condition))
 
--- the analysis that the program's words are
-abbrev pub words_analysis : Words → Analysis
-words_analysis (Known texts) = known (texts_of texts.items)
-words_analysis (Loose ends) = ends_analysis ends
+-- the program's analysis as a plain value: texts for its vectors, and a test for its query
+abbrev pub shown_analysis : program.Analysis → Analysis
+shown_analysis (Known texts) = known (texts_of texts.items)
+shown_analysis (Loose ends) = ends_analysis ends
 
-abbrev pub ArePlain : Words → Type 0
+abbrev pub ArePlain : program.Analysis → Type 0
 ArePlain (Known texts) = Unit {0}
 ArePlain (Loose ends) = IsPlain (formula_of ends.condition)
 
--- The program's words are this analysis, and their condition is plain.
-pub record StandFor (analysis : Analysis) (words : Words) : Type 0 where
-  pub plain : ArePlain words
-  pub is : words_analysis words ≡ analysis
+-- The program's analysis is this one, and its condition is plain.
+pub record StandFor (analysis : Analysis) (found : program.Analysis) : Type 0 where
+  pub plain : ArePlain found
+  pub is : shown_analysis found ≡ analysis
 
 -- The program's loose ends are this analysis, and their condition is plain.
 pub record EndsStandFor (analysis : Analysis) (ends : Ends) : Type 0 where

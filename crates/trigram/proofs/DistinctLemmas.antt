@@ -1,0 +1,69 @@
+-- Where texts of one length are all different, so are their joinings.
+use Rattle.std.proofs.Common.{◌≡◌, ℕ, Bool, true, false, cond, List, [], ◌∷◌, ◌++◌, length, map, take, refl, sym, ap, subst, ◌∙◌, inl, inr, ⊎_elim}
+use Rattle.std.specs.List.{flat_map}
+use Rattle.std.proofs.Math.Seq.{take-append_seam}
+use Rattle.std.proofs.lemmas.Bool.{false≢true}
+use Rattle.std.proofs.lemmas.List.{append_assoc, append-nil, append_cancel_left}
+use Rattle.trigram.specs.Texts.{Texts, has_text, with_texts, joins}
+use Rattle.trigram.specs.Private.Values.{AreDistinct}
+use Rattle.trigram.proofs.MemberLemmas.{IsIn, IsIn-has_text, has_text-IsIn, IsIn-append_cases, IsIn-from_map}
+
+-- none of the others is there already, or twice
+abbrev Fresh : Texts → Texts → Type 0
+Fresh texts [] = Unit {0}
+Fresh texts (text ∷ others) = (IsIn text texts → ⊥) × Fresh (texts ++ text ∷ []) others
+
+not_there : (texts : Texts) (text : List ℕ) → (IsIn text texts → ⊥) → has_text texts text ≡ false
+not_there texts text h = go (has_text texts text) refl
+  where
+    go : (b : Bool) → has_text texts text ≡ b → b ≡ false
+    go true e = absurd (h (IsIn-has_text texts text e))
+    go false e = refl
+
+there : (texts : Texts) (text : List ℕ) → has_text texts text ≡ false → IsIn text texts → ⊥
+there texts text none h = false≢true (sym none ∙ has_text-IsIn texts text h)
+
+all_fresh : (texts others : Texts) → Fresh texts others → with_texts texts others ≡ texts ++ others
+unfolding with_texts
+all_fresh texts [] h = sym (append-nil texts)
+all_fresh texts (text ∷ others) h =
+    ap (λ b. with_texts (cond b texts (texts ++ text ∷ [])) others) (not_there texts text h.0)
+    ∙ all_fresh (texts ++ text ∷ []) others h.1
+    ∙ append_assoc texts (text ∷ []) others
+
+Fresh-append : (texts left right : Texts) → Fresh texts left → Fresh (texts ++ left) right → Fresh texts (left ++ right)
+Fresh-append texts [] right one two = subst (λ t. Fresh t right) (append-nil texts) two
+Fresh-append texts (text ∷ left) right one two = (one.0, Fresh-append (texts ++ text ∷ []) left right one.1 (subst (λ t. Fresh t right) (sym (append_assoc texts (text ∷ []) left)) two))
+
+Fresh-behind : (front : List ℕ) (texts backs : Texts) (n : ℕ) → AreDistinct n backs → ((back : List ℕ) → IsIn back backs → IsIn (front ++ back) texts → ⊥) → Fresh texts (map (λ back. front ++ back) backs)
+Fresh-behind front texts [] n h none = tt
+Fresh-behind front texts (back ∷ backs) n h none = (
+  none back (inl refl),
+  Fresh-behind front (texts ++ (front ++ back) ∷ []) backs n h.2 (λ other later held.
+      ⊎_elim (λ old. none other (inr later) old) (λ new. same other later new) (IsIn-append_cases texts ((front ++ back) ∷ []) (front ++ other) held)),
+)
+  where
+    same : (other : List ℕ) → IsIn other backs → IsIn (front ++ other) ((front ++ back) ∷ []) → ⊥
+    same other later (inl e) = there backs back h.1 (subst (λ t. IsIn t backs) (sym (append_cancel_left front back other e)) later)
+    same other later (inr e) = e
+
+length_in : (texts : Texts) (n : ℕ) (text : List ℕ) → AreDistinct n texts → IsIn text texts → length text ≡ n
+length_in [] n text h held = absurd held
+length_in (first ∷ texts) n text h (inl e) = ap length (sym e) ∙ h.0
+length_in (first ∷ texts) n text h (inr later) = length_in texts n text h.2 later
+
+same_front : (one other back last : List ℕ) → length one ≡ length other → one ++ back ≡ other ++ last → one ≡ other
+same_front one other back last size e = sym (take-append_seam one back) ∙ ap (take (length one)) e ∙ ap (λ n. take n (other ++ last)) size ∙ take-append_seam other last
+
+Fresh-joins : (texts left right : Texts) (n m : ℕ) → AreDistinct n left → AreDistinct m right → ((front back : List ℕ) → IsIn front left → IsIn back right → IsIn (front ++ back) texts → ⊥) → Fresh texts (flat_map (λ front. map (λ back. front ++ back) right) left)
+Fresh-joins texts [] right n m l r none = tt
+Fresh-joins texts (front ∷ left) right n m l r none =
+    Fresh-append texts (map (λ back. front ++ back) right) (flat_map (λ front. map (λ back. front ++ back) right) left) (Fresh-behind front texts right m r (λ back held old. none front back (inl refl) held old))
+    (Fresh-joins (texts ++ map (λ back. front ++ back) right) left right n m l.2 r (λ other back later held joined.
+    ⊎_elim (λ old. none other back (inr later) held old) (λ new. let p = IsIn-from_map (λ b. front ++ b) right (other ++ back) new in same other back later p.0 p.2) (IsIn-append_cases texts (map (λ back. front ++ back) right) (other ++ back) joined)))
+  where
+    same : (other back : List ℕ) → IsIn other left → (text : List ℕ) → other ++ back ≡ front ++ text → ⊥
+    same other back later text e = there left front l.1 (subst (λ t. IsIn t left) (same_front other front back text (length_in left n other l.2 later ∙ sym l.0) e) later)
+
+pub joins_of_distinct : (left right : Texts) (n m : ℕ) → AreDistinct n left → AreDistinct m right → joins left right ≡ flat_map (λ front. map (λ back. front ++ back) right) left
+joins_of_distinct left right n m l r = all_fresh [] (flat_map (λ front. map (λ back. front ++ back) right) left) (Fresh-joins [] left right n m l r (λ front back one two held. held))
