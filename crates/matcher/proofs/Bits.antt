@@ -1,9 +1,8 @@
 -- Single bits of words, and the positions of a set of words.
-use Rattle.std.proofs.Common.{◌≡◌, ◌≢◌, ℕ, zero, suc, ◌+◌, ◌-◌, ◌*◌, ◌/◌, ◌%◌, ◌^◌, ◌≤◌, ◌<◌, max, min, Bool, true, false, not, ◌&&◌, ◌||◌, ◌==◌, nat_le, nat_lt, IsTrue, List, length, get_or, set, refl, sym, ap, ◌∙◌, arith, w64}
+use Rattle.std.proofs.Common.{◌≡◌, ◌≢◌, ℕ, zero, suc, ◌+◌, ◌-◌, ◌*◌, ◌/◌, ◌%◌, ◌^◌, ◌≤◌, ◌<◌, max, min, Bool, true, false, not, ◌&&◌, ◌||◌, ◌==◌, nat_le, IsTrue, List, length, get_or, set, refl, sym, ap, ◌∙◌, arith, w64}
 use Rattle.std.proofs.lemmas.List.{get_or-set_same, get_or-set_other}
 use Rattle.std.proofs.lemmas.Bool.Decides.{nat_tests}
-use Rattle.std.proofs.lemmas.Nat.{shr-shr, leading_length}
-use lib.Count.{count_leading_zeros}
+use Rattle.std.proofs.lemmas.Nat.{shr-shr, and_le_l}
 use Rattle.std.proofs.lemmas.Nat.Bits.{bit_at-lt, bit_at_and, bit_at_or, bit_at-zero, bit_at_lowest, shr_and_one, bit_at_not, bit_at_above, bit_at_ones, bit_at_ones_above, ones_shr, bit_at-trailing_zeros, bit_at_set_same, bit_at_set_other, bit_at_cat_low, bit_at_cat_high}
 use Rattle.std.specs.Prelude.{bit_and, bit_or}
 use Rattle.std.specs.Int.{bit_at, bit_not, trailing_zeros}
@@ -89,85 +88,25 @@ some_bit word some small = let lowest = bit_at-trailing_zeros w64 word some smal
 pub lowest_bit : (word : ℕ) → 0 < word → word < 2 ^ 64 → (trailing_zeros w64 word < 64) × ((b : ℕ) → b < trailing_zeros w64 word → has_bit word b ≡ false)
 lowest_bit word some small = let lowest = bit_at-trailing_zeros w64 word some small in (lowest.0, λ b below. ap (λ n. n == 1) (lowest.2 b below))
 
--- `64 - leading_zeros`
-pub none_from_end : (word b : ℕ) → word < 2 ^ 64 → 64 - count_leading_zeros 64 word ≤ b → has_bit word b ≡ false
-none_from_end word b small far =
-    let length_of = leading_length 64 word small in
-    let sum : count_leading_zeros 64 word + length_of.0 ≡ 64 = length_of.1 in
-    ap (λ n. n == 1) (bit_at_above word length_of.0 b length_of.2 (omega arith))
+-- `word & !(1 << bit)`
+pub has_cleared : (word bit b : ℕ) → bit < 64 → b < 64 → has_bit (bit_and word (bit_not w64 (1 * 2 ^ bit % 2 ^ 64))) b ≡ (has_bit word b && not (b == bit))
+has_cleared word bit b inside within = has_without word (1 * 2 ^ bit % 2 ^ 64) b (omega arith) within ∙ ap (λ t. has_bit word b && not t) (has_one_bit bit b inside)
 
-pub below_end : (word b : ℕ) → word < 2 ^ 64 → IsTrue (has_bit word b) → b < 64 - count_leading_zeros 64 word
-below_end word b small held = go (nat_lt b (64 - count_leading_zeros 64 word)) refl
+pub cleared_less : (word bit : ℕ) → bit < 64 → IsTrue (has_bit word bit) → bit_and word (bit_not w64 (1 * 2 ^ bit % 2 ^ 64)) < word
+cleared_less word bit inside held = less (bit_and word (bit_not w64 (1 * 2 ^ bit % 2 ^ 64))) (and_le_l word (bit_not w64 (1 * 2 ^ bit % 2 ^ 64))) (λ e. false≢true (sym gone ∙ ap (λ n. has_bit n bit) e ∙ held))
   where
-    go : (t : Bool) → nat_lt b (64 - count_leading_zeros 64 word) ≡ t → b < 64 - count_leading_zeros 64 word
-    go true e = grind (arith, nat_tests)
-    go false e =
-        let far : 64 - count_leading_zeros 64 word ≤ b = grind (arith, nat_tests) in
-        absurd (false≢true (sym (none_from_end word b small far) ∙ held))
+    less : (n : ℕ) → n ≤ word → n ≢ word → n < word
+    less n le apart = omega arith
 
--- bits that pass, within a range
-pub passing_none : (pass : ℕ → Bool) (first b : ℕ) → has_bit 0 b ≡ ((nat_le first b && nat_lt b first) && pass b)
-passing_none pass first b = has_zero b ∙ go (nat_le first b) (nat_lt b first) refl refl
-  where
-    go : (t u : Bool) → nat_le first b ≡ t → nat_lt b first ≡ u → false ≡ ((nat_le first b && nat_lt b first) && pass b)
-    go false u e f = rw e refl
-    go true false e f = rw (e, f) refl
-    go true true e f =
-        let low : first ≤ b = grind (arith, nat_tests) in
-        let high : b < first = grind (arith, nat_tests) in
-        absurd (omega arith)
-
-pub passing_more : (pass : ℕ → Bool) (passing next first at : ℕ) (passes : Bool) → first ≤ at → ((b : ℕ) → b < 64 → has_bit passing b ≡ ((nat_le first b && nat_lt b at) && pass b)) → passes ≡ pass at → ((b : ℕ) → has_bit next b ≡ (has_bit passing b || (passes && b == at))) → (b : ℕ) → b < 64 → has_bit next b ≡ ((nat_le first b && nat_lt b (at + 1)) && pass b)
-passing_more pass passing next first at passes begun h test more b inside = go (b == at) refl
-  where
-    and_no : (x : Bool) → (x && false) ≡ false
+    and_no : (t : Bool) → (t && false) ≡ false
     and_no true = refl
     and_no false = refl
 
-    or_no : (x : Bool) → (x || false) ≡ x
-    or_no true = refl
-    or_no false = refl
+    same : bit == bit ≡ true
+    same = grind (arith, nat_tests)
 
-    and_yes : (x : Bool) → (x && true) ≡ x
-    and_yes true = refl
-    and_yes false = refl
-
-    same_test : b ≢ at → nat_lt b at ≡ nat_lt b (at + 1)
-    same_test apart = pick (nat_lt b at) refl
-      where
-        pick : (t : Bool) → nat_lt b at ≡ t → nat_lt b at ≡ nat_lt b (at + 1)
-        pick true e = let low : b < at = grind (arith, nat_tests) in let test : nat_lt b (at + 1) ≡ true = grind (arith, nat_tests) in e ∙ sym test
-        pick false e = let high : at ≤ b = grind (arith, nat_tests) in let test : nat_lt b (at + 1) ≡ false = let past : at + 1 ≤ b = omega arith in grind (arith, nat_tests) in e ∙ sym test
-
-    go : (t : Bool) → (b == at) ≡ t → has_bit next b ≡ ((nat_le first b && nat_lt b (at + 1)) && pass b)
-    go true e =
-        let same : b ≡ at = grind (arith, nat_tests) in
-        let low : nat_le first b ≡ true = let le : first ≤ b = omega arith in grind (arith, nat_tests) in
-        let high : nat_lt b (at + 1) ≡ true = let lt : b < at + 1 = omega arith in grind (arith, nat_tests) in
-        let out : nat_lt b at ≡ false = let past : at ≤ b = omega arith in grind (arith, nat_tests) in
-        let before : has_bit passing b ≡ false = h b inside ∙ rw (low, out) refl in
-        let now : (passes && b == at) ≡ pass b = ap (λ t. passes && t) e ∙ and_yes passes ∙ test ∙ ap (λ n. pass n) (sym same) in
-        more b ∙ rw (before, now, low, high) refl
-    go false e =
-        let apart : b ≢ at = grind (arith, nat_tests) in
-        more b ∙ ap (λ t. has_bit passing b || (passes && t)) e ∙ ap (λ t. has_bit passing b || t) (and_no passes) ∙ or_no (has_bit passing b) ∙ h b inside ∙ ap (λ t. (nat_le first b && t) && pass b) (same_test apart)
-
-pub followed_is : (held pass : Bool) (first end b : ℕ) → (b < first → held ≡ false) → (end ≤ b → held ≡ false) → (held && ((nat_le first b && nat_lt b end) && pass)) ≡ (held && pass)
-followed_is held pass first end b low high = go (nat_le first b) (nat_lt b end) refl refl
-  where
-    none : held ≡ false → (held && ((nat_le first b && nat_lt b end) && pass)) ≡ (held && pass)
-    none e = rw e refl
-
-    go : (t u : Bool) → nat_le first b ≡ t → nat_lt b end ≡ u → (held && ((nat_le first b && nat_lt b end) && pass)) ≡ (held && pass)
-    go false u e f = none (low (grind (arith, nat_tests)))
-    go true false e f = none (high (grind (arith, nat_tests)))
-    go true true e f = rw (e, f) refl
-
-pub passing_from : (first b : ℕ) (pass : Bool) → first ≤ b → b < 64 → ((nat_le first b && nat_lt b 64) && pass) ≡ pass
-passing_from first b pass from inside =
-    let low : nat_le first b ≡ true = grind (arith, nat_tests) in
-    let high : nat_lt b 64 ≡ true = grind (arith, nat_tests) in
-    rw (low, high) refl
+    gone : has_bit (bit_and word (bit_not w64 (1 * 2 ^ bit % 2 ^ 64))) bit ≡ false
+    gone = has_cleared word bit bit inside inside ∙ ap (λ t. has_bit word bit && not t) same ∙ and_no (has_bit word bit)
 
 -- `MAX >> 63 - last`
 pub has_through : (last b : ℕ) → last < 64 → has_bit ((2 ^ 64 - 1) / 2 ^ (63 - last)) b ≡ nat_le b last

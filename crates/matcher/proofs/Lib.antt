@@ -1,6 +1,9 @@
 pub mod Bits
 pub mod Flooding
 pub mod Shifting
+pub mod Passing
 pub mod Joining
+pub mod OneWords
 pub mod Meaning
 pub mod Walks
+pub mod Rounds

@@ -13,7 +13,7 @@ use Rattle.matcher.specs.PositionSets.{has_bit, has_position}
 use Rattle.matcher.specs.Private.Moves.{Moves}
 use Rattle.matcher.proofs.Bits.{false≢true, has_zero, position_in, same_word, empty_word, position_set_same, position_set_other}
 
-and_false : (a b : Bool) → b ≡ false → (a && b) ≡ false
+pub and_false : (a b : Bool) → b ≡ false → (a && b) ≡ false
 and_false true b e = e
 and_false false b e = refl
 
@@ -208,7 +208,7 @@ swept_first members line old first end bounds = record {
     none k l = comes_none (has_position old) (passes members line) 0 k refl (λ j low high. none_before bounds j (omega arith)) (omega arith)
 
 -- the flood of one word is that of all
-comes_word : (held pass : ℕ → Bool) (word carried base : ℕ) → ((b : ℕ) → b < 64 → has_bit word b ≡ (held (base + b) || has_bit carried b)) → ((b : ℕ) → 0 < b → has_bit carried b ≡ false) → has_bit carried 0 ≡ comes held pass base → (b : ℕ) → b < 64 → flood (has_bit word) (λ n. pass (base + n)) b ≡ flood held pass (base + b)
+pub comes_word : (held pass : ℕ → Bool) (word carried base : ℕ) → ((b : ℕ) → b < 64 → has_bit word b ≡ (held (base + b) || has_bit carried b)) → ((b : ℕ) → 0 < b → has_bit carried b ≡ false) → has_bit carried 0 ≡ comes held pass base → (b : ℕ) → b < 64 → flood (has_bit word) (λ n. pass (base + n)) b ≡ flood held pass (base + b)
 comes_word held pass word carried base bits small start b inside = go b inside
   where
     or_none : (t : Bool) → (t || false) ≡ t

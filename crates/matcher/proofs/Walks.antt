@@ -12,7 +12,7 @@ use Rattle.ere.specs.Language.{ContainsMatch}
 use Rattle.matcher.proofs.Bits.{false≢true}
 use Rattle.matcher.proofs.Meaning.{hit_of_spans, spans_of_hit}
 
-not_held : {places : Positions} → HasNone places → (k : ℕ) → IsTrue (has_position places k) → ⊥
+pub not_held : {places : Positions} → HasNone places → (k : ℕ) → IsTrue (has_position places k) → ⊥
 not_held empties k h = false≢true (sym (empties.none k) ∙ h)
 
 -- nothing leads from nothing to nothing
@@ -98,17 +98,17 @@ pub moves_some_none : (line : List ℕ) (from to : Positions) → HasNone to →
 unfolding SpansSome
 moves_some_none line from to none_to = moves_nowhere (SpansSome line none) from to (λ i k r. r) none_to
 
-in_left : {left right both : Positions} → IsEither left right both → (k : ℕ) → IsTrue (has_position left k) → IsTrue (has_position both k)
+pub in_left : {left right both : Positions} → IsEither left right both → (k : ℕ) → IsTrue (has_position left k) → IsTrue (has_position both k)
 in_left either k h = either.each k ∙ rw h refl
 
-in_right : {left right both : Positions} → IsEither left right both → (k : ℕ) → IsTrue (has_position right k) → IsTrue (has_position both k)
+pub in_right : {left right both : Positions} → IsEither left right both → (k : ℕ) → IsTrue (has_position right k) → IsTrue (has_position both k)
 in_right {left} {right} either k h = either.each k ∙ or_right (has_position left k) (has_position right k) h
   where
     or_right : (a b : Bool) → IsTrue b → IsTrue (a || b)
     or_right true b h = refl
     or_right false b h = h
 
-in_either : {left right both : Positions} → IsEither left right both → (k : ℕ) → IsTrue (has_position both k) → IsTrue (has_position left k) ⊎ IsTrue (has_position right k)
+pub in_either : {left right both : Positions} → IsEither left right both → (k : ℕ) → IsTrue (has_position both k) → IsTrue (has_position left k) ⊎ IsTrue (has_position right k)
 in_either {left} {right} either k h = parts (has_position left k) (has_position right k) (sym (either.each k) ∙ h)
   where
     parts : (a b : Bool) → IsTrue (a || b) → IsTrue a ⊎ IsTrue b
@@ -143,7 +143,7 @@ moves_more_steps relation count next from middle to e one two =
     let moves : Moves (Steps relation (suc count)) from to = record { sound = both.sound; complete = both.complete } in
     subst (λ n. Moves (Steps relation n) from to) is_next moves
 
-steps_split : (relation : Relation) (first rest : ℕ) (i k : ℕ) → Steps relation (first + rest) i k → Then (Steps relation first) (Steps relation rest) i k
+pub steps_split : (relation : Relation) (first rest : ℕ) (i k : ℕ) → Steps relation (first + rest) i k → Then (Steps relation first) (Steps relation rest) i k
 unfolding Steps
 steps_split relation first zero i k h = (k, rw (← first_is) h, refl)
   where
@@ -155,7 +155,7 @@ steps_split relation first (suc rest) i k h =
     let before = steps_split relation first rest i last.0 last.1 in
     (before.0, before.1, (last.0, before.2, last.2))
 
-steps_join : (relation : Relation) (first rest : ℕ) (i m k : ℕ) → Steps relation first i m → Steps relation rest m k → Steps relation (first + rest) i k
+pub steps_join : (relation : Relation) (first rest : ℕ) (i m k : ℕ) → Steps relation first i m → Steps relation rest m k → Steps relation (first + rest) i k
 unfolding Steps
 steps_join relation first zero i m k a b =
     let first_is : first ≡ first + zero = omega arith in
@@ -191,7 +191,7 @@ widened_first relation allowed start none_allowed = record {
   closed = λ k to h r. inl h;
 }
 
-decide : (b : Bool) → IsTrue b ⊎ (b ≡ false)
+pub decide : (b : Bool) → IsTrue b ⊎ (b ≡ false)
 decide true = inl refl
 decide false = inr refl
 

@@ -4,6 +4,8 @@
 //! of tree its words, with anchors by 9.4.9. A search takes no memory.
 #![tactic(auto)]
 
+mod one_word;
+mod position_set;
 mod positions;
 mod walk;
 mod words;
@@ -13,8 +15,11 @@ ghost use Rattle.ere.specs.Limits.{IsWithinLimits};
 ghost use Rattle.ere.specs.Language.{ContainsMatch};
 ghost use Rattle.ere.specs.Tree.{form};
 
+use crate::one_word::OneWord;
+use crate::position_set::PositionSet;
 use crate::positions::Positions;
 use crate::walk::advance;
+use crate::words::BITS;
 pub use crate::words::{WORDS, step};
 use ere::{Ere, MAX_LINE};
 
@@ -22,15 +27,30 @@ use ere::{Ere, MAX_LINE};
 ///
 /// The tree is within the limits, and the line has at most `MAX_LINE` bytes. No memory is taken.
 ///
-/// The time is mostly that of the line's length times the tree's leaves. Each level of repeats without a
-/// greatest count inside one another can double it, as in `((a*a)*a)*` and `((a*|b)*|c)*`, but where a
-/// repeat is the whole body of the next, as in `((a*)*)*`.
+/// The time is mostly that of the line's length times the tree's leaves. Repeats without a greatest count that
+/// stand inside one another add little where each stands at the front of the next one's body, as in
+/// `((a*a)*a)*` and `((a*|b)*|c)*`: the time was seen to grow as the square of their number. Where it stands
+/// behind a part that cannot be empty, as in `(a(aa*)*)*`, or under a count other than `?`, each level of
+/// them can still double the time.
 pub fn matches(tree: &Ere, line: &[u8]) -> bool
     requires within_limits { IsWithinLimits (form tree.now) }
     requires line { length line.now ≤ MAX_LINE }
     ensures { IsTrue result ↔ ContainsMatch (form tree.now) line.now }
 {
-    let mut at = Positions::through(line.len());
+    // The positions of a short line are one word, which has no bounds to keep.
+    if line.len() < BITS {
+        is_led_on::<OneWord>(tree, line)
+    } else {
+        is_led_on::<Positions>(tree, line)
+    }
+}
+
+/// Whether a word of the tree leads from a position of the line to another.
+fn is_led_on<S: PositionSet>(tree: &Ere, line: &[u8]) -> bool
+    requires { length line.now ≤ S.longest }
+    ensures { IsTrue result ↔ ContainsMatch (form tree.now) line.now }
+{
+    let mut at = S::through(line.len());
     advance(tree, line, &mut at);
     !at.is_empty()
 }

@@ -1,11 +1,8 @@
-//! Sets of positions of a line.
+//! Sets of positions of a line of any length.
 
-ghost use Rattle.std.specs.Prelude.{◌≡◌, ◌≤◌, ◌<◌, ℕ, ◌&&◌, ◌==◌, nat_le, IsTrue, MatchBool, length, slice_index};
-ghost use Rattle.ere.specs.Tree.{set};
-ghost use Rattle.matcher.specs.Spans.{Spans, Steps};
-ghost use Rattle.matcher.specs.PositionSets.{has_position};
-ghost use Rattle.matcher.specs.Private.Moves.{absent, HasNone, IsEither, IsNew, Moves};
+ghost use Rattle.std.specs.Prelude.{◌≤◌, ◌<◌, ℕ};
 
+use crate::position_set::PositionSet;
 use crate::words::{
     BITS, WORDS, either, every, first_held, only_bit, shift, sweep, through_bit, without,
 };
@@ -33,11 +30,14 @@ impl Model for Positions {
     ghost invariant = { λ s. IsBounded s.words s.first s.end };
 }
 
-impl Positions {
-    /// The set with no position.
-    pub fn none() -> Positions
-        ensures { HasNone result }
-    {
+impl PositionSet for Positions {
+    ghost use Rattle.ere.specs.declared.tree.TheConstants.{MAX_LINE};
+
+    ghost words = { λ s. s };
+
+    ghost longest = { MAX_LINE };
+
+    fn none() -> Positions {
         Positions {
             words: every(0),
             first: 0,
@@ -45,11 +45,7 @@ impl Positions {
         }
     }
 
-    /// The positions from 0 to `last`, which is at most `MAX_LINE`.
-    pub fn through(last: usize) -> Positions
-        requires { last ≤ MAX_LINE }
-        ensures { (k : ℕ) → has_position result k ≡ nat_le k last }
-    {
+    fn through(last: usize) -> Positions {
         let mut words = every(0);
         let whole = last / BITS;
         for i in 0..whole {
@@ -63,10 +59,7 @@ impl Positions {
         }
     }
 
-    /// Whether no position is in the set.
-    pub fn is_empty(&self) -> bool
-        ensures { MatchBool result (HasNone self.now) ((k : ℕ) × IsTrue (has_position self.now k)) }
-    {
+    fn is_empty(&self) -> bool {
         for i in self.first..self.end {
             if self.words[i] != 0 {
                 return false;
@@ -75,11 +68,7 @@ impl Positions {
         true
     }
 
-    /// Takes every position out.
-    pub fn clear(&mut self)
-        ensures none { HasNone self.new }
-        ensures empty { (i : ℕ) → slice_index self.new i ≡ 0 }
-    {
+    fn clear(&mut self) {
         for i in self.first..self.end {
             self.words[i] = 0;
         }
@@ -87,10 +76,7 @@ impl Positions {
         self.end = 0;
     }
 
-    /// Makes the set the same as another.
-    pub fn copy(&mut self, other: &Positions)
-        ensures { self.new ≡ other.now }
-    {
+    fn copy(&mut self, other: &Positions) {
         self.clear();
         for i in other.first..other.end {
             self.words[i] = other.words[i];
@@ -99,11 +85,7 @@ impl Positions {
         self.end = other.end;
     }
 
-    /// Takes every position but one out.
-    pub fn keep(&mut self, position: usize)
-        requires { position ≤ MAX_LINE }
-        ensures { (k : ℕ) → has_position self.new k ≡ (k == position && has_position self.old k) }
-    {
+    fn keep(&mut self, position: usize) {
         let i = position / BITS;
         let stays = only_bit(self.words[i], position % BITS);
         self.clear();
@@ -112,13 +94,7 @@ impl Positions {
         self.end = i + 1;
     }
 
-    /// Puts the positions of `fresh` in, and takes those out of `fresh` that were in already. Whether
-    /// any was not.
-    pub fn add(&mut self, fresh: &mut Positions) -> bool
-        ensures both { IsEither self.old fresh.old self.new }
-        ensures new { IsNew fresh.old self.old fresh.new }
-        ensures grown { MatchBool result (absent self.new < absent self.old) (HasNone fresh.new) }
-    {
+    fn add(&mut self, fresh: &mut Positions) -> bool {
         let (first, end) = joined(self.first, self.end, fresh.first, fresh.end);
         for i in fresh.first..fresh.end {
             let next = fresh.words[i];
@@ -130,21 +106,12 @@ impl Positions {
         !fresh.is_empty()
     }
 
-    /// Moves each position over the byte behind it, where that is in the set; where it is not, and at
-    /// the line's end, the position is lost.
-    pub fn step(&mut self, members: &ByteSet, line: &[u8])
-        requires { length line.now ≤ MAX_LINE }
-        ensures { Moves (Spans line.now (set members.now)) self.old self.new }
-    {
+    fn step(&mut self, members: &ByteSet, line: &[u8]) {
         self.end = shift(members, line, &mut self.words, self.first, self.end);
         self.first = first_held(&self.words, self.first, self.end);
     }
 
-    /// Moves each position over any number of bytes that are in the set.
-    pub fn sweep(&mut self, members: &ByteSet, line: &[u8])
-        requires { length line.now ≤ MAX_LINE }
-        ensures { Moves (λ from to. (words : ℕ) × Steps (Spans line.now (set members.now)) words from to) self.old self.new }
-    {
+    fn sweep(&mut self, members: &ByteSet, line: &[u8]) {
         self.end = sweep(members, line, &mut self.words, self.first, self.end);
     }
 }

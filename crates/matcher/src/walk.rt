@@ -1,18 +1,18 @@
 //! The walk of a set of positions through a tree.
 
-ghost use Rattle.std.specs.Prelude.{ℕ, ◌≤◌, IsTrue, List, length, map};
+ghost use Rattle.std.specs.Prelude.{ℕ, suc, Some, ◌≤◌, IsTrue, List, length, map};
 ghost use Rattle.ere.specs.Tree.{form, repeat, trees_of};
 ghost use Rattle.matcher.specs.Spans.{Spans, SpansEach, SpansSome, Steps};
-ghost use Rattle.matcher.specs.Private.Moves.{Moves};
+ghost use Rattle.matcher.specs.Private.Moves.{Moves, MovesIf, MovesPast};
 
-use crate::positions::Positions;
-use ere::{Ere, MAX_LINE};
+use crate::position_set::PositionSet;
+use ere::Ere;
 
 /// Moves each position to all those to which a word of the tree leads from it.
 #[cycle(walk)]
-pub fn advance(tree: &Ere, line: &[u8], at: &mut Positions)
-    requires { length line.now ≤ MAX_LINE }
-    ensures { Moves (Spans line.now (form tree.now)) at.old at.new }
+pub fn advance<S: PositionSet>(tree: &Ere, line: &[u8], at: &mut S)
+    requires { length line.now ≤ S.longest }
+    ensures { Moves (Spans line.now (form tree.now)) (S.words at.old) (S.words at.new) }
 {
     match tree {
         Ere::Empty => {}
@@ -27,9 +27,9 @@ pub fn advance(tree: &Ere, line: &[u8], at: &mut Positions)
 
 /// By a word of each member, one behind the other.
 #[cycle(walk)]
-fn advance_each(members: &[Ere], line: &[u8], at: &mut Positions)
-    requires { length line.now ≤ MAX_LINE }
-    ensures { Moves (SpansEach line.now (trees_of (map form members.now))) at.old at.new }
+fn advance_each<S: PositionSet>(members: &[Ere], line: &[u8], at: &mut S)
+    requires { length line.now ≤ S.longest }
+    ensures { Moves (SpansEach line.now (trees_of (map form members.now))) (S.words at.old) (S.words at.new) }
 {
     for member in members {
         advance(member, line, at);
@@ -41,12 +41,12 @@ fn advance_each(members: &[Ere], line: &[u8], at: &mut Positions)
 
 /// By a word of one member.
 #[cycle(walk)]
-fn advance_some(members: &[Ere], line: &[u8], at: &mut Positions)
-    requires { length line.now ≤ MAX_LINE }
-    ensures { Moves (SpansSome line.now (trees_of (map form members.now))) at.old at.new }
+fn advance_some<S: PositionSet>(members: &[Ere], line: &[u8], at: &mut S)
+    requires { length line.now ≤ S.longest }
+    ensures { Moves (SpansSome line.now (trees_of (map form members.now))) (S.words at.old) (S.words at.new) }
 {
-    let mut found = Positions::none();
-    let mut one = Positions::none();
+    let mut found = S::none();
+    let mut one = S::none();
     for i in (0..members.len()).rev() {
         one.copy(at);
         advance(&members[i], line, &mut one);
@@ -57,9 +57,15 @@ fn advance_some(members: &[Ere], line: &[u8], at: &mut Positions)
 
 /// By `least` words of the body or more, and at most `greatest`, one behind the other.
 #[cycle(walk)]
-fn advance_counted(body: &Ere, least: u8, greatest: Option<u8>, line: &[u8], at: &mut Positions)
-    requires { length line.now ≤ MAX_LINE }
-    ensures { Moves (Spans line.now (repeat (form body.now) least greatest)) at.old at.new }
+fn advance_counted<S: PositionSet>(
+    body: &Ere,
+    least: u8,
+    greatest: Option<u8>,
+    line: &[u8],
+    at: &mut S,
+)
+    requires { length line.now ≤ S.longest }
+    ensures { Moves (Spans line.now (repeat (form body.now) least greatest)) (S.words at.old) (S.words at.new) }
 {
     match greatest {
         Some(most) => {
@@ -71,12 +77,17 @@ fn advance_counted(body: &Ere, least: u8, greatest: Option<u8>, line: &[u8], at:
             advance_at_most(body, most - least, line, at);
         }
         None => {
-            advance_exactly(body, least, line, at);
             // Where two words of the body are one, a single round more finds everything.
-            if !joins_words(body) {
-                advance_any(body, line, at);
+            if joins_words(body) {
+                advance_exactly(body, least, line, at);
+                if least == 0 {
+                    advance_at_most(body, 1, line, at);
+                }
             } else if least == 0 {
-                advance_at_most(body, 1, line, at);
+                advance_any(body, line, at);
+            } else {
+                advance_exactly(body, least - 1, line, at);
+                advance_more(body, line, at);
             }
         }
     }
@@ -84,9 +95,9 @@ fn advance_counted(body: &Ere, least: u8, greatest: Option<u8>, line: &[u8], at:
 
 /// By exactly `count` words of the body, one behind the other.
 #[cycle(walk)]
-fn advance_exactly(body: &Ere, count: u8, line: &[u8], at: &mut Positions)
-    requires { length line.now ≤ MAX_LINE }
-    ensures { Moves (Steps (Spans line.now (form body.now)) count) at.old at.new }
+fn advance_exactly<S: PositionSet>(body: &Ere, count: u8, line: &[u8], at: &mut S)
+    requires { length line.now ≤ S.longest }
+    ensures { Moves (Steps (Spans line.now (form body.now)) count) (S.words at.old) (S.words at.new) }
 {
     for _word in 0..count {
         if at.is_empty() {
@@ -98,11 +109,11 @@ fn advance_exactly(body: &Ere, count: u8, line: &[u8], at: &mut Positions)
 
 /// By at most `count` words of the body, one behind the other.
 #[cycle(walk)]
-fn advance_at_most(body: &Ere, count: u8, line: &[u8], at: &mut Positions)
-    requires { length line.now ≤ MAX_LINE }
-    ensures { Moves (λ from to. (words : ℕ) × (words ≤ count) × Steps (Spans line.now (form body.now)) words from to) at.old at.new }
+fn advance_at_most<S: PositionSet>(body: &Ere, count: u8, line: &[u8], at: &mut S)
+    requires { length line.now ≤ S.longest }
+    ensures { Moves (λ from to. (words : ℕ) × (words ≤ count) × Steps (Spans line.now (form body.now)) words from to) (S.words at.old) (S.words at.new) }
 {
-    let mut found = Positions::none();
+    let mut found = S::none();
     found.copy(at);
     for _round in 0..count {
         advance(body, line, at);
@@ -116,24 +127,192 @@ fn advance_at_most(body: &Ere, count: u8, line: &[u8], at: &mut Positions)
 
 /// By any number of words of the body, one behind the other.
 #[cycle(walk)]
-fn advance_any(body: &Ere, line: &[u8], at: &mut Positions)
-    requires { length line.now ≤ MAX_LINE }
-    ensures { Moves (λ from to. (words : ℕ) × Steps (Spans line.now (form body.now)) words from to) at.old at.new }
+fn advance_any<S: PositionSet>(body: &Ere, line: &[u8], at: &mut S)
+    requires { length line.now ≤ S.longest }
+    ensures { Moves (λ from to. (words : ℕ) × Steps (Spans line.now (form body.now)) words from to) (S.words at.old) (S.words at.new) }
 {
     if let Ere::Set(members) = body {
         at.sweep(members, line);
         return;
     }
-    let mut found = Positions::none();
-    found.copy(at);
+    let done = S::none();
+    any_past(body, line, at, &done);
+}
+
+/// By one word of the body or more, one behind the other.
+#[cycle(walk)]
+fn advance_more<S: PositionSet>(body: &Ere, line: &[u8], at: &mut S)
+    requires { length line.now ≤ S.longest }
+    ensures { Moves (λ from to. (more : ℕ) × Steps (Spans line.now (form body.now)) (suc more) from to) (S.words at.old) (S.words at.new) }
+{
+    let done = S::none();
+    more_past(body, line, at, &done);
+}
+
+/// By a word of the tree, but for places to which a word of it leads from a position of `done`: these need
+/// not be found.
+///
+/// A repeat has been through its body from all positions that its earlier rounds began at. So a repeat at
+/// the front of its body need not go on from these.
+#[cycle(walk)]
+fn advance_past<S: PositionSet>(tree: &Ere, line: &[u8], at: &mut S, done: &S)
+    requires { length line.now ≤ S.longest }
+    ensures { MovesPast (Spans line.now (form tree.now)) (S.words done.now) (S.words at.old) (S.words at.new) }
+{
+    match tree {
+        Ere::Cat(members) => each_past(members, line, at, done),
+        Ere::Alt(members) => some_past(members, line, at, done),
+        Ere::Repeat(body, least, greatest) => {
+            repeat_past(body, *least, *greatest, line, at, done)
+        }
+        _ => advance(tree, line, at),
+    }
+}
+
+/// By a word of each member, one behind the other. Members stand at the front as long as all before them
+/// can be empty.
+#[cycle(walk)]
+fn each_past<S: PositionSet>(members: &[Ere], line: &[u8], at: &mut S, done: &S)
+    requires { length line.now ≤ S.longest }
+    ensures { MovesPast (SpansEach line.now (trees_of (map form members.now))) (S.words done.now) (S.words at.old) (S.words at.new) }
+{
+    let mut leads = true;
+    for member in members {
+        leads = member_past(member, leads, line, at, done);
+        if at.is_empty() {
+            return;
+        }
+    }
+}
+
+/// By a word of a member that stands at the front, or that does not. Whether the next one stands there too.
+#[cycle(walk)]
+fn member_past<S: PositionSet>(member: &Ere, leads: bool, line: &[u8], at: &mut S, done: &S) -> bool
+    requires { length line.now ≤ S.longest }
+    ensures moved { MovesIf leads (Spans line.now (form member.now)) (S.words done.now) (S.words at.old) (S.words at.new) }
+    ensures next { IsTrue result → IsTrue leads × ((place : ℕ) → Spans line.now (form member.now) place place) }
+{
+    if leads {
+        advance_past(member, line, at, done);
+        can_be_empty(member)
+    } else {
+        advance(member, line, at);
+        false
+    }
+}
+
+/// By a word of one member.
+#[cycle(walk)]
+fn some_past<S: PositionSet>(members: &[Ere], line: &[u8], at: &mut S, done: &S)
+    requires { length line.now ≤ S.longest }
+    ensures { MovesPast (SpansSome line.now (trees_of (map form members.now))) (S.words done.now) (S.words at.old) (S.words at.new) }
+{
+    let mut found = S::none();
+    let mut one = S::none();
+    for i in (0..members.len()).rev() {
+        one.copy(at);
+        advance_past(&members[i], line, &mut one, done);
+        found.add(&mut one);
+    }
+    at.copy(&found);
+}
+
+/// By `least` words of the body or more, and at most `greatest`, one behind the other.
+#[cycle(walk)]
+fn repeat_past<S: PositionSet>(
+    body: &Ere,
+    least: u8,
+    greatest: Option<u8>,
+    line: &[u8],
+    at: &mut S,
+    done: &S,
+)
+    requires { length line.now ≤ S.longest }
+    ensures { MovesPast (Spans line.now (repeat (form body.now) least greatest)) (S.words done.now) (S.words at.old) (S.words at.new) }
+{
+    match greatest {
+        Some(most) => {
+            if least == 0 && most == 1 {
+                optional_past(body, line, at, done);
+            } else {
+                advance_counted(body, least, greatest, line, at);
+            }
+        }
+        None => {
+            if least == 0 {
+                any_past(body, line, at, done);
+            } else if least == 1 {
+                more_past(body, line, at, done);
+            } else {
+                advance_counted(body, least, greatest, line, at);
+            }
+        }
+    }
+}
+
+/// By a word of the body, or by none.
+#[cycle(walk)]
+fn optional_past<S: PositionSet>(body: &Ere, line: &[u8], at: &mut S, done: &S)
+    requires { length line.now ≤ S.longest }
+    ensures { MovesPast (Spans line.now (repeat (form body.now) 0 (Some 1))) (S.words done.now) (S.words at.old) (S.words at.new) }
+{
+    let mut start = S::none();
+    start.copy(at);
+    advance_past(body, line, at, done);
+    at.add(&mut start);
+}
+
+/// By any number of words of the body, one behind the other.
+#[cycle(walk)]
+fn any_past<S: PositionSet>(body: &Ere, line: &[u8], at: &mut S, done: &S)
+    requires { length line.now ≤ S.longest }
+    ensures { MovesPast (λ from to. (words : ℕ) × Steps (Spans line.now (form body.now)) words from to) (S.words done.now) (S.words at.old) (S.words at.new) }
+{
+    let mut start = S::none();
+    start.copy(at);
+    more_past(body, line, at, done);
+    at.add(&mut start);
+}
+
+/// By one word of the body or more, one behind the other.
+#[cycle(walk)]
+fn more_past<S: PositionSet>(body: &Ere, line: &[u8], at: &mut S, done: &S)
+    requires { length line.now ≤ S.longest }
+    ensures { MovesPast (λ from to. (more : ℕ) × Steps (Spans line.now (form body.now)) (suc more) from to) (S.words done.now) (S.words at.old) (S.words at.new) }
+{
+    if let Ere::Set(members) = body {
+        at.step(members, line);
+        at.sweep(members, line);
+        return;
+    }
+    let mut found = S::none();
+    // From the positions that are over all is found; those that are known are over, or are next.
+    let mut over = S::none();
+    over.copy(done);
+    let mut known = S::none();
+    known.copy(done);
+    known.add(at);
     loop {
-        advance(body, line, at);
-        let grown = found.add(at);
+        advance_past(body, line, at, &over);
+        over.copy(&known);
+        found.add(at);
+        let grown = known.add(at);
         if !grown {
             break;
         }
     }
     at.copy(&found);
+}
+
+/// Whether the empty word is plainly a word of the tree.
+fn can_be_empty(tree: &Ere) -> bool
+    ensures { IsTrue result → (line : List ℕ) (place : ℕ) → Spans line (form tree.now) place place }
+{
+    match tree {
+        Ere::Empty => true,
+        Ere::Repeat(_body, least, _greatest) => *least == 0,
+        _ => false,
+    }
 }
 
 /// Whether two words of the tree, one behind the other, are always a word of it: true of a repeat

@@ -4,12 +4,15 @@ ghost use Rattle.std.specs.Prelude.{◌≡◌, ℕ, ◌+◌, ◌-◌, ◌≤◌,
 ghost use Rattle.ere.specs.ByteSet.{has};
 ghost use Rattle.matcher.specs.PositionSets.{has_bit, has_position};
 ghost use Rattle.matcher.specs.Private.Bounds.{IsBounded};
-ghost use Rattle.matcher.specs.Private.Moving.{passes, arrives, flood};
+ghost use Rattle.matcher.specs.Private.Moving.{passes, arrives, flood, IsPassing};
 
 use ere::{ByteSet, MAX_LINE};
 
 /// How many positions a word has.
 pub(crate) const BITS: usize = 64;
+
+/// From how many positions on a word's are looked at all together.
+const FEW: u32 = 9;
 
 /// How many words the positions of a line of the greatest length need.
 pub const WORDS: usize = MAX_LINE / BITS + 1;
@@ -98,41 +101,82 @@ pub(crate) fn sweep(
 }
 
 /// The positions of a word that have a byte of the set after them. `base` is the word's first position.
-fn followed(word: u64, base: usize, members: &ByteSet, line: &[u8]) -> u64
+pub(crate) fn followed(word: u64, base: usize, members: &ByteSet, line: &[u8]) -> u64
     requires { base ≤ MAX_LINE }
     ensures { (bit : ℕ) → bit < 64 → has_bit result bit ≡ (has_bit word bit && passes members.now line.now (base + bit)) }
 {
-    if word == 0 {
-        return 0;
+    if word.count_ones() < FEW {
+        followed_each(word, base, members, line)
+    } else {
+        both(word, passing(base, members, line))
     }
-    both(
-        word,
-        passing(lowest(word), width(word), base, members, line),
-    )
+}
+
+/// The same, where each position is looked at by itself: quicker where there are few.
+fn followed_each(word: u64, base: usize, members: &ByteSet, line: &[u8]) -> u64
+    requires { base ≤ MAX_LINE }
+    ensures { (bit : ℕ) → bit < 64 → has_bit result bit ≡ (has_bit word bit && passes members.now line.now (base + bit)) }
+{
+    let mut rest = word;
+    let mut found = 0;
+    while rest != 0 {
+        let bit = lowest(rest);
+        let passes = is_followed(base + bit, members, line);
+        found = with_bit_if(found, bit, passes);
+        rest = without_bit(rest, bit);
+    }
+    found
 }
 
 /// The positions of a word to which its positions lead over bytes of the set.
-fn reached(word: u64, base: usize, members: &ByteSet, line: &[u8]) -> u64
+pub(crate) fn reached(word: u64, base: usize, members: &ByteSet, line: &[u8]) -> u64
     requires { base ≤ MAX_LINE }
     ensures { (bit : ℕ) → bit < 64 → has_bit result bit ≡ flood (has_bit word) (λ b. passes members.now line.now (base + b)) bit }
 {
     if word == 0 {
         return 0;
     }
-    flooded(word, passing(lowest(word), BITS, base, members, line))
+    flooded(word, passing(base, members, line))
 }
 
-/// The positions of a word from `first` up to but not at `end` that have a byte of the set after them.
-fn passing(first: usize, end: usize, base: usize, members: &ByteSet, line: &[u8]) -> u64
-    requires base { base ≤ MAX_LINE }
-    requires ordered { first < end }
-    requires end { end ≤ 64 }
-    ensures { (b : ℕ) → b < 64 → has_bit result b ≡ ((nat_le first b && nat_lt b end) && passes members.now line.now (base + b)) }
+/// All positions of a word that have a byte of the set after them. They are found from the last one down,
+/// eight at a time.
+fn passing(base: usize, members: &ByteSet, line: &[u8]) -> u64
+    requires { base ≤ MAX_LINE }
+    ensures { (bit : ℕ) → bit < 64 → has_bit result bit ≡ passes members.now line.now (base + bit) }
+{
+    let end = line.len().saturating_sub(base).min(BITS);
+    let eights = end / 8;
+    let mut passing = last_passing(base, 8 * eights, end, members, line);
+    for i in (0..eights).rev() {
+        passing = eight_passing(passing, base + 8 * i, members, line);
+    }
+    passing
+}
+
+/// The bits from `start` on, moved down to be the lowest, where none passes from `end` on.
+fn last_passing(base: usize, start: usize, end: usize, members: &ByteSet, line: &[u8]) -> u64
+    requires ordered { start ≤ end }
+    requires inside { end ≤ 64 }
+    requires in_line { start < end → base + end ≤ length line.now }
+    requires last { (bit : ℕ) → end + bit < 64 → passes members.now line.now (base + end + bit) ≡ false }
+    ensures { IsPassing members.now line.now result (base + start) (64 - start) }
 {
     let mut passing = 0;
-    for bit in first..end {
-        let passes = is_followed(base + bit, members, line);
-        passing = with_bit_if(passing, bit, passes);
+    for bit in (start..end).rev() {
+        passing = moved_up(passing, bit_if(members.has(line[base + bit])));
+    }
+    passing
+}
+
+/// The bits that were found, moved up, with those of the eight positions before them.
+fn eight_passing(found: u64, at: usize, members: &ByteSet, line: &[u8]) -> u64
+    requires { at + 8 ≤ length line.now }
+    ensures { (count : ℕ) → count + 8 ≤ 64 → IsPassing members.now line.now found (at + 8) count → IsPassing members.now line.now result at (count + 8) }
+{
+    let mut passing = found;
+    for bit in (0..8).rev() {
+        passing = moved_up(passing, bit_if(members.has(line[at + bit])));
     }
     passing
 }
@@ -171,21 +215,21 @@ fn lowest(word: u64) -> usize
     word.trailing_zeros() as usize
 }
 
-/// One more than the highest bit of a word, or 0 where it has none.
-fn width(word: u64) -> usize
-    ensures inside { result ≤ 64 }
-    ensures all_below { (b : ℕ) → IsTrue (has_bit word b) → b < result }
-    ensures none_above { (b : ℕ) → result ≤ b → has_bit word b ≡ false }
-{
-    BITS - word.leading_zeros() as usize
-}
-
 /// The word with the bit, where it comes.
 fn with_bit_if(word: u64, bit: usize, comes: bool) -> u64
     requires { bit < 64 }
     ensures { (b : ℕ) → has_bit result b ≡ (has_bit word b || (comes && b == bit)) }
 {
     if comes { word | 1u64 << bit } else { word }
+}
+
+/// The word without the bit.
+fn without_bit(word: u64, bit: usize) -> u64
+    requires { bit < 64 }
+    ensures each { (b : ℕ) → b < 64 → has_bit result b ≡ (has_bit word b && not (b == bit)) }
+    ensures less { IsTrue (has_bit word bit) → result < word }
+{
+    word & !(1u64 << bit)
 }
 
 /// The word with no bit but this one, where it has it.
@@ -236,7 +280,7 @@ fn flooded(word: u64, passing: u64) -> u64
 }
 
 /// Each bit of the word moved up by one, and the bit carried in as the lowest.
-fn moved_up(word: u64, carried: u64) -> u64
+pub(crate) fn moved_up(word: u64, carried: u64) -> u64
     requires { carried < 2 }
     ensures lowest { has_bit result 0 ≡ has_bit carried 0 }
     ensures others { (b : ℕ) → b < 63 → has_bit result (b + 1) ≡ has_bit word b }

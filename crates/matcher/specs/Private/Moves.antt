@@ -1,5 +1,5 @@
 -- Sets of positions, which are seen by `has_position` and `absent` alone, and how they move.
-use Rattle.std.specs.Prelude.{◌≡◌, ℕ, zero, suc, ◌*◌, Bool, true, false, not, ◌&&◌, ◌||◌, IsTrue, List, length}
+use Rattle.std.specs.Prelude.{◌≡◌, ℕ, zero, suc, ◌*◌, Bool, true, false, not, ◌&&◌, ◌||◌, ◌⊎◌, IsTrue, List, length}
 use Rattle.matcher.specs.PositionSets.{has_position}
 use Rattle.matcher.specs.Spans.{Relation}
 
@@ -32,3 +32,14 @@ pub record IsNew (next found fresh : List ℕ) : Type 0 where
 pub record Moves (relation : Relation) (from to : List ℕ) : Type 0 where
   pub sound : (end : ℕ) → IsTrue (has_position to end) → (start : ℕ) × IsTrue (has_position from start) × relation start end
   pub complete : (start end : ℕ) → IsTrue (has_position from start) → relation start end → IsTrue (has_position to end)
+
+-- The second set has only positions to which the relation leads from the first, and all but some to which
+-- it leads from positions that are done.
+pub record MovesPast (relation : Relation) (done from to : List ℕ) : Type 0 where
+  pub sound : (end : ℕ) → IsTrue (has_position to end) → (start : ℕ) × IsTrue (has_position from start) × relation start end
+  pub complete : (start end : ℕ) → IsTrue (has_position from start) → relation start end → IsTrue (has_position to end) ⊎ ((before : ℕ) × IsTrue (has_position done before) × relation before end)
+
+-- at the front of a repeat's body, and elsewhere
+abbrev pub MovesIf : Bool → Relation → List ℕ → List ℕ → List ℕ → Type 0
+MovesIf true relation done from to = MovesPast relation done from to
+MovesIf false relation done from to = Moves relation from to

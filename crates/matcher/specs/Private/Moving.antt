@@ -1,7 +1,7 @@
 -- Where bytes of a set lead.
-use Rattle.std.specs.Prelude.{ℕ, zero, suc, Bool, false, ◌&&◌, ◌||◌, List, length, nat_lt, slice_index}
+use Rattle.std.specs.Prelude.{◌≡◌, ◌+◌, ◌<◌, ℕ, zero, suc, Bool, false, ◌&&◌, ◌||◌, List, length, nat_lt, slice_index}
 use Rattle.ere.specs.ByteSet.{has}
-use Rattle.matcher.specs.PositionSets.{has_position}
+use Rattle.matcher.specs.PositionSets.{has_bit, has_position}
 
 -- whether a byte of the set stands after the position
 abbrev pub passes : List Bool → List ℕ → ℕ → Bool
@@ -20,3 +20,7 @@ comes held pass (suc k) = (held k || comes held pass k) && pass k
 -- or by none
 abbrev pub flood : (ℕ → Bool) → (ℕ → Bool) → ℕ → Bool
 flood held pass k = held k || comes held pass k
+
+-- The lowest bits of a word say which positions pass, from one on.
+pub record IsPassing (members : List Bool) (line : List ℕ) (word at count : ℕ) : Type 0 where
+  pub each : (bit : ℕ) → bit < count → has_bit word bit ≡ passes members line (at + bit)

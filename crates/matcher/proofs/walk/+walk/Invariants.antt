@@ -1,27 +1,35 @@
-use Rattle.std.proofs.Common.{map, drop}
+use Rattle.std.proofs.Common.{ℕ, List, map, drop}
 use Rattle.ere.specs.Tree.{form, trees_of}
-use Rattle.matcher.specs.declared.positions.Positions.{Positions}
 use Rattle.matcher.specs.Spans.{Spans, SpansEach, SpansSome, Steps}
-use Rattle.matcher.specs.Private.Moves.{absent, Moves}
-use Rattle.matcher.proofs.Walks.{IsWidened, IsWidenedBy}
+use Rattle.matcher.specs.Private.Moves.{absent, Moves, MovesIf, MovesPast}
+use Rattle.matcher.proofs.Walks.{IsWidenedBy}
+use Rattle.matcher.proofs.Rounds.{IsRounded}
 use Rattle.matcher.proofs.walk.+walk.Given as goal
 
 -- Where the members that are left lead to, all members lead from the start.
 abbrev pub invariant-advance_each-loop-member : goal.invariant-advance_each-loop-member
-invariant-advance_each-loop-member l =
-    (to : Positions) → Moves (SpansEach l.line (trees_of (map form (drop l.member-index l.members)))) l.at to → Moves (SpansEach l.line (trees_of (map form l.members))) l.initial.at to
+invariant-advance_each-loop-member g l =
+    (to : List ℕ) → Moves (SpansEach l.line (trees_of (map form (drop l.member-index l.members)))) (g.S.PositionSet.words l.at) to → Moves (SpansEach l.line (trees_of (map form l.members))) (g.S.PositionSet.words l.initial.at) to
 
 abbrev pub invariant-advance_some-loop-i : goal.invariant-advance_some-loop-i
-invariant-advance_some-loop-i l = Moves (SpansSome l.line (trees_of (map form (drop l.i l.members)))) l.at l.found
+invariant-advance_some-loop-i g l = Moves (SpansSome l.line (trees_of (map form (drop l.i l.members)))) (g.S.PositionSet.words l.at) (g.S.PositionSet.words l.found)
 
 abbrev pub invariant-advance_exactly-loop-word : goal.invariant-advance_exactly-loop-word
-invariant-advance_exactly-loop-word l = Moves (Steps (Spans l.line (form l.body)) l._word) l.initial.at l.at
+invariant-advance_exactly-loop-word g l = Moves (Steps (Spans l.line (form l.body)) l._word) (g.S.PositionSet.words l.initial.at) (g.S.PositionSet.words l.at)
 
 abbrev pub invariant-advance_at_most-loop-round : goal.invariant-advance_at_most-loop-round
-invariant-advance_at_most-loop-round l = IsWidenedBy (Spans l.line (form l.body)) l._round l.initial.at l.found l.at
+invariant-advance_at_most-loop-round g l = IsWidenedBy (Spans l.line (form l.body)) l._round (g.S.PositionSet.words l.initial.at) (g.S.PositionSet.words l.found) (g.S.PositionSet.words l.at)
 
-abbrev pub invariant-advance_any-loop-grown : goal.invariant-advance_any-loop-grown
-invariant-advance_any-loop-grown l = IsWidened (Spans l.line (form l.body)) (λ _. Unit {0}) l.initial.at l.found l.at
+-- The same, of the members that are left at the front or behind it.
+abbrev pub invariant-each_past-loop-member : goal.invariant-each_past-loop-member
+invariant-each_past-loop-member g l =
+    (to : List ℕ) → MovesIf l.leads (SpansEach l.line (trees_of (map form (drop l.member-index l.members)))) (g.S.PositionSet.words l.done) (g.S.PositionSet.words l.at) to → MovesPast (SpansEach l.line (trees_of (map form l.members))) (g.S.PositionSet.words l.done) (g.S.PositionSet.words l.initial.at) to
 
-abbrev pub decreases-advance_any-loop-grown : goal.decreases-advance_any-loop-grown
-decreases-advance_any-loop-grown l = absent l.found
+abbrev pub invariant-some_past-loop-i : goal.invariant-some_past-loop-i
+invariant-some_past-loop-i g l = MovesPast (SpansSome l.line (trees_of (map form (drop l.i l.members)))) (g.S.PositionSet.words l.done) (g.S.PositionSet.words l.at) (g.S.PositionSet.words l.found)
+
+abbrev pub invariant-more_past-loop-grown : goal.invariant-more_past-loop-grown
+invariant-more_past-loop-grown g l = IsRounded (Spans l.line (form l.body)) (g.S.PositionSet.words l.done) (g.S.PositionSet.words l.fn.at) (g.S.PositionSet.words l.found) (g.S.PositionSet.words l.over) (g.S.PositionSet.words l.known) (g.S.PositionSet.words l.at)
+
+abbrev pub decreases-more_past-loop-grown : goal.decreases-more_past-loop-grown
+decreases-more_past-loop-grown g l = absent (g.S.PositionSet.words l.known)

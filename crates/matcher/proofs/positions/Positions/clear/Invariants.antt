@@ -1,5 +1,0 @@
-use Rattle.matcher.specs.Private.Bounds.{IsBounded}
-use Rattle.matcher.proofs.positions.Positions.clear.Given as goal
-
-abbrev pub invariant-loop-i : goal.invariant-loop-i
-invariant-loop-i l = IsBounded l.self-inside.words l.i l.i-end

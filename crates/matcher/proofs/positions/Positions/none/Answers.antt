@@ -1,9 +1,0 @@
-use Rattle.matcher.proofs.Bits.{none_held}
-use Rattle.matcher.proofs.Joining.{empty_words, empty_bounded}
-use Rattle.matcher.proofs.positions.Positions.none.Goals as goal
-
-pub invariant_of-result : goal.invariant_of-result
-invariant_of-result c = empty_bounded c.every.result c.every.ensures.whole (empty_words c.every.result c.every.ensures.whole c.every.ensures.same)
-
-pub returns : goal.returns
-returns c = none_held c.every.result (empty_words c.every.result c.every.ensures.whole c.every.ensures.same)

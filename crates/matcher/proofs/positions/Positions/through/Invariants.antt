@@ -1,5 +1,0 @@
-use Rattle.matcher.proofs.Joining.{IsFilled}
-use Rattle.matcher.proofs.positions.Positions.through.Given as goal
-
-abbrev pub invariant-loop-i : goal.invariant-loop-i
-invariant-loop-i l = IsFilled l.words l.i

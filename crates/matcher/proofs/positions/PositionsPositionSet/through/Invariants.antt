@@ -1,0 +1,5 @@
+use Rattle.matcher.proofs.Joining.{IsFilled}
+use Rattle.matcher.proofs.positions.PositionsPositionSet.through.Given as goal
+
+abbrev pub invariant-loop-i : goal.invariant-loop-i
+invariant-loop-i l = IsFilled l.words l.i

@@ -1,0 +1,64 @@
+//! What the walk asks of a set of positions.
+
+ghost use Rattle.std.specs.Prelude.{◌≡◌, ◌≤◌, ◌<◌, ℕ, ◌&&◌, ◌==◌, nat_le, IsTrue, MatchBool, List, length, slice_index};
+ghost use Rattle.ere.specs.Tree.{set};
+ghost use Rattle.matcher.specs.Spans.{Spans, Steps};
+ghost use Rattle.matcher.specs.PositionSets.{has_position};
+ghost use Rattle.matcher.specs.Private.Moves.{absent, HasNone, IsEither, IsNew, Moves};
+
+use ere::ByteSet;
+
+/// A set of positions of a line. Position i stands before byte i, and the last one after the last byte.
+///
+/// There are two: one for lines of every length, and one for short lines, which are most.
+pub trait PositionSet: Drop {
+    ghost words: { Self → List ℕ };
+
+    // The greatest length of a line whose positions the set can hold.
+    ghost longest: { ℕ };
+
+    /// The set with no position.
+    fn none() -> Self
+        ensures { HasNone (words result) };
+
+    /// The positions from 0 to `last`.
+    fn through(last: usize) -> Self
+        requires { last ≤ longest }
+        ensures { (k : ℕ) → has_position (words result) k ≡ nat_le k last };
+
+    /// Whether no position is in the set.
+    fn is_empty(&self) -> bool
+        ensures { MatchBool result (HasNone (words self.now)) ((k : ℕ) × IsTrue (has_position (words self.now) k)) };
+
+    /// Takes every position out.
+    fn clear(&mut self)
+        ensures none { HasNone (words self.new) }
+        ensures empty { (i : ℕ) → slice_index (words self.new) i ≡ 0 };
+
+    /// Makes the set the same as another.
+    fn copy(&mut self, other: &Self)
+        ensures { self.new ≡ other.now };
+
+    /// Takes every position but one out.
+    fn keep(&mut self, position: usize)
+        requires { position ≤ longest }
+        ensures { (k : ℕ) → has_position (words self.new) k ≡ (k == position && has_position (words self.old) k) };
+
+    /// Puts the positions of `fresh` in, and takes those out of `fresh` that were in already. Whether
+    /// any was not.
+    fn add(&mut self, fresh: &mut Self) -> bool
+        ensures both { IsEither (words self.old) (words fresh.old) (words self.new) }
+        ensures new { IsNew (words fresh.old) (words self.old) (words fresh.new) }
+        ensures grown { MatchBool result (absent (words self.new) < absent (words self.old)) (HasNone (words fresh.new)) };
+
+    /// Moves each position over the byte behind it, where that is in the set; where it is not, and at
+    /// the line's end, the position is lost.
+    fn step(&mut self, members: &ByteSet, line: &[u8])
+        requires { length line.now ≤ longest }
+        ensures { Moves (Spans line.now (set members.now)) (words self.old) (words self.new) };
+
+    /// Moves each position over any number of bytes that are in the set.
+    fn sweep(&mut self, members: &ByteSet, line: &[u8])
+        requires { length line.now ≤ longest }
+        ensures { Moves (λ from to. (count : ℕ) × Steps (Spans line.now (set members.now)) count from to) (words self.old) (words self.new) };
+}
