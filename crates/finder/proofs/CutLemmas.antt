@@ -6,7 +6,7 @@ use Rattle.std.proofs.Math.Seq.{drop-cons, take-length}
 use Rattle.std.proofs.lemmas.Bool.{cases_lt, true≢false, false≢true}
 use Rattle.std.proofs.lemmas.Bool.Decides.{nat_tests}
 use Rattle.std.proofs.lemmas.Option.{none-some, same_Some}
-use Rattle.memchr.specs.Find.{is_byte, Nowhere, NoneBefore, Passes, places, places_from}
+use Rattle.memchr.specs.Find.{is_byte, Nowhere, NoneBefore, Passes}
 use Rattle.regex_hir.specs.Re.{Re}
 use Rattle.regex_hir.specs.Find.{Match, find}
 use Rattle.regex_hir.proofs.FindLemmas.{IsFirst-of_first_between}
@@ -15,7 +15,7 @@ use Rattle.ere.specs.Language.{ContainsMatch}
 use Rattle.ere.specs.Lines.{lines_of, with_byte_in_front}
 use Rattle.finder.specs.Translation.{StandsFor}
 use Rattle.regex_vm.specs.Found.{span}
-use Rattle.finder.specs.FirstLine.{IsWholeLines, EndsLine, HasNoFeed, IsLineStart, IsLineEnd, HasNoMatch, IsInside, IsFirstLine}
+use Rattle.finder.specs.FirstLine.{line_feeds, IsWholeLines, EndsLine, HasNoFeed, IsLineStart, IsLineEnd, HasNoMatch, IsInside, IsFirstLine}
 use Rattle.finder.proofs.LineLemmas.{NoFeed, lines-append, lines-first, lines-last, whole_tail, part_not_whole, NoFeed-push}
 use Rattle.finder.proofs.MatchLemmas.{no_match_before, match_here, found_in}
 
@@ -65,34 +65,10 @@ end_none text from low none =
 
 -- ---- how many line feeds
 
-feeds : List ℕ → ℕ
-feeds [] = 0
-feeds (b ∷ text) = cond (b == 10) (suc (feeds text)) (feeds text)
-
-get_at : (pre text : List ℕ) (b : ℕ) → slice_index (pre ++ b ∷ text) (length pre) ≡ b
-get_at [] text b = refl
-get_at (c ∷ pre) text b = get_at pre text b
-
-one_place : (b : ℕ) (text later : List ℕ) (h : List ℕ) (i : ℕ) → slice_index h i ≡ b → length later ≡ feeds text → length (cond (slice_index h i == 10) (i ∷ later) later) ≡ cond (b == 10) (suc (feeds text)) (feeds text)
-one_place b text later h i is next = ap (λ x. length (cond (x == 10) (i ∷ later) later)) is ∙ go (b == 10)
-  where
-    go : (t : Bool) → length (cond t (i ∷ later) later) ≡ cond t (suc (feeds text)) (feeds text)
-    go true = ap suc next
-    go false = next
-
-places_count : (text pre : List ℕ) → length (places_from (is_byte 10) (pre ++ text) (length pre) (length text)) ≡ feeds text
-unfolding places_from feeds
-places_count [] pre = refl
-places_count (b ∷ text) pre =
-    let next : length (places_from (is_byte 10) (pre ++ b ∷ text) (length pre + 1) (length text)) ≡ feeds text =
-    subst (λ h. length (places_from (is_byte 10) h (length pre + 1) (length text)) ≡ feeds text) (append_assoc pre (b ∷ []) text)
-    (subst (λ i. length (places_from (is_byte 10) ((pre ++ b ∷ []) ++ text) i (length text)) ≡ feeds text) (length-append pre (b ∷ [])) (places_count text (pre ++ b ∷ []))) in
-    one_place b text (places_from (is_byte 10) (pre ++ b ∷ text) (length pre + 1) (length text)) (pre ++ b ∷ text) (length pre) (get_at pre text b) next
-
-lines_count_next : (text part : List ℕ) (b : ℕ) (t : Bool) → (b == 10) ≡ t → NoFeed part → (b ≡ 10 → feeds text ≡ length (lines_of text)) → (b ≢ 10 → feeds text ≡ length (lines_of ((part ++ b ∷ []) ++ text))) → cond t (suc (feeds text)) (feeds text) ≡ length (lines_of (part ++ b ∷ text))
+lines_count_next : (text part : List ℕ) (b : ℕ) (t : Bool) → (b == 10) ≡ t → NoFeed part → (b ≡ 10 → line_feeds text ≡ length (lines_of text)) → (b ≢ 10 → line_feeds text ≡ length (lines_of ((part ++ b ∷ []) ++ text))) → cond t (suc (line_feeds text)) (line_feeds text) ≡ length (lines_of (part ++ b ∷ text))
 lines_count_next text part b true e none feed_next other_next =
     let feed : b ≡ 10 = grind (arith, nat_tests) in
-    subst (λ x. suc (feeds text) ≡ length (lines_of (part ++ x ∷ text))) (sym feed) (ap suc (feed_next feed) ∙ ap length (sym (lines-first part text none)))
+    subst (λ x. suc (line_feeds text) ≡ length (lines_of (part ++ x ∷ text))) (sym feed) (ap suc (feed_next feed) ∙ ap length (sym (lines-first part text none)))
 lines_count_next text part b false e none feed_next other_next =
     other_next (λ feed. true≢false (sym (eq-eqb b 10 feed) ∙ e)) ∙ ap (λ w. length (lines_of w)) (append_assoc part (b ∷ []) text)
 
@@ -100,8 +76,8 @@ nothing_counted : 0 ≡ length (lines_of [])
 unfolding lines_of
 nothing_counted = refl
 
-lines_count : (text part : List ℕ) → NoFeed part → IsWholeLines (part ++ text) → feeds text ≡ length (lines_of (part ++ text))
-unfolding feeds
+lines_count : (text part : List ℕ) → NoFeed part → IsWholeLines (part ++ text) → line_feeds text ≡ length (lines_of (part ++ text))
+unfolding line_feeds
 lines_count [] [] none whole_lines = nothing_counted
 lines_count [] (b ∷ part) none whole_lines = absurd (part_not_whole b part none (subst IsWholeLines (append-nil (b ∷ part)) whole_lines))
 lines_count (b ∷ text) part none whole_lines =
@@ -109,10 +85,30 @@ lines_count (b ∷ text) part none whole_lines =
     (λ feed. lines_count text [] tt (whole_tail (b ∷ []) text (whole_tail part (b ∷ text) whole_lines)))
     (λ other. lines_count text (part ++ b ∷ []) (NoFeed-push part b none other) (subst IsWholeLines (sym (append_assoc part (b ∷ []) text)) whole_lines))
 
-pub count_lines : (front : List ℕ) → IsWholeLines front → length (places (is_byte 10) front) ≡ length (lines_of front)
-count_lines front whole_lines =
-    let size : length front - 0 ≡ length front = omega arith in
-    ap (λ n. length (places_from (is_byte 10) front 0 n)) size ∙ (places_count front [] ∙ lines_count front [] tt whole_lines)
+pub count_lines : (front : List ℕ) → IsWholeLines front → line_feeds front ≡ length (lines_of front)
+count_lines front whole_lines = lines_count front [] tt whole_lines
+
+pub line_feeds_append : (front back : List ℕ) → line_feeds (front ++ back) ≡ line_feeds front + line_feeds back
+unfolding line_feeds
+line_feeds_append [] back = omega arith
+line_feeds_append (b ∷ front) back = go (b == 10) (line_feeds_append front back)
+  where
+    go : (t : Bool) → line_feeds (front ++ back) ≡ line_feeds front + line_feeds back → cond t (suc (line_feeds (front ++ back))) (line_feeds (front ++ back)) ≡ cond t (suc (line_feeds front)) (line_feeds front) + line_feeds back
+    go true h = omega (arith, h)
+    go false h = h
+
+pub line_feeds_few : (text : List ℕ) → line_feeds text ≤ length text
+unfolding line_feeds
+line_feeds_few [] = omega arith
+line_feeds_few (b ∷ text) = go (b == 10) (line_feeds_few text)
+  where
+    go : (t : Bool) → line_feeds text ≤ length text → cond t (suc (line_feeds text)) (line_feeds text) ≤ suc (length text)
+    go true h = omega (arith, h)
+    go false h = omega (arith, h)
+
+-- a text, cut in two
+pub line_feeds_cut : (text : List ℕ) (n : ℕ) → line_feeds (take n text) + line_feeds (drop n text) ≡ line_feeds text
+line_feeds_cut text n = sym (line_feeds_append (take n text) (drop n text)) ∙ ap line_feeds (take-append-drop n text)
 
 -- ---- the parts
 

@@ -1,5 +1,5 @@
 -- The first line of a text that contains a match.
-use Rattle.std.specs.Prelude.{◌≡◌, ℕ, ◌+◌, ◌-◌, ◌≢◌, ◌≤◌, ◌<◌, ◌⊎◌, List, [], ◌∷◌, ◌++◌, length, take, drop, slice_index}
+use Rattle.std.specs.Prelude.{◌≡◌, ◌==◌, if◌then◌else◌, ℕ, suc, ◌+◌, ◌-◌, ◌≢◌, ◌≤◌, ◌<◌, ◌⊎◌, List, [], ◌∷◌, ◌++◌, length, take, drop, slice_index}
 use Rattle.std.specs.List.{AllByRecursion}
 use Rattle.ere.specs.Tree.{Tree}
 use Rattle.ere.specs.Language.{ContainsMatch}
@@ -13,6 +13,11 @@ IsWholeLines text = (text ≡ []) ⊎ ((front : List ℕ) × (text ≡ front ++ 
 -- The text is nothing, or begins with a line feed: a line ends before it.
 abbrev pub EndsLine : List ℕ → Type 0
 EndsLine text = (text ≡ []) ⊎ ((back : List ℕ) × (text ≡ 10 ∷ back))
+
+-- how many line feeds are in the text
+unfoldable pub line_feeds : List ℕ → ℕ
+line_feeds [] = 0
+line_feeds (b ∷ text) = if b == 10 then suc (line_feeds text) else line_feeds text
 
 -- no line feed is from one position up to another
 abbrev pub HasNoFeed : List ℕ → ℕ → ℕ → Type 0

@@ -2,9 +2,12 @@
 
 ghost use Rattle.std.specs.Prelude.{◌≡◌, ◌≤◌, length, take};
 ghost use Rattle.ere.specs.Lines.{lines_of};
-ghost use Rattle.finder.specs.FirstLine.{IsLineStart, IsLineEnd, IsWholeLines};
+ghost use Rattle.finder.specs.FirstLine.{IsLineStart, IsLineEnd, IsWholeLines, line_feeds};
 
-use memchr::{memchr, memchr_iter, memrchr};
+use memchr::{memchr, memrchr};
+
+/// How many bytes are counted together. Their count fits into a byte, so that the processor counts many at a time.
+const BLOCK: usize = 192;
 
 /// Where the line of the position `from` starts.
 pub fn line_start(text: &[u8], from: usize) -> usize
@@ -34,5 +37,34 @@ pub fn lines_before(text: &[u8], start: usize) -> usize
     requires whole_lines { IsWholeLines (take start text.now) }
     ensures { result ≡ length (lines_of (take start text.now)) }
 {
-    memchr_iter(b'\n', &text[..start]).count()
+    line_feeds(&text[..start])
+}
+
+// How many line feeds are in the text.
+fn line_feeds(text: &[u8]) -> usize
+    ensures { result ≡ line_feeds text.now }
+{
+    let mut rest = text;
+    let mut count = 0;
+    while rest.len() > BLOCK {
+        let (block, others) = rest.split_at(BLOCK);
+        count += line_feeds_of_block(block) as usize;
+        rest = others;
+    }
+    count + line_feeds_of_block(rest) as usize
+}
+
+// How many line feeds are in at most a block of bytes.
+#[tactic(auto, unfolding(crate::specs::FirstLine::line_feeds))]
+fn line_feeds_of_block(block: &[u8]) -> u8
+    requires { length block.now ≤ BLOCK }
+    ensures { result ≡ line_feeds block.now }
+{
+    let mut count = 0;
+    for byte in block {
+        if *byte == b'\n' {
+            count += 1;
+        }
+    }
+    count
 }

@@ -1,6 +1,6 @@
-use Rattle.std.proofs.Common.{◌∙◌, ap, length, take}
+use Rattle.std.proofs.Common.{◌∙◌, take}
 use Rattle.finder.proofs.CutLemmas.{count_lines}
 use Rattle.finder.proofs.line.lines_before.Goals as goal
 
 pub returns : goal.returns
-returns c = c.count.ensures ∙ (ap length c.memchr_iter.ensures.value ∙ count_lines (take c.args.start c.args.text.now) c.requires.whole_lines)
+returns c = c.line_feeds.ensures ∙ count_lines (take c.args.start c.args.text.now) c.requires.whole_lines
