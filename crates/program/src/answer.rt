@@ -17,7 +17,7 @@ use tsearch::Options;
 use tsearch::run::run;
 
 /// The status where an argument is refused, or the program has no answer or cannot write it.
-pub const REFUSED: u8 = 2;
+const REFUSED: u8 = 2;
 
 /// Does what the arguments ask for, of which the first is the program's name, and gives the status.
 ///
@@ -39,20 +39,20 @@ pub fn respond<R: Eprint, D: Disk, I: Read + Drop, O: Write + Drop>(
 {
     match answer(alloc, arguments, source, input, out) {
         Ok(answered) => answered.0,
-        Err(error) => {
-            report(rt, &error);
-            REFUSED
-        }
+        Err(error) => report(rt, &error),
     }
 }
 
-/// Says on standard error why there is no answer.
-pub fn report<R: Eprint>(rt: &R, error: &ProgramError) {
+/// Says on standard error why there is no answer, and gives the status of that.
+pub fn report<R: Eprint>(rt: &R, error: &ProgramError) -> u8
+    ensures { result ≡ 2 }
+{
     // Where standard error takes nothing, the status alone says it.
     let _ = match error {
         ProgramError::Arguments(refused) => rt.eprint(refused),
         other => rt.eprintln(other),
     };
+    REFUSED
 }
 
 /// Does what the arguments ask for, and gives the status and the writer with what was written.

@@ -28,7 +28,9 @@ pub struct HostDisk<'a, R> {
 
 impl<'a, R> HostDisk<'a, R> {
     /// The files that a runtime opens.
-    pub fn new(files: &'a R) -> HostDisk<'a, R> {
+    pub fn new(files: &'a R) -> HostDisk<'a, R>
+        ensures { result.files ≡ files.entry }
+    {
         HostDisk { files }
     }
 }

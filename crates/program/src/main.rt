@@ -10,7 +10,7 @@ mod files;
 mod input;
 mod output;
 
-use answer::{REFUSED, report, respond};
+use answer::{report, respond};
 use cli::arguments::not_text;
 use disk::HostDisk;
 use error::ProgramError;
@@ -27,10 +27,7 @@ fn main(rt: HostRuntime) -> ExitCode {
             let out = io::writer(&rt);
             respond(&rt, rt.alloc(), &arguments, &mut source, rt.reader(), out)
         }
-        Err(error) => {
-            report(&rt, &error);
-            REFUSED
-        }
+        Err(error) => report(&rt, &error),
     };
     ExitCode::from(status)
 }
