@@ -1,9 +1,10 @@
 """How time and memory grow with the number of documents: python3 bench/growth.py [FOLDER].
 
 Scripts of 2,000, 10,000 and 20,000 documents of about 2 KB, all of the same words: the time to the first publish, of
-one search, and of one document added, removed or replaced after each publish. With a FOLDER, the last three for its
-files too. What the changes are measured against has two publishes with a command between them, so that both of the
-program's indexes hold all documents before the first change.
+one search, and of one document added, removed or replaced after each publish. What the changes are measured against has
+two publishes with a command between them, so that both of the program's indexes hold all documents before the first
+change. With a FOLDER, the changes for its files too, the resident memory for each byte of them before and after the
+second publish, and the memory after one document was replaced 1,000 and 100,000 times.
 """
 import os
 import random
@@ -15,6 +16,7 @@ import corpus
 import timed
 
 MOST_CHANGES = 4000
+MOST_REPLACED = 100000
 WORDS = "alpha beta gamma delta int return static void char const struct if else while for memory index search line".split()
 
 
@@ -27,11 +29,20 @@ def put(name, text):
     return b"put %s %d\n%s\n" % (name, len(text), text)
 
 
-def run(target, parts):
+def words_for(target, parts):
     path = os.path.join(target, "script")
     with open(path, "wb") as script:
         script.writelines(parts)
-    return min((timed.run([timed.PROGRAM, "--max-commands", "1000000", path]) for _ in range(5)), key=lambda r: r["seconds"])
+    return [timed.PROGRAM, "--readers", "0", "--max-commands", "1000000", path]
+
+
+def run(target, parts):
+    words = words_for(target, parts)
+    return min((timed.run(words) for _ in range(5)), key=lambda r: r["seconds"])
+
+
+def memory(target, parts):
+    return timed.memory(words_for(target, parts))
 
 
 def times_of_changes(target, puts, names, bodies):
@@ -53,7 +64,15 @@ def row_of(target, count):
     searched = run(target, puts + [b"search memory7.*static3\n"] * 20)
     search = 1000 * (searched["seconds"] - base["seconds"]) / 20
     times = times_of_changes(target, puts, names, [body(count + i) for i in range(min(count // 2, MOST_CHANGES))])
-    return (count, base["seconds"], base["memory"] / 1e6, search, *times)
+    return (count, base["seconds"], memory(target, puts) / 1e6, search, *times)
+
+
+def memory_after_replacing(target, count):
+    """The resident bytes after one document of 500 bytes was replaced so often, each time with a publish, in a script
+    that has a comment in the place of each replacement that is left out."""
+    texts = [body(i)[:500] for i in range(16)]
+    parts = [put(b"one", texts[i % 16]) + b"publish\n" for i in range(MOST_REPLACED)]
+    return memory(target, parts[:count] + [b"#" * (len(part) - 1) + b"\n" for part in parts[count:]])
 
 
 def files_of(folder, target):
@@ -70,6 +89,8 @@ def main():
     with tempfile.TemporaryDirectory() as target:
         for count in (2000, 10000, 20000):
             print("| %d | %.2f | %.0f | %.2f | %.2f | %.2f | %.2f |" % row_of(target, count), flush=True)
+        few, many = (memory_after_replacing(target, count) for count in (1000, MOST_REPLACED))
+        print("one document replaced 1,000 times: %.1f MB; 100,000 times: %.1f MB" % (few / 1e6, many / 1e6))
     if len(sys.argv) > 1:
         with tempfile.TemporaryDirectory() as target:
             taken, puts, names = files_of(sys.argv[1], target)
@@ -77,7 +98,9 @@ def main():
             for name in random.Random(2).sample(names, len(names) // 2):
                 with open(os.path.join(os.fsencode(target), b"files", name), "rb") as file:
                     bodies.append(file.read())
+            resident = [memory(target, parts) / taken["bytes"] for parts in (puts, puts + [put(b"one-more", b"one more\n"), b"publish\n"])]
             print("%(files)d files, %(bytes)d bytes:" % taken, end=" ")
+            print("resident %.2f bytes a byte, after a second publish %.2f;" % tuple(resident), end=" ")
             print("adding %.2f ms, removing %.2f, replacing %.2f" % tuple(times_of_changes(target, puts, names, bodies)))
 
 

@@ -112,7 +112,7 @@ def main():
         words = [timed.PROGRAM, "--readers", "0", "--max-commands", "1000000", script_with(target, [])]
         empty = [timed.run(words) for _ in range(RUNS)]
         base = statistics.median(run["seconds"] for run in empty)
-        print("to the first publish %s ms, %.1f MB/s, resident %.2f bytes a byte" % (shown([run["seconds"] for run in empty]), taken["bytes"] / base / 1e6, empty[0]["memory"] / taken["bytes"]))
+        print("to the first publish %s ms, %.1f MB/s, resident %.2f bytes a byte" % (shown([run["seconds"] for run in empty]), taken["bytes"] / base / 1e6, timed.memory(words) / taken["bytes"]))
         files = os.path.join(target, "files")
         env = dict(os.environ, CSEARCHINDEX=os.path.join(target, "csearchindex"), LC_ALL="C")
         if shutil.which("cindex"):

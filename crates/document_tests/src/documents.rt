@@ -1,7 +1,7 @@
 //! Names, bodies, and the documents and candidates of an index.
 
-use crate::fixtures::{built, index_of};
-use index::{Body, BodyErrorKind, Index, Name, NameError};
+use crate::fixtures::{built, document, index_of};
+use index::{Body, BodyErrorKind, Command, Held, Index, Name, NameError};
 use query::{Query, Trigram};
 use std::alloc::Global;
 use std::process::Abort;
@@ -86,8 +86,14 @@ fn bodies(rt: HostRuntime) -> Result<(), Fail> {
             Ok(body) => {
                 assert!(rt; fault.is_none(), "of {pieces:?}");
                 assert!(rt; body.as_bytes() == handed.as_slice(), "of {pieces:?}");
+                let held = Held::new(body)?;
+                let shared = held.share()?;
                 assert!(rt;
-                    body.copy()?.as_bytes() == handed.as_slice(),
+                    held.body().as_bytes() == handed.as_slice(),
+                    "of {pieces:?}"
+                );
+                assert!(rt;
+                    shared.body().as_bytes() == handed.as_slice(),
                     "of {pieces:?}"
                 );
             }
@@ -118,6 +124,120 @@ fn a_put_replaces_and_a_remove_takes_away(rt: HostRuntime) -> Result<(), Fail> {
         assert_eq!(rt; index.version(), version, "of {commands:?}");
         assert_eq!(rt; index.documents(), documents, "of {commands:?}");
         assert_eq!(rt; text_at(&index, number), text, "of {commands:?}");
+    }
+    Ok(())
+}
+
+/// The bytes of all bodies, after each of four commands.
+#[test]
+fn bytes_that_are_held(rt: HostRuntime) -> Result<(), Fail> {
+    let alloc = rt.alloc();
+    for (commands, bytes) in [
+        (b"".as_slice(), 0),
+        (b"f abc".as_slice(), 3),
+        (b"f abc|f xy".as_slice(), 2),
+        (b"f abc|f xy|g wxyz".as_slice(), 6),
+        (b"f abc|f xy|g wxyz|-g".as_slice(), 2),
+        (b"f abc|f xy|g wxyz|-g|-g|-absent".as_slice(), 2),
+    ] {
+        let index = index_of(&rt, alloc, commands)?;
+        assert_eq!(rt; index.held_bytes(), bytes, "of {commands:?}");
+    }
+    Ok(())
+}
+
+/// Two indexes of one name and body.
+#[test]
+fn a_body_is_shared(rt: HostRuntime) -> Result<(), Fail> {
+    let alloc = rt.alloc();
+    let (name, body) = document(alloc, b"f", b"abc")?;
+    let held = Held::new(body)?;
+    let mut first = Index::new(alloc);
+    let mut second = Index::new(alloc);
+    first.apply_put(&name, &held)?;
+    second.apply_put(&name, &held)?;
+    first.remove(&name)?;
+    assert_eq!(rt; first.number(&name), None);
+    assert!(rt; first.held(1).is_none());
+    assert_eq!(rt; first.held_bytes(), 0);
+    assert_eq!(rt; second.number(&name), Some(1));
+    assert_eq!(rt; second.held_bytes(), 3);
+    is_for_threads(&second);
+    is_for_threads(&held);
+    is_for_threads(&name);
+    is_for_threads(&Command::Remove(name.copy()?));
+    match second.held(1) {
+        Some(found) => assert!(rt; found.body().as_bytes() == b"abc".as_slice()),
+        None => assert!(rt; false),
+    }
+    Ok(())
+}
+
+/// A value that may be given to other threads and lent to several.
+fn is_for_threads<T: Send + Sync>(_value: &T) {}
+
+/// Each of many documents is found by its number and its name while others go, first every second one and then
+/// those that are left.
+#[test]
+fn many_documents_go(rt: HostRuntime) -> Result<(), Fail> {
+    let alloc = rt.alloc();
+    let mut index = Index::new(alloc);
+    for i in 0..200u8 {
+        assert!(rt; index.version() < 1000);
+        index.apply_put(&name_of(alloc, i)?, &held_of(alloc, i)?)?;
+    }
+    for i in 0..200u8 {
+        let gone = if i < 100 { 2 * i } else { 2 * (i - 100) + 1 };
+        assert!(rt; index.version() < 1000);
+        index.remove(&name_of(alloc, gone)?)?;
+        assert_eq!(rt; index.documents(), 199 - i as u32);
+        assert_eq!(rt; index.held_bytes(), 3 * (199 - i as u64));
+        for j in 0..200u8 {
+            let order = if j % 2 == 0 { j / 2 } else { 100 + j / 2 };
+            let number = j as u32 + 1;
+            let there = order > i;
+            assert_eq!(rt; index.document(number).is_some(), there, "{j} after {i}");
+            let found = index.number(&name_of(alloc, j)?);
+            assert_eq!(rt; found, there.then_some(number), "{j} after {i}");
+        }
+    }
+    Ok(())
+}
+
+fn name_of(alloc: Global, i: u8) -> Result<Name, Fail> {
+    Ok(Name::new(alloc, &[b'a' + i % 26, b'a' + i / 26])?)
+}
+
+fn held_of(alloc: Global, i: u8) -> Result<Held, Fail> {
+    let body = Body::new(Vec::from_slice(alloc, &[b'x', b'a' + i % 26, b'a' + i / 26])?)?;
+    Ok(Held::new(body)?)
+}
+
+/// Where memory runs out, the command comes back and the index is as it was.
+#[test]
+fn a_refused_command_changes_nothing(rt: HostRuntime) -> Result<(), Fail> {
+    let alloc = rt.alloc();
+    let mut index = index_of(&rt, alloc, b"f abc|g abcd")?;
+    let (name, body) = document(alloc, b"f", b"bcd")?;
+    assert!(rt; index.version() < 1000);
+    match index.apply(Command::Put(name, body)) {
+        Ok(()) => {
+            assert!(rt; has(alloc, &index, *b"bcd", &[2, 3])?);
+            assert!(rt; has(alloc, &index, *b"abc", &[2])?);
+        }
+        Err(refused) => {
+            let is_same = match &refused.command {
+                Command::Put(name, body) => name.as_bytes() == b"f".as_slice()
+                    && body.as_bytes() == b"bcd".as_slice(),
+                Command::Remove(_) => false,
+            };
+            assert!(rt; is_same);
+            assert_eq!(rt; index.version(), 2);
+            assert_eq!(rt; index.held_bytes(), 7);
+            assert_eq!(rt; text_at(&index, 1), Some(b"abc".as_slice()));
+            assert!(rt; has(alloc, &index, *b"bcd", &[2])?);
+            assert!(rt; has(alloc, &index, *b"abc", &[1, 2])?);
+        }
     }
     Ok(())
 }

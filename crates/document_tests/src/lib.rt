@@ -9,6 +9,10 @@ mod answers;
 #[cfg(test)]
 mod documents;
 #[cfg(test)]
+mod fast_search;
+#[cfg(test)]
 mod fixtures;
 #[cfg(test)]
 mod lists;
+#[cfg(test)]
+mod taken;

@@ -1,6 +1,10 @@
 pub mod DocumentLemmas
 pub mod LineLemmas
-pub mod PushLemmas
 pub mod PutLemmas
+pub mod StateLemmas
+pub mod RisingLemmas
+pub mod SlotLemmas
+pub mod StoredLemmas
+pub mod ApplyLemmas
 pub mod OrderLemmas
-pub mod SetLemmas
+pub mod IndexLemmas

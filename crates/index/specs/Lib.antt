@@ -1,4 +1,4 @@
 pub mod Text
 pub mod Documents
-pub mod IndexParts
-pub mod SetParts
+pub mod State
+pub mod Private

@@ -6,7 +6,7 @@ ghost use Rattle.index.specs.Text.{IsBody, IsBodyFault, has_byte_0, has_long_lin
 use crate::error::{BodyError, BodyErrorKind};
 use ere::MAX_LINE;
 use memchr::memchr;
-use std::alloc::AllocError;
+use std::alloc::Global;
 use std::marker::Model;
 
 /// The greatest length of a body, in bytes.
@@ -55,12 +55,9 @@ impl Body {
         self.bytes.as_slice()
     }
 
-    /// An equal body, in memory of its own.
-    pub fn copy(&self) -> Result<Body, AllocError>
-        ensures { IfOk result (λ body. body ≡ self.now) }
-    {
-        let bytes = Vec::from_slice(*self.bytes.allocator(), self.bytes.as_slice())?;
-        Ok(Body { bytes })
+    /// The allocator of its bytes.
+    pub(crate) fn allocator(&self) -> Global {
+        *self.bytes.allocator()
     }
 }
 

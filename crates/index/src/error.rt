@@ -1,5 +1,6 @@
 //! Why a name, a body or a command is refused.
 
+use crate::body::Body;
 use crate::command::Command;
 use std::alloc::AllocError;
 
@@ -41,6 +42,15 @@ pub struct BodyError {
 pub struct ApplyError {
     /// The command that was handed in.
     pub command: Command,
+    /// The want of memory.
+    pub error: AllocError,
+}
+
+/// A body for which memory ran out, handed back.
+#[derive(Debug, Drop)]
+pub struct HeldError {
+    /// The body that was handed in.
+    pub body: Body,
     /// The want of memory.
     pub error: AllocError,
 }

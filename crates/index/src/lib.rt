@@ -1,20 +1,26 @@
-//! The documents that a journal of commands leaves: names, bodies, commands, and the index that keeps them.
+//! The documents that commands leave: names, bodies, commands, and the index that keeps them.
 //!
-//! An index is seen by contracts as the list of its commands, its journal. `docs/DEFINITIONS.md` says
-//! which documents a journal leaves.
+//! An index is seen by contracts as its state: how many commands were applied, and the documents that they
+//! leave. `docs/DEFINITIONS.md` says which documents these are.
 #![tactic(auto)]
 
 mod body;
 mod command;
 mod error;
-mod journal;
+mod held;
+mod index;
+mod laws;
 mod name;
 mod sets;
+mod slots;
+mod store;
 
 pub use body::{Body, MAX_BODY};
 pub use command::Command;
-pub use error::{ApplyError, BodyError, BodyErrorKind, NameError};
-pub use journal::{Index, documents_are_puts};
+pub use error::{ApplyError, BodyError, BodyErrorKind, HeldError, NameError};
+pub use held::Held;
+pub use index::Index;
+pub use laws::{documents_are_puts, state_follows_commands};
 pub use name::{MAX_NAME, Name};
 pub use posting::List;
 pub use query::Query;

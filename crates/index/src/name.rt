@@ -7,6 +7,7 @@ use crate::error::NameError;
 use std::alloc::{AllocError, Global};
 use std::cmp::Ordering;
 use std::marker::Model;
+use std::sync::ArcSlice;
 
 /// The greatest length of a name, in bytes.
 pub const MAX_NAME: usize = 255;
@@ -17,18 +18,20 @@ pub const MAX_NAME: usize = 255;
 /// Contracts see it as its bytes. Names are compared byte by byte, as unsigned numbers.
 #[derive(Debug, Drop)]
 pub struct Name {
-    bytes: Vec<u8>,
+    // shared, so that a name is in memory once wherever it is needed
+    bytes: ArcSlice<u8>,
 }
 
 impl Model for Name {
     ghost use Rattle.std.specs.Prelude.{List, ℕ};
+    ghost use Rattle.std.specs.Arc.{arc_slice_items};
     ghost use Rattle.index.specs.Text.{IsName};
 
     ghost Value = { List ℕ };
 
-    ghost view = { λ n. n.bytes.items };
+    ghost view = { λ n. arc_slice_items n.bytes };
 
-    ghost invariant = { λ n. IsName n.bytes.items };
+    ghost invariant = { λ n. IsName (arc_slice_items n.bytes) };
 }
 
 impl PartialEq for Name {
@@ -41,7 +44,7 @@ impl PartialEq for Name {
     ghost laws = { partial_equiv_from_equiv nat_list_eq_equiv };
 
     fn eq(&self, other: &Name) -> bool {
-        self.bytes == other.bytes
+        self.bytes.as_slice() == other.bytes.as_slice()
     }
 }
 
@@ -79,7 +82,7 @@ impl Ord for Name {
     ghost matches_eq = { texts_ties };
 
     fn cmp(&self, other: &Name) -> Ordering {
-        self.bytes.cmp(&other.bytes)
+        self.bytes.as_slice().cmp(&other.bytes.as_slice())
     }
 }
 
@@ -93,7 +96,7 @@ impl Name {
         if let Some(fault) = fault_of(bytes) {
             return Err(fault);
         }
-        match Vec::from_slice(alloc, bytes) {
+        match ArcSlice::from_slice(alloc, bytes) {
             Ok(bytes) => Ok(Name { bytes }),
             Err(_) => Err(NameError::OutOfMemory),
         }
@@ -107,11 +110,11 @@ impl Name {
         self.bytes.as_slice()
     }
 
-    /// An equal name, in memory of its own.
+    /// The same name once more, in no memory of its own. An `Err` comes only where it cannot be shared more often.
     pub fn copy(&self) -> Result<Name, AllocError>
         ensures { IfOk result (λ name. name ≡ self.now) }
     {
-        let bytes = Vec::from_slice(*self.bytes.allocator(), self.bytes.as_slice())?;
+        let bytes = self.bytes.clone()?;
         Ok(Name { bytes })
     }
 }

@@ -1,43 +1,19 @@
 //! The sets by which an index finds its documents.
 
-ghost use Rattle.std.specs.Prelude.{◌≡◌, ℕ, false, not, ◌||◌, ◌&&◌, [], ◌++◌, filter, IfOk, OnOk};
+ghost use Rattle.std.specs.Prelude.{◌≡◌, ℕ, false, not, ◌==◌, ◌||◌, ◌&&◌, [], ◌∷◌, ◌++◌, filter, OnOk};
+ghost use Rattle.posting.specs.ListValue.{has, without};
 ghost use Rattle.posting.specs.Postings.{holds, SameSets};
-ghost use Rattle.query.specs.Trigrams.{ListsTrigrams};
-ghost use Rattle.index.specs.SetParts.{is_of, takes, gives, numbers_of, HasRoomFor, IsNew, KeepsAllRoom};
+ghost use Rattle.index.specs.Private.Sets.{HasRoomFor, IsNew, KeepsRoomFor};
 
-use crate::body::Body;
 use posting::{List, Postings};
-use query::{Trigram, trigrams_of};
+use query::Trigram;
 use std::alloc::{AllocError, Global};
-
-/// What the sets hold of a document: its number, and the trigrams of its body.
-#[derive(Drop)]
-pub(crate) struct Listing {
-    pub(crate) number: u32,
-    pub(crate) trigrams: Vec<Trigram>,
-}
-
-/// What a command changes: the document that goes, and the one that comes.
-#[derive(Drop)]
-pub(crate) struct Change {
-    pub(crate) gone: Option<Listing>,
-    pub(crate) come: Option<Listing>,
-}
 
 /// The numbers of the documents, and for each trigram those of the documents whose body has it.
 #[derive(Drop)]
 pub(crate) struct Sets {
     pub(crate) live: List,
     pub(crate) postings: Postings,
-}
-
-/// The listing of the document with this number and body.
-pub(crate) fn listing_of(alloc: Global, number: u32, body: &Body) -> Result<Listing, AllocError>
-    ensures number { IfOk result (λ listing. listing.number ≡ number) }
-    ensures trigrams { IfOk result (λ listing. ListsTrigrams body.now listing.trigrams.items) }
-{
-    let trigrams = trigrams_of(alloc, body.as_bytes())?;
-    Ok(Listing { number, trigrams })
 }
 
 impl Sets {
@@ -52,58 +28,37 @@ impl Sets {
         }
     }
 
-    /// Makes room for the document that comes, so that `carry_out` takes no memory. The sets have the
-    /// numbers that they had.
-    pub(crate) fn make_room(&mut self, change: &Change) -> Result<(), AllocError>
+    /// Makes room for a document with this number and these trigrams, so that `put_in` takes no memory. The sets
+    /// have the numbers that they had.
+    pub(crate) fn make_room(&mut self, number: u32, trigrams: &[Trigram]) -> Result<(), AllocError>
         ensures live { self.new.live.members ≡ self.old.live.members }
         ensures postings { SameSets self.old.postings self.new.postings }
-        ensures ok { OnOk result (HasRoomFor self.new change.now.come) }
+        ensures ok { OnOk result (HasRoomFor self.new trigrams.now) }
     {
-        if let Some(listing) = &change.come {
-            self.live.room_for(listing.number)?;
-            self.postings
-                .prepare(listing.number, listing.trigrams.as_slice())?;
-        }
-        Ok(())
+        self.live.room_for(number)?;
+        self.postings.prepare(number, trigrams)
     }
 
-    /// Takes out the document that goes and puts in the one that comes, for which there is room.
-    pub(crate) fn carry_out(&mut self, change: Change)
-        requires room { HasRoomFor self.old change.come }
-        requires above { IsNew self.old change.come }
-        ensures live { self.new.live.members
-            ≡ filter (λ m. not (is_of change.gone m)) self.old.live.members ++ numbers_of change.come }
+    /// Takes the document with this number and these trigrams out.
+    pub(crate) fn take_out(&mut self, number: u32, trigrams: &[Trigram])
+        ensures live { self.new.live.members ≡ without number self.old.live.members }
         ensures postings { (trigram n : ℕ) → holds self.new.postings trigram n
-            ≡ ((holds self.old.postings trigram n && not (takes change.gone trigram n)) || gives change.come trigram n) }
+            ≡ (holds self.old.postings trigram n && not (has trigrams.now trigram && n == number)) }
+        ensures room { KeepsRoomFor self.old self.new }
     {
-        self.take_out(change.gone);
-        self.put_in(change.come);
+        self.live.remove(number);
+        self.postings.withdraw(number, trigrams);
     }
 
-    fn take_out(&mut self, gone: Option<Listing>)
-        ensures live { self.new.live.members ≡ filter (λ m. not (is_of gone m)) self.old.live.members }
+    /// Puts a document with this number and these trigrams in, for which there is room.
+    pub(crate) fn put_in(&mut self, number: u32, trigrams: &[Trigram])
+        requires room { HasRoomFor self.old trigrams.now }
+        requires above { IsNew self.old number trigrams.now }
+        ensures live { self.new.live.members ≡ self.old.live.members ++ number ∷ [] }
         ensures postings { (trigram n : ℕ) → holds self.new.postings trigram n
-            ≡ (holds self.old.postings trigram n && not (takes gone trigram n)) }
-        ensures room { KeepsAllRoom self.old self.new }
+            ≡ (holds self.old.postings trigram n || (has trigrams.now trigram && number == n)) }
     {
-        if let Some(listing) = gone {
-            self.live.remove(listing.number);
-            self.postings
-                .withdraw(listing.number, listing.trigrams.as_slice());
-        }
-    }
-
-    fn put_in(&mut self, come: Option<Listing>)
-        requires room { HasRoomFor self.old come }
-        requires above { IsNew self.old come }
-        ensures live { self.new.live.members ≡ self.old.live.members ++ numbers_of come }
-        ensures postings { (trigram n : ℕ) → holds self.new.postings trigram n
-            ≡ (holds self.old.postings trigram n || gives come trigram n) }
-    {
-        if let Some(listing) = come {
-            self.live.push(listing.number);
-            self.postings
-                .add(listing.number, listing.trigrams.as_slice());
-        }
+        self.live.push(number);
+        self.postings.add(number, trigrams);
     }
 }

@@ -1,2 +1,3 @@
 -- What only the contracts of private functions cite. A clause cites `pub` modules alone.
 pub mod Joining
+pub mod Met

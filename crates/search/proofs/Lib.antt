@@ -1,5 +1,6 @@
 pub mod SelectsLemmas
 pub mod ScanLemmas
+mod TakenLemmas
 pub mod TextLemmas
 pub mod LineLemmas
 pub mod CandidateLemmas

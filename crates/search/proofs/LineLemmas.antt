@@ -8,7 +8,7 @@ use Rattle.memchr.specs.Find.{is_byte, Nowhere, NoneBefore, Passes}
 use Rattle.index.specs.Text.{has_long_line}
 use Rattle.index.proofs.LineLemmas.{lines_of-memchr, lines_of-none, long-first, long-last, rest-after}
 use Rattle.search.specs.Scan.{Hit}
-use Rattle.search.specs.Selects.{found, numbered, lines_of_document, Adds, Selects, done}
+use Rattle.search.specs.Private.Selects.{found, numbered, lines_of_document, Adds, Selects, done}
 use Rattle.search.proofs.SelectsLemmas.{Selects-after}
 
 -- a line feed first stands at a place

@@ -1,5 +1,5 @@
 -- The lines of documents, and the scan of all of them.
-use Rattle.std.proofs.Common.{◌≡◌, ℕ, zero, suc, ◌+◌, ◌-◌, ◌<◌, ◌≤◌, ◌⊎◌, inl, inr, List, [], ◌∷◌, ◌++◌, map, length, length-drop, drop, take, get_or, Some, None, Contains, IfSome, refl, sym, ◌∙◌, ap, subst, arith}
+use Rattle.std.proofs.Common.{◌≡◌, ℕ, zero, suc, ◌+◌, ◌-◌, ◌<◌, ◌≤◌, ◌⊎◌, inl, inr, List, [], ◌∷◌, ◌++◌, map, length, length-drop, drop, take, get_or, Some, Contains, IfSome, refl, sym, ◌∙◌, ap, subst, arith}
 use Rattle.std.specs.Prelude.{slice_get, flat_map}
 use Rattle.std.proofs.Math.Seq.{drop-cons}
 use Rattle.std.proofs.Math.ListN.{drop_of_length-le}
@@ -12,15 +12,21 @@ use Rattle.std.specs.List.{AllByRecursion}
 use Rattle.std.specs.List.Sorted.{IsStrictlySortedBy}
 use Rattle.std.specs.declared.cmp.Ordering.TheVariants.{Less}
 use Rattle.std.proofs.lemmas.Bool.Decides.{nat_tests}
+use Rattle.std.proofs.lemmas.Option.{slice_get_within, get_or_from_slice_get}
 use Rattle.ere.specs.Language.{ContainsMatch}
 use Rattle.ere.specs.Lines.{lines_of}
-use Rattle.index.specs.declared.command.Command.{Command}
-use Rattle.index.specs.Documents.{Document, documents_of, document_at, IsInNameOrder, RisesByName}
-use Rattle.index.proofs.PutLemmas.{Contains-cons, Contains-head, Contains-tail, document_at-Contains}
+use Rattle.query.specs.Trigrams.{trigrams_of_body}
+use Rattle.trigram.specs.Analysis.{condition}
+use Rattle.trigram.proofs.LawLemmas.{matching_line}
+use Rattle.index.specs.Documents.{Document, RisesByName}
+use Rattle.index.specs.State.{State}
+use Rattle.index.proofs.PutLemmas.{Contains-cons, Contains-head, Contains-tail}
 use Rattle.search.specs.Pattern.{Pattern}
-use Rattle.search.specs.Scan.{Hit, IsHit, hit_cmp, IsScanOf}
-use Rattle.search.specs.Selects.{found, numbered, lines_of_document, lines_shown, lines_at, Selects, done, Adds, IsWanted}
-use Rattle.search.proofs.SelectsLemmas.{sorted-Selects, Contains-kept, kept-Contains, Selects-same, Selects-none, Selects-append, Selects-after, Adds-none}
+use Rattle.search.specs.Scan.{Hit, IsHit, hit_cmp, IsScanOf, candidates_of}
+use Rattle.search.specs.Private.Selects.{found, numbered, lines_of_document, Selects, done, Adds, HasMatch}
+use Rattle.search.specs.Taken.{IsWanted, AreWanted}
+use Rattle.index.proofs.OrderLemmas.{filter-Contains, Contains-filter}
+use Rattle.search.proofs.SelectsLemmas.{sorted-Selects, Contains-kept, kept-Contains, Selects-append, Selects-after, Adds-none}
 
 -- ---- the lines of one document
 
@@ -28,16 +34,6 @@ numbered-named : (name : List ℕ) (line : ℕ) (texts : List (List ℕ)) (P : H
 unfolding numbered
 numbered-named name line [] P each = tt
 numbered-named name line (text ∷ texts) P each = (each line text, numbered-named name (suc line) texts P each)
-
--- where the name is asked for, only the texts matter
-pub Selects-named : (pattern : Pattern) (name body : List ℕ) (kept : List Hit) → IfSome pattern.name_tree (λ tree. ContainsMatch tree name) → Selects (λ f. ContainsMatch pattern.tree f.text) (lines_of_document name body) kept → Selects (IsWanted pattern) (lines_of_document name body) kept
-Selects-named pattern name body kept named s =
-    Selects-same (numbered-named name 1 (lines_of body) (λ f. (ContainsMatch pattern.tree f.text → IsWanted pattern f) × (IsWanted pattern f → ContainsMatch pattern.tree f.text)) (λ line text. (λ h. record { hit = h; name_hit = named }, λ w. w.hit))) s
-
--- where the name is not asked for, no line is
-pub Selects-unnamed : (pattern : Pattern) (name body : List ℕ) → (IfSome pattern.name_tree (λ tree. ContainsMatch tree name) → ⊥) → Selects (IsWanted pattern) (lines_of_document name body) []
-Selects-unnamed pattern name body other =
-    Selects-none (IsWanted pattern) (lines_of_document name body) (numbered-named name 1 (lines_of body) (λ f. IsWanted pattern f → ⊥) (λ line text w. other w.name_hit))
 
 -- a line of a document, by its number
 record IsNumbered (name : List ℕ) (line : ℕ) (texts : List (List ℕ)) (f : Hit) : Type 0 where
@@ -78,13 +74,6 @@ Contains-numbered name line (first ∷ texts) (suc i) text e =
 
 abbrev pub all_lines : List Document → List Hit
 all_lines documents = flat_map (λ d. lines_of_document d.name d.body) documents
-
--- by number, as an index gives them
-lines-numbers : (documents ordered : List Document) → ((d : Document) → Contains ordered d → document_at d.number documents ≡ Some (d.name, d.body)) → flat_map (lines_at documents) (map (λ d. d.number) ordered) ≡ all_lines ordered
-lines-numbers documents [] each = refl
-lines-numbers documents (d ∷ ordered) each =
-    let here : lines_at documents d.number ≡ lines_of_document d.name d.body = ap lines_shown (each d (Contains-head d ordered)) in
-    rw (here, lines-numbers documents ordered (λ x h. each x (Contains-tail d ordered x h))) refl
 
 Contains-left : (xs ys : List Hit) (f : Hit) → Contains xs f → Contains (xs ++ ys) f
 Contains-left [] ys f h = absurd (omega (arith, h.1))
@@ -165,74 +154,75 @@ all_lines-sorted [] rises = tt
 all_lines-sorted (d ∷ documents) rises =
     sorted-append (lines_of_document d.name d.body) (all_lines documents) (numbered-sorted d.name 1 (lines_of d.body)) (all_lines-sorted documents rises.1) (numbered-named d.name 1 (lines_of d.body) (λ x. AllByRecursion (λ y. hit_cmp x y ≡ Less) (all_lines documents)) (λ line text. all-lines-above d.name (found d.name line text) refl documents rises.0))
 
--- ---- from number to number
+-- ---- from one of a list to the next
 
-pub numbers-next : (documents : List Document) (numbers : List ℕ) (i : ℕ) → i < length numbers → flat_map (lines_at documents) (drop i numbers) ≡ lines_at documents (get_or numbers i 0) ++ flat_map (lines_at documents) (drop (i + 1) numbers)
-numbers-next documents numbers i h =
+pub lines-next : {X : Type 0} (lines : X → List Hit) (xs : List X) (i : ℕ) (x : X) → i < length xs → x ≡ get_or xs i x → flat_map lines (drop i xs) ≡ lines x ++ flat_map lines (drop (i + 1) xs)
+lines-next lines xs i x h is =
     let moved : suc i ≡ i + 1 = omega arith in
-    ap (λ xs. flat_map (lines_at documents) xs) (drop-cons numbers i 0 h) ∙ ap (λ n. lines_at documents (get_or numbers i 0) ++ flat_map (lines_at documents) (drop n numbers)) moved
+    ap (λ ys. flat_map lines ys) (drop-cons xs i x h) ∙ (ap (λ y. lines y ++ flat_map lines (drop (suc i) xs)) (sym is) ∙ ap (λ n. lines x ++ flat_map lines (drop n xs)) moved)
 
-pub documents-step : (Has : Hit → Type 0) (documents : List Document) (numbers : List ℕ) (i : ℕ) (whole old now new : List Hit) → i < length numbers → Adds Has (lines_at documents (get_or numbers i 0)) now new → ((more : List Hit) → Selects Has (flat_map (lines_at documents) (drop i numbers)) more → Adds Has whole old (now ++ more)) → (more : List Hit) → Selects Has (flat_map (lines_at documents) (drop (i + 1) numbers)) more → Adds Has whole old (new ++ more)
-documents-step Has documents numbers i whole old now new h step before =
-    Selects-after Has (lines_at documents (get_or numbers i 0)) (flat_map (lines_at documents) (drop (i + 1) numbers)) whole now old new step
-    (λ more s. before more (subst (λ all. Selects Has all more) (sym (numbers-next documents numbers i h)) s))
+pub lines-step : {X : Type 0} (Has : Hit → Type 0) (lines : X → List Hit) (xs : List X) (i : ℕ) (x : X) (whole old now new : List Hit) → i < length xs → x ≡ get_or xs i x → Adds Has (lines x) now new → ((more : List Hit) → Selects Has (flat_map lines (drop i xs)) more → Adds Has whole old (now ++ more)) → (more : List Hit) → Selects Has (flat_map lines (drop (i + 1) xs)) more → Adds Has whole old (new ++ more)
+lines-step Has lines xs i x whole old now new h is step before =
+    Selects-after Has (lines x) (flat_map lines (drop (i + 1) xs)) whole now old new step
+    (λ more s. before more (subst (λ all. Selects Has all more) (sym (lines-next lines xs i x h is)) s))
 
-pub documents-end : (Has : Hit → Type 0) (documents : List Document) (numbers : List ℕ) (i : ℕ) (whole old now : List Hit) → length numbers ≤ i → ((more : List Hit) → Selects Has (flat_map (lines_at documents) (drop i numbers)) more → Adds Has whole old (now ++ more)) → Adds Has whole old now
-documents-end Has documents numbers i whole old now h before =
-    let none : drop i numbers ≡ [] = drop_of_length-le numbers h in
-    subst (λ xs. Adds Has whole old xs) (append-nil now) (before [] (subst (λ xs. Selects Has (flat_map (lines_at documents) xs) []) (sym none) done))
+pub lines-end : {X : Type 0} (Has : Hit → Type 0) (lines : X → List Hit) (xs : List X) (i : ℕ) (whole old now : List Hit) → length xs ≤ i → ((more : List Hit) → Selects Has (flat_map lines (drop i xs)) more → Adds Has whole old (now ++ more)) → Adds Has whole old now
+lines-end Has lines xs i whole old now h before =
+    let none : drop i xs ≡ [] = drop_of_length-le xs h in
+    subst (λ ys. Adds Has whole old ys) (append-nil now) (before [] (subst (λ ys. Selects Has (flat_map lines ys) []) (sym none) done))
 
--- the documents of a list's first numbers, and those of the others
-pub two-parts : (Has : Hit → Type 0) (documents : List Document) (numbers : List ℕ) (few : ℕ) (one two : List Hit) → Adds Has (flat_map (lines_at documents) (take few numbers)) [] one → Adds Has (flat_map (lines_at documents) (take (length numbers - few) (drop few numbers))) one two → Selects Has (flat_map (lines_at documents) numbers) two
-two-parts Has documents numbers few one two first rest =
-    let whole : take few numbers ++ take (length numbers - few) (drop few numbers) ≡ numbers =
-    ap (λ xs. take few numbers ++ xs) (take_all (length numbers - few) (drop few numbers) (omega (arith, length-drop few numbers))) ∙ take-append-drop few numbers in
-    let lines = sym (flat_map-append (lines_at documents) (take few numbers) (take (length numbers - few) (drop few numbers))) ∙ ap (λ xs. flat_map (lines_at documents) xs) whole in
-    subst (λ all. Selects Has all two) lines
-    (subst (λ hits. Selects Has (flat_map (lines_at documents) (take few numbers) ++ flat_map (lines_at documents) (take (length numbers - few) (drop few numbers))) hits) (sym (rest.appended ∙ ap (λ xs. xs ++ rest.added) first.appended))
+-- the first ones of a list, and the others
+pub two-parts : {X : Type 0} (Has : Hit → Type 0) (lines : X → List Hit) (xs : List X) (few : ℕ) (one two : List Hit) → Adds Has (flat_map lines (take few xs)) [] one → Adds Has (flat_map lines (take (length xs - few) (drop few xs))) one two → Selects Has (flat_map lines xs) two
+two-parts Has lines xs few one two first rest =
+    let whole : take few xs ++ take (length xs - few) (drop few xs) ≡ xs =
+    ap (λ ys. take few xs ++ ys) (take_all (length xs - few) (drop few xs) (omega (arith, length-drop few xs))) ∙ take-append-drop few xs in
+    let joined = sym (flat_map-append lines (take few xs) (take (length xs - few) (drop few xs))) ∙ ap (λ ys. flat_map lines ys) whole in
+    subst (λ all. Selects Has all two) joined
+    (subst (λ hits. Selects Has (flat_map lines (take few xs) ++ flat_map lines (take (length xs - few) (drop few xs))) hits) (sym (rest.appended ∙ ap (λ ys. ys ++ rest.added) first.appended))
     (Selects-append first.selected rest.selected))
 
-pub no-documents : (Has : Hit → Type 0) (documents : List Document) (numbers : List ℕ) (old : List Hit) → length numbers ≡ 0 → Adds Has (flat_map (lines_at documents) numbers) old old
-no-documents Has documents [] old e = Adds-none Has [] old done
-no-documents Has documents (number ∷ numbers) old e = absurd (omega arith)
-
--- the lines of a document that is there, and of none
-pub Adds-document : (Has : Hit → Type 0) (documents : List Document) (number : ℕ) (name body : List ℕ) (now new : List Hit) → Some (name, body) ≡ document_at number documents → Adds Has (lines_of_document name body) now new → Adds Has (lines_at documents number) now new
-Adds-document Has documents number name body now new e added = subst (λ d. Adds Has (lines_shown d) now new) e added
-
-pub Adds-absent : (Has : Hit → Type 0) (documents : List Document) (number : ℕ) (now : List Hit) → None ≡ document_at number documents → Adds Has (lines_at documents number) now now
-Adds-absent Has documents number now e = subst (λ d. Adds Has (lines_shown d) now now) e (Adds-none Has [] now done)
+pub no-lines : {X : Type 0} (Has : Hit → Type 0) (lines : X → List Hit) (xs : List X) (old : List Hit) → length xs ≡ 0 → Adds Has (flat_map lines xs) old old
+no-lines Has lines [] old e = Adds-none Has [] old done
+no-lines Has lines (x ∷ xs) old e = absurd (omega arith)
 
 -- ---- the scan
 
-pub IsScanOf-Selects : (c : List Command) (pattern : Pattern) (chosen ordered : List Document) (hits : List Hit) → IsInNameOrder chosen ordered → ((d : Document) → Contains chosen d → Contains (documents_of c) d) → ((d : Document) → Contains (documents_of c) d → (i : ℕ) (text : List ℕ) → slice_get (lines_of d.body) i ≡ Some text → ContainsMatch pattern.tree text → Contains chosen d) → Selects (IsWanted pattern) (flat_map (lines_at (documents_of c)) (map (λ d. d.number) ordered)) hits → IsScanOf c pattern hits
-IsScanOf-Selects c pattern chosen ordered hits order within law given =
-    let numbers = lines-numbers (documents_of c) ordered (λ d h. document_at-Contains c d (within d ((order.same d).0 h))) in
-    let s = subst (λ all. Selects (IsWanted pattern) all hits) numbers given in
-    record {
-      rises = sorted-Selects hit_cmp s (all_lines-sorted ordered order.rises);
-      exact = λ f. (λ h. forth f (Contains-kept f s h), λ h. back f s h);
-    }
+-- a document with a hit is a candidate
+candidate : (s : State) (pattern : Pattern) (d : Document) (i : ℕ) (text : List ℕ) → Contains s.documents d → slice_get (lines_of d.body) i ≡ Some text → ContainsMatch pattern.tree text → Contains (candidates_of s pattern.tree) d
+candidate s pattern d i text there at hit =
+    Contains-filter (λ x. condition pattern.tree (trigrams_of_body x.body)) s.documents d there (matching_line pattern.tree d.body text (i, slice_get_within (lines_of d.body) i text at, get_or_from_slice_get (lines_of d.body) i text text at) hit)
+
+-- Those of the lines of the wanted documents that contain a match are the scan.
+pub IsScanOf-wanted : (s : State) (pattern : Pattern) (wanted : List Document) (hits : List Hit) → AreWanted s pattern wanted → Selects (HasMatch pattern.tree) (all_lines wanted) hits → IsScanOf s pattern hits
+IsScanOf-wanted s pattern wanted hits are kept = record {
+  rises = sorted-Selects hit_cmp kept (all_lines-sorted wanted are.rises);
+  exact = λ f. (λ h. forth f (Contains-kept f kept h), λ h. back f h);
+}
   where
-    forth : (f : Hit) → Contains (all_lines ordered) f × IsWanted pattern f → IsHit c pattern f
+    forth : (f : Hit) → Contains (all_lines wanted) f × HasMatch pattern.tree f → IsHit s pattern f
     forth f h =
-        let line = all_lines-Contains ordered f h.0 in
+        let line = all_lines-Contains wanted f h.0 in
+        let is = (are.exact line.0).0 line.1 in
         let at = numbered_at line.0.name 1 (lines_of line.0.body) f line.2 in
         let place : at.i ≡ f.line - 1 = omega (arith, at.at) in
         record {
           document = line.0;
-          there = within line.0 ((order.same line.0).0 line.1);
+          there = (filter-Contains (λ x. condition pattern.tree (trigrams_of_body x.body)) s.documents line.0 is.candidate).0;
           named = at.named;
           counted = omega (arith, at.at);
           line = ap (λ n. slice_get (lines_of line.0.body) n) (sym place) ∙ at.text;
-          hit = h.1.hit;
-          name_hit = h.1.name_hit;
+          hit = h.1;
+          name_hit = subst (λ name. IfSome pattern.name_tree (λ tree. ContainsMatch tree name)) (sym at.named) is.name_hit;
         }
 
-    back : (f : Hit) → Selects (IsWanted pattern) (all_lines ordered) hits → IsHit c pattern f → Contains hits f
-    back f s h =
+    back : (f : Hit) → IsHit s pattern f → Contains hits f
+    back f h =
         let at = Contains-numbered h.document.name 1 (lines_of h.document.body) (f.line - 1) f.text h.line in
         let number : 1 + (f.line - 1) ≡ f.line = omega (arith, h.counted) in
         let moved = subst (λ n. Contains (lines_of_document h.document.name h.document.body) (found h.document.name n f.text)) number at in
         let named = subst (λ n. Contains (lines_of_document h.document.name h.document.body) (found n f.line f.text)) (sym h.named) moved in
-        kept-Contains f s (Contains-all_lines ordered h.document f ((order.same h.document).1 (law h.document h.there (f.line - 1) f.text h.line h.hit)) named) (record { hit = h.hit; name_hit = h.name_hit })
+        let is : IsWanted s pattern h.document = record {
+          candidate = candidate s pattern h.document (f.line - 1) f.text h.there h.line h.hit;
+          name_hit = subst (λ name. IfSome pattern.name_tree (λ tree. ContainsMatch tree name)) h.named h.name_hit;
+        } in
+        kept-Contains f kept (Contains-all_lines wanted h.document f ((are.exact h.document).1 is) named) h.hit

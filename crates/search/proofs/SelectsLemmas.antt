@@ -1,15 +1,18 @@
--- Lines that are kept, one document after another.
-use Rattle.std.proofs.Common.{◌≡◌, inl, inr, List, [], ◌∷◌, ◌++◌, Contains, sym, ◌∙◌, ap, subst, arith, append_assoc}
+-- What is kept of a list: lines, one document after another, and documents.
+use Rattle.std.proofs.Common.{◌≡◌, ℕ, inl, inr, List, [], ◌∷◌, ◌++◌, map, Contains, refl, sym, ◌∙◌, ap, subst, arith, append_assoc}
+use Rattle.std.specs.Ordering.{nat_cmp}
+use Rattle.std.specs.Cmp.Lexicographic.{slice_cmp}
 use Rattle.std.specs.List.{AllByRecursion}
 use Rattle.std.specs.List.Sorted.{IsStrictlySortedBy}
 use Rattle.std.specs.declared.cmp.Ordering.{Ordering}
 use Rattle.std.specs.declared.cmp.Ordering.TheVariants.{Less}
 use Rattle.std.proofs.lemmas.List.{append-nil}
+use Rattle.index.specs.Documents.{Document, RisesByName}
 use Rattle.index.proofs.PutLemmas.{Contains-cons, Contains-head, Contains-tail}
 use Rattle.search.specs.Scan.{Hit}
-use Rattle.search.specs.Selects.{Selects, done, keep, skip, Adds}
+use Rattle.search.specs.Private.Selects.{Selects, done, keep, skip, Adds}
 
-pub Selects-append : {Has : Hit → Type 0} {xs ys a b : List Hit} → Selects Has xs a → Selects Has ys b → Selects Has (xs ++ ys) (a ++ b)
+pub Selects-append : {X : Type 0} {Has : X → Type 0} {xs ys a b : List X} → Selects Has xs a → Selects Has ys b → Selects Has (xs ++ ys) (a ++ b)
 Selects-append done s = s
 Selects-append (keep h r) s = keep h (Selects-append r s)
 Selects-append (skip h r) s = skip h (Selects-append r s)
@@ -32,19 +35,24 @@ Selects-after Has first rest whole now old new step before more s =
     let same : now ++ (step.added ++ more) ≡ new ++ more = sym (append_assoc now step.added more) ∙ ap (λ xs. xs ++ more) (sym step.appended) in
     subst (λ xs. Adds Has whole old xs) same joined
 
--- where two properties are the same of each line
-pub Selects-same : {Has Other : Hit → Type 0} {all kept : List Hit} → AllByRecursion (λ f. (Has f → Other f) × (Other f → Has f)) all → Selects Has all kept → Selects Other all kept
-Selects-same each done = done
-Selects-same each (keep h r) = keep (each.0.0 h) (Selects-same each.1 r)
-Selects-same each (skip h r) = skip (λ o. h (each.0.1 o)) (Selects-same each.1 r)
+-- where each has the property
+pub Selects-all : {X : Type 0} (Has : X → Type 0) (xs : List X) → ((x : X) → Has x) → Selects Has xs xs
+Selects-all Has [] each = done
+Selects-all Has (x ∷ xs) each = keep (each x) (Selects-all Has xs each)
 
--- where no line has the property
-pub Selects-none : (Has : Hit → Type 0) (all : List Hit) → AllByRecursion (λ f. Has f → ⊥) all → Selects Has all []
-Selects-none Has [] each = done
-Selects-none Has (f ∷ all) each = skip each.0 (Selects-none Has all each.1)
+-- what is kept of a list of numbers, or of other values, is the values of those that are kept
+pub record Kept {X Y : Type 0} (f : X → Y) (Has : Y → Type 0) (xs : List X) (kept : List Y) : Type 0 where
+  pub from : List X
+  pub are : kept ≡ map f from
+  pub selected : Selects (λ x. Has (f x)) xs from
 
--- what holds of each line holds of each that is kept
-pub All-Selects : {Has : Hit → Type 0} {all kept : List Hit} (P : Hit → Type 0) → Selects Has all kept → AllByRecursion P all → AllByRecursion P kept
+pub Selects-map : {X Y : Type 0} (f : X → Y) (Has : Y → Type 0) (xs : List X) (kept : List Y) → Selects Has (map f xs) kept → Kept f Has xs kept
+Selects-map f Has [] _ done = record { from = []; are = refl; selected = done }
+Selects-map f Has (x ∷ xs) _ (keep {all = _} {kept} h r) = let rest = Selects-map f Has xs kept r in record { from = x ∷ rest.from; are = ap (λ ys. f x ∷ ys) rest.are; selected = keep h rest.selected }
+Selects-map f Has (x ∷ xs) kept (skip h r) = let rest = Selects-map f Has xs kept r in record { from = rest.from; are = rest.are; selected = skip h rest.selected }
+
+-- what holds of each holds of each that is kept
+pub All-Selects : {X : Type 0} {Has : X → Type 0} {all kept : List X} (P : X → Type 0) → Selects Has all kept → AllByRecursion P all → AllByRecursion P kept
 All-Selects P done each = tt
 All-Selects P (keep h r) each = (each.0, All-Selects P r each.1)
 All-Selects P (skip h r) each = All-Selects P r each.1
@@ -52,19 +60,30 @@ All-Selects P (skip h r) each = All-Selects P r each.1
 pub sorted-Selects : {Has : Hit → Type 0} {all kept : List Hit} (cmp : Hit → Hit → Ordering) → Selects Has all kept → IsStrictlySortedBy cmp all → IsStrictlySortedBy cmp kept
 unfolding IsStrictlySortedBy
 sorted-Selects cmp done sorted = tt
-sorted-Selects cmp (keep {f} h r) sorted = (All-Selects (λ y. cmp f y ≡ Less) r sorted.0, sorted-Selects cmp r sorted.1)
+sorted-Selects cmp (keep {x = f} h r) sorted = (All-Selects (λ y. cmp f y ≡ Less) r sorted.0, sorted-Selects cmp r sorted.1)
 sorted-Selects cmp (skip h r) sorted = sorted-Selects cmp r sorted.1
 
--- the kept are those that have the property
-pub Contains-kept : {Has : Hit → Type 0} {all kept : List Hit} (x : Hit) → Selects Has all kept → Contains kept x → Contains all x × Has x
-Contains-kept x done h = absurd (omega (arith, h.1))
-Contains-kept {Has} x (keep {f} {all} {kept} p r) h =
-    elim (Contains-cons f kept x h) [ inl is ↦ (subst (λ y. Contains (f ∷ all) y) is (Contains-head f all), subst Has is p) | inr rest ↦ (let deeper = Contains-kept x r rest in (Contains-tail f all x deeper.0, deeper.1)) ]
-Contains-kept x (skip {f} {all} p r) h = let deeper = Contains-kept x r h in (Contains-tail f all x deeper.0, deeper.1)
+names-Selects : {Has : Document → Type 0} {all kept : List Document} (name : List ℕ) → Selects Has all kept → AllByRecursion (λ n. slice_cmp nat_cmp name n ≡ Less) (map (λ d. d.name) all) → AllByRecursion (λ n. slice_cmp nat_cmp name n ≡ Less) (map (λ d. d.name) kept)
+names-Selects name done each = tt
+names-Selects name (keep h r) each = (each.0, names-Selects name r each.1)
+names-Selects name (skip h r) each = names-Selects name r each.1
 
-pub kept-Contains : {Has : Hit → Type 0} {all kept : List Hit} (x : Hit) → Selects Has all kept → Contains all x → Has x → Contains kept x
+pub rises-Selects : {Has : Document → Type 0} {all kept : List Document} → Selects Has all kept → RisesByName all → RisesByName kept
+unfolding IsStrictlySortedBy
+rises-Selects done rises = tt
+rises-Selects (keep {x} h r) rises = (names-Selects x.name r rises.0, rises-Selects r rises.1)
+rises-Selects (skip h r) rises = rises-Selects r rises.1
+
+-- the kept are those that have the property
+pub Contains-kept : {X : Type 0} {Has : X → Type 0} {all kept : List X} (x : X) → Selects Has all kept → Contains kept x → Contains all x × Has x
+Contains-kept x done h = absurd (omega (arith, h.1))
+Contains-kept {Has} x (keep {x = f} {all} {kept} p r) h =
+    elim (Contains-cons f kept x h) [ inl is ↦ (subst (λ y. Contains (f ∷ all) y) is (Contains-head f all), subst Has is p) | inr rest ↦ (let deeper = Contains-kept x r rest in (Contains-tail f all x deeper.0, deeper.1)) ]
+Contains-kept x (skip {x = f} {all} p r) h = let deeper = Contains-kept x r h in (Contains-tail f all x deeper.0, deeper.1)
+
+pub kept-Contains : {X : Type 0} {Has : X → Type 0} {all kept : List X} (x : X) → Selects Has all kept → Contains all x → Has x → Contains kept x
 kept-Contains x done h has = absurd (omega (arith, h.1))
-kept-Contains x (keep {f} {all} {kept} p r) h has =
+kept-Contains x (keep {x = f} {all} {kept} p r) h has =
     elim (Contains-cons f all x h) [ inl is ↦ subst (λ y. Contains (f ∷ kept) y) is (Contains-head f kept) | inr rest ↦ Contains-tail f kept x (kept-Contains x r rest has) ]
-kept-Contains {Has} x (skip {f} {all} {kept} p r) h has =
+kept-Contains {Has} x (skip {x = f} {all} {kept} p r) h has =
     elim (Contains-cons f all x h) [ inl is ↦ absurd (p (subst Has (sym is) has)) | inr rest ↦ kept-Contains x r rest has ]

@@ -9,7 +9,7 @@ use Rattle.finder.specs.FirstLine.{IsFirstLine, IsInside}
 use Rattle.finder.specs.declared.finding.FirstLine.{FirstLine}
 use Rattle.index.proofs.LineLemmas.{rest-after}
 use Rattle.search.specs.Scan.{Hit}
-use Rattle.search.specs.Selects.{found, numbered, lines_of_document, HasMatch, Adds, Selects, done, keep, skip}
+use Rattle.search.specs.Private.Selects.{found, numbered, lines_of_document, HasMatch, Adds, Selects, done, keep, skip}
 
 keep_at : (tree : Tree) (name : List ℕ) (line : ℕ) (front : List (List ℕ)) (text : List ℕ) (back : List (List ℕ)) (kept : List Hit) → AllByRecursion (λ other. ContainsMatch tree other → ⊥) front → ContainsMatch tree text → Selects (HasMatch tree) (numbered name (line + length front + 1) back) kept → Selects (HasMatch tree) (numbered name line (front ++ text ∷ back)) (found name (line + length front) text ∷ kept)
 unfolding numbered

@@ -6,7 +6,7 @@ use Rattle.finder.specs.declared.finding.Finder.{Finder}
 use Rattle.finder.specs.declared.compiled.Compiled.{Compiled}
 use Rattle.search.specs.declared.way.Way.{Way}
 use Rattle.search.specs.declared.way.Way.TheVariants.{FromMatchToMatch, LineByLine}
-use Rattle.search.specs.Ways.{Finds}
+use Rattle.search.specs.Private.Ways.{Finds}
 
 pub finder_of : (tree : Tree) (way : Way) (finder : Finder) → way ≡ FromMatchToMatch finder → Finds tree way → IsFinderOf tree finder
 unfolding Finds

@@ -1,8 +1,9 @@
 pub mod Pattern
 pub mod Prepared
 pub mod Scan
+pub mod Commands
 pub mod Hits
 pub mod Text
 pub mod Queries
-pub mod Selects
-pub mod Ways
+pub mod Taken
+pub mod Private

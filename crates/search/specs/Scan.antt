@@ -9,8 +9,8 @@ use Rattle.ere.specs.Tree.{Tree}
 use Rattle.ere.specs.Lines.{lines_of}
 use Rattle.query.specs.Trigrams.{trigrams_of_body}
 use Rattle.trigram.specs.Analysis.{condition}
-use Rattle.index.specs.declared.command.Command.{Command}
-use Rattle.index.specs.Documents.{Document, documents_of}
+use Rattle.index.specs.Documents.{Document}
+use Rattle.index.specs.State.{State}
 use Rattle.search.specs.Pattern.{Pattern}
 
 -- a line that was found: its document's name, its number from 1, and its text
@@ -20,9 +20,9 @@ pub record Hit : Type 0 where
   pub text : List ℕ
 
 -- The pattern asks for this line of some document.
-pub record IsHit (commands : List Command) (pattern : Pattern) (found : Hit) : Type 0 where
+pub record IsHit (state : State) (pattern : Pattern) (found : Hit) : Type 0 where
   pub document : Document
-  pub there : Contains (documents_of commands) document
+  pub there : Contains state.documents document
   pub named : found.name ≡ document.name
   pub counted : 0 < found.line
   pub line : slice_get (lines_of document.body) (found.line - 1) ≡ Some found.text
@@ -34,13 +34,13 @@ abbrev pub hit_cmp : Hit → Hit → Ordering
 hit_cmp = then_cmp (on (λ f. f.name) (slice_cmp nat_cmp)) (on (λ f. f.line) nat_cmp)
 
 -- the lines that the pattern asks for, each once, in order
-pub record IsScanOf (commands : List Command) (pattern : Pattern) (scan : List Hit) : Type 0 where
+pub record IsScanOf (state : State) (pattern : Pattern) (scan : List Hit) : Type 0 where
   pub rises : IsStrictlySortedBy hit_cmp scan
-  pub exact : (found : Hit) → Contains scan found ↔ IsHit commands pattern found
+  pub exact : (found : Hit) → Contains scan found ↔ IsHit state pattern found
 
 -- the documents whose trigrams meet the condition of the tree
-abbrev pub candidates_of : List Command → Tree → List Document
-candidates_of commands tree = filter (λ d. condition tree (trigrams_of_body d.body)) (documents_of commands)
+abbrev pub candidates_of : State → Tree → List Document
+candidates_of state tree = filter (λ d. condition tree (trigrams_of_body d.body)) state.documents
 
 -- an answer: the number of commands that it rests on, the lines found, and how many documents there are,
 -- and how many of them are candidates
@@ -50,8 +50,8 @@ pub record Answer : Type 0 where
   pub documents : ℕ
   pub candidates : ℕ
 
-pub record IsAnswerOf (commands : List Command) (pattern : Pattern) (answer : Answer) : Type 0 where
-  pub version : answer.version ≡ length commands
-  pub hits : IsScanOf commands pattern answer.hits
-  pub documents : answer.documents ≡ length (documents_of commands)
-  pub candidates : answer.candidates ≡ length (candidates_of commands pattern.tree)
+pub record IsAnswerOf (state : State) (pattern : Pattern) (answer : Answer) : Type 0 where
+  pub version : answer.version ≡ state.version
+  pub hits : IsScanOf state pattern answer.hits
+  pub documents : answer.documents ≡ length state.documents
+  pub candidates : answer.candidates ≡ length (candidates_of state pattern.tree)

@@ -2,14 +2,20 @@
 #![tactic(auto)]
 
 pub mod answer;
+mod documents;
+pub mod laws;
 mod lines;
 mod names;
 pub mod pattern;
 pub mod scan;
+pub mod taken;
+mod watch;
 mod way;
 
 pub use answer::{Answer, Hit, append_all};
 pub use ere::{EreError, EreErrorKind};
-pub use index::{Body, BodyError, BodyErrorKind, Command, Index, Name, NameError};
+pub use index::{Body, BodyError, BodyErrorKind, Command, Held, Index, Name, NameError};
 pub use pattern::{Prepared, WithinError};
-pub use scan::{Watch, find, find_watched};
+pub use scan::{find, find_watched};
+pub use taken::{Taken, take};
+pub use watch::Watch;

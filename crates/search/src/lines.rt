@@ -5,17 +5,18 @@ ghost use Rattle.ere.specs.Tree.{Tree, form};
 ghost use Rattle.ere.specs.Limits.{IsWithinLimits};
 ghost use Rattle.ere.specs.Lines.{lines_of};
 ghost use Rattle.finder.specs.Patterns.{IsFinderOf};
-ghost use Rattle.index.specs.Documents.{documents_of};
 ghost use Rattle.search.specs.Hits.{hits_of};
-ghost use Rattle.search.specs.Selects.{Adds, Selects, HasMatch, found, lines_of_document, lines_at};
-ghost use Rattle.search.specs.Ways.{Finds};
+ghost use Rattle.search.specs.Private.Selects.{Adds, Selects, HasMatch, found, lines_of_document};
+ghost use Rattle.search.specs.Private.Documents.{lines_of_taken};
+ghost use Rattle.search.specs.Private.Ways.{Finds};
 
 use crate::answer::Hit;
-use crate::scan::Watch;
+use crate::documents::TakenDocument;
+use crate::watch::Watch;
 use crate::way::{Way, compile, nests_stars, way_by};
 use ere::{Ere, MAX_LINE};
 use finder::Finder;
-use index::{Body, Index, Name};
+use index::{Body, Name};
 use matcher::matches;
 use memchr::memchr;
 use std::alloc::{AllocError, Global};
@@ -24,95 +25,86 @@ use std::alloc::{AllocError, Global};
 /// about as long as the matcher takes for so many bytes.
 const FEW_BYTES: usize = 16384;
 
-/// The lines with a match in the documents with these numbers, document after document. The watch is told of
-/// each document. An `Err` comes only where memory ran out.
+/// The lines with a match in these documents, document after document. The watch is told of each document. An
+/// `Err` comes only where memory ran out.
 pub fn scan_documents<W: Watch>(
     alloc: Global,
-    index: &Index,
     tree: &Ere,
-    numbers: &[u32],
+    documents: &[TakenDocument],
     watch: &mut W,
 ) -> Result<Vec<Hit>, AllocError>
     requires { IsWithinLimits (form tree.now) }
-    ensures { IfOk result (λ hits. Selects (HasMatch (form tree.now))
-        (flat_map (lines_at (documents_of index.now)) numbers.now) (hits_of hits.items)) }
+    ensures { IfOk result (λ hits. Selects (HasMatch (form tree.now)) (flat_map lines_of_taken documents.now) (hits_of hits.items)) }
 {
     let mut hits = Vec::new(alloc);
-    let few = few_documents(index, tree, numbers);
+    let few = few_documents(tree, documents);
     let mut way = Way::LineByLine;
-    scan_by(index, tree, &mut way, &numbers[..few], &mut hits, watch)?;
-    scan_compiled(index, tree, &numbers[few..], &mut hits, watch)?;
+    scan_by(tree, &mut way, &documents[..few], &mut hits, watch)?;
+    scan_compiled(tree, &documents[few..], &mut hits, watch)?;
     Ok(hits)
 }
 
 // How many documents, from the first on, are so small together that their lines are looked at one by one. No
 // answer depends on it.
-fn few_documents(index: &Index, tree: &Ere, numbers: &[u32]) -> usize
-    ensures { result ≤ length numbers.now }
+fn few_documents(tree: &Ere, documents: &[TakenDocument]) -> usize
+    ensures { result ≤ length documents.now }
 {
     if nests_stars(tree) {
         return 0;
     }
     let mut left = FEW_BYTES;
-    for at in 0..numbers.len() {
-        let size = body_size(index, numbers[at]);
+    for at in 0..documents.len() {
+        let size = body_size(&documents[at]);
         if size > left {
             return at;
         }
         left -= size;
     }
-    numbers.len()
+    documents.len()
 }
 
-// The bytes of the body of the document with this number, where there is one.
-fn body_size(index: &Index, number: u32) -> usize {
-    match index.document(number) {
-        Some((_, body)) => body.as_bytes().len(),
-        None => 0,
-    }
+// The bytes of the document's body.
+fn body_size(document: &TakenDocument) -> usize {
+    document.held.body().as_bytes().len()
 }
 
-// Adds the lines with a match in the documents with these numbers, by the compiled pattern. Where there are
-// none, no pattern is compiled.
+// Adds the lines with a match in these documents, by the compiled pattern. Where there are none, no pattern is
+// compiled.
 fn scan_compiled<W: Watch>(
-    index: &Index,
     tree: &Ere,
-    numbers: &[u32],
+    documents: &[TakenDocument],
     hits: &mut Vec<Hit>,
     watch: &mut W,
 ) -> Result<(), AllocError>
     requires { IsWithinLimits (form tree.now) }
-    ensures { OnOk result (Adds (HasMatch (form tree.now)) (flat_map (lines_at (documents_of index.now)) numbers.now)
+    ensures { OnOk result (Adds (HasMatch (form tree.now)) (flat_map lines_of_taken documents.now)
         (hits_of hits.old.items) (hits_of hits.new.items)) }
 {
-    if numbers.is_empty() {
+    if documents.is_empty() {
         return Ok(());
     }
     let alloc = *hits.allocator();
     let compiled = compile(alloc, tree)?;
     let mut way = way_by(alloc, tree, &compiled)?;
-    scan_by(index, tree, &mut way, numbers, hits, watch)
+    scan_by(tree, &mut way, documents, hits, watch)
 }
 
-// Adds the lines with a match in the documents with these numbers, by this way.
+// Adds the lines with a match in these documents, by this way.
 fn scan_by<W: Watch>(
-    index: &Index,
     tree: &Ere,
     way: &mut Way<'_>,
-    numbers: &[u32],
+    documents: &[TakenDocument],
     hits: &mut Vec<Hit>,
     watch: &mut W,
 ) -> Result<(), AllocError>
     requires limits { IsWithinLimits (form tree.now) }
     requires way { Finds (form tree.now) way.old }
-    ensures { OnOk result (Adds (HasMatch (form tree.now)) (flat_map (lines_at (documents_of index.now)) numbers.now)
+    ensures { OnOk result (Adds (HasMatch (form tree.now)) (flat_map lines_of_taken documents.now)
         (hits_of hits.old.items) (hits_of hits.new.items)) }
 {
-    for number in numbers {
-        if let Some((name, body)) = index.document(*number) {
-            watch.reads(*number);
-            scan_body(tree, way, name, body, hits)?;
-        }
+    for document in documents {
+        watch.reads(document.number);
+        scan_body(tree, way, &document.name, document.held.body(), hits)?;
     }
     Ok(())
 }

@@ -4,10 +4,9 @@ ghost use Rattle.std.specs.Prelude.{◌↔◌, IfOk, IsTrue};
 ghost use Rattle.ere.specs.Tree.{form};
 ghost use Rattle.ere.specs.Language.{ContainsMatch};
 ghost use Rattle.ere.specs.Limits.{IsWithinLimits};
-ghost use Rattle.index.specs.Documents.{documents_of};
 ghost use Rattle.search.specs.Prepared.{pattern_of};
-ghost use Rattle.search.specs.Selects.{KeepsNamed, KeepsNames, IsNamed};
-ghost use Rattle.search.specs.Ways.{Finds};
+ghost use Rattle.search.specs.Private.Selects.{Selects, IsNamed, IsNamedFor};
+ghost use Rattle.search.specs.Private.Ways.{Finds};
 
 use crate::pattern::Prepared;
 use crate::way::{Way, compile, nests_stars, way_by};
@@ -24,7 +23,7 @@ pub fn named(
     prepared: &Prepared,
     numbers: Vec<u32>,
 ) -> Result<Vec<u32>, AllocError>
-    ensures { IfOk result (λ kept. KeepsNamed (documents_of index.now) (pattern_of prepared.now) numbers.items kept.items) }
+    ensures { IfOk result (λ kept. Selects (IsNamedFor index.now.documents (pattern_of prepared.now)) numbers.items kept.items) }
 {
     match &prepared.name_tree {
         None => Ok(numbers),
@@ -40,7 +39,7 @@ fn with_names(
     numbers: &[u32],
 ) -> Result<Vec<u32>, AllocError>
     requires { IsWithinLimits (form tree.now) }
-    ensures { IfOk result (λ kept. KeepsNames (documents_of index.now) (form tree.now) numbers.now kept.items) }
+    ensures { IfOk result (λ kept. Selects (IsNamed index.now.documents (form tree.now)) numbers.now kept.items) }
 {
     if numbers.is_empty() || !nests_stars(tree) {
         // Names are short, and a compiled pattern does not pay.
@@ -61,7 +60,7 @@ fn with_names_by(
 ) -> Result<Vec<u32>, AllocError>
     requires limits { IsWithinLimits (form tree.now) }
     requires way { Finds (form tree.now) way.old }
-    ensures { IfOk result (λ kept. KeepsNames (documents_of index.now) (form tree.now) numbers.now kept.items) }
+    ensures { IfOk result (λ kept. Selects (IsNamed index.now.documents (form tree.now)) numbers.now kept.items) }
 {
     let mut kept = Vec::new(alloc);
     for number in numbers {
@@ -77,7 +76,7 @@ fn is_named(index: &Index, tree: &Ere, way: &mut Way<'_>, number: u32) -> bool
     requires limits { IsWithinLimits (form tree.now) }
     requires way { Finds (form tree.now) way.old }
     ensures way { Finds (form tree.now) way.new }
-    ensures named { IsTrue result ↔ IsNamed (documents_of index.now) (form tree.now) number }
+    ensures named { IsTrue result ↔ IsNamed index.now.documents (form tree.now) number }
 {
     match index.document(number) {
         Some((name, _)) => matches_name(tree, way, name),

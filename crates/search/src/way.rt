@@ -4,7 +4,7 @@ ghost use Rattle.std.specs.Prelude.{◌≡◌, IfOk, IfSome, nat_le};
 ghost use Rattle.ere.specs.Tree.{form};
 ghost use Rattle.finder.specs.Patterns.{IsCompiledFrom};
 ghost use Rattle.finder.specs.StarHeight.{star_height};
-ghost use Rattle.search.specs.Ways.{Finds};
+ghost use Rattle.search.specs.Private.Ways.{Finds};
 
 use ere::Ere;
 use finder::{Compiled, Finder, has_star_height};

@@ -1,6 +1,6 @@
 -- Items that are carried out have their entries.
-use Rattle.std.proofs.Common.{◌≡◌, ℕ, ◌+◌, inl, List, [], ◌∷◌, Some, None, refl, ap, ◌∙◌, length}
-use Rattle.index.specs.declared.command.Command.{Command}
+use Rattle.std.proofs.Common.{◌≡◌, ℕ, ◌+◌, inl, List, [], ◌∷◌, Some, None, refl, ap, ◌∙◌}
+use Rattle.index.specs.State.{State}
 use Rattle.index.specs.declared.command.Command.TheVariants.{Put, Remove}
 use Rattle.search.specs.Pattern.{Pattern}
 use Rattle.script.specs.Items as item
@@ -20,18 +20,18 @@ use Rattle.tsearch.proofs.ItemLemmas.{counted_same, no_failure_in_body}
 no_failure_at : {entry entry' : Entry} → entry ≡ entry' → failures_in (Some entry') ≡ 0 → failures_in (Some entry) ≡ 0
 no_failure_at is none = ap (λ e. failures_in (Some e)) is ∙ none
 
-no_failure_in_room : (most : ℕ) (commands : List Command) (line : ℕ) (entry : Entry) → IsRoomFor most commands line entry → failures_in (Some entry) ≡ 0
-no_failure_in_room most commands line entry (full all is) = no_failure_at is refl
-no_failure_in_room most commands line entry (accepted room is) = no_failure_at is refl
+no_failure_in_room : (most : ℕ) (state : State) (line : ℕ) (entry : Entry) → IsRoomFor most state line entry → failures_in (Some entry) ≡ 0
+no_failure_in_room most state line entry (full all is) = no_failure_at is refl
+no_failure_in_room most state line entry (accepted room is) = no_failure_at is refl
 
 no_failure_named : (name : List ℕ) (line : ℕ) (entry : Entry) (Else : Type 0) → (Else → failures_in (Some entry) ≡ 0) → IsNamed name line entry Else → failures_in (Some entry) ≡ 0
 no_failure_named name line entry Else none (bad_name fault other is_fault is) = no_failure_at is refl
 no_failure_named name line entry Else none (no_memory is_name is) = no_failure_at is refl
 no_failure_named name line entry Else none (named is_name else) = none else
 
-no_failure_in_remove : (most : ℕ) (commands : List Command) (name : List ℕ) (line : ℕ) (entry : Entry) → IsRemove most commands name line entry → failures_in (Some entry) ≡ 0
-no_failure_in_remove most commands name line entry (no_such_file none is) = no_failure_at is refl
-no_failure_in_remove most commands name line entry (is_there there room) = no_failure_in_room most commands line entry room
+no_failure_in_remove : (most : ℕ) (state : State) (name : List ℕ) (line : ℕ) (entry : Entry) → IsRemove most state name line entry → failures_in (Some entry) ≡ 0
+no_failure_in_remove most state name line entry (no_such_file none is) = no_failure_at is refl
+no_failure_in_remove most state name line entry (is_there there room) = no_failure_in_room most state line entry room
 
 module _ (Holds : List ℕ → List ℕ → Type 0) (store : StoreState) (counts : Counts) (failed line : ℕ) (entry : Entry) where
   pub carried_put : (name body : List ℕ) (store' : StoreState) → IsPut store.most store.accepted name body line entry → store' ≡ store_after (Some entry) (Put name body ∷ []) store → IsCarriedOut Holds store counts failed (item.numbered line (item.put name body)) (Some entry) store' failed
@@ -61,7 +61,7 @@ module _ (Holds : List ℕ → List ℕ → Type 0) (store : StoreState) (counts
     counted = counted_same entry failed (no_failure_named name line entry _ (no_failure_in_remove store.most store.accepted name line entry) is);
   }
 
-  pub carried_publish : (store' : StoreState) → entry ≡ Published line (length store.accepted) → store' ≡ all_published store → IsCarriedOut Holds store counts failed (item.numbered line item.publish) (Some entry) store' failed
+  pub carried_publish : (store' : StoreState) → entry ≡ Published line store.accepted.version → store' ≡ all_published store → IsCarriedOut Holds store counts failed (item.numbered line item.publish) (Some entry) store' failed
   unfolding IsEntryNow
   carried_publish store' is left = record {
     loaded = None;

@@ -1,7 +1,7 @@
 -- Which item an entry can belong to: only a publish is published, and only a search is found.
-use Rattle.std.proofs.Common.{◌≡◌, ℕ, ◌+◌, Bool, true, false, List, Option, refl, sym, ap, ◌∙◌, length}
+use Rattle.std.proofs.Common.{◌≡◌, ℕ, ◌+◌, Bool, true, false, List, Option, refl, sym, ap, ◌∙◌}
 use Rattle.std.proofs.lemmas.Bool.{false≢true}
-use Rattle.index.specs.declared.command.Command.{Command}
+use Rattle.index.specs.State.{State}
 use Rattle.search.specs.Pattern.{Pattern}
 use Rattle.search.specs.Scan.{Answer}
 use Rattle.script.specs.Items.{Item, put, load, remove, publish, search, search_in, sync, bad_line, bad_put, truncated, body_not_closed}
@@ -30,50 +30,50 @@ module _ (entry : Entry) (is : tells entry ≡ true) where
   never : {other : Entry} → entry ≡ other → tells other ≡ false → ⊥
   never e untold = false≢true (sym untold ∙ sym (ap tells e) ∙ is)
 
-  not_room : (most : ℕ) (commands : List Command) (line : ℕ) → IsRoomFor most commands line entry → ⊥
-  not_room most commands line (full all e) = never e refl
-  not_room most commands line (accepted few e) = never e refl
+  not_room : (most : ℕ) (state : State) (line : ℕ) → IsRoomFor most state line entry → ⊥
+  not_room most state line (full all e) = never e refl
+  not_room most state line (accepted few e) = never e refl
 
-  not_body : (most : ℕ) (commands : List Command) (body : List ℕ) (line : ℕ) → HasBody most commands body line entry → ⊥
-  not_body most commands body line (bad_body fault is_fault e) = never e refl
-  not_body most commands body line (with_body is_body fits) = not_room most commands line fits
+  not_body : (most : ℕ) (state : State) (body : List ℕ) (line : ℕ) → HasBody most state body line entry → ⊥
+  not_body most state body line (bad_body fault is_fault e) = never e refl
+  not_body most state body line (with_body is_body fits) = not_room most state line fits
 
   not_named : (name : List ℕ) (line : ℕ) (Else : Type 0) → (Else → ⊥) → IsNamed name line entry Else → ⊥
   not_named name line Else other (bad_name fault unlike is_fault e) = never e refl
   not_named name line Else other (no_memory is_name e) = never e refl
   not_named name line Else other (named is_name else) = other else
 
-  not_loaded : (Holds : List ℕ → List ℕ → Type 0) (most : ℕ) (commands : List Command) (path : List ℕ) (loaded : Option (List ℕ)) (line : ℕ) → HasLoaded Holds most commands path loaded line entry → ⊥
-  not_loaded Holds most commands path loaded line (failed none e) = never e refl
-  not_loaded Holds most commands path loaded line (loaded_body body some held fits) = not_body most commands body line fits
+  not_loaded : (Holds : List ℕ → List ℕ → Type 0) (most : ℕ) (state : State) (path : List ℕ) (loaded : Option (List ℕ)) (line : ℕ) → HasLoaded Holds most state path loaded line entry → ⊥
+  not_loaded Holds most state path loaded line (failed none e) = never e refl
+  not_loaded Holds most state path loaded line (loaded_body body some held fits) = not_body most state body line fits
 
-  not_remove : (most : ℕ) (commands : List Command) (name : List ℕ) (line : ℕ) → IsRemove most commands name line entry → ⊥
-  not_remove most commands name line (no_such_file none e) = never e refl
-  not_remove most commands name line (is_there some fits) = not_room most commands line fits
+  not_remove : (most : ℕ) (state : State) (name : List ℕ) (line : ℕ) → IsRemove most state name line entry → ⊥
+  not_remove most state name line (no_such_file none e) = never e refl
+  not_remove most state name line (is_there some fits) = not_room most state line fits
 
 -- an entry that is published
 module _ (entry : Entry) (at version : ℕ) (is : entry ≡ Published at version) where
-  is_searched : (published : List Command) (number turn : ℕ) (IsIt : Pattern → Type 0) → IsSearchedNow published number turn IsIt entry → ⊥
+  is_searched : (published : State) (number turn : ℕ) (IsIt : Pattern → Type 0) → IsSearchedNow published number turn IsIt entry → ⊥
   is_searched published number turn IsIt (now.no_memory e) = let both = sym is ∙ e in cc
   is_searched published number turn IsIt (now.found pattern answer is_it e answered) = let both = sym is ∙ e in cc
 
-  is_search : (published : List Command) (number turn : ℕ) (text : List ℕ) → IsSearchNow published number turn text entry → ⊥
+  is_search : (published : State) (number turn : ℕ) (text : List ℕ) → IsSearchNow published number turn text entry → ⊥
   is_search published number turn text (now.bad_pattern fault other none e) = let both = sym is ∙ e in cc
   is_search published number turn text (now.searched searched) = is_searched published number turn _ searched
 
-  is_search_in : (published : List Command) (number turn : ℕ) (name_text text : List ℕ) → IsSearchInNow published number turn name_text text entry → ⊥
+  is_search_in : (published : State) (number turn : ℕ) (name_text text : List ℕ) → IsSearchInNow published number turn name_text text entry → ⊥
   is_search_in published number turn name_text text (now.bad_name_pattern fault other none e) = let both = sym is ∙ e in cc
   is_search_in published number turn name_text text (now.bad_pattern fault other some none e) = let both = sym is ∙ e in cc
   is_search_in published number turn name_text text (now.searched searched) = is_searched published number turn _ searched
 
-  is_publish : (commands : List Command) (line : ℕ) → IsPublish commands line entry → version ≡ length commands
-  is_publish commands line (legal.published e) = let both = sym is ∙ e in cc
-  is_publish commands line (legal.no_memory e) = let both = sym is ∙ e in cc
+  is_publish : (state : State) (line : ℕ) → IsPublish state line entry → version ≡ state.version
+  is_publish state line (legal.published e) = let both = sym is ∙ e in cc
+  is_publish state line (legal.no_memory e) = let both = sym is ∙ e in cc
 
   told : tells entry ≡ true
   told = ap tells is
 
-  pub published_entry : (Holds : List ℕ → List ℕ → Type 0) (store : StoreState) (counts : Counts) (loaded : Option (List ℕ)) (line : ℕ) (item : Item) → IsEntryNow Holds store counts loaded line item entry → version ≡ length store.accepted
+  pub published_entry : (Holds : List ℕ → List ℕ → Type 0) (store : StoreState) (counts : Counts) (loaded : Option (List ℕ)) (line : ℕ) (item : Item) → IsEntryNow Holds store counts loaded line item entry → version ≡ store.accepted.version
   unfolding IsEntryNow
   published_entry Holds store counts loaded line (put name body) h = absurd (not_named entry told name line _ (not_body entry told store.most store.accepted body line) h)
   published_entry Holds store counts loaded line (load name path) h = absurd (not_named entry told name line _ (not_loaded entry told Holds store.most store.accepted path loaded line) h)
@@ -89,27 +89,27 @@ module _ (entry : Entry) (at version : ℕ) (is : entry ≡ Published at version
 
 -- an entry that is found
 module _ (entry : Entry) (number' reader turn' : ℕ) (answer' : Answer) (is : entry ≡ Found number' reader turn' answer') where
-  found_searched : (published : List Command) (number turn : ℕ) (IsIt : Pattern → Type 0) → IsSearchedNow published number turn IsIt entry → (turn' ≡ turn) × (answer'.version ≡ length published)
+  found_searched : (published : State) (number turn : ℕ) (IsIt : Pattern → Type 0) → IsSearchedNow published number turn IsIt entry → (turn' ≡ turn) × (answer'.version ≡ published.version)
   found_searched published number turn IsIt (now.no_memory e) = let both = sym is ∙ e in cc
   found_searched published number turn IsIt (now.found pattern answer is_it e answered) = let both = sym is ∙ e in (cc, same_answer both ∙ answered.version)
 
-  found_search : (published : List Command) (number turn : ℕ) (text : List ℕ) → IsSearchNow published number turn text entry → (turn' ≡ turn) × (answer'.version ≡ length published)
+  found_search : (published : State) (number turn : ℕ) (text : List ℕ) → IsSearchNow published number turn text entry → (turn' ≡ turn) × (answer'.version ≡ published.version)
   found_search published number turn text (now.bad_pattern fault other none e) = let both = sym is ∙ e in cc
   found_search published number turn text (now.searched searched) = found_searched published number turn _ searched
 
-  found_search_in : (published : List Command) (number turn : ℕ) (name_text text : List ℕ) → IsSearchInNow published number turn name_text text entry → (turn' ≡ turn) × (answer'.version ≡ length published)
+  found_search_in : (published : State) (number turn : ℕ) (name_text text : List ℕ) → IsSearchInNow published number turn name_text text entry → (turn' ≡ turn) × (answer'.version ≡ published.version)
   found_search_in published number turn name_text text (now.bad_name_pattern fault other none e) = let both = sym is ∙ e in cc
   found_search_in published number turn name_text text (now.bad_pattern fault other some none e) = let both = sym is ∙ e in cc
   found_search_in published number turn name_text text (now.searched searched) = found_searched published number turn _ searched
 
-  found_publish : (commands : List Command) (line : ℕ) → IsPublish commands line entry → ⊥
-  found_publish commands line (legal.published e) = let both = sym is ∙ e in cc
-  found_publish commands line (legal.no_memory e) = let both = sym is ∙ e in cc
+  found_publish : (state : State) (line : ℕ) → IsPublish state line entry → ⊥
+  found_publish state line (legal.published e) = let both = sym is ∙ e in cc
+  found_publish state line (legal.no_memory e) = let both = sym is ∙ e in cc
 
   found_told : tells entry ≡ true
   found_told = ap tells is
 
-  pub found_entry : (Holds : List ℕ → List ℕ → Type 0) (store : StoreState) (counts : Counts) (loaded : Option (List ℕ)) (line : ℕ) (item : Item) → IsEntryNow Holds store counts loaded line item entry → (turn' ≡ counts.turns + 1) × (answer'.version ≡ length store.published)
+  pub found_entry : (Holds : List ℕ → List ℕ → Type 0) (store : StoreState) (counts : Counts) (loaded : Option (List ℕ)) (line : ℕ) (item : Item) → IsEntryNow Holds store counts loaded line item entry → (turn' ≡ counts.turns + 1) × (answer'.version ≡ store.published.version)
   unfolding IsEntryNow
   found_entry Holds store counts loaded line (put name body) h = absurd (not_named entry found_told name line _ (not_body entry found_told store.most store.accepted body line) h)
   found_entry Holds store counts loaded line (load name path) h = absurd (not_named entry found_told name line _ (not_loaded entry found_told Holds store.most store.accepted path loaded line) h)

@@ -4,7 +4,7 @@ use Rattle.ere.specs.declared.error.EreError.{EreError}
 use Rattle.ere.specs.declared.error.EreErrorKind.{EreErrorKind}
 use Rattle.ere.specs.declared.error.EreErrorKind.TheVariants as kind
 use Rattle.ere.specs.Limits.{HasNoTree}
-use Rattle.index.specs.declared.command.Command.{Command}
+use Rattle.index.specs.State.{State}
 use Rattle.index.specs.declared.error.NameError.{NameError}
 use Rattle.index.specs.declared.error.NameError.TheVariants as name
 use Rattle.index.specs.declared.error.BodyErrorKind.TheVariants as body
@@ -28,16 +28,16 @@ named_fault name.TooLong bytes line entry Else fault is = bad_name name.TooLong 
 named_fault name.BadByte bytes line entry Else fault is = bad_name name.BadByte (λ e. cc) fault is
 named_fault name.OutOfMemory bytes line entry Else fault is = no_memory fault is
 
-pub named_body : (most : ℕ) (commands : List Command) (bytes bytes' : List ℕ) (line : ℕ) (entry : Entry) → IsName bytes → HasBodyOrNoMemory most commands bytes' line entry → IsPut most commands bytes bytes' line entry
-named_body most commands bytes bytes' line entry is (inl body_is) = named is body_is
-named_body most commands bytes bytes' line entry is (inr ran_out) = no_memory is ran_out.2
+pub named_body : (most : ℕ) (state : State) (bytes bytes' : List ℕ) (line : ℕ) (entry : Entry) → IsName bytes → HasBodyOrNoMemory most state bytes' line entry → IsPut most state bytes bytes' line entry
+named_body most state bytes bytes' line entry is (inl body_is) = named is body_is
+named_body most state bytes bytes' line entry is (inr ran_out) = no_memory is ran_out.2
 
-pub named_loaded : (Holds : List ℕ → List ℕ → Type 0) (most : ℕ) (commands : List Command) (bytes path bytes' : List ℕ) (line : ℕ) (entry : Entry) → IsName bytes → Holds path bytes' → HasBodyOrNoMemory most commands bytes' line entry → IsNamed bytes line entry (HasLoaded Holds most commands path (Some bytes') line entry)
-named_loaded Holds most commands bytes path bytes' line entry is held (inl body_is) = named is (loaded_body bytes' refl held body_is)
-named_loaded Holds most commands bytes path bytes' line entry is held (inr ran_out) = no_memory is ran_out.2
+pub named_loaded : (Holds : List ℕ → List ℕ → Type 0) (most : ℕ) (state : State) (bytes path bytes' : List ℕ) (line : ℕ) (entry : Entry) → IsName bytes → Holds path bytes' → HasBodyOrNoMemory most state bytes' line entry → IsNamed bytes line entry (HasLoaded Holds most state path (Some bytes') line entry)
+named_loaded Holds most state bytes path bytes' line entry is held (inl body_is) = named is (loaded_body bytes' refl held body_is)
+named_loaded Holds most state bytes path bytes' line entry is held (inr ran_out) = no_memory is ran_out.2
 
 -- What is found for a pattern is found for each text that spells it.
-pub searched_by : (published : List Command) (number turn : ℕ) (pattern : Pattern) (IsIt : Pattern → Type 0) (entry : Entry) → IsIt pattern → IsSearchedNow published number turn (λ p. p ≡ pattern) entry → IsSearchedNow published number turn IsIt entry
+pub searched_by : (published : State) (number turn : ℕ) (pattern : Pattern) (IsIt : Pattern → Type 0) (entry : Entry) → IsIt pattern → IsSearchedNow published number turn (λ p. p ≡ pattern) entry → IsSearchedNow published number turn IsIt entry
 searched_by published number turn pattern IsIt entry is (now.no_memory ran_out) = now.no_memory ran_out
 searched_by published number turn pattern IsIt entry is (found p answer same entry_is answered) = found pattern answer is entry_is (subst (λ q. IsAnswerOf published q answer) same answered)
 
@@ -87,14 +87,14 @@ reason_in_pattern kind.TooDeep error h = refl
 reason_in_pattern kind.TooLarge error h = refl
 reason_in_pattern kind.OutOfMemory error h = absurd (h refl)
 
-pub search_refused : (published : List Command) (number turn : ℕ) (text : List ℕ) (entry : Entry) (error : EreError) → ((error.kind ≡ kind.OutOfMemory → ⊥) → HasNoTree text) → entry ≡ SearchRefused number (reason_of_fault false error) → IsSearchNow published number turn text entry
+pub search_refused : (published : State) (number turn : ℕ) (text : List ℕ) (entry : Entry) (error : EreError) → ((error.kind ≡ kind.OutOfMemory → ⊥) → HasNoTree text) → entry ≡ SearchRefused number (reason_of_fault false error) → IsSearchNow published number turn text entry
 search_refused published number turn text entry error none is = by_kind (memory_or_not error.kind)
   where
     by_kind : (error.kind ≡ kind.OutOfMemory) ⊎ (error.kind ≡ kind.OutOfMemory → ⊥) → IsSearchNow published number turn text entry
     by_kind (inl memory) = now.searched (now.no_memory (is ∙ ap (SearchRefused number) (reason_of_memory false error.kind error memory)))
     by_kind (inr fault) = now.bad_pattern error fault (none fault) (is ∙ ap (SearchRefused number) (reason_in_pattern error.kind error fault))
 
-pub search_in_refused : (published : List Command) (number turn : ℕ) (name_text text : List ℕ) (entry : Entry) (in_name : Bool) (error : EreError) → ((error.kind ≡ kind.OutOfMemory → ⊥) → MatchBool in_name (HasNoTree name_text) (HasTree name_text × HasNoTree text)) → entry ≡ SearchRefused number (reason_of_fault in_name error) → IsSearchInNow published number turn name_text text entry
+pub search_in_refused : (published : State) (number turn : ℕ) (name_text text : List ℕ) (entry : Entry) (in_name : Bool) (error : EreError) → ((error.kind ≡ kind.OutOfMemory → ⊥) → MatchBool in_name (HasNoTree name_text) (HasTree name_text × HasNoTree text)) → entry ≡ SearchRefused number (reason_of_fault in_name error) → IsSearchInNow published number turn name_text text entry
 search_in_refused published number turn name_text text entry true error none is = by_kind (memory_or_not error.kind)
   where
     by_kind : (error.kind ≡ kind.OutOfMemory) ⊎ (error.kind ≡ kind.OutOfMemory → ⊥) → IsSearchInNow published number turn name_text text entry
@@ -120,11 +120,11 @@ no_failure_in_name name.OutOfMemory line = refl
 no_failure_at : {entry entry' : Entry} → entry ≡ entry' → failures_in (Some entry') ≡ 0 → failures_in (Some entry) ≡ 0
 no_failure_at is none = ap (λ e. failures_in (Some e)) is ∙ none
 
-pub no_failure_in_body : (most : ℕ) (commands : List Command) (bytes : List ℕ) (line : ℕ) (entry : Entry) → HasBodyOrNoMemory most commands bytes line entry → failures_in (Some entry) ≡ 0
-no_failure_in_body most commands bytes line entry (inl (bad_body fault is_fault is)) = no_failure_at is refl
-no_failure_in_body most commands bytes line entry (inl (with_body is_body (full all is))) = no_failure_at is refl
-no_failure_in_body most commands bytes line entry (inl (with_body is_body (accepted room is))) = no_failure_at is refl
-no_failure_in_body most commands bytes line entry (inr is) = no_failure_at is.2 refl
+pub no_failure_in_body : (most : ℕ) (state : State) (bytes : List ℕ) (line : ℕ) (entry : Entry) → HasBodyOrNoMemory most state bytes line entry → failures_in (Some entry) ≡ 0
+no_failure_in_body most state bytes line entry (inl (bad_body fault is_fault is)) = no_failure_at is refl
+no_failure_in_body most state bytes line entry (inl (with_body is_body (full all is))) = no_failure_at is refl
+no_failure_in_body most state bytes line entry (inl (with_body is_body (accepted room is))) = no_failure_at is refl
+no_failure_in_body most state bytes line entry (inr is) = no_failure_at is.2 refl
 
 pub counted_none : (entry : Entry) (failed failed' : ℕ) → failures_in (Some entry) ≡ 0 → failed' ≡ failed → IsCounted (failures_in (Some entry)) failed failed'
 counted_none entry failed failed' none same = record {

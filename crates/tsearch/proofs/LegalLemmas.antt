@@ -1,10 +1,11 @@
 -- The rows of a run on one thread make a legal transcript.
-use Rattle.std.proofs.Common.{◌≡◌, ℕ, ◌+◌, ◌≤◌, ◌<◌, ◌⊎◌, inl, inr, Bool, true, false, cond, ◌==◌, List, [], ◌∷◌, ◌++◌, Option, Some, None, refl, sym, ap, ◌∙◌, subst, arith, length, take, append_assoc, option_map, IfSome}
+use Rattle.std.proofs.Common.{◌≡◌, ℕ, ◌+◌, ◌≤◌, ◌<◌, ◌⊎◌, inl, inr, Bool, true, false, cond, ◌==◌, List, [], ◌∷◌, ◌++◌, Option, Some, None, refl, sym, ap, ◌∙◌, subst, arith, take, append_assoc, option_map, IfSome}
 use Rattle.std.proofs.lemmas.List.{append-nil, length-take-le, take-append-le}
 use Rattle.std.proofs.lemmas.List.Elements.{Contains-append_left, Contains-append_right}
 use Rattle.std.specs.Prelude.{Contains}
 use Rattle.search.specs.Pattern.{Pattern, IsPatternOf, IsPatternWithin}
 use Rattle.search.specs.Scan.{Answer, IsAnswerOf}
+use Rattle.index.specs.State.{state_of}
 use Rattle.script.specs.Items.{Item, ItemsFrom, put, load, remove, publish, search, search_in, sync, bad_line, bad_put, truncated, body_not_closed}
 use Rattle.script.specs.Position.{Position as ScriptPosition}
 use Rattle.tsearch.specs.declared.items.Counts.{Counts}
@@ -56,29 +57,29 @@ module _ (Holds : List ℕ → List ℕ → Type 0) (most readers : ℕ) (before
   same_commands : take (published_last before) (commands_of (before ++ row ∷ after)) ≡ take (published_last before) (commands_of before)
   same_commands = ap (take (published_last before)) (commands_of-append before (row ∷ after)) ∙ take-append-le (published_last before) (commands_of before) (commands_of (row ∷ after)) here.bound
 
-  is_answered : (pattern : Pattern) (answer : Answer) → IsAnswerOf (take (published_last before) (commands_of before)) pattern answer → IsAnswered (context_of readers before row after) pattern 0 answer
+  is_answered : (pattern : Pattern) (answer : Answer) → IsAnswerOf (state_of (take (published_last before) (commands_of before))) pattern answer → IsAnswered (context_of readers before row after) pattern 0 answer
   unfolding context_of
   is_answered pattern answer answered =
       let version : answer.version ≡ published_last before = answered.version ∙ length-take-le (published_last before) (commands_of before) here.bound in
       record {
         published = subst (λ v. (v ≡ 0) ⊎ Contains (published_in (before ++ row ∷ after)) v) (sym version) is_published;
         not_older = omega arith;
-        exact = subst (λ v. IsAnswerOf (take v (commands_of (before ++ row ∷ after))) pattern answer) (sym version) (subst (λ c. IsAnswerOf c pattern answer) (sym same_commands) answered);
+        exact = subst (λ v. IsAnswerOf (state_of (take v (commands_of (before ++ row ∷ after)))) pattern answer) (sym version) (subst (λ c. IsAnswerOf (state_of c) pattern answer) (sym same_commands) answered);
         one_of_them = omega arith;
         not_newer = subst (λ v. IfSome (newest_allowed (record { readers = readers; before = before; row = row; after = after })) (λ w. v ≤ w)) (sym version) (newest (readers == 0) refl);
       }
 
-  searched_of : (IsIt : Pattern → Type 0) (turn : ℕ) (entry : Entry) → IsSearchedNow (take (published_last before) (commands_of before)) (count_searches before + 1) turn IsIt entry → IsSearched (context_of readers before row after) IsIt entry
+  searched_of : (IsIt : Pattern → Type 0) (turn : ℕ) (entry : Entry) → IsSearchedNow (state_of (take (published_last before) (commands_of before))) (count_searches before + 1) turn IsIt entry → IsSearched (context_of readers before row after) IsIt entry
   unfolding context_of
   searched_of IsIt turn entry (now.no_memory e) = legal.no_memory e
   searched_of IsIt turn entry (now.found pattern answer is_it e answered) = legal.found pattern 0 turn answer is_it e (is_answered pattern answer answered)
 
-  search_of : (text : List ℕ) (turn : ℕ) (entry : Entry) → IsSearchNow (take (published_last before) (commands_of before)) (count_searches before + 1) turn text entry → IsSearch (context_of readers before row after) text entry
+  search_of : (text : List ℕ) (turn : ℕ) (entry : Entry) → IsSearchNow (state_of (take (published_last before) (commands_of before))) (count_searches before + 1) turn text entry → IsSearch (context_of readers before row after) text entry
   unfolding context_of
   search_of text turn entry (now.bad_pattern fault other none e) = legal.bad_pattern fault other none e
   search_of text turn entry (now.searched searched) = legal.searched (searched_of (IsPatternOf text) turn entry searched)
 
-  search_in_of : (name_text text : List ℕ) (turn : ℕ) (entry : Entry) → IsSearchInNow (take (published_last before) (commands_of before)) (count_searches before + 1) turn name_text text entry → IsSearchIn (context_of readers before row after) name_text text entry
+  search_in_of : (name_text text : List ℕ) (turn : ℕ) (entry : Entry) → IsSearchInNow (state_of (take (published_last before) (commands_of before))) (count_searches before + 1) turn name_text text entry → IsSearchIn (context_of readers before row after) name_text text entry
   unfolding context_of
   search_in_of name_text text turn entry (now.bad_name_pattern fault other none e) = legal.bad_name_pattern fault other none e
   search_in_of name_text text turn entry (now.bad_pattern fault other some none e) = legal.bad_pattern fault other some none e
@@ -121,7 +122,7 @@ module _ (Holds : List ℕ → List ℕ → Type 0) (most readers : ℕ) (before
   legal_row = by_entry row.numbered.item row.entry here.is
 
 -- An answer comes in the next turn, and is of what is published.
-found_is : (Holds : List ℕ → List ℕ → Type 0) (store : StoreState) (counts : Counts) (loaded : Option (List ℕ)) (line : ℕ) (item : Item) (entry : Option Entry) → IsOf Holds store counts loaded line item entry → (number reader turn : ℕ) (answer : Answer) → entry ≡ Some (Found number reader turn answer) → (turn ≡ counts.turns + 1) × (answer.version ≡ length store.published)
+found_is : (Holds : List ℕ → List ℕ → Type 0) (store : StoreState) (counts : Counts) (loaded : Option (List ℕ)) (line : ℕ) (item : Item) (entry : Option Entry) → IsOf Holds store counts loaded line item entry → (number reader turn : ℕ) (answer : Answer) → entry ≡ Some (Found number reader turn answer) → (turn ≡ counts.turns + 1) × (answer.version ≡ store.published.version)
 found_is Holds store counts loaded line item _ (with_entry other h) number reader turn answer e = found_entry _ number reader turn answer (let same = e in cc) Holds store counts loaded line item h
 found_is Holds store counts loaded line _ _ without number reader turn answer e = cc
 

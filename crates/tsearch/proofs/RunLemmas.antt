@@ -2,6 +2,7 @@
 use Rattle.std.proofs.Common.{◌≡◌, ℕ, ◌+◌, ◌≤◌, ◌⊎◌, inl, inr, false, List, [], ◌∷◌, ◌++◌, Option, Some, None, refl, sym, ap, ◌∙◌, subst, arith, length, take, append_assoc, length-append}
 use Rattle.std.proofs.lemmas.List.{append-nil, take-append-le, take_all}
 use Rattle.index.specs.declared.command.Command.{Command}
+use Rattle.index.specs.State.{State, state_of}
 use Rattle.script.specs.Items.{Item, Numbered, ItemsFrom, IsItemsOf, put, load, remove, publish, search, search_in, sync, bad_line, bad_put, truncated, body_not_closed}
 use Rattle.script.specs.Position.{Position}
 use Rattle.script.specs.Reading.{Takes}
@@ -16,18 +17,19 @@ use Rattle.tsearch.specs.Private.StoreState.{StoreState, empty_store}
 use Rattle.tsearch.specs.Private.Steps.{store_after, IsEntryNow, HasEntryNow, IsCounted, TakesItem, found_in}
 use Rattle.tsearch.proofs.RowLemmas.{count_found, items_of-append, entries_of-append, commands_of-append, commands_of-one, published_last-push, count_searches-push, count_found-push, count_failures-push, split_push}
 use Rattle.tsearch.proofs.EntryLemmas.{published_entry}
+use Rattle.tsearch.proofs.StoreLemmas.{state_of-append}
 
 -- what is on the store after these rows
 unfoldable pub store_of_rows : ℕ → List Row → StoreState
-store_of_rows most rows = record { accepted = commands_of rows; published = take (published_last rows) (commands_of rows); most = most }
+store_of_rows most rows = record { accepted = state_of (commands_of rows); published = state_of (take (published_last rows) (commands_of rows)); most = most }
 
 unfoldable pub counts_of : List Row → Counts
 counts_of rows = record { searches = count_searches rows; turns = count_found rows }
 
 -- The source held no more later than at first.
-map_loaded : (Holds Holds' : List ℕ → List ℕ → Type 0) → ((path body : List ℕ) → Holds path body → Holds' path body) → (most : ℕ) (commands : List Command) (path : List ℕ) (loaded : Option (List ℕ)) (line : ℕ) (entry : Entry) → HasLoaded Holds most commands path loaded line entry → HasLoaded Holds' most commands path loaded line entry
-map_loaded Holds Holds' holds most commands path loaded line entry (legal.failed none e) = legal.failed none e
-map_loaded Holds Holds' holds most commands path loaded line entry (loaded_body body some held fits) = loaded_body body some (holds path body held) fits
+map_loaded : (Holds Holds' : List ℕ → List ℕ → Type 0) → ((path body : List ℕ) → Holds path body → Holds' path body) → (most : ℕ) (state : State) (path : List ℕ) (loaded : Option (List ℕ)) (line : ℕ) (entry : Entry) → HasLoaded Holds most state path loaded line entry → HasLoaded Holds' most state path loaded line entry
+map_loaded Holds Holds' holds most state path loaded line entry (legal.failed none e) = legal.failed none e
+map_loaded Holds Holds' holds most state path loaded line entry (loaded_body body some held fits) = loaded_body body some (holds path body held) fits
 
 map_named : (name : List ℕ) (line : ℕ) (entry : Entry) (Else Else' : Type 0) → (Else → Else') → IsNamed name line entry Else → IsNamed name line entry Else'
 map_named name line entry Else Else' f (bad_name fault other is_fault e) = bad_name fault other is_fault e
@@ -104,20 +106,20 @@ straight_push Holds most rows last straight here before row after e = by_place (
     by_place (inr inside) = straight before row inside.0 inside.1
 
 -- A published version is the number of the commands accepted before it.
-publishes : (Holds : List ℕ → List ℕ → Type 0) (store : StoreState) (counts : Counts) (loaded : Option (List ℕ)) (line : ℕ) (item : Item) (entry : Option Entry) → IsOf Holds store counts loaded line item entry → (at version : ℕ) → entry ≡ Some (Published at version) → version ≡ length store.accepted
+publishes : (Holds : List ℕ → List ℕ → Type 0) (store : StoreState) (counts : Counts) (loaded : Option (List ℕ)) (line : ℕ) (item : Item) (entry : Option Entry) → IsOf Holds store counts loaded line item entry → (at version : ℕ) → entry ≡ Some (Published at version) → version ≡ store.accepted.version
 publishes Holds store counts loaded line item _ (with_entry other h) at version e = published_entry _ at version (let same = e in cc) Holds store counts loaded line item h
 publishes Holds store counts loaded line _ _ without at version e = cc
 
-same_store : {a a' p p' : List Command} (most : ℕ) → a ≡ a' → p ≡ p' → (let s : StoreState = record { accepted = a; published = p; most = most } in s) ≡ record { accepted = a'; published = p'; most = most }
+same_store : {a a' p p' : State} (most : ℕ) → a ≡ a' → p ≡ p' → (let s : StoreState = record { accepted = a; published = p; most = most } in s) ≡ record { accepted = a'; published = p'; most = most }
 same_store most e f = λ i. record { accepted = e i; published = f i; most = most }
 
-store_by : (o : Option Entry) (c k : List Command) (p most : ℕ) → p ≤ length c → ((at version : ℕ) → o ≡ Some (Published at version) → version ≡ length c) → (let s : StoreState = record { accepted = c ++ accepted_by o k; published = take (last_or p (version_in o)) (c ++ accepted_by o k); most = most } in s) ≡ store_after o k (record { accepted = c; published = take p c; most = most })
-store_by None c k p most bound all = same_store most (append-nil c) (ap (take p) (append-nil c))
-store_by (Some (Accepted line count)) c k p most bound all = same_store most refl (take-append-le p c k bound)
-store_by (Some (Refused line reason)) c k p most bound all = same_store most (append-nil c) (ap (take p) (append-nil c))
-store_by (Some (Published line version)) c k p most bound all = same_store most (append-nil c) (ap (take version) (append-nil c) ∙ take_all version c (omega (arith, all line version refl)))
-store_by (Some (Found number reader turn answer)) c k p most bound all = same_store most (append-nil c) (ap (take p) (append-nil c))
-store_by (Some (SearchRefused number reason)) c k p most bound all = same_store most (append-nil c) (ap (take p) (append-nil c))
+store_by : (o : Option Entry) (c k : List Command) (p most : ℕ) → p ≤ length c → ((at version : ℕ) → o ≡ Some (Published at version) → version ≡ length c) → (let s : StoreState = record { accepted = state_of (c ++ accepted_by o k); published = state_of (take (last_or p (version_in o)) (c ++ accepted_by o k)); most = most } in s) ≡ store_after o k (record { accepted = state_of c; published = state_of (take p c); most = most })
+store_by None c k p most bound all = same_store most (ap state_of (append-nil c)) (ap (λ a. state_of (take p a)) (append-nil c))
+store_by (Some (Accepted line count)) c k p most bound all = same_store most (state_of-append c k) (ap state_of (take-append-le p c k bound))
+store_by (Some (Refused line reason)) c k p most bound all = same_store most (ap state_of (append-nil c)) (ap (λ a. state_of (take p a)) (append-nil c))
+store_by (Some (Published line version)) c k p most bound all = same_store most (ap state_of (append-nil c)) (ap state_of (ap (take version) (append-nil c) ∙ take_all version c (omega (arith, all line version refl))))
+store_by (Some (Found number reader turn answer)) c k p most bound all = same_store most (ap state_of (append-nil c)) (ap (λ a. state_of (take p a)) (append-nil c))
+store_by (Some (SearchRefused number reason)) c k p most bound all = same_store most (ap state_of (append-nil c)) (ap (λ a. state_of (take p a)) (append-nil c))
 
 last_by : (o : Option Entry) (c : List Command) (p : ℕ) → p ≤ length c → ((at version : ℕ) → o ≡ Some (Published at version) → version ≡ length c) → (p ≤ last_or p (version_in o)) × (last_or p (version_in o) ≤ length c)
 last_by None c p bound all = (omega arith, bound)
@@ -138,7 +140,7 @@ module _ (Holds : List ℕ → List ℕ → Type 0) (most : ℕ) (rows : List Ro
   store_push : store_of_rows most (rows ++ row ∷ []) ≡ store_after row.entry (command_of row.numbered.item row.loaded) (store_of_rows most rows)
   unfolding store_of_rows
   store_push =
-      same_store most commands_push (ap (λ p. take p (commands_of (rows ++ row ∷ []))) (published_last-push rows row) ∙ ap (take (last_or (published_last rows) (version_in row.entry))) commands_push)
+      same_store most (ap state_of commands_push) (ap (λ p. state_of (take p (commands_of (rows ++ row ∷ [])))) (published_last-push rows row) ∙ ap (λ c. state_of (take (last_or (published_last rows) (version_in row.entry)) c)) commands_push)
       ∙ store_by row.entry (commands_of rows) (command_of row.numbered.item row.loaded) (published_last rows) most here.bound all_published_here
 
   last_grows : published_last rows ≤ published_last (rows ++ row ∷ [])

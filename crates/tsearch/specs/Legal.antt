@@ -1,13 +1,13 @@
 -- Which transcripts are legal for a script: what a run may answer, whatever its readers and their timing.
-use Rattle.std.specs.Prelude.{◌≡◌, ◌≢◌, ℕ, ◌+◌, ◌-◌, ◌^◌, ◌<◌, ◌≤◌, ◌⊎◌, List, ◌∷◌, ◌++◌, length, take, Option, Some, None, option_map, IfSome, Contains, if◌then◌else◌, ◌==◌}
+use Rattle.std.specs.Prelude.{◌≡◌, ◌≢◌, ℕ, ◌+◌, ◌-◌, ◌^◌, ◌<◌, ◌≤◌, ◌⊎◌, List, ◌∷◌, ◌++◌, take, Option, Some, None, option_map, IfSome, Contains, if◌then◌else◌, ◌==◌}
 use Rattle.ere.specs.Limits.{HasNoTree}
 use Rattle.ere.specs.declared.error.EreError.{EreError}
 use Rattle.ere.specs.declared.error.EreErrorKind.TheVariants as kind
-use Rattle.index.specs.declared.command.Command.{Command}
 use Rattle.index.specs.declared.error.NameError.{NameError}
 use Rattle.index.specs.declared.error.NameError.TheVariants as name_error
 use Rattle.index.specs.declared.error.BodyErrorKind.{BodyErrorKind}
-use Rattle.index.specs.Documents.{documents_of, number_of}
+use Rattle.index.specs.Documents.{number_of}
+use Rattle.index.specs.State.{State, state_of}
 use Rattle.index.specs.Text.{IsName, IsNameFault, IsBody, IsBodyFault}
 use Rattle.search.specs.Pattern.{Pattern, IsPatternOf, IsPatternWithin, HasTree}
 use Rattle.search.specs.Scan.{Answer, IsAnswerOf}
@@ -20,9 +20,9 @@ use Rattle.tsearch.specs.declared.run.Options.{Options}
 use Rattle.tsearch.specs.Rows.{Row, items_of, entries_of, commands_of, published_in, published_last, before_sync, count_searches, count_failures}
 
 -- What becomes of a command whose name is a name, once nothing else is wrong with it.
-pub data IsRoomFor (most : ℕ) (commands : List Command) (line : ℕ) (entry : Entry) : Type 0 where
-  full : length commands ≡ most → entry ≡ Refused line reason.Full → IsRoomFor most commands line entry
-  accepted : length commands < most → entry ≡ Accepted line (length commands + 1) → IsRoomFor most commands line entry
+pub data IsRoomFor (most : ℕ) (state : State) (line : ℕ) (entry : Entry) : Type 0 where
+  full : state.version ≡ most → entry ≡ Refused line reason.Full → IsRoomFor most state line entry
+  accepted : state.version < most → entry ≡ Accepted line (state.version + 1) → IsRoomFor most state line entry
 
 -- Faults of a name come first; memory may run out only for a name.
 pub data IsNamed (name : List ℕ) (line : ℕ) (entry : Entry) (Else : Type 0) : Type 0 where
@@ -31,26 +31,26 @@ pub data IsNamed (name : List ℕ) (line : ℕ) (entry : Entry) (Else : Type 0) 
   named : IsName name → Else → IsNamed name line entry Else
 
 -- then those of the body, then the room
-pub data HasBody (most : ℕ) (commands : List Command) (body : List ℕ) (line : ℕ) (entry : Entry) : Type 0 where
-  bad_body : (fault : BodyErrorKind) → IsBodyFault fault body → entry ≡ Refused line (reason.Body fault) → HasBody most commands body line entry
-  with_body : IsBody body → IsRoomFor most commands line entry → HasBody most commands body line entry
+pub data HasBody (most : ℕ) (state : State) (body : List ℕ) (line : ℕ) (entry : Entry) : Type 0 where
+  bad_body : (fault : BodyErrorKind) → IsBodyFault fault body → entry ≡ Refused line (reason.Body fault) → HasBody most state body line entry
+  with_body : IsBody body → IsRoomFor most state line entry → HasBody most state body line entry
 
-abbrev pub IsPut : ℕ → List Command → List ℕ → List ℕ → ℕ → Entry → Type 0
-IsPut most commands name body line entry = IsNamed name line entry (HasBody most commands body line entry)
+abbrev pub IsPut : ℕ → State → List ℕ → List ℕ → ℕ → Entry → Type 0
+IsPut most state name body line entry = IsNamed name line entry (HasBody most state body line entry)
 
 -- A load asks the source once; what it answers, the source held under the path.
-pub data HasLoaded (Holds : List ℕ → List ℕ → Type 0) (most : ℕ) (commands : List Command) (path : List ℕ) (loaded : Option (List ℕ)) (line : ℕ) (entry : Entry) : Type 0 where
-  failed : loaded ≡ None → entry ≡ Refused line reason.CannotLoad → HasLoaded Holds most commands path loaded line entry
-  loaded_body : (body : List ℕ) → loaded ≡ Some body → Holds path body → HasBody most commands body line entry → HasLoaded Holds most commands path loaded line entry
+pub data HasLoaded (Holds : List ℕ → List ℕ → Type 0) (most : ℕ) (state : State) (path : List ℕ) (loaded : Option (List ℕ)) (line : ℕ) (entry : Entry) : Type 0 where
+  failed : loaded ≡ None → entry ≡ Refused line reason.CannotLoad → HasLoaded Holds most state path loaded line entry
+  loaded_body : (body : List ℕ) → loaded ≡ Some body → Holds path body → HasBody most state body line entry → HasLoaded Holds most state path loaded line entry
 
 -- A remove wants a document of that name after all accepted commands.
-pub data IsRemove (most : ℕ) (commands : List Command) (name : List ℕ) (line : ℕ) (entry : Entry) : Type 0 where
-  no_such_file : number_of name (documents_of commands) ≡ None → entry ≡ Refused line reason.NoSuchFile → IsRemove most commands name line entry
-  is_there : number_of name (documents_of commands) ≢ None → IsRoomFor most commands line entry → IsRemove most commands name line entry
+pub data IsRemove (most : ℕ) (state : State) (name : List ℕ) (line : ℕ) (entry : Entry) : Type 0 where
+  no_such_file : number_of name state.documents ≡ None → entry ≡ Refused line reason.NoSuchFile → IsRemove most state name line entry
+  is_there : number_of name state.documents ≢ None → IsRoomFor most state line entry → IsRemove most state name line entry
 
-pub data IsPublish (commands : List Command) (line : ℕ) (entry : Entry) : Type 0 where
-  published : entry ≡ Published line (length commands) → IsPublish commands line entry
-  no_memory : entry ≡ Refused line reason.OutOfMemory → IsPublish commands line entry
+pub data IsPublish (state : State) (line : ℕ) (entry : Entry) : Type 0 where
+  published : entry ≡ Published line state.version → IsPublish state line entry
+  no_memory : entry ≡ Refused line reason.OutOfMemory → IsPublish state line entry
 
 -- The rows before and after a row, and how many readers there are.
 pub record Context : Type 0 where
@@ -61,6 +61,10 @@ pub record Context : Type 0 where
 
 abbrev pub all_rows : Context → List Row
 all_rows context = context.before ++ context.row ∷ context.after
+
+-- the state that the commands accepted before a row leave
+abbrev pub state_before : Context → State
+state_before context = state_of (commands_of context.before)
 
 -- No answer is of a version that was published only after the first sync after the search; without
 -- readers, after the search itself.
@@ -74,7 +78,7 @@ newest_allowed context =
 pub record IsAnswered (context : Context) (pattern : Pattern) (reader : ℕ) (answer : Answer) : Type 0 where
   pub published : (answer.version ≡ 0) ⊎ Contains (published_in (all_rows context)) answer.version
   pub not_older : published_last context.before ≤ answer.version
-  pub exact : IsAnswerOf (take answer.version (commands_of (all_rows context))) pattern answer
+  pub exact : IsAnswerOf (state_of (take answer.version (commands_of (all_rows context)))) pattern answer
   pub one_of_them : reader ≤ context.readers
   pub not_newer : IfSome (newest_allowed context) (λ version. answer.version ≤ version)
 
@@ -99,10 +103,10 @@ pub data IsSearchIn (context : Context) (name_text text : List ℕ) (entry : Ent
 
 -- The entry of an item among these rows.
 unfoldable pub IsEntryOf : (List ℕ → List ℕ → Type 0) → ℕ → Context → ℕ → Item → Entry → Type 0
-IsEntryOf Holds most context line (put name body) entry = IsPut most (commands_of context.before) name body line entry
-IsEntryOf Holds most context line (load name path) entry = IsNamed name line entry (HasLoaded Holds most (commands_of context.before) path context.row.loaded line entry)
-IsEntryOf Holds most context line (remove name) entry = IsNamed name line entry (IsRemove most (commands_of context.before) name line entry)
-IsEntryOf Holds most context line publish entry = IsPublish (commands_of context.before) line entry
+IsEntryOf Holds most context line (put name body) entry = IsPut most (state_before context) name body line entry
+IsEntryOf Holds most context line (load name path) entry = IsNamed name line entry (HasLoaded Holds most (state_before context) path context.row.loaded line entry)
+IsEntryOf Holds most context line (remove name) entry = IsNamed name line entry (IsRemove most (state_before context) name line entry)
+IsEntryOf Holds most context line publish entry = IsPublish (state_before context) line entry
 IsEntryOf Holds most context line (search text) entry = IsSearch context text entry
 IsEntryOf Holds most context line (search_in name_text text) entry = IsSearchIn context name_text text entry
 IsEntryOf Holds most context line sync entry = ⊥

@@ -1,14 +1,18 @@
 //! Commands that are accepted, and the documents that are published of them.
 
-ghost use Rattle.std.specs.Prelude.{◌≡◌, ℕ, ◌+◌, ◌<◌, ◌^◌, ◌≤◌, List, [], ◌∷◌, ◌++◌, ◌↔◌, length, OnOk, OnErr, IfOk, IfErr, IsErrOf, is_some, drop};
-ghost use Rattle.index.specs.Documents.{documents_of, number_of};
-ghost use Rattle.index.specs.declared.command.Command.{Command as JournalCommand};
+ghost use Rattle.std.specs.Prelude.{◌≡◌, ℕ, ◌+◌, ◌<◌, ◌^◌, ◌≤◌, List, [], ◌∷◌, ◌++◌, ◌↔◌, length, OnOk, OnErr, IfOk, IfErr, IsErrOf, is_some};
+ghost use Rattle.index.specs.Documents.{number_of};
+ghost use Rattle.index.specs.State.{applied};
+ghost use Rattle.index.specs.declared.command.Command.{Command as CommandValue};
 ghost use Rattle.search.specs.Scan.{IsAnswerOf};
 ghost use Rattle.search.specs.Prepared.{pattern_of};
+ghost use Rattle.tsearch.specs.Private.StoreParts.{command_of_edit, commands_of_edits};
+ghost use Rattle.tsearch.specs.Private.StoreState.{all_applied};
 
-use index::{Command, Index, Name};
+use index::{Command, Held, Index, Name};
 use search::{Answer, Prepared, find};
 use std::alloc::{AllocError, Global};
+use std::collections::VecDeque;
 use std::marker::Model;
 
 /// Why a command is not accepted.
@@ -20,7 +24,14 @@ pub enum AcceptError {
     OutOfMemory,
 }
 
-/// All accepted commands in one index, and a second index that begins it.
+/// A command whose body is held, so that two indexes can share it.
+#[derive(Drop)]
+enum Edit {
+    Put(Name, Held),
+    Remove(Name),
+}
+
+/// All accepted commands in one index, and a second index with the edits that it lacks.
 ///
 /// The published documents are those of one of the two. So a publish takes no memory and no time, and a
 /// command that comes after it first brings the second index up to the first.
@@ -28,6 +39,7 @@ pub enum AcceptError {
 pub struct Store {
     newer: Index,
     older: Index,
+    lacking: VecDeque<Edit>,
     newer_is_published: bool,
     most: u32,
 }
@@ -55,6 +67,7 @@ impl Store {
         Store {
             newer: Index::new(alloc),
             older: Index::new(alloc),
+            lacking: VecDeque::new(alloc),
             newer_is_published: false,
             most,
         }
@@ -64,29 +77,41 @@ impl Store {
     /// where as many commands as may be are accepted, and `OutOfMemory` only where memory ran out.
     pub fn accept(&mut self, command: Command) -> Result<u32, AcceptError>
         ensures ok { IfOk result (λ count. (self.new ≡ with_accepted self.old command)
-            × (length self.old.accepted < self.old.most) × (count ≡ length self.old.accepted + 1)) }
+            × (self.old.accepted.version < self.old.most) × (count ≡ self.old.accepted.version + 1)) }
         ensures err { OnErr result (self.new ≡ self.old) }
-        ensures full { IsErrOf result AcceptError.Full ↔ (length self.old.accepted ≡ self.old.most) }
-        ensures no_memory { IsErrOf result AcceptError.OutOfMemory → length self.old.accepted < self.old.most }
+        ensures full { IsErrOf result AcceptError.Full ↔ (self.old.accepted.version ≡ self.old.most) }
+        ensures no_memory { IsErrOf result AcceptError.OutOfMemory → self.old.accepted.version < self.old.most }
     {
         if self.newer.version() >= self.most {
             return Err(AcceptError::Full);
         }
-        if self.newer_is_published {
-            if catch_up(&mut self.older, &self.newer).is_err() {
-                return Err(AcceptError::OutOfMemory);
-            }
-            self.newer_is_published = false;
-        }
-        match self.newer.apply(command) {
+        match self.apply(command) {
             Ok(()) => Ok(self.newer.version()),
             Err(_) => Err(AcceptError::OutOfMemory),
         }
     }
 
+    /// Applies a command to the newer index, once the older one is another. An `Err` comes only where memory ran
+    /// out, and changes nothing.
+    fn apply(&mut self, command: Command) -> Result<(), AllocError>
+        requires { self.old.accepted.version < self.old.most }
+        ensures ok { OnOk result (self.new ≡ with_accepted self.old command) }
+        ensures err { OnErr result (self.new ≡ self.old) }
+    {
+        let edit = edit_of(command)?;
+        if self.newer_is_published {
+            catch_up(&mut self.older, &mut self.lacking)?;
+            self.newer_is_published = false;
+        }
+        self.lacking.reserve(1)?;
+        apply_edit(&mut self.newer, &edit)?;
+        self.lacking.push_back_reserved(edit);
+        Ok(())
+    }
+
     /// Whether a document of this name is there after all accepted commands.
     pub fn has(&self, name: &Name) -> bool
-        ensures { result ≡ is_some (number_of name.now (documents_of self.now.accepted)) }
+        ensures { result ≡ is_some (number_of name.now self.now.accepted.documents) }
     {
         self.newer.number(name).is_some()
     }
@@ -94,7 +119,7 @@ impl Store {
     /// Publishes all accepted commands, and says how many they are.
     pub fn publish(&mut self) -> u32
         ensures published { self.new ≡ all_published self.old }
-        ensures version { result ≡ length self.old.accepted }
+        ensures version { result ≡ self.old.accepted.version }
     {
         self.newer_is_published = true;
         self.newer.version()
@@ -112,20 +137,41 @@ impl Store {
     }
 }
 
-/// Applies what the newer index has and the older one lacks. After an `Err` the older one still begins the
-/// newer.
-fn catch_up(older: &mut Index, newer: &Index) -> Result<(), AllocError>
-    requires begins { (newer.now ≡ older.old ++ drop (length older.old) newer.now) }
-    requires few { length newer.now + 1 < 2 ^ 32 }
-    ensures begins { newer.now ≡ older.new ++ drop (length older.new) newer.now }
-    ensures ok { OnOk result (older.new ≡ newer.now) }
+/// The edit of a command. An `Err` comes only where memory ran out for its body.
+fn edit_of(command: Command) -> Result<Edit, AllocError>
+    ensures { IfOk result (λ edit. command_of_edit edit ≡ command) }
 {
-    let commands = newer.commands();
-    for i in older.version() as usize..commands.len() {
-        let command = commands[i].copy()?;
-        if older.apply(command).is_err() {
-            return Err(AllocError);
-        }
+    match command {
+        Command::Put(name, body) => match Held::new(body) {
+            Ok(held) => Ok(Edit::Put(name, held)),
+            Err(refused) => Err(refused.error),
+        },
+        Command::Remove(name) => Ok(Edit::Remove(name)),
+    }
+}
+
+/// Applies an edit to an index. An `Err` comes only where memory ran out, and changes nothing.
+fn apply_edit(index: &mut Index, edit: &Edit) -> Result<(), AllocError>
+    requires { index.old.version + 1 < 2 ^ 32 }
+    ensures ok { OnOk result (index.new ≡ applied (command_of_edit edit.now) index.old) }
+    ensures err { OnErr result (index.new ≡ index.old) }
+{
+    match edit {
+        Edit::Put(name, held) => index.apply_put(name, held),
+        Edit::Remove(name) => index.remove(name),
+    }
+}
+
+/// Applies the edits that an index lacks, first to last, and drops each that is applied. An `Err` comes only where
+/// memory ran out; the index then still lacks those that are left.
+fn catch_up(index: &mut Index, lacking: &mut VecDeque<Edit>) -> Result<(), AllocError>
+    requires { index.old.version + length lacking.old.items < 2 ^ 32 }
+    ensures same { all_applied (commands_of_edits lacking.new.items) index.new ≡ all_applied (commands_of_edits lacking.old.items) index.old }
+    ensures ok { OnOk result (lacking.new.items ≡ []) }
+{
+    while let Some(edit) = lacking.front() {
+        apply_edit(index, edit)?;
+        lacking.pop_front();
     }
     Ok(())
 }

@@ -1,11 +1,11 @@
 -- The entries of single items.
-use Rattle.std.specs.Prelude.{◌≡◌, ℕ, ◌<◌, ◌⊎◌, Bool, true, false, List, length, Option, Some}
+use Rattle.std.specs.Prelude.{◌≡◌, ℕ, ◌<◌, ◌⊎◌, Bool, true, false, List, Option, Some}
 use Rattle.ere.specs.declared.error.EreError.{EreError}
 use Rattle.ere.specs.declared.error.EreErrorKind.{EreErrorKind}
 use Rattle.ere.specs.declared.error.EreErrorKind.TheVariants as kind
-use Rattle.index.specs.declared.command.Command.{Command}
 use Rattle.index.specs.declared.error.NameError.{NameError}
 use Rattle.index.specs.declared.error.NameError.TheVariants as name
+use Rattle.index.specs.State.{State}
 use Rattle.index.specs.Text.{IsBody}
 use Rattle.script.specs.Items.{load}
 use Rattle.tsearch.specs.declared.transcript.Entry.{Entry}
@@ -35,12 +35,12 @@ abbrev pub RanOut : ℕ → Entry → Type 0
 RanOut line entry = entry ≡ Refused line reason.OutOfMemory
 
 -- Full exactly where the limit is reached; where it is not, memory may run out.
-abbrev pub IsAccepted : ℕ → List Command → ℕ → Entry → Type 0
-IsAccepted most commands line entry = IsRoomFor most commands line entry ⊎ ((length commands < most) × RanOut line entry)
+abbrev pub IsAccepted : ℕ → State → ℕ → Entry → Type 0
+IsAccepted most state line entry = IsRoomFor most state line entry ⊎ ((state.version < most) × RanOut line entry)
 
 -- The faults of a body come first, then the room.
-abbrev pub HasBodyOrNoMemory : ℕ → List Command → List ℕ → ℕ → Entry → Type 0
-HasBodyOrNoMemory most commands body line entry = HasBody most commands body line entry ⊎ (IsBody body × (length commands < most) × RanOut line entry)
+abbrev pub HasBodyOrNoMemory : ℕ → State → List ℕ → ℕ → Entry → Type 0
+HasBodyOrNoMemory most state body line entry = HasBody most state body line entry ⊎ (IsBody body × (state.version < most) × RanOut line entry)
 
 -- A load: the source is asked once, unless the name is none, and failed exactly where the entry says so.
 pub record IsLoadedEntry (Holds : List ℕ → List ℕ → Type 0) (store : StoreState) (failed : ℕ) (name path : List ℕ) (line : ℕ) (entry : Entry) (store' : StoreState) (failed' : ℕ) : Type 0 where

@@ -4,6 +4,7 @@ use Rattle.ere.specs.Limits.{HasNoTree}
 use Rattle.ere.specs.declared.error.EreError.{EreError}
 use Rattle.ere.specs.declared.error.EreErrorKind.TheVariants as kind
 use Rattle.index.specs.declared.command.Command.{Command}
+use Rattle.index.specs.State.{State}
 use Rattle.search.specs.Pattern.{Pattern, IsPatternOf, IsPatternWithin, HasTree}
 use Rattle.search.specs.Scan.{Answer, IsAnswerOf}
 use Rattle.script.specs.Items.{Item, Numbered, put, load, remove, publish, search, search_in, sync, bad_line, bad_put, truncated, body_not_closed}
@@ -15,24 +16,24 @@ use Rattle.tsearch.specs.declared.items.Counts.{Counts}
 use Rattle.tsearch.specs.declared.session.Session.{Session}
 use Rattle.tsearch.specs.Rows.{command_of, failures_in, list_of, searches_of}
 use Rattle.tsearch.specs.Legal.{IsNamed, IsPut, HasLoaded, IsRemove, IsPublish, greatest_failures, IsFailedTimes}
-use Rattle.tsearch.specs.Private.StoreState.{StoreState, all_published}
+use Rattle.tsearch.specs.Private.StoreState.{StoreState, all_applied, all_published}
 
--- the commands and the published ones, after an entry of these commands
+-- what is accepted and what is published, after an entry of these commands
 abbrev pub store_after : Option Entry → List Command → StoreState → StoreState
-store_after (Some (Accepted line count)) commands store = record { accepted = store.accepted ++ commands; published = store.published; most = store.most }
+store_after (Some (Accepted line count)) commands store = record { accepted = all_applied commands store.accepted; published = store.published; most = store.most }
 store_after (Some (Published line version)) commands store = all_published store
 store_after _ commands store = store
 
 -- a search answered from what is published, in the next turn of reader 0
-pub data IsSearchedNow (published : List Command) (number turn : ℕ) (IsIt : Pattern → Type 0) (entry : Entry) : Type 0 where
+pub data IsSearchedNow (published : State) (number turn : ℕ) (IsIt : Pattern → Type 0) (entry : Entry) : Type 0 where
   no_memory : entry ≡ SearchRefused number search_reason.OutOfMemory → IsSearchedNow published number turn IsIt entry
   found : (pattern : Pattern) (answer : Answer) → IsIt pattern → entry ≡ Found number 0 turn answer → IsAnswerOf published pattern answer → IsSearchedNow published number turn IsIt entry
 
-pub data IsSearchNow (published : List Command) (number turn : ℕ) (text : List ℕ) (entry : Entry) : Type 0 where
+pub data IsSearchNow (published : State) (number turn : ℕ) (text : List ℕ) (entry : Entry) : Type 0 where
   bad_pattern : (fault : EreError) → (fault.kind ≡ kind.OutOfMemory → ⊥) → HasNoTree text → entry ≡ SearchRefused number (search_reason.Pattern fault) → IsSearchNow published number turn text entry
   searched : IsSearchedNow published number turn (IsPatternOf text) entry → IsSearchNow published number turn text entry
 
-pub data IsSearchInNow (published : List Command) (number turn : ℕ) (name_text text : List ℕ) (entry : Entry) : Type 0 where
+pub data IsSearchInNow (published : State) (number turn : ℕ) (name_text text : List ℕ) (entry : Entry) : Type 0 where
   bad_name_pattern : (fault : EreError) → (fault.kind ≡ kind.OutOfMemory → ⊥) → HasNoTree name_text → entry ≡ SearchRefused number (search_reason.NamePattern fault) → IsSearchInNow published number turn name_text text entry
   bad_pattern : (fault : EreError) → (fault.kind ≡ kind.OutOfMemory → ⊥) → HasTree name_text → HasNoTree text → entry ≡ SearchRefused number (search_reason.Pattern fault) → IsSearchInNow published number turn name_text text entry
   searched : IsSearchedNow published number turn (IsPatternWithin name_text text) entry → IsSearchInNow published number turn name_text text entry

@@ -1,43 +1,32 @@
-use Rattle.std.proofs.Common.{sym, subst, get_or, List, drop, ◌++◌, ◌+◌, refl}
+use Rattle.std.proofs.Common.{refl, subst}
 use Rattle.std.specs.Prelude.{flat_map}
 use Rattle.ere.specs.Tree.{form}
-use Rattle.index.specs.Documents.{documents_of}
-use Rattle.search.specs.Scan.{Hit}
 use Rattle.search.specs.Hits.{hits_of}
-use Rattle.search.specs.Selects.{Adds, HasMatch, lines_at, Selects}
-use Rattle.search.specs.Ways.{Finds}
-use Rattle.search.proofs.ScanLemmas.{documents-step, documents-end, Adds-document, Adds-absent}
+use Rattle.search.specs.Private.Selects.{Adds, HasMatch, lines_of_document}
+use Rattle.search.specs.Private.Documents.{lines_of_taken}
+use Rattle.search.proofs.ScanLemmas.{lines-step, lines-end}
 use Rattle.search.proofs.lines.scan_by.Goals as goal
-use Rattle.search.proofs.lines.scan_by.Goals.{in-Some+in_ok-scan_body, in_default}
 
-pub loop-number-init : goal.loop-number-init
-loop-number-init g c = record {
+pub loop-document-init : goal.loop-document-init
+loop-document-init g c = record {
   so_far = λ more s. record { added = more; appended = refl; selected = s };
   way = c.requires.way;
 }
 
-pub loop-number-preserved : goal.loop-number-preserved
-loop-number-preserved g c =
+pub loop-document-preserved : goal.loop-document-preserved
+loop-document-preserved g c =
     let Has = HasMatch (form c.args.tree.now) in
-    let documents = documents_of c.args.index.now in
-    let numbers = c.args.numbers.now in
-    let i = c.loop-number.number-index in
-    let old = hits_of c.args.hits.now.items in
-    let now = hits_of c.loop-number.hits.items in
-    let whole = flat_map (lines_at documents) numbers in
+    let document = c.document-item.result in
+    let now = hits_of c.loop-document.hits.items in
+    let new = hits_of c.scan_body.new.hits.items in
+    let added = subst (λ body. Adds Has (lines_of_document document.name body) now new) c.body.ensures c.in_ok-scan_body.ensures.hits in
     record {
-      so_far = elim c.match-document.branch [
-        | in-Some+in_ok-scan_body w ↦ subst (λ hits. (more : List Hit) → Selects Has (flat_map (lines_at documents) (drop (i + 1) numbers)) more → Adds Has whole old (hits_of hits.items ++ more)) (sym w.hits-is) (documents-step Has documents numbers i whole old now _ c.loop-number-test.true (Adds-document Has documents (get_or numbers i 0) w.in-Some.name.now w.in-Some.body.now now _ w.in-Some.ensures w.in_ok-scan_body.ensures.hits) c.loop-number.invariant.so_far)
-        | in_default w ↦ subst (λ hits. (more : List Hit) → Selects Has (flat_map (lines_at documents) (drop (i + 1) numbers)) more → Adds Has whole old (hits_of hits.items ++ more)) (sym w.hits-is) (documents-step Has documents numbers i whole old now now c.loop-number-test.true (Adds-absent Has documents (get_or numbers i 0) now w.in_default.ensures) c.loop-number.invariant.so_far)
-      ];
-      way = elim c.match-document.branch [
-        | in-Some+in_ok-scan_body w ↦ subst (Finds (form c.args.tree.now)) (sym w.way'-is) w.in_ok-scan_body.ensures.way
-        | in_default w ↦ subst (Finds (form c.args.tree.now)) (sym w.way'-is) c.loop-number.invariant.way
-      ];
+      so_far = lines-step Has lines_of_taken c.args.documents.now c.loop-document.document-index document (flat_map lines_of_taken c.args.documents.now) (hits_of c.args.hits.now.items) now new c.loop-document-test.true c.document-item.is added c.loop-document.invariant.so_far;
+      way = c.scan_body.ensures.way;
     }
 
 pub returns : goal.returns
-returns g c = documents-end (HasMatch (form c.args.tree.now)) (documents_of c.args.index.now) c.args.numbers.now c.loop-number.number-index (flat_map (lines_at (documents_of c.args.index.now)) c.args.numbers.now) (hits_of c.args.hits.now.items) (hits_of c.loop-number.hits.items) c.loop-number-test.false c.loop-number.invariant.so_far
+returns g c = lines-end (HasMatch (form c.args.tree.now)) lines_of_taken c.args.documents.now c.loop-document.document-index (flat_map lines_of_taken c.args.documents.now) (hits_of c.args.hits.now.items) (hits_of c.loop-document.hits.items) c.loop-document-test.false c.loop-document.invariant.so_far
 
 pub scan_body-requires-clause-way : goal.scan_body-requires-clause-way
-scan_body-requires-clause-way g c = c.loop-number.invariant.way
+scan_body-requires-clause-way g c = c.loop-document.invariant.way

@@ -3,7 +3,7 @@ use Rattle.std.proofs.lemmas.Bool.{false≢true}
 use Rattle.std.proofs.lemmas.List.{map-append}
 use Rattle.ere.specs.Tree.{form}
 use Rattle.search.specs.Hits.{hit_of, hits_of}
-use Rattle.search.specs.Selects.{HasMatch, found}
+use Rattle.search.specs.Private.Selects.{HasMatch, found}
 use Rattle.search.proofs.SelectsLemmas.{Adds-skip, Adds-keep}
 use Rattle.search.proofs.lines.scan_line.Goals as goal
 

@@ -3,7 +3,7 @@ use Rattle.std.proofs.lemmas.Bool.Decides.{nat_tests}
 use Rattle.std.proofs.lemmas.Result.{on_ok_weaker}
 use Rattle.ere.specs.Tree.{form}
 use Rattle.search.specs.Hits.{hits_of}
-use Rattle.search.specs.Selects.{HasMatch}
+use Rattle.search.specs.Private.Selects.{HasMatch}
 use Rattle.search.proofs.LineLemmas.{length-first, length-last, short-rest, room-rest, step, last, ended}
 use Rattle.search.proofs.lines.scan_lines.Goals as goal
 

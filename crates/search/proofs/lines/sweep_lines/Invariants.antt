@@ -4,7 +4,7 @@ use Rattle.ere.specs.Tree.{Tree}
 use Rattle.finder.specs.Patterns.{IsFinderOf}
 use Rattle.search.specs.Scan.{Hit}
 use Rattle.search.specs.Hits.{hits_of}
-use Rattle.search.specs.Selects.{Adds, HasMatch, Selects, numbered, lines_of_document}
+use Rattle.search.specs.Private.Selects.{Adds, HasMatch, Selects, numbered, lines_of_document}
 use Rattle.search.proofs.lines.sweep_lines.Given as goal
 
 abbrev pub invariant-loop-first : goal.invariant-loop-first

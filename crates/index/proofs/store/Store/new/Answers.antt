@@ -1,0 +1,19 @@
+use Rattle.std.proofs.Common.{sym, ap, subst}
+use Rattle.index.specs.Documents.{document_at}
+use Rattle.index.specs.State.{body_bytes}
+use Rattle.index.specs.Private.Slots.{documents_in, RiseTo}
+use Rattle.index.specs.Private.Sets.{AreSetsOf}
+use Rattle.index.proofs.StoredLemmas.{RiseTo-none}
+use Rattle.index.proofs.store.Store.new.Goals as goal
+
+pub returns-clause-documents : goal.returns-clause-documents
+unfolding documents_in
+returns-clause-documents c = ap documents_in c.new.ensures.items
+
+pub returns-clause-store : goal.returns-clause-store
+unfolding documents_in document_at
+returns-clause-store c = record {
+  slots = subst (RiseTo 0) (sym c.new.ensures.items) RiseTo-none;
+  sets = subst (λ xs. AreSetsOf (documents_in xs) c.new-2.result) (sym c.new.ensures.items) (record { live = c.new-2.ensures.live; postings = c.new-2.ensures.postings });
+  bytes = ap (λ xs. body_bytes (documents_in xs)) (sym c.new.ensures.items);
+}

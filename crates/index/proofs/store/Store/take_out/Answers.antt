@@ -1,0 +1,54 @@
+use Rattle.std.proofs.Common.{◌≡◌, ℕ, ◌∷◌, [], sym, ◌∙◌, ap, subst, arith, length}
+use Rattle.std.specs.Prelude.{option_map}
+use Rattle.std.proofs.lemmas.List.Elements.{All-nil, All-cons, All-head}
+use Rattle.posting.specs.ListValue.{HasRoom}
+use Rattle.posting.specs.Postings.{set_of}
+use Rattle.index.specs.State.{body_bytes}
+use Rattle.index.specs.Private.Slots.{documents_in, texts_of, without_number}
+use Rattle.index.specs.Private.Sets.{AreSetsOf}
+use Rattle.index.specs.Private.Store.{stored}
+use Rattle.index.proofs.StoredLemmas.{Numbered-stored, AreSetsOf-take, body_bytes-without, without-absent_number, RiseTo-same}
+use Rattle.index.proofs.store.Store.take_out.Goals as goal
+
+pub overflow_sub-self : goal.overflow_sub-self
+overflow_sub-self c =
+    let old = c.args.self.now in
+    let kept = c.requires.1 in
+    let size : length c.as_bytes.result.now ≡ length c.in-Some.entry.held = ap length (c.as_bytes.ensures.bytes ∙ c.body.ensures) in
+    let bytes = body_bytes-without c.args.number (stored old) c.in-Some.entry.name c.in-Some.entry.held (Numbered-stored c.requires.0 old.slots.items kept.slots) (sym c.in-Some.ensures.entry) in
+    omega (arith, size, bytes, kept.bytes)
+
+pub returns-in-Some-clause-store : goal.returns-in-Some-clause-store
+returns-in-Some-clause-store c = λ last kept.
+    let old = c.args.self.now in
+    let at = sym c.in-Some.ensures.entry in
+    let size : length c.as_bytes.result.now ≡ length c.in-Some.entry.held = ap length (c.as_bytes.ensures.bytes ∙ c.body.ensures) in
+    let bytes = body_bytes-without c.args.number (stored old) c.in-Some.entry.name c.in-Some.entry.held (Numbered-stored last old.slots.items kept.slots) at in
+    let documents : documents_in c.compact.new.slots.items ≡ without_number c.args.number (stored old) = c.compact.ensures.documents ∙ c.take.ensures.documents in
+    let left : body_bytes (documents_in c.compact.new.slots.items) ≡ body_bytes (without_number c.args.number (stored old)) = ap body_bytes documents in
+    record {
+      slots = c.compact.ensures.numbers last (RiseTo-same last old.slots.items c.take.new.slots.items c.take.ensures.numbers kept.slots);
+      sets = subst (λ ds. AreSetsOf ds c.take_out.new.self) (sym documents) (AreSetsOf-take (stored old) c.args.number c.in-Some.entry.name c.in-Some.entry.held c.trigrams.result.now old.sets c.take_out.new.self kept.sets at c.trigrams.ensures.trigrams c.take_out.ensures.live c.take_out.ensures.postings);
+      bytes = omega (arith, size, bytes, left, kept.bytes);
+    }
+
+pub returns-in-Some-clause-room : goal.returns-in-Some-clause-room
+returns-in-Some-clause-room c = λ body place.
+    let room = λ (t : ℕ). HasRoom (set_of c.args.self.now.sets.postings t) in
+    let room_after = λ (t : ℕ). HasRoom (set_of c.take_out.new.self.postings t) in
+    record {
+      slots = omega (arith, place.slots, c.take.ensures.len, c.take.ensures.capacity, c.compact.ensures.len, c.compact.ensures.capacity);
+      live = (c.take_out.ensures.room [] (record { live = place.live; postings = All-nil room })).live;
+      postings = λ t is. All-head room_after t [] (c.take_out.ensures.room (t ∷ []) (record { live = place.live; postings = All-cons room t [] (place.postings t is) (All-nil room) })).postings;
+    }
+
+pub returns-in_default-clause-store : goal.returns-in_default-clause-store
+returns-in_default-clause-store c = λ last kept.
+    let old = c.args.self.now in
+    let absent = sym c.take.ensures.entry ∙ ap (option_map texts_of) c.in_default.is in
+    let documents : documents_in c.take.new.slots.items ≡ stored old = c.take.ensures.documents ∙ without-absent_number c.args.number (stored old) absent in
+    record {
+      slots = RiseTo-same last old.slots.items c.take.new.slots.items c.take.ensures.numbers kept.slots;
+      sets = subst (λ ds. AreSetsOf ds old.sets) (sym documents) kept.sets;
+      bytes = kept.bytes ∙ ap body_bytes (sym documents);
+    }

@@ -1,0 +1,13 @@
+-- A body and its trigrams, as they are shared.
+use Rattle.std.specs.Prelude.{ℕ, List}
+use Rattle.std.specs.Arc.{arc_value}
+use Rattle.std.specs.declared.sync.Arc.{Arc}
+use Rattle.std.specs.declared.alloc.Global.{Global}
+use Rattle.query.specs.Trigrams.{ListsTrigrams}
+use Rattle.index.specs.declared.held.Analysed.{Analysed}
+
+abbrev pub body_in : Arc Analysed Global → List ℕ
+body_in shared = (arc_value shared).body
+
+abbrev pub IsAnalysed : Arc Analysed Global → Type 0
+IsAnalysed shared = ListsTrigrams (body_in shared) (arc_value shared).trigrams.items

@@ -1,0 +1,32 @@
+-- The slots in which the documents of an index lie.
+use Rattle.std.specs.Prelude.{ℕ, ◌≤◌, not, ◌==◌, List, [], ◌∷◌, ◌++◌, All, map, filter, Option, Some, None}
+use Rattle.std.specs.List.Sorted.{IsStrictlyIncreasing}
+use Rattle.index.specs.declared.slots.Slot.{Slot}
+use Rattle.index.specs.declared.slots.Entry.{Entry}
+use Rattle.index.specs.Documents.{Document, document}
+
+-- the document of a number and an entry, where there is one
+abbrev pub documents_of_slot : ℕ → Option Entry → List Document
+documents_of_slot number None = []
+documents_of_slot number (Some entry) = document number entry.name entry.held ∷ []
+
+-- the documents in the slots
+unfoldable pub documents_in : List Slot → List Document
+documents_in [] = []
+documents_in (slot ∷ slots) = documents_of_slot slot.number slot.entry ++ documents_in slots
+
+abbrev pub numbers_in : List Slot → List ℕ
+numbers_in slots = map (λ s. s.number) slots
+
+-- the numbers of the slots rise, and none is above the last
+pub record RiseTo (last : ℕ) (slots : List Slot) : Type 0 where
+  pub rise : IsStrictlyIncreasing (numbers_in slots)
+  pub below : All (λ n. n ≤ last) (numbers_in slots)
+
+-- name and body of an entry
+abbrev pub texts_of : Entry → List ℕ × List ℕ
+texts_of entry = (entry.name, entry.held)
+
+-- the documents but that with this number
+abbrev pub without_number : ℕ → List Document → List Document
+without_number number documents = filter (λ d. not (d.number == number)) documents

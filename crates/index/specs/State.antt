@@ -1,0 +1,45 @@
+-- What an index holds: how many commands were applied to it, and the documents that they leave.
+use Rattle.std.specs.Prelude.{ℕ, ◌+◌, ◌<◌, ◌≤◌, ◌≢◌, not, List, [], ◌∷◌, ◌++◌, All, AllPairs, map, filter, length, bytes_eq, sum}
+use Rattle.std.specs.List.Sorted.{IsStrictlyIncreasing}
+use Rattle.index.specs.declared.command.Command.{Command}
+use Rattle.index.specs.declared.command.Command.TheVariants.{Put, Remove}
+use Rattle.index.specs.Documents.{Document, document, documents_of}
+use Rattle.index.specs.Text.{IsName, IsBody}
+
+-- version: the number of commands
+pub record State : Type 0 where
+  pub version : ℕ
+  pub documents : List Document
+
+abbrev pub state : ℕ → List Document → State
+state version documents = record { version = version; documents = documents }
+
+-- the state that a list of commands leaves
+abbrev pub state_of : List Command → State
+state_of commands = state (length commands) (documents_of commands)
+
+-- the documents of other names
+abbrev pub without : List ℕ → List Document → List Document
+without name documents = filter (λ d. not (bytes_eq d.name name)) documents
+
+-- the documents after one more command, which has this place among all commands, counted from 1
+abbrev pub documents_after : ℕ → Command → List Document → List Document
+documents_after place (Put name body) documents = without name documents ++ document place name body ∷ []
+documents_after place (Remove name) documents = without name documents
+
+-- The state after one more command. It depends on the state and the command alone.
+abbrev pub applied : Command → State → State
+applied command s = state (s.version + 1) (documents_after (s.version + 1) command s.documents)
+
+-- the bytes of all bodies
+abbrev pub body_bytes : List Document → ℕ
+body_bytes documents = sum (map (λ d. length d.body) documents)
+
+abbrev pub IsGoodDocument : ℕ → Document → Type 0
+IsGoodDocument version d = (0 < d.number) × (d.number ≤ version) × IsName d.name × IsBody d.body
+
+-- Numbers rise, each from 1 to the version. No two documents have one name.
+pub record IsState (s : State) : Type 0 where
+  pub rise : IsStrictlyIncreasing (map (λ d. d.number) s.documents)
+  pub good : All (λ d. IsGoodDocument s.version d) s.documents
+  pub names : AllPairs (λ d e. d.name ≢ e.name) s.documents

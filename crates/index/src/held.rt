@@ -1,0 +1,92 @@
+//! Bodies that several indexes share.
+
+ghost use Rattle.std.specs.Prelude.{◌≡◌, IfOk, IfErr};
+ghost use Rattle.query.specs.Trigrams.{ListsTrigrams};
+ghost use Rattle.index.specs.Text.{IsBody};
+
+use crate::body::Body;
+use crate::error::HeldError;
+use query::{Trigram, trigrams_of};
+use std::alloc::AllocError;
+use std::marker::Model;
+use std::sync::Arc;
+
+/// A body and the trigrams of its lines.
+#[derive(Drop)]
+struct Analysed {
+    body: Body,
+    trigrams: Vec<Trigram>,
+}
+
+/// A body with what an index needs of it, shared by all that hold it: the trigrams of its lines are found once.
+///
+/// Contracts see it as the bytes of the body.
+#[derive(Drop)]
+pub struct Held {
+    shared: Arc<Analysed>,
+}
+
+impl Model for Held {
+    ghost use Rattle.std.specs.Prelude.{List, ℕ};
+
+    ghost Value = { List ℕ };
+
+    ghost use Rattle.index.specs.Private.Analysis.{body_in, IsAnalysed};
+
+    ghost view = { λ h. body_in h.shared };
+
+    ghost invariant = { λ h. IsAnalysed h.shared };
+}
+
+impl Held {
+    /// The body, with its trigrams. An `Err` comes only where memory ran out, and hands the body back.
+    pub fn new(body: Body) -> Result<Held, HeldError>
+        ensures held { IfOk result (λ held. held ≡ body) }
+        ensures returned { IfErr result (λ e. e.body ≡ body) }
+    {
+        match trigrams_of(body.allocator(), body.as_bytes()) {
+            Ok(trigrams) => Held::with(body, trigrams),
+            Err(error) => Err(HeldError { body, error }),
+        }
+    }
+
+    /// The body with these trigrams, which are its own. An `Err` comes only where memory ran out, and hands the
+    /// body back.
+    pub(crate) fn with(body: Body, trigrams: Vec<Trigram>) -> Result<Held, HeldError>
+        requires { ListsTrigrams body trigrams.items }
+        ensures held { IfOk result (λ held. held ≡ body) }
+        ensures returned { IfErr result (λ e. e.body ≡ body) }
+    {
+        match Arc::new(body.allocator(), Analysed { body, trigrams }) {
+            Ok(shared) => Ok(Held { shared }),
+            Err(refused) => Err(HeldError {
+                body: refused.value.body,
+                error: AllocError,
+            }),
+        }
+    }
+
+    /// The same body once more, in no memory of its own. An `Err` comes only where it cannot be shared more often.
+    pub fn share(&self) -> Result<Held, AllocError>
+        ensures { IfOk result (λ held. held ≡ self.now) }
+    {
+        let shared = Arc::try_clone(&self.shared)?;
+        Ok(Held { shared })
+    }
+
+    /// The body.
+    pub fn body(&self) -> &Body
+        ensures { result.now ≡ self.now }
+    {
+        &self.shared.body
+    }
+
+    /// The trigrams of the body's lines, rising, each once.
+    pub(crate) fn trigrams(&self) -> &[Trigram]
+        ensures trigrams { ListsTrigrams self.now result.now }
+        ensures body { IsBody self.now }
+    {
+        let _bytes = self.shared.body.as_bytes();
+        self.shared.trigrams.as_slice()
+    }
+}

@@ -1,0 +1,333 @@
+//! The index: the documents that commands leave, and the sets by which they are found.
+
+ghost use Rattle.std.specs.Prelude.{◌≡◌, ℕ, List, ◌+◌, ◌^◌, ◌<◌, [], ◌∷◌, map, length, OnOk, OnErr, IfErr, IfOk, IfSome, IsSome, Option, option_map, filter, bytes_eq, if◌then◌else◌, Some};
+ghost use Rattle.std.specs.Ordering.{nat_cmp};
+ghost use Rattle.std.specs.Cmp.Lexicographic.{slice_cmp};
+ghost use Rattle.std.specs.BTreeMap.{IsUnchanged, IsOrdered, get, values};
+ghost use Rattle.index.specs.declared.command.Command.TheVariants.{Put as put_command, Remove as remove_command};
+ghost use Rattle.query.specs.Query.{formula_of};
+ghost use Rattle.posting.specs.ListValue.{has};
+ghost use Rattle.index.specs.Text.{IsName, IsBody};
+ghost use Rattle.index.specs.Documents.{Document, document_at, number_of, meets, IsInNameOrder};
+ghost use Rattle.index.specs.State.{applied, state_of, body_bytes, IsState};
+ghost use Rattle.index.specs.Private.Few.{AreFew, by_bytes};
+
+use crate::body::Body;
+use crate::command::Command;
+use crate::error::{ApplyError, HeldError};
+use crate::held::Held;
+use crate::name::Name;
+use crate::slots::{Entry, entry_at};
+use crate::store::Store;
+use query::{Query, trigrams_of};
+use std::alloc::{AllocError, Global};
+use std::collections::BTreeMap;
+use std::marker::Model;
+
+/// A list of fewer numbers than this part of all documents is sorted by name; from there on the names of all
+/// documents are gone through.
+const FEW: usize = 8;
+
+/// The documents that commands leave.
+///
+/// A document is there where some `Put` named it and no later command names it. Its number is the place of that
+/// `Put` among the commands, counted from 1. Contracts see an index as its state: how many commands were applied,
+/// and the documents.
+#[derive(Drop)]
+pub struct Index {
+    // the number of commands
+    version: u32,
+    // the number of each document, by its name
+    numbers: BTreeMap<Name, u32>,
+    store: Store,
+}
+
+impl Model for Index {
+    ghost use Rattle.index.specs.State.{State, state};
+    ghost use Rattle.index.specs.Private.Store.{stored, IsIndex};
+
+    ghost Value = { State };
+
+    ghost view = { λ i. state i.version (stored i.store) };
+
+    ghost invariant = { λ i. IsIndex i.version i.numbers i.store };
+}
+
+impl Index {
+    /// The index with no commands. It takes no memory.
+    pub fn new(alloc: Global) -> Index
+        ensures { result ≡ state_of [] }
+    {
+        Index {
+            version: 0,
+            numbers: BTreeMap::new(alloc),
+            store: Store::new(alloc),
+        }
+    }
+
+    /// Applies a command. An `Err` comes only where memory ran out; it hands the command back, and the index is
+    /// as it was.
+    pub fn apply(&mut self, command: Command) -> Result<(), ApplyError>
+        requires { self.old.version + 1 < 2 ^ 32 }
+        ensures ok { OnOk result (self.new ≡ applied command self.old) }
+        ensures err { OnErr result (self.new ≡ self.old) }
+        ensures returned { IfErr result (λ e. e.command ≡ command) }
+    {
+        match command {
+            Command::Put(name, body) => self.put(name, body),
+            Command::Remove(name) => match self.remove(&name) {
+                Ok(()) => Ok(()),
+                Err(error) => Err(ApplyError {
+                    command: Command::Remove(name),
+                    error,
+                }),
+            },
+        }
+    }
+
+    // Applies the `Put` of this name and body. Where memory runs out they come back.
+    fn put(&mut self, name: Name, body: Body) -> Result<(), ApplyError>
+        requires { self.old.version + 1 < 2 ^ 32 }
+        ensures ok { OnOk result (self.new ≡ applied (put_command name body) self.old) }
+        ensures err { OnErr result (self.new ≡ self.old) }
+        ensures returned { IfErr result (λ e. e.command ≡ put_command name body) }
+    {
+        let number = self.version + 1;
+        let trigrams = match trigrams_of(body.allocator(), body.as_bytes()) {
+            Ok(trigrams) => trigrams,
+            Err(error) => return Err(refused(name, body, error)),
+        };
+        let own = match shared_name(&self.numbers, &name) {
+            Ok(own) => own,
+            Err(error) => return Err(refused(name, body, error)),
+        };
+        if let Err(error) = self.store.make_room(number, &trigrams) {
+            return Err(refused(name, body, error));
+        }
+        let gone = match enter(&mut self.numbers, &own, number) {
+            Ok(gone) => gone,
+            Err(error) => return Err(refused(name, body, error)),
+        };
+        match Held::with(body, trigrams) {
+            Ok(held) => {
+                self.store.replace(gone, number, Entry { name: own, held });
+                self.version = number;
+                Ok(())
+            }
+            Err(HeldError { body, error }) => {
+                leave(&mut self.numbers, &own, gone);
+                Err(refused(name, body, error))
+            }
+        }
+    }
+
+    /// Applies the `Put` of this name and body, which are shared. An `Err` comes only where memory ran out, and
+    /// the index is as it was.
+    pub fn apply_put(&mut self, name: &Name, held: &Held) -> Result<(), AllocError>
+        requires { self.old.version + 1 < 2 ^ 32 }
+        ensures ok { OnOk result (self.new ≡ applied (put_command name.now held.now) self.old) }
+        ensures err { OnErr result (self.new ≡ self.old) }
+    {
+        let number = self.version + 1;
+        let entry = Entry {
+            name: shared_name(&self.numbers, name)?,
+            held: held.share()?,
+        };
+        self.store.make_room(number, entry.held.trigrams())?;
+        let gone = enter(&mut self.numbers, &entry.name, number)?;
+        self.store.replace(gone, number, entry);
+        self.version = number;
+        Ok(())
+    }
+
+    /// Applies the `Remove` of this name. An `Err` comes only where memory ran out, and the index is as it was.
+    pub fn remove(&mut self, name: &Name) -> Result<(), AllocError>
+        requires { self.old.version + 1 < 2 ^ 32 }
+        ensures ok { OnOk result (self.new ≡ applied (remove_command name.now) self.old) }
+        ensures err { OnErr result (self.new ≡ self.old) }
+    {
+        if let Some(number) = self.numbers.remove(name) {
+            self.store.take_out(number);
+        }
+        self.version += 1;
+        Ok(())
+    }
+
+    /// The number of commands.
+    pub fn version(&self) -> u32
+        ensures version { result ≡ self.now.version }
+        ensures state { IsState self.now }
+    {
+        self.version
+    }
+
+    /// The number of documents.
+    pub fn documents(&self) -> u32
+        ensures { result ≡ length self.now.documents }
+    {
+        self.store.sets.live.len() as u32
+    }
+
+    /// The bytes of all bodies that the index holds, which are those of its documents.
+    pub fn held_bytes(&self) -> u64
+        ensures { result ≡ body_bytes self.now.documents }
+    {
+        self.store.held_bytes
+    }
+
+    /// Name and body of the document with this number, where there is one.
+    pub fn document(&self, number: u32) -> Option<(&Name, &Body)>
+        ensures { option_map (λ d. (d.0.now, d.1.now)) result ≡ document_at number self.now.documents }
+    {
+        match entry_at(&self.store.slots, number) {
+            Some(entry) => Some((&entry.name, entry.held.body())),
+            None => None,
+        }
+    }
+
+    /// The shared body of the document with this number, where there is one.
+    pub fn held(&self, number: u32) -> Option<&Held>
+        ensures { option_map (λ h. h.now) result ≡ option_map (λ d. d.1) (document_at number self.now.documents) }
+    {
+        match entry_at(&self.store.slots, number) {
+            Some(entry) => Some(&entry.held),
+            None => None,
+        }
+    }
+
+    /// The number of the document with this name, where there is one.
+    pub fn number(&self, name: &Name) -> Option<u32>
+        ensures { result ≡ number_of name.now self.now.documents }
+    {
+        self.numbers.get(name).copied()
+    }
+
+    /// The numbers of the documents, rising.
+    pub fn live(&self) -> &posting::List
+        ensures { result.now.members ≡ map (λ d. d.number) self.now.documents }
+    {
+        &self.store.sets.live
+    }
+
+    /// The numbers of the documents whose trigrams satisfy the query, rising. An `Err` comes only where memory ran
+    /// out.
+    pub fn candidates(&self, alloc: Global, query: &Query) -> Result<posting::List, AllocError>
+        ensures { IfOk result (λ chosen. chosen.members
+            ≡ map (λ d. d.number) (filter (meets (formula_of query.now)) self.now.documents)) }
+    {
+        let sets = &self.store.sets;
+        sets.postings.select(alloc, query, &sets.live)
+    }
+
+    /// The numbers of those documents that the list has, in the order of the documents' names. Where the list has
+    /// few numbers its cost grows with them, and not with the number of documents. An `Err` comes only where memory
+    /// ran out.
+    pub fn chosen_by_name(
+        &self,
+        alloc: Global,
+        chosen: &posting::List,
+    ) -> Result<Vec<u32>, AllocError>
+        ensures state { IsState self.now }
+        ensures chosen { IfOk result (λ numbers. (ordered : List Document)
+            × IsInNameOrder (filter (λ d. has chosen.now.members d.number) self.now.documents) ordered
+            × (numbers.items ≡ map (λ d. d.number) ordered)) }
+    {
+        if chosen.len() < self.numbers.len() / FEW {
+            numbers_of(&self.few(alloc, chosen)?, alloc)
+        } else {
+            numbers_among(&self.numbers, alloc, chosen)
+        }
+    }
+
+    // The numbers of those documents that the list has, under their names.
+    fn few(&self, alloc: Global, chosen: &posting::List) -> Result<BTreeMap<&Name, u32>, AllocError>
+        ensures { IfOk result (λ few. AreFew chosen.now.members self.now.documents few) }
+    {
+        let mut few = BTreeMap::new(alloc);
+        for number in chosen.numbers() {
+            if let Some(entry) = entry_at(&self.store.slots, number) {
+                few.insert(&entry.name, number)?;
+            }
+        }
+        Ok(few)
+    }
+}
+
+// The command that is refused for want of memory.
+fn refused(name: Name, body: Body, error: AllocError) -> ApplyError
+    ensures { result.command ≡ put_command name body }
+{
+    ApplyError {
+        command: Command::Put(name, body),
+        error,
+    }
+}
+
+// The name once more: the one that the numbers have, where they have it, so that it is in memory once.
+fn shared_name(numbers: &BTreeMap<Name, u32>, name: &Name) -> Result<Name, AllocError>
+    ensures { IfOk result (λ shared. shared ≡ name.now) }
+{
+    match numbers.get_key_value(name) {
+        Some((kept, _)) => kept.copy(),
+        None => name.copy(),
+    }
+}
+
+// Notes the number of a name. The result is the number that it had.
+fn enter(
+    numbers: &mut BTreeMap<Name, u32>,
+    name: &Name,
+    number: u32,
+) -> Result<Option<u32>, AllocError>
+    ensures name { IsName name.now }
+    ensures gone { IfOk result (λ gone. gone ≡ get (slice_cmp nat_cmp) numbers.old name.now) }
+    ensures ok { OnOk result ((q : List ℕ) → get (slice_cmp nat_cmp) numbers.new q
+        ≡ (if bytes_eq name.now q then Some number else get (slice_cmp nat_cmp) numbers.old q)) }
+    ensures err { OnErr result (IsUnchanged numbers.old numbers.new) }
+{
+    let _bytes = name.as_bytes();
+    let key = name.copy()?;
+    Ok(numbers.insert(key, number)?)
+}
+
+// Takes back what `enter` did, whose result this was.
+fn leave(numbers: &mut BTreeMap<Name, u32>, name: &Name, gone: Option<u32>)
+    requires { IsSome (get (slice_cmp nat_cmp) numbers.old name.now) }
+    ensures { (q : List ℕ) → get (slice_cmp nat_cmp) numbers.new q
+        ≡ (if bytes_eq name.now q then gone else get (slice_cmp nat_cmp) numbers.old q) }
+{
+    match gone {
+        None => {
+            numbers.remove(name);
+        }
+        Some(number) => {
+            if let Some(place) = numbers.get_mut(name) {
+                *place = number;
+            }
+        }
+    }
+}
+
+// The numbers that stand under the names, in the order of the names.
+fn numbers_of(few: &BTreeMap<&Name, u32>, alloc: Global) -> Result<Vec<u32>, AllocError>
+    ensures numbers { IfOk result (λ v. v.items ≡ values few.now) }
+    ensures ordered { IsOrdered by_bytes few.now }
+{
+    few.values().copied().collect(alloc)
+}
+
+// Those of these numbers that the list has.
+fn numbers_among(
+    numbers: &BTreeMap<Name, u32>,
+    alloc: Global,
+    chosen: &posting::List,
+) -> Result<Vec<u32>, AllocError>
+    ensures numbers { IfOk result (λ v. v.items ≡ filter (has chosen.now.members) (values numbers.now)) }
+    ensures ordered { IsOrdered (slice_cmp nat_cmp) numbers.now }
+{
+    numbers
+        .values()
+        .copied()
+        .filter(|number| chosen.has(*number))
+        .collect(alloc)
+}

@@ -1,0 +1,83 @@
+//! The slots in which the documents of an index lie, rising by their numbers.
+
+ghost use Rattle.std.specs.Prelude.{◌≡◌, ◌≢◌, ℕ, ◌<◌, ◌≤◌, length, option_map, All, IfSome, IfNone, slice_index_or};
+ghost use Rattle.std.specs.Vec.{vec_len, vec_capacity};
+ghost use Rattle.index.specs.declared.slots.Slot.{Slot as SlotValue};
+ghost use Rattle.index.specs.Documents.{document_at};
+ghost use Rattle.index.specs.Private.Slots.{documents_in, numbers_in, RiseTo, texts_of, without_number};
+
+use crate::held::Held;
+use crate::name::Name;
+
+/// The name and the body of a document.
+#[derive(Drop)]
+pub(crate) struct Entry {
+    pub(crate) name: Name,
+    pub(crate) held: Held,
+}
+
+/// A document, or the empty place of one that went: so that the others need not move each time.
+#[derive(Drop)]
+pub(crate) struct Slot {
+    pub(crate) number: u32,
+    pub(crate) entry: Option<Entry>,
+}
+
+/// The name and the body of the document with this number, where there is one.
+pub(crate) fn entry_at(slots: &[Slot], number: u32) -> Option<&Entry>
+    requires { (last : ℕ) × RiseTo last slots.now }
+    ensures { option_map (λ e. texts_of e.now) result ≡ document_at number (documents_in slots.now) }
+{
+    match place_of(slots, number) {
+        Some(place) => slots[place].entry.as_ref(),
+        None => None,
+    }
+}
+
+/// Takes the document with this number out of its slot, which stays as an empty one.
+pub(crate) fn take(slots: &mut Vec<Slot>, number: u32) -> Option<Entry>
+    requires { (last : ℕ) × RiseTo last slots.old.items }
+    ensures entry { option_map texts_of result ≡ document_at number (documents_in slots.old.items) }
+    ensures documents { documents_in slots.new.items ≡ without_number number (documents_in slots.old.items) }
+    ensures numbers { numbers_in slots.new.items ≡ numbers_in slots.old.items }
+    ensures len { vec_len slots.new ≡ vec_len slots.old }
+    ensures capacity { vec_capacity slots.new ≡ vec_capacity slots.old }
+{
+    match place_of(slots, number) {
+        Some(place) => {
+            let slot = &mut slots[place];
+            slot.entry.take()
+        }
+        None => None,
+    }
+}
+
+/// Leaves out the empty slots, where they have become more than so many documents.
+pub(crate) fn compact(slots: &mut Vec<Slot>, documents: usize)
+    ensures documents { documents_in slots.new.items ≡ documents_in slots.old.items }
+    ensures numbers { (last : ℕ) → RiseTo last slots.old.items → RiseTo last slots.new.items }
+    ensures len { vec_len slots.new ≤ vec_len slots.old }
+    ensures capacity { vec_capacity slots.new ≡ vec_capacity slots.old }
+{
+    if slots.len() / 2 > documents {
+        slots.retain(|slot| slot.entry.is_some());
+    }
+}
+
+// The place of the slot with this number, where there is one.
+fn place_of(slots: &[Slot], number: u32) -> Option<usize>
+    requires { (last : ℕ) × RiseTo last slots.now }
+    ensures some { IfSome result (λ place. (place < length slots.now)
+        × ((slot : SlotValue) → (slice_index_or slots.now place slot).number ≡ number)) }
+    ensures none { IfNone result (All (λ s. s.number ≢ number) slots.now) }
+{
+    let place = slots.partition_point(|slot| slot.number < number);
+    if place == slots.len() {
+        return None;
+    }
+    let slot = &slots[place];
+    if slot.number != number {
+        return None;
+    }
+    Some(place)
+}

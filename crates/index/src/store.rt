@@ -1,0 +1,92 @@
+//! What an index keeps of its documents: names and bodies by number, and the sets by which they are found.
+
+ghost use Rattle.std.specs.Prelude.{◌≡◌, ℕ, ◌+◌, ◌<◌, ◌^◌, List, [], ◌∷◌, ◌++◌, length, OnOk, Option, IfSome};
+ghost use Rattle.query.specs.Trigrams.{ListsTrigrams};
+ghost use Rattle.index.specs.Documents.{document};
+ghost use Rattle.index.specs.State.{body_bytes};
+ghost use Rattle.index.specs.Private.Slots.{without_number};
+ghost use Rattle.index.specs.Private.Store.{stored, IsStore, HasPlaceFor, left_after};
+
+use crate::sets::Sets;
+use crate::slots::{Entry, Slot, compact, take};
+use query::Trigram;
+use std::alloc::{AllocError, Global};
+
+/// The documents of an index, with their sets.
+#[derive(Drop)]
+pub(crate) struct Store {
+    // rising by their numbers
+    pub(crate) slots: Vec<Slot>,
+    pub(crate) sets: Sets,
+    // the bytes of all bodies
+    pub(crate) held_bytes: u64,
+}
+
+impl Store {
+    /// The store of no documents. It takes no memory.
+    pub(crate) fn new(alloc: Global) -> Store
+        ensures documents { stored result ≡ [] }
+        ensures store { IsStore 0 result }
+    {
+        Store {
+            slots: Vec::new(alloc),
+            sets: Sets::new(alloc),
+            held_bytes: 0,
+        }
+    }
+
+    /// Makes room for a document with this number and these trigrams. The documents stay as they are.
+    pub(crate) fn make_room(&mut self, number: u32, trigrams: &[Trigram]) -> Result<(), AllocError>
+        ensures documents { stored self.new ≡ stored self.old }
+        ensures store { (last : ℕ) → IsStore last self.old → IsStore last self.new }
+        ensures ok { OnOk result ((body : List ℕ) → ListsTrigrams body trigrams.now → HasPlaceFor self.new body) }
+    {
+        self.slots.reserve(1)?;
+        self.sets.make_room(number, trigrams)
+    }
+
+    /// Takes out the document with this number, and drops it. It takes no memory.
+    pub(crate) fn take_out(&mut self, number: u32)
+        requires { (last : ℕ) × IsStore last self.old }
+        ensures documents { stored self.new ≡ without_number number (stored self.old) }
+        ensures store { (last : ℕ) → IsStore last self.old → IsStore last self.new }
+        ensures room { (body : List ℕ) → HasPlaceFor self.old body → HasPlaceFor self.new body }
+    {
+        if let Some(entry) = take(&mut self.slots, number) {
+            self.sets.take_out(number, entry.held.trigrams());
+            self.held_bytes -= entry.held.body().as_bytes().len() as u64;
+            compact(&mut self.slots, self.sets.live.len());
+        }
+    }
+
+    /// Puts in a document with this number, for which there is room.
+    pub(crate) fn put_in(&mut self, number: u32, entry: Entry)
+        requires store { (last : ℕ) × IsStore last self.old × (last < number) }
+        requires room { HasPlaceFor self.old entry.held }
+        requires bytes { body_bytes (stored self.old) + length entry.held < 2 ^ 64 }
+        ensures documents { stored self.new ≡ stored self.old ++ document number entry.name entry.held ∷ [] }
+        ensures store { IsStore number self.new }
+    {
+        self.sets.put_in(number, entry.held.trigrams());
+        self.held_bytes += entry.held.body().as_bytes().len() as u64;
+        self.slots.push_reserved(Slot {
+            number,
+            entry: Some(entry),
+        });
+    }
+
+    /// Puts in a document with this number, for which there is room, in place of the one that goes.
+    pub(crate) fn replace(&mut self, gone: Option<u32>, number: u32, entry: Entry)
+        requires store { (last : ℕ) × IsStore last self.old × (last < number) }
+        requires room { HasPlaceFor self.old entry.held }
+        requires bytes { body_bytes (stored self.old) + length entry.held < 2 ^ 64 }
+        ensures documents { stored self.new
+            ≡ left_after gone (stored self.old) ++ document number entry.name entry.held ∷ [] }
+        ensures store { IsStore number self.new }
+    {
+        if let Some(old) = gone {
+            self.take_out(old);
+        }
+        self.put_in(number, entry);
+    }
+}

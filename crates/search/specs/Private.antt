@@ -1,0 +1,4 @@
+-- What only the contracts of private functions cite. A clause cites `pub` modules alone.
+pub mod Selects
+pub mod Ways
+pub mod Documents

@@ -1,0 +1,46 @@
+-- The lines of documents, one after another, and those of them that a search keeps.
+use Rattle.std.specs.Prelude.{◌≡◌, ℕ, suc, List, [], ◌∷◌, ◌++◌, Some, IfSome}
+use Rattle.ere.specs.Tree.{Tree}
+use Rattle.ere.specs.Language.{ContainsMatch}
+use Rattle.ere.specs.Lines.{lines_of}
+use Rattle.index.specs.Documents.{Document, document_at}
+use Rattle.search.specs.Pattern.{Pattern}
+use Rattle.search.specs.Scan.{Hit}
+
+abbrev pub found : List ℕ → ℕ → List ℕ → Hit
+found name line text = record { name = name; line = line; text = text }
+
+-- lines of the document with a name, where the first has a number
+unfoldable pub numbered : List ℕ → ℕ → List (List ℕ) → List Hit
+numbered name line [] = []
+numbered name line (text ∷ texts) = found name line text ∷ numbered name (suc line) texts
+
+-- the lines of a body, from number 1 on
+abbrev pub lines_of_document : List ℕ → List ℕ → List Hit
+lines_of_document name body = numbered name 1 (lines_of body)
+
+-- The kept ones are those of all that have a property, in their order.
+pub data Selects {X : Type 0} (Has : X → Type 0) : List X → List X → Type 0 where
+  done : Selects Has [] []
+  keep : {x : X} {all kept : List X} → Has x → Selects Has all kept → Selects Has (x ∷ all) (x ∷ kept)
+  skip : {x : X} {all kept : List X} → (Has x → ⊥) → Selects Has all kept → Selects Has (x ∷ all) kept
+
+-- At the end of the old ones the new have those of all that have a property.
+pub record Adds (Has : Hit → Type 0) (all old new : List Hit) : Type 0 where
+  pub added : List Hit
+  pub appended : new ≡ old ++ added
+  pub selected : Selects Has all added
+
+-- the line contains a match of the tree
+abbrev pub HasMatch : Tree → Hit → Type 0
+HasMatch tree f = ContainsMatch tree f.text
+
+-- The number has a document, whose name, taken as a line, contains a match of the tree.
+pub record IsNamed (documents : List Document) (tree : Tree) (number : ℕ) : Type 0 where
+  pub document : List ℕ × List ℕ
+  pub there : document_at number documents ≡ Some document
+  pub name_hit : ContainsMatch tree document.0
+
+-- where the pattern has a name tree
+abbrev pub IsNamedFor : List Document → Pattern → ℕ → Type 0
+IsNamedFor documents pattern number = IfSome pattern.name_tree (λ tree. IsNamed documents tree number)

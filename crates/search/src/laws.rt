@@ -1,0 +1,17 @@
+//! What is known of answers.
+
+ghost use Rattle.std.specs.Prelude.{◌≡◌, List, length, Contains, ◌↔◌};
+ghost use Rattle.index.specs.declared.command.Command.{Command as CommandValue};
+ghost use Rattle.index.specs.State.{state_of};
+ghost use Rattle.search.specs.Pattern.{Pattern};
+ghost use Rattle.search.specs.Scan.{Hit, Answer, IsAnswerOf};
+ghost use Rattle.search.specs.Commands.{IsHitOfPut};
+
+/// An answer of the state that commands leave is one of the commands: its version is their number, and its hits are
+/// exactly the lines that the pattern asks for in the `Put`s that no later command names.
+pub fn answers_follow_commands()
+    ensures version { (commands : List CommandValue) (pattern : Pattern) (answer : Answer) →
+        IsAnswerOf (state_of commands) pattern answer → answer.version ≡ length commands }
+    ensures hits { (commands : List CommandValue) (pattern : Pattern) (answer : Answer) (found : Hit) →
+        IsAnswerOf (state_of commands) pattern answer → Contains answer.hits found ↔ IsHitOfPut commands pattern found }
+{}

@@ -1,0 +1,85 @@
+//! What a search takes out of an index, to be matched when the index has been left.
+
+ghost use Rattle.std.specs.Prelude.{IfOk};
+ghost use Rattle.search.specs.Prepared.{pattern_of};
+ghost use Rattle.search.specs.Taken.{IsTakenOf};
+
+use crate::answer::Answer;
+use crate::documents::{TakenDocument, documents_with};
+use crate::lines::scan_documents;
+use crate::names::named;
+use crate::pattern::Prepared;
+use crate::watch::{NoWatch, Watch};
+use index::Index;
+use std::alloc::{AllocError, Global};
+
+/// What a search has taken out of an index: the version, the counts, and the documents whose lines are to be
+/// matched. It keeps nothing of the index itself, which may change or go while the lines are matched. Names and
+/// bodies are shared, so it takes a few words for each document.
+///
+/// `IsTakenOf` says of which state of the index, and for which pattern, it was taken.
+#[derive(Drop)]
+pub struct Taken<'p> {
+    pub(crate) prepared: &'p Prepared,
+    pub(crate) version: u32,
+    pub(crate) documents: u32,
+    pub(crate) candidates: u32,
+    // In the order of their names.
+    pub(crate) wanted: Vec<TakenDocument>,
+}
+
+/// Takes out of the index what a search needs: the documents whose trigrams satisfy the condition of the pattern,
+/// and whose names match the name pattern, where there is one. No line is looked at. An `Err` comes only where
+/// memory ran out.
+pub fn take<'p>(
+    alloc: Global,
+    index: &Index,
+    prepared: &'p Prepared,
+) -> Result<Taken<'p>, AllocError>
+    ensures { IfOk result (IsTakenOf index.now (pattern_of prepared.now)) }
+{
+    let candidates = index.candidates(alloc, &prepared.query)?;
+    let numbers = index.chosen_by_name(alloc, &candidates)?;
+    let kept = named(alloc, index, prepared, numbers)?;
+    let wanted = documents_with(alloc, index, kept.as_slice())?;
+    Ok(Taken {
+        prepared,
+        version: index.version(),
+        documents: index.documents(),
+        candidates: candidates.len() as u32,
+        wanted,
+    })
+}
+
+impl Taken<'_> {
+    ghost use Rattle.std.specs.Prelude.{IfOk};
+    ghost use Rattle.index.specs.State.{State};
+    ghost use Rattle.search.specs.Pattern.{Pattern};
+    ghost use Rattle.search.specs.Scan.{IsAnswerOf};
+    ghost use Rattle.search.specs.Taken.{IsTakenOf};
+
+    /// Matches the lines: the answer is that of the state of the index, and of the pattern, at the taking. An
+    /// `Err` comes only where memory ran out, and what was taken is dropped.
+    pub fn answer(self, alloc: Global) -> Result<Answer, AllocError>
+        ensures { IfOk result (λ answer. (state : State) (pattern : Pattern) → IsTakenOf state pattern self.entry → IsAnswerOf state pattern answer) }
+    {
+        self.answer_watched(alloc, &mut NoWatch)
+    }
+
+    /// The same as `answer`. The watch is told of each document whose lines are matched.
+    pub(crate) fn answer_watched<W: Watch>(
+        self,
+        alloc: Global,
+        watch: &mut W,
+    ) -> Result<Answer, AllocError>
+        ensures { IfOk result (λ answer. (state : State) (pattern : Pattern) → IsTakenOf state pattern self.entry → IsAnswerOf state pattern answer) }
+    {
+        let hits = scan_documents(alloc, &self.prepared.tree, self.wanted.as_slice(), watch)?;
+        Ok(Answer {
+            version: self.version,
+            hits,
+            documents: self.documents,
+            candidates: self.candidates,
+        })
+    }
+}
