@@ -1,0 +1,70 @@
+-- A shelf after some operations.
+use Rattle.std.proofs.Common.{◌≡◌, ℕ, List, [], ◌∷◌, ◌++◌, Option, Some, fold, refl, sym, ap, subst, ◌∙◌, append_assoc}
+use Rattle.left_right.specs.Register.{TurnsAt}
+use Rattle.std.proofs.lemmas.List.{append-nil}
+use Rattle.std.proofs.lemmas.Grind.{fold-append}
+use Rattle.index.specs.declared.command.Command.{Command}
+use Rattle.index.specs.State.{State, applied, state_of}
+use Rattle.index.proofs.StateLemmas.{state_of-push}
+use Rattle.shared.specs.History.{Known}
+use Rattle.shared.specs.declared.shelf.Edit.{Edit}
+use Rattle.shared.specs.declared.shelf.Operation.{Operation}
+use Rattle.shared.specs.declared.shelf.Operation.TheVariants.{Change, Stamp}
+use Rattle.shared.specs.declared.shelf.Shelf.{Shelf}
+use Rattle.shared.specs.Private.Shelf.{command_of, operated, commands_in}
+use Rattle.shared.specs.Private.Rule.{IsExact, IsKept, Meets}
+use Rattle.shared.specs.Private.DeskParts.{accepted_of}
+use Rattle.shared.proofs.Turns.{turns_at}
+
+abbrev after : State → List Command → State
+after s commands = fold (λ (x : State) (c : Command). applied c x) s commands
+
+fold_index : (shelf : Shelf) (operations : List Operation) → (fold operated shelf operations).index ≡ after shelf.index (commands_in operations)
+fold_index shelf [] = refl
+fold_index shelf (Change edit ∷ later) = fold_index (operated shelf (Change edit)) later
+fold_index shelf (Stamp front ∷ later) = fold_index (operated shelf (Stamp front)) later
+
+state_of-more : (commands more : List Command) → state_of (commands ++ more) ≡ after (state_of commands) more
+state_of-more commands [] = ap state_of (append-nil commands)
+state_of-more commands (command ∷ more) =
+    ap state_of (sym (append_assoc commands (command ∷ []) more))
+    ∙ (state_of-more (commands ++ command ∷ []) more ∙ ap (λ s. after s more) (state_of-push commands command))
+
+-- the commands of the operations, and of one more
+pub commands_in-append : (xs ys : List Operation) → commands_in (xs ++ ys) ≡ commands_in xs ++ commands_in ys
+commands_in-append [] ys = refl
+commands_in-append (Change edit ∷ xs) ys = ap (λ c. command_of edit ∷ c) (commands_in-append xs ys)
+commands_in-append (Stamp front ∷ xs) ys = commands_in-append xs ys
+
+pub accepted_of-change : (shown : Shelf) (pending : List Operation) (edit : Edit) → accepted_of shown (pending ++ Change edit ∷ []) ≡ accepted_of shown pending ++ command_of edit ∷ []
+accepted_of-change shown pending edit = ap (λ c. shown.front.commands ++ c) (commands_in-append pending (Change edit ∷ [])) ∙ sym (append_assoc shown.front.commands (commands_in pending) (command_of edit ∷ []))
+
+pub accepted_of-stamp : (shown : Shelf) (pending : List Operation) (front : Known) → accepted_of shown (pending ++ Stamp front ∷ []) ≡ accepted_of shown pending
+accepted_of-stamp shown pending front = ap (λ c. shown.front.commands ++ c) (commands_in-append pending (Stamp front ∷ []) ∙ append-nil (commands_in pending))
+
+-- what is published where the front has all that is accepted
+module _ (shown next : Shelf) (pending : List Operation) (front : Known) (is : next ≡ fold operated shown (pending ++ Stamp front ∷ [])) where
+  stamped : next ≡ operated (fold operated shown pending) (Stamp front)
+  stamped = is ∙ fold-append operated shown pending (Stamp front ∷ [])
+
+  pub next_front : next.front ≡ front
+  next_front = ap (λ s. s.front) stamped
+
+  pub next_exact : front.commands ≡ accepted_of shown pending → IsExact shown → IsExact next
+  next_exact all exact =
+      let index : next.index ≡ after shown.index (commands_in pending) = ap (λ s. s.index) stamped ∙ fold_index shown pending in
+      let state : state_of next.front.commands ≡ after (state_of shown.front.commands) (commands_in pending) = ap (λ f. state_of f.commands) next_front ∙ (ap state_of all ∙ state_of-more shown.front.commands (commands_in pending)) in
+      index ∙ (ap (λ s. after s (commands_in pending)) exact ∙ sym state)
+
+-- a step of no operations
+pub nothing_done : (shown next : Shelf) (pending : List Operation) → pending ≡ [] → next ≡ fold operated shown pending → next ≡ shown
+nothing_done shown next pending none is = is ∙ ap (fold operated shown) none
+
+pub nothing_turns : (seat : ℕ) (met : Option Known) (shown next : Shelf) (pending : List Operation) → pending ≡ [] → next ≡ fold operated shown pending → TurnsAt IsKept seat met shown next Meets
+nothing_turns seat met shown next pending none is =
+    let same = nothing_done shown next pending none is in
+    turns_at seat met shown next (ap (λ s. s.front.opening) same) (subst IsExact (sym same))
+
+-- what the writer has met when nothing is on the shelf
+pub met_front : (met met' : Option Known) (shown next : Shelf) (pending : List Operation) (front : Known) → pending ≡ [] → next ≡ fold operated shown pending → shown.front ≡ front → Meets met shown next met' → met' ≡ Some front
+met_front met met' shown next pending front none is kept meets = meets.met ∙ (ap (λ s. Some s.front) (nothing_done shown next pending none is) ∙ ap Some kept)

@@ -1,0 +1,5 @@
+pub mod Batches
+pub mod Names
+pub mod Shelf
+pub mod Rule
+pub mod DeskParts

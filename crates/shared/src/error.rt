@@ -1,0 +1,106 @@
+//! Why a call is refused.
+
+use index::{Body, Held, Name};
+use std::alloc::{AllocError, AllocFailed};
+
+/// Why there is no opening.
+#[derive(Clone, Copy, Debug, PartialEq, Eq)]
+pub enum OpenError {
+    /// Memory ran out.
+    OutOfMemory,
+    /// A reading got no place.
+    NoPlace,
+}
+
+impl From<AllocError> for OpenError {
+    ghost use Rattle.std.specs.Prelude.{◌≡◌};
+    ghost use Rattle.shared.specs.declared.error.OpenError.TheVariants.{OutOfMemory};
+
+    ghost from_gives = { λ _ e. e ≡ OutOfMemory };
+
+    fn from(_: AllocError) -> OpenError {
+        OpenError::OutOfMemory
+    }
+}
+
+impl<T: Drop> From<AllocFailed<T>> for OpenError {
+    ghost use Rattle.std.specs.Prelude.{◌≡◌};
+    ghost use Rattle.shared.specs.declared.error.OpenError.TheVariants.{OutOfMemory};
+
+    ghost from_gives = { λ _ e. e ≡ OutOfMemory };
+
+    fn from(_: AllocFailed<T>) -> OpenError {
+        OpenError::OutOfMemory
+    }
+}
+
+/// Why a put is refused, in the order in which the causes are looked for.
+#[derive(Clone, Copy, Debug, PartialEq, Eq)]
+pub enum PutErrorKind {
+    /// As many commands are accepted as there may be.
+    Full,
+    /// Memory ran out.
+    OutOfMemory,
+}
+
+/// The body of a put that was refused.
+#[derive(Drop)]
+pub enum Returned {
+    /// As it was handed in.
+    Plain(Body),
+    /// A shared body of the same bytes had been made of it.
+    Shared(Held),
+}
+
+/// A put that was refused, with name and body handed back.
+#[derive(Drop)]
+pub struct PutError {
+    /// Why it was refused.
+    pub kind: PutErrorKind,
+    /// The name that was handed in.
+    pub name: Name,
+    /// The body that was handed in.
+    pub body: Returned,
+}
+
+/// Why a remove is refused, in the order in which the causes are looked for.
+#[derive(Clone, Copy, Debug, PartialEq, Eq)]
+pub enum RemoveError {
+    /// There is no document of this name after all accepted commands.
+    NoSuchFile,
+    /// As many commands are accepted as there may be.
+    Full,
+    /// Memory ran out.
+    OutOfMemory,
+}
+
+impl From<AllocError> for RemoveError {
+    ghost use Rattle.std.specs.Prelude.{◌≡◌};
+    ghost use Rattle.shared.specs.declared.error.RemoveError.TheVariants.{OutOfMemory};
+
+    ghost from_gives = { λ _ e. e ≡ OutOfMemory };
+
+    fn from(_: AllocError) -> RemoveError {
+        RemoveError::OutOfMemory
+    }
+}
+
+/// Why a search is refused.
+#[derive(Clone, Copy, Debug, PartialEq, Eq)]
+pub enum SearchError {
+    /// Memory ran out.
+    OutOfMemory,
+    /// The published documents could not be entered.
+    NoEntry,
+}
+
+impl From<AllocError> for SearchError {
+    ghost use Rattle.std.specs.Prelude.{◌≡◌};
+    ghost use Rattle.shared.specs.declared.error.SearchError.TheVariants.{OutOfMemory};
+
+    ghost from_gives = { λ _ e. e ≡ OutOfMemory };
+
+    fn from(_: AllocError) -> SearchError {
+        SearchError::OutOfMemory
+    }
+}

@@ -1,0 +1,26 @@
+//! One writer and many readings over two copies of an index.
+//!
+//! A `Desk` accepts commands, which nobody sees until it publishes them. A `Reading` searches what is
+//! published, in a thread of its own, and waits for nobody. What a reading has seen only grows: each search
+//! answers from at least all that the reading has met or learnt of.
+#![tactic(auto)]
+
+mod desk;
+mod error;
+mod history;
+mod names;
+mod opening;
+mod reading;
+mod rule;
+mod shelf;
+mod told;
+
+pub use desk::Desk;
+pub use error::{OpenError, PutError, PutErrorKind, RemoveError, Returned, SearchError};
+pub use opening::{MAX_COMMANDS, MAX_READINGS, open};
+pub use reading::Reading;
+pub use search::{
+    Answer, Body, BodyError, BodyErrorKind, EreError, EreErrorKind, Held, Hit, Name, NameError,
+    Prepared, Taken, WithinError,
+};
+pub use told::Told;

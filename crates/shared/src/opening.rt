@@ -1,0 +1,96 @@
+//! Openings.
+
+ghost use Rattle.std.specs.Prelude.{◌≡◌, ℕ, List, ◌<◌, ◌≤◌, [], Some, All, IfOk, length, drop};
+ghost use Rattle.left_right.specs.Sides.{view};
+ghost use Rattle.shared.specs.History.{known};
+ghost use Rattle.shared.specs.Private.Batches.{head_of};
+ghost use Rattle.shared.specs.Desk.{desk_state};
+
+use crate::desk::Desk;
+use crate::error::OpenError;
+use crate::history::{Front, Head};
+use crate::names::Names;
+use crate::reading::Reading;
+use crate::rule::{Meet, ShelfWriter};
+use crate::shelf::Shelf;
+use index::Index;
+use std::alloc::{AllocError, Global};
+use std::sync::Wait;
+
+/// The greatest number of commands that a desk can be opened for.
+pub const MAX_COMMANDS: u32 = 1000000;
+
+/// The greatest number of readings that can be opened.
+pub const MAX_READINGS: usize = 17;
+
+/// Opens a desk for at most so many commands, and so many readings. Nothing is accepted or published, and no
+/// reading has seen anything. The desk and the readings belong to one opening. It waits for nobody where it
+/// succeeds.
+pub fn open<R: Wait>(
+    rt: &R,
+    alloc: Global,
+    max_commands: u32,
+    readers: usize,
+) -> Result<(Desk, Vec<Reading>), OpenError>
+    requires commands { (0 < max_commands) × (max_commands ≤ 1000000) }
+    requires readers { (0 < readers) × (readers ≤ 17) }
+    ensures desk { IfOk result (λ opened. opened.0 ≡ desk_state opened.0.opening max_commands [] []) }
+    ensures count { IfOk result (λ opened. length opened.1.items ≡ readers) }
+    ensures readings { IfOk result (λ opened. All (λ reading. reading ≡ known opened.0.opening []) opened.1.items) }
+{
+    let (head, front) = Front::open();
+    let writer = shelves(alloc, &front, readers)?;
+    let (mut writer, met) = writer.publish_as::<Meet, R>(rt);
+    let readings = match met {
+        Ok(()) => readings(alloc, &mut writer, &front, readers),
+        Err(error) => Err(OpenError::from(error)),
+    };
+    match readings {
+        Ok(readings) => {
+            let desk = Desk::over(writer, head, front, Names::new(alloc), max_commands);
+            Ok((desk, readings))
+        }
+        Err(error) => {
+            writer.take(rt);
+            Err(error)
+        }
+    }
+}
+
+// Two copies of an index with no commands.
+fn shelves(alloc: Global, front: &Front, readers: usize) -> Result<ShelfWriter, AllocError>
+    requires front { front.now.commands ≡ [] }
+    requires readers { (0 < readers) × (readers ≤ 17) }
+    ensures front { IfOk result (λ writer. writer.desk.shown.value.front ≡ front.now) }
+    ensures empty { IfOk result (λ writer. drop writer.behind writer.log.items ≡ []) }
+{
+    let first = Shelf {
+        index: Index::new(alloc),
+        front: front.again(),
+    };
+    let second = Shelf {
+        index: Index::new(alloc),
+        front: front.again(),
+    };
+    ShelfWriter::new(alloc, first, second, readers)
+}
+
+// So many readings that have seen as much as the writer has met.
+fn readings(
+    alloc: Global,
+    writer: &mut ShelfWriter,
+    front: &Front,
+    readers: usize,
+) -> Result<Vec<Reading>, OpenError>
+    requires { view writer.old.desk.place ≡ Some front.now }
+    ensures count { IfOk result (λ readings. length readings.items ≡ readers) }
+    ensures readings { IfOk result (λ readings. All (λ reading. reading ≡ front.now) readings.items) }
+    ensures shown { writer.new.desk.shown ≡ writer.old.desk.shown }
+    ensures log { (writer.new.log ≡ writer.old.log) × (writer.new.behind ≡ writer.old.behind) }
+{
+    let mut readings = Vec::new(alloc);
+    for _ in 0..readers {
+        readings.push(Reading::of(writer, front)?)?;
+    }
+    Ok(readings)
+}

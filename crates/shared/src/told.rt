@@ -1,0 +1,31 @@
+//! What a publish tells.
+
+ghost use Rattle.std.specs.Prelude.{◌≡◌, length};
+
+use crate::history::Front;
+use std::marker::Model;
+
+/// What was published at some time. It can be lent to many readings at once.
+///
+/// Contracts see it as the opening and the commands that were published.
+#[derive(Drop)]
+pub struct Told {
+    pub(crate) front: Front,
+}
+
+impl Model for Told {
+    ghost use Rattle.shared.specs.History.{Known};
+
+    ghost Value = { Known };
+
+    ghost view = { λ t. t.front };
+}
+
+impl Told {
+    /// The number of commands that were published.
+    pub fn version(&self) -> u32
+        ensures { result ≡ length self.now.commands }
+    {
+        self.front.version()
+    }
+}

@@ -1,0 +1,13 @@
+//! Tests of the desk and its readings, by call, on one thread and on several.
+//!
+//! They are in a crate of their own, since a crate that has tests is proved twice, with them and without.
+#![tactic(auto)]
+
+#[cfg(test)]
+mod calls;
+#[cfg(test)]
+mod fixtures;
+#[cfg(test)]
+mod service;
+#[cfg(test)]
+mod torn;
