@@ -99,6 +99,11 @@ fn advance_exactly<S: PositionSet>(body: &Ere, count: u8, line: &[u8], at: &mut 
     requires { length line.now ≤ S.longest }
     ensures { Moves (Steps (Spans line.now (form body.now)) count) (S.words at.old) (S.words at.new) }
 {
+    // With words that can be empty, fewer are as good.
+    if can_be_empty(body) {
+        advance_at_most(body, count, line, at);
+        return;
+    }
     for _word in 0..count {
         if at.is_empty() {
             return;

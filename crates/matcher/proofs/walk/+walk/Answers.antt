@@ -59,6 +59,9 @@ advance_each-loop-member-preserved g t c = λ to h. c.loop-member.invariant to (
 pub advance_each-returns : goal.advance_each-returns
 advance_each-returns g t c = c.loop-member.invariant (g.S.PositionSet.words c.loop-member.at) (walks.moves_no_members c.args.line.now c.args.members.now c.loop-member.member-index (g.S.PositionSet.words c.loop-member.at) c.loop-member-test.false)
 
+pub advance_exactly-returns-then-can_be_empty : goal.advance_exactly-returns-then-can_be_empty
+advance_exactly-returns-then-can_be_empty g t c = walks.moves_exactly (Spans c.args.line.now (form c.args.body.now)) c.args.count (g.S.PositionSet.words c.args.at.now) (g.S.PositionSet.words c.advance_at_most.new.at) (c.if-can_be_empty.ensures refl c.args.line.now) c.advance_at_most.ensures
+
 pub advance_exactly-loop-word-init : goal.advance_exactly-loop-word-init
 advance_exactly-loop-word-init g t c = walks.moves_zero_steps (Spans c.args.line.now (form c.args.body.now)) (g.S.PositionSet.words c.args.at.now)
 
