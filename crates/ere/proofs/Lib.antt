@@ -1,6 +1,8 @@
 pub mod Forms
 pub mod Words
 mod SetLemmas
+pub mod Bits
+pub mod SetWords
 mod Texts
 mod BracketLemmas
 mod BracketSteps

@@ -2,9 +2,9 @@
 use Rattle.std.proofs.Common.{◌≡◌, ℕ, zero, suc, ◌+◌, ◌≤◌, ◌<◌, Bool, true, false, not, ◌&&◌, ◌||◌, ◌==◌, nat_lt, IsTrue, List, length, get_or, refl, sym, ap, ◌∙◌, arith}
 use Rattle.std.proofs.lemmas.Bool.Decides.{nat_tests}
 use Rattle.ere.specs.ByteSet.{has}
-use Rattle.matcher.specs.PositionSets.{has_bit}
+use Rattle.ere.specs.Bits.{has_bit}
 use Rattle.matcher.specs.Private.Moving.{passes, IsPassing}
-use Rattle.matcher.proofs.Bits.{has_zero}
+use Rattle.ere.proofs.Bits.{has_zero}
 
 pub passes_is : (members : List Bool) (line : List ℕ) (at : ℕ) → at < length line → passes members line at ≡ has members (get_or line at 0)
 passes_is members line at inside = let test : nat_lt at (length line) ≡ true = grind (arith, nat_tests) in rw test refl

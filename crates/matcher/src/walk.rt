@@ -214,9 +214,9 @@ fn some_past<S: PositionSet>(members: &[Ere], line: &[u8], at: &mut S, done: &S)
 {
     let mut found = S::none();
     let mut one = S::none();
-    for i in (0..members.len()).rev() {
+    for place in (0..members.len()).rev() {
         one.copy(at);
-        advance_past(&members[i], line, &mut one, done);
+        advance_past(&members[place], line, &mut one, done);
         found.add(&mut one);
     }
     at.copy(&found);

@@ -2,7 +2,8 @@
 
 ghost use Rattle.std.specs.Prelude.{◌≡◌, ℕ, ◌+◌, ◌-◌, ◌≤◌, ◌<◌, ◌↔◌, ◌&&◌, ◌||◌, ◌==◌, nat_le, nat_lt, false, not, IsTrue, length, slice_index};
 ghost use Rattle.ere.specs.ByteSet.{has};
-ghost use Rattle.matcher.specs.PositionSets.{has_bit, has_position};
+ghost use Rattle.ere.specs.Bits.{has_bit};
+ghost use Rattle.matcher.specs.PositionSets.{has_position};
 ghost use Rattle.matcher.specs.Private.Bounds.{IsBounded};
 ghost use Rattle.matcher.specs.Private.Moving.{passes, arrives, flood, IsPassing};
 

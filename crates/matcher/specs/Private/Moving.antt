@@ -1,7 +1,8 @@
 -- Where bytes of a set lead.
 use Rattle.std.specs.Prelude.{◌≡◌, ◌+◌, ◌<◌, ℕ, zero, suc, Bool, false, ◌&&◌, ◌||◌, List, length, nat_lt, slice_index}
 use Rattle.ere.specs.ByteSet.{has}
-use Rattle.matcher.specs.PositionSets.{has_bit, has_position}
+use Rattle.ere.specs.Bits.{has_bit}
+use Rattle.matcher.specs.PositionSets.{has_position}
 
 -- whether a byte of the set stands after the position
 abbrev pub passes : List Bool → List ℕ → ℕ → Bool

@@ -140,12 +140,12 @@ more_past-loop-grown-preserved g t c = rw c.copy-in-loop-grown.ensures (rounds.r
 pub more_past-returns : goal.more_past-returns
 more_past-returns g t c = rw c.copy-3.ensures (rounds.rounded_all (Spans c.args.line.now (form c.args.body.now)) (g.S.PositionSet.words c.args.done.now) (g.S.PositionSet.words c.args.at.now) (g.S.PositionSet.words c.add-in-loop-grown.new.self) (g.S.PositionSet.words c.loop-grown.known) (g.S.PositionSet.words c.add-grown.new.self) (g.S.PositionSet.words c.add-grown.new.fresh) (rounds.rounded_more (Spans c.args.line.now (form c.args.body.now)) (g.S.PositionSet.words c.args.done.now) (g.S.PositionSet.words c.args.at.now) (g.S.PositionSet.words c.loop-grown.found) (g.S.PositionSet.words c.loop-grown.over) (g.S.PositionSet.words c.loop-grown.known) (g.S.PositionSet.words c.loop-grown.at) (g.S.PositionSet.words c.advance_past.new.at) (g.S.PositionSet.words c.add-in-loop-grown.new.self) (g.S.PositionSet.words c.add-in-loop-grown.new.fresh) (g.S.PositionSet.words c.add-grown.new.self) (g.S.PositionSet.words c.add-grown.new.fresh) c.loop-grown.invariant c.advance_past.ensures c.add-in-loop-grown.ensures.both c.add-in-loop-grown.ensures.new c.add-grown.ensures.both c.add-grown.ensures.new) (rw c.if-not-grown.true at c.add-grown.ensures.grown))
 
-pub some_past-loop-i-init : goal.some_past-loop-i-init
-some_past-loop-i-init g t c = rounds.past_of_moves _ (g.S.PositionSet.words c.args.done.now) (g.S.PositionSet.words c.args.at.now) (g.S.PositionSet.words c.none-found.result) (walks.moves_by_no_member c.args.line.now c.args.members.now (length c.args.members.now) (g.S.PositionSet.words c.args.at.now) (g.S.PositionSet.words c.none-found.result) (omega arith) c.none-found.ensures)
+pub some_past-loop-place-init : goal.some_past-loop-place-init
+some_past-loop-place-init g t c = rounds.past_of_moves _ (g.S.PositionSet.words c.args.done.now) (g.S.PositionSet.words c.args.at.now) (g.S.PositionSet.words c.none-found.result) (walks.moves_by_no_member c.args.line.now c.args.members.now (length c.args.members.now) (g.S.PositionSet.words c.args.at.now) (g.S.PositionSet.words c.none-found.result) (omega arith) c.none-found.ensures)
 
-pub some_past-loop-i-preserved : goal.some_past-loop-i-preserved
-some_past-loop-i-preserved g t c =
-    let next : c.loop-i.i ≡ (c.loop-i.i - 1) + 1 = omega arith in
-    let rest : MovesPast (SpansSome c.args.line.now (trees_of (map form (drop ((c.loop-i.i - 1) + 1) c.args.members.now)))) (g.S.PositionSet.words c.args.done.now) (g.S.PositionSet.words c.args.at.now) (g.S.PositionSet.words c.loop-i.found) = subst (λ i. MovesPast (SpansSome c.args.line.now (trees_of (map form (drop i c.args.members.now)))) (g.S.PositionSet.words c.args.done.now) (g.S.PositionSet.words c.args.at.now) (g.S.PositionSet.words c.loop-i.found)) next c.loop-i.invariant in
-    let one : MovesPast (Spans c.args.line.now (form c.index-members-i.result)) (g.S.PositionSet.words c.args.done.now) (g.S.PositionSet.words c.args.at.now) (g.S.PositionSet.words c.advance_past.new.at) = rw c.copy.ensures at c.advance_past.ensures in
-    rounds.past_by_member c.args.line.now c.args.members.now (c.loop-i.i - 1) c.index-members-i.result (g.S.PositionSet.words c.args.done.now) (g.S.PositionSet.words c.args.at.now) (g.S.PositionSet.words c.advance_past.new.at) (g.S.PositionSet.words c.loop-i.found) (g.S.PositionSet.words c.add.new.self) (omega arith) c.index-members-i.is one rest c.add.ensures.both
+pub some_past-loop-place-preserved : goal.some_past-loop-place-preserved
+some_past-loop-place-preserved g t c =
+    let next : c.loop-place.place ≡ (c.loop-place.place - 1) + 1 = omega arith in
+    let rest : MovesPast (SpansSome c.args.line.now (trees_of (map form (drop ((c.loop-place.place - 1) + 1) c.args.members.now)))) (g.S.PositionSet.words c.args.done.now) (g.S.PositionSet.words c.args.at.now) (g.S.PositionSet.words c.loop-place.found) = subst (λ i. MovesPast (SpansSome c.args.line.now (trees_of (map form (drop i c.args.members.now)))) (g.S.PositionSet.words c.args.done.now) (g.S.PositionSet.words c.args.at.now) (g.S.PositionSet.words c.loop-place.found)) next c.loop-place.placenvariant in
+    let one : MovesPast (Spans c.args.line.now (form c.index-members-place.result)) (g.S.PositionSet.words c.args.done.now) (g.S.PositionSet.words c.args.at.now) (g.S.PositionSet.words c.advance_past.new.at) = rw c.copy.ensures at c.advance_past.ensures in
+    rounds.past_by_member c.args.line.now c.args.members.now (c.loop-place.place - 1) c.index-members-place.result (g.S.PositionSet.words c.args.done.now) (g.S.PositionSet.words c.args.at.now) (g.S.PositionSet.words c.advance_past.new.at) (g.S.PositionSet.words c.loop-place.found) (g.S.PositionSet.words c.add.new.self) (omega arith) c.index-members-place.is one rest c.add.ensures.both
