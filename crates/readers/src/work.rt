@@ -45,6 +45,7 @@ pub fn work<R: Wait, G: Gate>(
 impl Report {
     ghost use Rattle.shared.specs.History.{Known};
     ghost use Rattle.readers.specs.Report.{IsReport};
+    ghost use Rattle.readers.specs.Private.Giving.{Gives};
 
     // Answers one more search. What is refused gives nothing.
     fn add<G: Gate>(&mut self, alloc: Global, searches: &[Option<Prepared>], gate: &G, search: u32)
@@ -62,7 +63,9 @@ impl Report {
     }
 
     // Adds an answer, where there is memory and a number for its turn.
-    fn give(&mut self, search: u32, answer: Answer) {
+    fn give(&mut self, search: u32, answer: Answer)
+        ensures { Gives search answer self.old self.new }
+    {
         let Some(turn) = self.turns.checked_add(1) else {
             return;
         };

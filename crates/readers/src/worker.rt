@@ -7,7 +7,7 @@ ghost use Rattle.readers.specs.Report.{IsReport};
 use crate::gate::Gate;
 use crate::report::Report;
 use crate::work::work;
-use crossbeam_channel::{Receiver, Sender, unbounded};
+use crossbeam_channel::{Sender, unbounded};
 use search::Prepared;
 use shared::Reading;
 use std::alloc::Global;
@@ -44,6 +44,11 @@ impl<'a> Model for Worker<'a> {
 
     ghost Value = { Task };
 
+    ghost use Rattle.std.specs.Coded.{codes};
+    ghost use Rattle.search.specs.contracts.pattern.Prepared as prepared;
+
+    ghost coded = { Prim.hlevel (codes, prepared.the_row.coded) };
+
     ghost view = { λ worker. task worker.thread.promise.searches.now worker.thread.promise.before.value };
 }
 
@@ -60,6 +65,8 @@ impl<'a> Worker<'a> {
         reading: Reading,
         turns: u32,
     ) -> Result<Worker<'a>, Report>
+    where
+        'a: 's,
         ensures started { IfOk result (λ worker. worker ≡ task searches.now reading) }
         ensures refused { IfErr result (IsReport searches.now reading) }
     {
@@ -94,7 +101,7 @@ impl<'a> Worker<'a> {
 
     /// Waits until the thread has gone through all numbers that it was sent, and gives its report.
     pub fn join<R: Threads>(self, rt: &R) -> Report
-        ensures { IsReport self.searches self.before result }
+        ensures { IsReport self.entry.searches self.entry.before result }
     {
         let Worker { numbers, thread } = self;
         drop(numbers);
