@@ -61,8 +61,18 @@ fn both_answer<R: Threads + Wait + Abort + Sync>(
     let reports = two_reports(rt, alloc, &searches, &gate, one, two);
     let (one, two) = reports.ok_or("both report")?;
     assert!(rt; !gate.second_done.is_given_up());
-    assert!(rt; one.given.iter().map(|given| shown(given)).eq([(1, 1, 1, 1)]));
-    assert!(rt; two.given.iter().map(|given| shown(given)).eq([(2, 1, 1, 1)]));
+    assert!(rt;
+        one.given
+            .iter()
+            .map(|given| shown(given))
+            .eq([(1, 1, 1, 1)])
+    );
+    assert!(rt;
+        two.given
+            .iter()
+            .map(|given| shown(given))
+            .eq([(2, 1, 1, 1)])
+    );
     Ok(())
 }
 
@@ -109,12 +119,24 @@ fn answers_twice<R: Threads + Wait + Abort + Sync>(
     publish(rt, alloc, desk, b"f", b"ab\nb\n")?;
     let searches = [search(alloc, b"a")?, None, search(alloc, b"b")?];
     let first = report(rt, alloc, &searches, &Open, (reading, 0), &[0, 3, 2, 4]).ok_or("one")?;
-    assert!(rt; first.given.iter().map(|given| shown(given)).eq([(3, 1, 1, 2)]));
+    assert!(rt;
+        first
+            .given
+            .iter()
+            .map(|given| shown(given))
+            .eq([(3, 1, 1, 2)])
+    );
     assert_eq!(rt; first.turns, 1);
     publish(rt, alloc, desk, b"g", b"ab")?;
     let from = (first.reading, first.turns);
     let second = report(rt, alloc, &searches, &Open, from, &[1, u32::MAX, 3]).ok_or("two")?;
-    assert!(rt; second.given.iter().map(|given| shown(given)).eq([(1, 2, 2, 2), (3, 3, 2, 3)]));
+    assert!(rt;
+        second
+            .given
+            .iter()
+            .map(|given| shown(given))
+            .eq([(1, 2, 2, 2), (3, 3, 2, 3)])
+    );
     assert_eq!(rt; (second.turns, second.reading.seen()), (3, 2));
     Ok(())
 }

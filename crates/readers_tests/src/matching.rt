@@ -39,7 +39,13 @@ fn answers_from_what_it_took<R: Threads + Wait + Abort + Sync>(
     let gate = HeldMatching::new();
     let report = report_beside(rt, alloc, desk, reading, &searches, &gate)?;
     assert!(rt; !gate.matching.is_given_up() && !gate.released.is_given_up());
-    assert!(rt; report.given.iter().map(|given| shown(given)).eq([(1, 1, 1, 1)]));
+    assert!(rt;
+        report
+            .given
+            .iter()
+            .map(|given| shown(given))
+            .eq([(1, 1, 1, 1)])
+    );
     Ok(())
 }
 
@@ -61,7 +67,11 @@ fn report_beside<R: Threads + Wait + Sync>(
         gate.released.raise();
         let report = worker.join(rt);
         published?;
-        if sent { Ok(report) } else { Err(Fail::from("the number is sent")) }
+        if sent {
+            Ok(report)
+        } else {
+            Err(Fail::from("the number is sent"))
+        }
     })
 }
 
