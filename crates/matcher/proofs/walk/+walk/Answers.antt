@@ -146,6 +146,6 @@ some_past-loop-place-init g t c = rounds.past_of_moves _ (g.S.PositionSet.words 
 pub some_past-loop-place-preserved : goal.some_past-loop-place-preserved
 some_past-loop-place-preserved g t c =
     let next : c.loop-place.place ≡ (c.loop-place.place - 1) + 1 = omega arith in
-    let rest : MovesPast (SpansSome c.args.line.now (trees_of (map form (drop ((c.loop-place.place - 1) + 1) c.args.members.now)))) (g.S.PositionSet.words c.args.done.now) (g.S.PositionSet.words c.args.at.now) (g.S.PositionSet.words c.loop-place.found) = subst (λ i. MovesPast (SpansSome c.args.line.now (trees_of (map form (drop i c.args.members.now)))) (g.S.PositionSet.words c.args.done.now) (g.S.PositionSet.words c.args.at.now) (g.S.PositionSet.words c.loop-place.found)) next c.loop-place.placenvariant in
+    let rest : MovesPast (SpansSome c.args.line.now (trees_of (map form (drop ((c.loop-place.place - 1) + 1) c.args.members.now)))) (g.S.PositionSet.words c.args.done.now) (g.S.PositionSet.words c.args.at.now) (g.S.PositionSet.words c.loop-place.found) = subst (λ i. MovesPast (SpansSome c.args.line.now (trees_of (map form (drop i c.args.members.now)))) (g.S.PositionSet.words c.args.done.now) (g.S.PositionSet.words c.args.at.now) (g.S.PositionSet.words c.loop-place.found)) next c.loop-place.invariant in
     let one : MovesPast (Spans c.args.line.now (form c.index-members-place.result)) (g.S.PositionSet.words c.args.done.now) (g.S.PositionSet.words c.args.at.now) (g.S.PositionSet.words c.advance_past.new.at) = rw c.copy.ensures at c.advance_past.ensures in
     rounds.past_by_member c.args.line.now c.args.members.now (c.loop-place.place - 1) c.index-members-place.result (g.S.PositionSet.words c.args.done.now) (g.S.PositionSet.words c.args.at.now) (g.S.PositionSet.words c.advance_past.new.at) (g.S.PositionSet.words c.loop-place.found) (g.S.PositionSet.words c.add.new.self) (omega arith) c.index-members-place.is one rest c.add.ensures.both
