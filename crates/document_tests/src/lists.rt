@@ -64,6 +64,42 @@ fn sets_keep_their_numbers_rising(rt: HostRuntime) -> Result<(), Fail> {
     Ok(())
 }
 
+#[test]
+fn sets_are_stored_as_gaps(rt: HostRuntime) -> Result<(), Fail> {
+    let alloc = rt.alloc();
+    let rows: [([&[u32]; 3], &[u8]); 5] = [
+        ([&[], &[], &[]], &[]),
+        (
+            [&[5, 300, 70000], &[], &[]],
+            &[0x05, 0xa7, 0x02, 0xc4, 0xa0, 0x04],
+        ),
+        ([&[5, 300, 70000], &[300], &[]], &[0x05, 0xeb, 0xa2, 0x04]),
+        ([&[0, 1, 128], &[], &[]], &[0x00, 0x01, 0x7f]),
+        ([&[4294967295], &[], &[]], &[0xff, 0xff, 0xff, 0xff, 0x0f]),
+    ];
+    for (steps, want) in rows {
+        let set = set_of(alloc, &steps)?;
+        assert!(rt; set.stored() == want, "of {steps:?}");
+    }
+    Ok(())
+}
+
+#[test]
+fn numbers_are_looked_up(rt: HostRuntime) -> Result<(), Fail> {
+    let alloc = rt.alloc();
+    let lookup = set_of(alloc, &[&FAR, &[300], &[]])?.lookup(alloc)?;
+    for (number, there) in [
+        (0, false),
+        (1, true),
+        (300, false),
+        (70000, true),
+        (4294967295, true),
+    ] {
+        assert!(rt; lookup.has(number) == there, "of {number}");
+    }
+    Ok(())
+}
+
 /// The set of a text: each small letter puts its number in, and a capital takes the small letter's number out.
 fn set_of_text(alloc: Global, text: &[u8]) -> Result<List, AllocError> {
     let mut set = List::new(alloc);
