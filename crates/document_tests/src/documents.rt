@@ -85,24 +85,25 @@ fn is_shared(body: Body, bytes: &[u8]) -> Result<bool, Fail> {
     Ok(is_same && held.body().as_bytes() == bytes && shared.body().as_bytes() == bytes)
 }
 
+const BODIES: &[(&[(&[u8], usize)], Option<BodyErrorKind>)] = &[
+    (&[], None),
+    (&[(b"a", 4096)], None),
+    (&[(b"a", 4096), (b"\n", 1), (b"b", 4096)], None),
+    (&[(b"a\n", 262_144)], None),
+    (&[(b"sixteen bytes..\n", 65_536)], None),
+    (&[(b"\n", 1_048_576)], None),
+    (&[(b"\n", 1_048_577)], Some(BodyErrorKind::TooLong)),
+    (&[(b"a", 4097)], Some(BodyErrorKind::LineTooLong)),
+    (&[(b"a\0b", 1)], Some(BodyErrorKind::NotText)),
+    // the faults in their order
+    (&[(b"a", 4097), (b"\0", 1)], Some(BodyErrorKind::NotText)),
+    (&[(b"\0", 1_048_577)], Some(BodyErrorKind::TooLong)),
+];
+
 #[test]
 fn bodies(rt: HostRuntime) -> Result<(), Fail> {
-    let rows: [(&[(&[u8], usize)], Option<BodyErrorKind>); 11] = [
-        (&[], None),
-        (&[(b"a", 4096)], None),
-        (&[(b"a", 4096), (b"\n", 1), (b"b", 4096)], None),
-        (&[(b"a\n", 262_144)], None),
-        (&[(b"sixteen bytes..\n", 65_536)], None),
-        (&[(b"\n", 1_048_576)], None),
-        (&[(b"\n", 1_048_577)], Some(BodyErrorKind::TooLong)),
-        (&[(b"a", 4097)], Some(BodyErrorKind::LineTooLong)),
-        (&[(b"a\0b", 1)], Some(BodyErrorKind::NotText)),
-        // the faults in their order
-        (&[(b"a", 4097), (b"\0", 1)], Some(BodyErrorKind::NotText)),
-        (&[(b"\0", 1_048_577)], Some(BodyErrorKind::TooLong)),
-    ];
-    for row in &rows {
-        assert!(rt; is_made(rt.alloc(), row.0, row.1)?, "of {row:?}");
+    for row in BODIES {
+        assert!(rt; is_made(rt.alloc(), row.0, row.1)?, "of {:?}", row.0);
     }
     Ok(())
 }
@@ -337,29 +338,18 @@ fn text_at(index: &Index, number: u32) -> Option<&[u8]> {
 }
 
 /// Commands, the numbers of their live documents, each of which has the trigram abc, and of those with bcd.
+const LIVE: &[(&[u8], &[u32], &[u32])] = &[
+    (b"", &[], &[]),
+    (b"f abc|g abcd", &[1, 2], &[2]),
+    (b"f abc|g abcd|g abc", &[1, 3], &[]),
+    (b"f abc|g abcd|g abc|-f", &[3], &[]),
+];
+
 #[test]
 fn live_numbers_and_candidates(rt: HostRuntime) -> Result<(), Fail> {
-    let alloc = rt.alloc();
-    for (commands, live, with_bcd) in [
-        (b"".as_slice(), [].as_slice(), [].as_slice()),
-        (
-            b"f abc|g abcd".as_slice(),
-            [1, 2].as_slice(),
-            [2].as_slice(),
-        ),
-        (
-            b"f abc|g abcd|g abc".as_slice(),
-            [1, 3].as_slice(),
-            [].as_slice(),
-        ),
-        (
-            b"f abc|g abcd|g abc|-f".as_slice(),
-            [3].as_slice(),
-            [].as_slice(),
-        ),
-    ] {
-        let are = are_numbers(&rt, alloc, commands, live, with_bcd)?;
-        assert!(rt; are, "of {commands:?}");
+    for row in LIVE {
+        let are = are_numbers(&rt, rt.alloc(), row.0, row.1, row.2)?;
+        assert!(rt; are, "of {:?}", row.0);
     }
     Ok(())
 }
