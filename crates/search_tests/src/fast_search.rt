@@ -385,23 +385,24 @@ fn megabyte(alloc: Global) -> Result<Vec<u8>, Fail> {
 }
 
 /// One of the patterns is too large to be compiled.
+const PATTERNS_OF_THE_LAST_LINE: &[&[u8]] = &[
+    b"ac",
+    b"c$",
+    b"^a+c",
+    b"[ab]{255}[ab]{255}[ab]{118}c",
+];
+
 #[test]
 fn a_megabyte_with_few_hits(rt: HostRuntime) -> Result<(), Fail> {
     let body = megabyte(rt.alloc())?;
     assert_eq!(rt; body.len(), 1_048_576);
+    let index = index_with(&rt, rt.alloc(), &body)?;
+    assert!(rt; are_hits(rt.alloc(), &index, b"^hay$", b"f:1:hay\n")?);
     let last = built(rt.alloc(), &[(b"f:174659:", 1), (b"a", 629), (b"c\n", 1)])?;
-    let rows: [[&[u8]; 2]; 5] = [
-        [b"^hay$", b"f:1:hay\n"],
-        [b"ac", &last],
-        [b"c$", &last],
-        [b"^a+c", &last],
-        [b"[ab]{255}[ab]{255}[ab]{118}c", &last],
-    ];
-    for row in &rows {
+    for pattern in PATTERNS_OF_THE_LAST_LINE {
         assert!(rt;
-            finds(&rt, rt.alloc(), &[&body, row[0], row[1]])?,
-            "{:?}",
-            row[0]
+            are_hits(rt.alloc(), &index, pattern, &last)?,
+            "{pattern:?}"
         );
     }
     Ok(())
