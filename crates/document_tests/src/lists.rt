@@ -148,19 +148,34 @@ fn sets_join_and_meet(rt: HostRuntime) -> Result<(), Fail> {
     Ok(())
 }
 
+fn numbers_below_300(alloc: Global) -> Result<Vec<u32>, AllocError> {
+    let mut numbers = Vec::new(alloc);
+    for number in 0..300 {
+        numbers.push(number)?;
+    }
+    Ok(numbers)
+}
+
+/// Takes the number out of the set and of the numbers in it, and tells whether the others stay.
+fn goes(
+    alloc: Global,
+    set: &mut List,
+    held: &mut Vec<u32>,
+    number: u32,
+) -> Result<bool, AllocError> {
+    set.remove(number);
+    held.retain(|other| *other != number);
+    lists(alloc, set, held)
+}
+
 /// Takes the numbers below 300 out of a set, in the order of the multiples of a factor, from a first one on,
 /// and tells whether the others always stayed.
 fn go_in_order(alloc: Global, factor: u32, first: u32) -> Result<bool, AllocError> {
-    let mut left = Vec::new(alloc);
-    for number in 0..300 {
-        left.push(number)?;
-    }
-    let mut set = set_of(alloc, &[&left, &[], &[]])?;
+    let mut held = numbers_below_300(alloc)?;
+    let mut set = set_of(alloc, &[&held, &[], &[]])?;
     for i in 0..300u32 {
         let number = factor.wrapping_mul(i).wrapping_add(first) % 300;
-        set.remove(number);
-        left.retain(|held| *held != number);
-        if !lists(alloc, &set, &left)? {
+        if !goes(alloc, &mut set, &mut held, number)? {
             return Ok(false);
         }
     }

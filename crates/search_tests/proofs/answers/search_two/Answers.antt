@@ -5,7 +5,7 @@ use Rattle.index.specs.State.{state_of, applied}
 use Rattle.index.proofs.StateLemmas.{state_of-push}
 use Rattle.search.specs.Scan.{IsAnswerOf}
 use Rattle.search.specs.Prepared.{pattern_of}
-use Rattle.document_tests.proofs.answers.search_two.Goals as goal
+use Rattle.search_tests.proofs.answers.search_two.Goals as goal
 
 pub returns : goal.returns
 returns c =

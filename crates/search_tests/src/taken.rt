@@ -8,7 +8,7 @@ ghost use Rattle.search.specs.Scan.{IsAnswerOf};
 
 use crate::fixtures::{document, index_of, put};
 use index::{Body, Command, Index, Name};
-use search::{Answer, Prepared, find, take};
+use search::{Answer, Prepared, Taken, find, take};
 use std::alloc::Global;
 use std::process::Abort;
 use std::test::Fail;
@@ -52,23 +52,36 @@ fn text_of(alloc: Global, answer: &Answer) -> Result<Vec<u8>, Fail> {
     Ok(text)
 }
 
+/// Whether the index has this answer to the search. The index is dropped.
+fn finds(alloc: Global, index: Index, prepared: &Prepared, want: &[u8]) -> Result<bool, Fail> {
+    let answer = find(alloc, &index, prepared)?;
+    Ok(text_of(alloc, &answer)?.as_slice() == want)
+}
+
+/// A search of four documents, and their index, which has changed since.
+fn taken_before<'p>(
+    rt: &impl Abort,
+    alloc: Global,
+    prepared: &'p Prepared,
+) -> Result<(Taken<'p>, Index), Fail> {
+    let mut index = index_of(rt, alloc, b"b x1|a x2|c x3|a2 y")?;
+    let taken = take(alloc, &index, prepared)?;
+    put(rt, alloc, &mut index, b"a", b"x4")?;
+    remove(rt, alloc, &mut index, b"b")?;
+    Ok((taken, index))
+}
+
 /// The answer is that of the documents at the taking, whatever becomes of the index behind it.
 #[test]
 fn an_answer_is_of_the_taking(rt: HostRuntime) -> Result<(), Fail> {
-    let alloc = rt.alloc();
-    let prepared = Prepared::within(alloc, b"^[ab]", b"x")?;
-    let mut index = index_of(&rt, alloc, b"b x1|a x2|c x3|a2 y")?;
-    let taken = take(alloc, &index, &prepared)?;
+    let prepared = Prepared::within(rt.alloc(), b"^[ab]", b"x")?;
+    let (taken, index) = taken_before(&rt, rt.alloc(), &prepared)?;
     can_go(&taken);
-    put(&rt, alloc, &mut index, b"a", b"x4")?;
-    remove(&rt, alloc, &mut index, b"b")?;
-    let later = find(alloc, &index, &prepared)?;
-    drop(index);
-    let answer = taken.answer(alloc)?;
+    let later = b"search 1 version 6 lines 1 candidates 3 of 3\na:1:x4\n";
+    assert!(rt; finds(rt.alloc(), index, &prepared, later)?);
+    let text = text_of(rt.alloc(), &taken.answer(rt.alloc())?)?;
     let want = b"search 1 version 4 lines 2 candidates 4 of 4\na:1:x2\nb:1:x1\n";
-    assert_eq!(rt; text_of(alloc, &answer)?.as_slice(), want.as_slice());
-    let want = b"search 1 version 6 lines 1 candidates 3 of 3\na:1:x4\n";
-    assert_eq!(rt; text_of(alloc, &later)?.as_slice(), want.as_slice());
+    assert_eq!(rt; text.as_slice(), want.as_slice());
     Ok(())
 }
 

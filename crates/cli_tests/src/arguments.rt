@@ -1,7 +1,7 @@
 //! Arguments, their settings, and the refusals.
 
-use crate::arguments::not_text;
-use crate::{ArgumentError, HELP, Request, Settings, read_arguments};
+use cli::arguments::not_text;
+use cli::{ArgumentError, HELP, Request, Settings, read_arguments};
 use std::alloc::Global;
 use std::process::Abort;
 use std::test::Fail;
