@@ -136,7 +136,7 @@ pub either_is : (left right words : List ℕ) → AreLineBytes left → AreLineB
     → (b : ℕ) → b < 256 → has_byte words b ≡ (is_line_byte b && (has (values_of left) b || has (values_of right) b))
 either_is left right words one other each b below =
     each b below ∙ either_lines (is_line_byte b) (has_byte left b) (has_byte right b) (one.line_bytes b below) (other.line_bytes b below)
-        ∙ ap (λ t. is_line_byte b && (t || has_byte right b)) (sym (has-values_of left one b below)) ∙ ap (λ t. is_line_byte b && (has (values_of left) b || t)) (sym (has-values_of right other b below))
+    ∙ ap (λ t. is_line_byte b && (t || has_byte right b)) (sym (has-values_of left one b below)) ∙ ap (λ t. is_line_byte b && (has (values_of left) b || t)) (sym (has-values_of right other b below))
 
 but_lines : (x p q : Bool) → ((not x && p) && q) ≡ ((p && q) && not x)
 but_lines true true true = refl
@@ -180,7 +180,7 @@ values_split test first m (suc n) =
     let longer : m + suc n ≡ m + n + 1 = omega arith in
     let next : n + 1 ≡ suc n = omega arith in
     ap (λ k. map test (range_with_len first k)) longer ∙ map-range_with_len_more test first (m + n) (first + m + n) (omega arith) ∙ ap (λ xs. xs ++ test (first + m + n) ∷ []) (values_split test first m n)
-        ∙ append_assoc (map test (range_with_len first m)) (map test (range_with_len (first + m) n)) (test (first + m + n) ∷ []) ∙ ap (λ xs. map test (range_with_len first m) ++ xs) (sym (map-range_with_len_more test (first + m) n (first + m + n) refl) ∙ ap (λ k. map test (range_with_len (first + m) k)) next)
+    ∙ append_assoc (map test (range_with_len first m)) (map test (range_with_len (first + m) n)) (test (first + m + n) ∷ []) ∙ ap (λ xs. map test (range_with_len first m) ++ xs) (sym (map-range_with_len_more test (first + m) n (first + m + n) refl) ∙ ap (λ k. map test (range_with_len (first + m) k)) next)
 
 -- how many bytes the words before one have
 abbrev pub count_before : List ℕ → ℕ → ℕ

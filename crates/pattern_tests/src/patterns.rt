@@ -405,7 +405,7 @@ fn byte_sets_where_words_meet(rt: HostRuntime) {
     assert_eq!(rt; set.len(), 7);
     let rest = set.complement();
     assert_eq!(rt; rest.len(), 247);
-    for i in 0..256 {
+    for i in 0..256usize {
         let byte = i as u8;
         let meets = i % 64 == 63 || (i % 64 == 0 && i != 0);
         assert_eq!(rt; set.has(byte), meets, "{byte}");

@@ -11,12 +11,12 @@ pub loop-i-preserved : goal.loop-i-preserved
 loop-i-preserved g c = λ passes agree. elim c.if-is_line_byte.branch [
   | then-is_line_byte+then-test w ↦ w.set-is ∙ w.insert.ensures ∙ of_more passes c.loop-i.set c.loop-i.i (sym (agree _ _ w.test.ensures) ∙ w.if-test.true) (c.loop-i.invariant passes agree)
   | else-is_line_byte w ↦
-    let none : (is_line_byte c.loop-i.i && passes c.loop-i.i) ≡ false =
-    elim w.else-is_line_byte.branch [
-      | else-is_line_byte-via-then-is_line_byte+else-test w' ↦ ap (λ t. is_line_byte c.loop-i.i && t) (sym (agree _ _ w'.test.ensures) ∙ w'.if-test.false) ∙ and_falls (is_line_byte c.loop-i.i)
-      | else-is_line_byte-via-else-is_line_byte w' ↦ ap (λ t. t && passes c.loop-i.i) (sym c.is_line_byte.ensures ∙ w'.if-is_line_byte.false)
-    ] in
-    w.set-is ∙ of_same passes c.loop-i.set c.loop-i.i none (c.loop-i.invariant passes agree)
+      let none : (is_line_byte c.loop-i.i && passes c.loop-i.i) ≡ false =
+      elim w.else-is_line_byte.branch [
+        | else-is_line_byte-via-then-is_line_byte+else-test w' ↦ ap (λ t. is_line_byte c.loop-i.i && t) (sym (agree _ _ w'.test.ensures) ∙ w'.if-test.false) ∙ and_falls (is_line_byte c.loop-i.i)
+        | else-is_line_byte-via-else-is_line_byte w' ↦ ap (λ t. t && passes c.loop-i.i) (sym c.is_line_byte.ensures ∙ w'.if-is_line_byte.false)
+      ] in
+      w.set-is ∙ of_same passes c.loop-i.set c.loop-i.i none (c.loop-i.invariant passes agree)
 ]
 
 pub returns : goal.returns
