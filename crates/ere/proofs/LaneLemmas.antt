@@ -74,7 +74,10 @@ power_of_byte (suc (suc (suc (suc (suc (suc zero)))))) l = refl
 power_of_byte (suc (suc (suc (suc (suc (suc (suc zero))))))) l = refl
 power_of_byte (suc (suc (suc (suc (suc (suc (suc (suc j)))))))) l = absurd (omega arith)
 
-pub power_of_bit : (k : ℕ) → k < 8 → get_or (1 ∷ 2 ∷ 4 ∷ 8 ∷ 16 ∷ 32 ∷ 64 ∷ 128 ∷ 1 ∷ 2 ∷ 4 ∷ 8 ∷ 16 ∷ 32 ∷ 64 ∷ 128 ∷ []) k 0 ≡ 2 ^ k
+abbrev pub powers : List ℕ
+powers = 1 ∷ 2 ∷ 4 ∷ 8 ∷ 16 ∷ 32 ∷ 64 ∷ 128 ∷ 1 ∷ 2 ∷ 4 ∷ 8 ∷ 16 ∷ 32 ∷ 64 ∷ 128 ∷ []
+
+pub power_of_bit : (k : ℕ) → k < 8 → get_or powers k 0 ≡ 2 ^ k
 power_of_bit zero l = refl
 power_of_bit (suc zero) l = refl
 power_of_bit (suc (suc zero)) l = refl

@@ -113,7 +113,7 @@ impl ByteSet {
 
     /// Which of sixteen bytes are in the set: bit i says it of byte i.
     #[inline(always)]
-    pub fn held_of(&self, bytes: u8x16) -> u64
+    pub fn which_of(&self, bytes: u8x16) -> u64
         ensures small { result < 2 ^ 16 }
         ensures each { (i : ℕ) → i < 16 → has_bit result i ≡ has self.now (slice_index bytes i) }
     {

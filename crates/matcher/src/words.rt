@@ -186,7 +186,7 @@ fn sixteen_passing(found: u64, at: usize, base: usize, members: &ByteSet, line: 
     requires in_line { base + at + 16 ≤ length line.now }
     ensures { (from : ℕ) → at ≤ from → from ≤ at + 16 → IsPassingFrom members.now line.now found base from → IsPassingFrom members.now line.now result base at }
 {
-    let held = members.held_of(sixteen_at(line, base + at));
+    let held = members.which_of(sixteen_at(line, base + at));
     either(found, moved_to(held, at))
 }
 

@@ -2,7 +2,7 @@ use Rattle.std.proofs.Common.{◌≡◌, ◌/◌, ◌%◌, ◌^◌, ◌<◌, ◌
 use Rattle.ere.specs.ByteSet.{has}
 use Rattle.ere.proofs.LaneLemmas.{byte_small, bit_is_byte}
 use Rattle.ere.proofs.SetWords.{has-values_of}
-use Rattle.ere.proofs.byte_set.ByteSet.held_of.Goals as goal
+use Rattle.ere.proofs.byte_set.ByteSet.which_of.Goals as goal
 
 pub returns-clause-each : goal.returns-clause-each
 returns-clause-each c = λ i l.
