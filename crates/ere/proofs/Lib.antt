@@ -3,6 +3,7 @@ pub mod Words
 mod SetLemmas
 pub mod Bits
 pub mod SetWords
+mod LaneLemmas
 mod Texts
 mod BracketLemmas
 mod BracketSteps

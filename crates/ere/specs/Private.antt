@@ -2,3 +2,4 @@
 pub mod Reading
 pub mod SetWords
 pub mod SetInverse
+pub mod Lanes

@@ -1,11 +1,13 @@
 //! Sets of line bytes.
 
-ghost use Rattle.std.specs.Prelude.{◌≡◌, ◌<◌, ◌↔◌, ℕ, Bool, not, ◌&&◌, ◌||◌, ◌==◌, IsTrue, length};
+ghost use Rattle.std.specs.Prelude.{◌≡◌, ◌<◌, ◌↔◌, ℕ, Bool, not, ◌&&◌, ◌||◌, ◌==◌, ◌^◌, IsTrue, length, slice_index};
 ghost use Rattle.ere.specs.Bits.{has_bit};
 ghost use Rattle.ere.specs.ByteSet.{all_line_bytes, bytes_between, complement, empty_set, has, is_line_byte, set_of, single, size_of, union, with_byte};
 ghost use Rattle.ere.specs.Private.SetWords.{has_byte};
 
+use crate::sixteen::{bits_of, bytes_of, halves, held, looked_up, places};
 use std::marker::Model;
+use std::simd::prelude::*;
 
 /// How many words a set is.
 const WORDS: usize = 4;
@@ -107,6 +109,18 @@ impl ByteSet {
         ensures { result ≡ has self.now byte }
     {
         holds(&self.words, byte)
+    }
+
+    /// Which of sixteen bytes are in the set: bit i says it of byte i.
+    #[inline(always)]
+    pub fn which_of(&self, bytes: u8x16) -> u64
+        ensures small { result < 2 ^ 16 }
+        ensures each { (i : ℕ) → i < 16 → has_bit result i ≡ has self.now (slice_index bytes i) }
+    {
+        let at = places(bytes);
+        let low = looked_up(bytes_of(self.words[0], self.words[1]), at);
+        let high = looked_up(bytes_of(self.words[2], self.words[3]), at);
+        held(halves(bytes, low, high), bits_of(bytes))
     }
 
     /// Puts the byte into the set.

@@ -1,8 +1,8 @@
 -- Bits that move, and the positions of a set of words.
-use Rattle.std.proofs.Common.{◌≡◌, ◌≢◌, ℕ, zero, suc, ◌+◌, ◌-◌, ◌*◌, ◌/◌, ◌%◌, ◌^◌, ◌≤◌, ◌<◌, max, min, Bool, true, false, not, ◌&&◌, ◌||◌, ◌==◌, nat_le, IsTrue, List, length, get_or, set, refl, sym, ap, ◌∙◌, arith, w64}
+use Rattle.std.proofs.Common.{◌≡◌, ◌≢◌, ℕ, ◌+◌, ◌-◌, ◌*◌, ◌/◌, ◌%◌, ◌^◌, ◌≤◌, ◌<◌, Bool, true, false, not, ◌&&◌, ◌||◌, ◌==◌, nat_le, IsTrue, List, length, get_or, set, refl, sym, ap, ◌∙◌, arith, w64}
 use Rattle.std.proofs.lemmas.List.{get_or-set_same, get_or-set_other}
 use Rattle.std.proofs.lemmas.Bool.Decides.{nat_tests}
-use Rattle.std.proofs.lemmas.Nat.{shr-shr, and_le_l}
+use Rattle.std.proofs.lemmas.Nat.{shr-shr, and_le_l, pow_pos}
 use Rattle.std.proofs.lemmas.Nat.Bits.{bit_at-zero, bit_at_lowest, bit_at_above, bit_at_ones, bit_at_ones_above, ones_shr, bit_at-trailing_zeros, bit_at_cat_low, bit_at_cat_high}
 use Rattle.std.specs.Prelude.{bit_and, bit_or}
 use Rattle.std.specs.Int.{bit_at, bit_not, trailing_zeros}
@@ -127,3 +127,17 @@ none_held words none = record { none = λ k. empty_word words k (none (k / 64)) 
 pub and_all : (t : Bool) → (t && true) ≡ t
 and_all true = refl
 and_all false = refl
+
+-- `word << at`
+pub has_moved_to : (word at b : ℕ) → b < 64 → has_bit (word * 2 ^ at % 2 ^ 64) b ≡ (nat_le at b && has_bit word (b - at))
+has_moved_to word at b inside = ap (λ n. n == 1) (sym (bit_at_cat_low (word * 2 ^ at / 2 ^ 64) 64 (word * 2 ^ at % 2 ^ 64) b inside) ∙ ap (λ n. bit_at n b) (whole (word * 2 ^ at))) ∙ go (nat_le at b) refl
+  where
+    whole : (n : ℕ) → n / 2 ^ 64 * 2 ^ 64 + n % 2 ^ 64 ≡ n + 0
+    whole n = omega arith
+
+    go : (t : Bool) → nat_le at b ≡ t → has_bit (word * 2 ^ at + 0) b ≡ (t && has_bit word (b - at))
+    go true e = let from : at ≤ b = grind (arith, nat_tests) in ap (λ n. n == 1) (bit_at_cat_high word at 0 b (pow_pos at) from)
+    go false e = let before : b < at = grind (arith, nat_tests) in ap (λ n. n == 1) (bit_at_cat_low word at 0 b before) ∙ has_zero b
+
+pub has_no_more : (word b : ℕ) → word < 2 ^ 16 → 16 ≤ b → has_bit word b ≡ false
+has_no_more word b small far = ap (λ n. n == 1) (bit_at_above word 16 b small far)

@@ -5,6 +5,7 @@ use crate::fixtures::{built, halves};
 use ere::{ByteSet, Ere, EreErrorKind, parse};
 use std::alloc::Global;
 use std::process::Abort;
+use std::simd::prelude::*;
 use std::test::Fail;
 
 /// Appends a tree in one line: a set as its bytes in brackets, all else as in `(cat [a] (repeat 2 - [01]))`.
@@ -405,7 +406,7 @@ fn byte_sets_where_words_meet(rt: HostRuntime) {
     assert_eq!(rt; set.len(), 7);
     let rest = set.complement();
     assert_eq!(rt; rest.len(), 247);
-    for i in 0..256 {
+    for i in 0..256usize {
         let byte = i as u8;
         let meets = i % 64 == 63 || (i % 64 == 0 && i != 0);
         assert_eq!(rt; set.has(byte), meets, "{byte}");
@@ -423,4 +424,14 @@ fn sizes_of_byte_sets(rt: HostRuntime) {
     assert_eq!(rt; ByteSet::single(200).len(), 1);
     assert!(rt; ByteSet::single(b'\n').is_empty());
     assert!(rt; !ByteSet::single(255).is_empty());
+}
+
+#[test]
+fn sixteen_bytes_at_once(rt: HostRuntime) {
+    let set = ByteSet::of(|b| b % 64 == 63 || b == b'a');
+    let bytes = u8x16::from_array([
+        0, 10, 63, 64, 97, 98, 127, 128, 191, 192, 225, 255, 97, 62, 1, 63,
+    ]);
+    // 63, 97, 127, 191, 255, 97 and 63
+    assert_eq!(rt; set.which_of(bytes), 0b1001_1001_0101_0100);
 }

@@ -28,6 +28,9 @@ advance-returns-in-Alt g t c = rw (ap form c.in-Alt.is ∙ form-Alt c.in-Alt.mem
 pub advance-returns-in-Repeat : goal.advance-returns-in-Repeat
 advance-returns-in-Repeat g t c = rw (ap form c.in-Repeat.is ∙ form-Repeat c.in-Repeat.body c.in-Repeat.least c.in-Repeat.greatest) (rw (← c.deref-in-Repeat.ensures) c.advance_counted.ensures)
 
+pub advance_over-returns-in-Set : goal.advance_over-returns-in-Set
+advance_over-returns-in-Set g t c = rw (ap form c.in-Set.is ∙ form-Set c.in-Set.members) c.step.ensures
+
 pub advance_at_most-loop-round-init : goal.advance_at_most-loop-round-init
 advance_at_most-loop-round-init g t c = rw c.copy.ensures (walks.widened_by_none (Spans c.args.line.now (form c.args.body.now)) (g.S.PositionSet.words c.args.at.now))
 
@@ -50,11 +53,11 @@ advance_counted-returns-else-most-least g t c = rw c.in-Some.is (walks.moves_bet
 
 pub advance_each-returns-then-is_empty : goal.advance_each-returns-then-is_empty
 advance_each-returns-then-is_empty g t c =
-    let rest : Moves (SpansEach c.args.line.now (trees_of (map form (drop (c.loop-member.member-index + 1) c.args.members.now)))) (g.S.PositionSet.words c.advance.new.at) (g.S.PositionSet.words c.advance.new.at) = walks.moves_none _ (g.S.PositionSet.words c.advance.new.at) (g.S.PositionSet.words c.advance.new.at) (c.if-is_empty.ensures) (c.if-is_empty.ensures) in
-    c.loop-member.invariant (g.S.PositionSet.words c.advance.new.at) (walks.moves_members c.args.line.now c.args.members.now c.loop-member.member-index c.member-item.result (g.S.PositionSet.words c.loop-member.at) (g.S.PositionSet.words c.advance.new.at) (g.S.PositionSet.words c.advance.new.at) c.loop-member-test.true c.member-item.is c.advance.ensures rest)
+    let rest : Moves (SpansEach c.args.line.now (trees_of (map form (drop (c.loop-member.member-index + 1) c.args.members.now)))) (g.S.PositionSet.words c.advance_over.new.at) (g.S.PositionSet.words c.advance_over.new.at) = walks.moves_none _ (g.S.PositionSet.words c.advance_over.new.at) (g.S.PositionSet.words c.advance_over.new.at) (c.if-is_empty.ensures) (c.if-is_empty.ensures) in
+    c.loop-member.invariant (g.S.PositionSet.words c.advance_over.new.at) (walks.moves_members c.args.line.now c.args.members.now c.loop-member.member-index c.member-item.result (g.S.PositionSet.words c.loop-member.at) (g.S.PositionSet.words c.advance_over.new.at) (g.S.PositionSet.words c.advance_over.new.at) c.loop-member-test.true c.member-item.is c.advance_over.ensures rest)
 
 pub advance_each-loop-member-preserved : goal.advance_each-loop-member-preserved
-advance_each-loop-member-preserved g t c = λ to h. c.loop-member.invariant to (walks.moves_members c.args.line.now c.args.members.now c.loop-member.member-index c.member-item.result (g.S.PositionSet.words c.loop-member.at) (g.S.PositionSet.words c.advance.new.at) to c.loop-member-test.true c.member-item.is c.advance.ensures h)
+advance_each-loop-member-preserved g t c = λ to h. c.loop-member.invariant to (walks.moves_members c.args.line.now c.args.members.now c.loop-member.member-index c.member-item.result (g.S.PositionSet.words c.loop-member.at) (g.S.PositionSet.words c.advance_over.new.at) to c.loop-member-test.true c.member-item.is c.advance_over.ensures h)
 
 pub advance_each-returns : goal.advance_each-returns
 advance_each-returns g t c = c.loop-member.invariant (g.S.PositionSet.words c.loop-member.at) (walks.moves_no_members c.args.line.now c.args.members.now c.loop-member.member-index (g.S.PositionSet.words c.loop-member.at) c.loop-member-test.false)
@@ -78,8 +81,8 @@ pub advance_some-loop-i-preserved : goal.advance_some-loop-i-preserved
 advance_some-loop-i-preserved g t c =
     let next : c.loop-i.i ≡ (c.loop-i.i - 1) + 1 = omega arith in
     let rest : Moves (SpansSome c.args.line.now (trees_of (map form (drop ((c.loop-i.i - 1) + 1) c.args.members.now)))) (g.S.PositionSet.words c.args.at.now) (g.S.PositionSet.words c.loop-i.found) = subst (λ i. Moves (SpansSome c.args.line.now (trees_of (map form (drop i c.args.members.now)))) (g.S.PositionSet.words c.args.at.now) (g.S.PositionSet.words c.loop-i.found)) next c.loop-i.invariant in
-    let one : Moves (Spans c.args.line.now (form c.index-members-i.result)) (g.S.PositionSet.words c.args.at.now) (g.S.PositionSet.words c.advance.new.at) = rw c.copy.ensures at c.advance.ensures in
-    walks.moves_by_member c.args.line.now c.args.members.now (c.loop-i.i - 1) c.index-members-i.result (g.S.PositionSet.words c.args.at.now) (g.S.PositionSet.words c.advance.new.at) (g.S.PositionSet.words c.loop-i.found) (g.S.PositionSet.words c.add.new.self) (omega arith) c.index-members-i.is one rest c.add.ensures.both
+    let one : Moves (Spans c.args.line.now (form c.index-members-i.result)) (g.S.PositionSet.words c.args.at.now) (g.S.PositionSet.words c.advance_over.new.at) = rw c.copy.ensures at c.advance_over.ensures in
+    walks.moves_by_member c.args.line.now c.args.members.now (c.loop-i.i - 1) c.index-members-i.result (g.S.PositionSet.words c.args.at.now) (g.S.PositionSet.words c.advance_over.new.at) (g.S.PositionSet.words c.loop-i.found) (g.S.PositionSet.words c.add.new.self) (omega arith) c.index-members-i.is one rest c.add.ensures.both
 
 pub advance_any-returns-in-Set : goal.advance_any-returns-in-Set
 advance_any-returns-in-Set g t c = rw (ap form c.in-Set.is ∙ form-Set c.in-Set.members) c.sweep.ensures
@@ -127,6 +130,9 @@ each_past-loop-member-preserved g t c = λ to h. c.loop-member.invariant to (rou
 
 pub each_past-returns : goal.each_past-returns
 each_past-returns g t c = c.loop-member.invariant (g.S.PositionSet.words c.loop-member.at) (rounds.past_if c.loop-member.leads _ (g.S.PositionSet.words c.args.done.now) (g.S.PositionSet.words c.loop-member.at) (g.S.PositionSet.words c.loop-member.at) (walks.moves_no_members c.args.line.now c.args.members.now c.loop-member.member-index (g.S.PositionSet.words c.loop-member.at) c.loop-member-test.false))
+
+pub member_past-returns-in-Set-clause-moved : goal.member_past-returns-in-Set-clause-moved
+member_past-returns-in-Set-clause-moved g t c = rw (ap form c.in-Set.is ∙ form-Set c.in-Set.members) (rounds.past_if c.args.leads _ (g.S.PositionSet.words c.args.done.now) (g.S.PositionSet.words c.args.at.now) (g.S.PositionSet.words c.step.new.self) c.step.ensures)
 
 pub more_past-returns-in-Set : goal.more_past-returns-in-Set
 more_past-returns-in-Set g t c = rw (ap form c.in-Set.is ∙ form-Set c.in-Set.members) (rounds.past_of_moves _ (g.S.PositionSet.words c.args.done.now) (g.S.PositionSet.words c.args.at.now) (g.S.PositionSet.words c.sweep.new.self) (rounds.moves_more _ (g.S.PositionSet.words c.args.at.now) (g.S.PositionSet.words c.step.new.self) (g.S.PositionSet.words c.sweep.new.self) c.step.ensures c.sweep.ensures))
