@@ -1,20 +1,25 @@
 -- Stored numbers, gone through.
 use Rattle.std.proofs.Common.{◌≡◌, ◌≢◌, ℕ, ◌+◌, ◌-◌, ◌^◌, ◌<◌, ◌≤◌, Bool, true, false, not, ◌==◌, ◌||◌, nat_le, List, [], ◌∷◌, ◌++◌, length, take, drop, refl, sym, ap, ◌∙◌, arith, append_assoc, length-append}
 use Rattle.std.specs.Prelude.{All, IsTrue}
+use Rattle.std.specs.List.{sum}
+use Rattle.std.proofs.Common.{subst, get_or, ◌⊎◌, inl, inr}
+use Rattle.std.proofs.lemmas.List.Sums.{sum_by_more, sum_by-append}
+use Rattle.std.proofs.lemmas.List.Elements.{All-from_get_or}
+use Rattle.std.proofs.lemmas.List.{get_or-take, length-take-le}
 use Rattle.std.specs.List.Sorted.{IsStrictlyIncreasing}
 use Rattle.std.proofs.lemmas.Bool.Decides.{nat_tests}
-use Rattle.std.proofs.lemmas.Bool.{eq-eqb}
-use Rattle.std.proofs.lemmas.List.{append-nil, take_all, drop_all}
+use Rattle.std.proofs.lemmas.Bool.{eq-eqb, cases_eq}
+use Rattle.std.proofs.lemmas.List.{append-nil, take_all, drop_all, take-append-drop}
 use Rattle.std.proofs.lemmas.List.Elements.{All-nil, All-cons, All-head, All-tail, All-weaker, All-append, All-filter, filter-append}
 use Rattle.std.proofs.lemmas.List.Kept.{IsStrictlyIncreasing-filter}
 use Rattle.std.proofs.Math.Seq.{take-append_seam, drop-append_seam}
 use Rattle.posting.specs.ListValue.{has, without}
 use Rattle.posting.specs.Stored.{groups, bytes_of, bytes_after}
-use Rattle.posting.specs.Private.Gaps.{limit, numbers_after, last_of, IsSpelled, IsStored, IsFirstNumber, IsPassed, IsLeast, not_below}
+use Rattle.posting.specs.Private.Gaps.{limit, numbers_after, last_of, IsSpelled, IsStored, IsFirstNumber, IsPassed, IsBlock, IsLeast, not_below}
 use Rattle.posting.proofs.Laws.{has-append}
 use Rattle.posting.proofs.Rising.{rising-head, rising-tail, rising-push}
 use Rattle.posting.proofs.Members.{All-has, filter_all, filter_none, lacks_above, lacks_from_all, without_absent, without-lacking}
-use Rattle.posting.proofs.Groups.{below_limit, Rise, rise-tail, rise_spelled, spelled_bytes, spelled_numbers, bytes_after-cons, bytes_after-nil, last_of-cons, last_of-nil, numbers_after-nil, length-groups, groups-joined, bytes_after-append, last_of-append}
+use Rattle.posting.proofs.Groups.{first_low, below_limit, Rise, rise-tail, rise_spelled, spelled_bytes, spelled_numbers, bytes_after-cons, bytes_after-nil, last_of-cons, last_of-nil, numbers_after-nil, length-groups, groups-joined, bytes_after-append, last_of-append}
 
 -- bytes that follow a number have no number where they are none
 pub spelled-nil : (before : ℕ) → IsSpelled before []
@@ -353,3 +358,59 @@ removed_none bytes number absent = sym (without-lacking (numbers_after 0 bytes) 
 -- bytes that were written over as a whole
 pub all_written : (xs ys : List ℕ) → length ys ≡ length xs → take (length xs) (ys ++ drop (length ys) xs) ≡ ys
 all_written xs ys same = rw (drop_all (length ys) xs (omega arith), append-nil) (take_all (length xs) ys (omega arith))
+
+-- numbers are passed, and then more of them
+pub passed_on : (before : ℕ) (bytes : List ℕ) (number at : ℕ) (rest : List ℕ) (at' : ℕ) (rest' : List ℕ) → IsPassed before bytes number at rest → IsPassed at rest number at' rest' → IsPassed before bytes number at' rest'
+passed_on before bytes number at rest at' rest' h g = record {
+  passed = h.passed ++ g.passed;
+  numbers = h.numbers ∙ ap (λ ns. h.passed ++ ns) g.numbers ∙ sym (append_assoc h.passed g.passed (numbers_after at' rest'));
+  stored =
+      h.stored ∙ ap (λ xs. bytes_after before h.passed ++ xs) (g.stored ∙ ap (λ l. bytes_after l g.passed ++ rest') h.ends)
+      ∙ sym (append_assoc (bytes_after before h.passed) (bytes_after (last_of before h.passed) g.passed) rest')
+      ∙ ap (λ xs. xs ++ rest') (sym (bytes_after-append before h.passed g.passed));
+  ends = g.ends ∙ ap (λ l. last_of l g.passed) h.ends ∙ sym (last_of-append before h.passed g.passed);
+  below = All-append (λ n. n < number) h.passed g.passed h.below g.below;
+  spelled = g.spelled;
+}
+
+-- a byte that is the whole of a number
+first_byte : (at b : ℕ) (rest : List ℕ) → IsSpelled at (b ∷ rest) → b < 128 → IsFirstNumber at (b ∷ rest) (at + b) rest
+first_byte at b rest h low = (first_found at (b ∷ rest) b rest h (omega arith) (λ more g r small fits is. first_low b (b ∷ rest) rest refl low more g r small is)).1
+
+pub passed_one : (before : ℕ) (bytes : List ℕ) (number next : ℕ) (after : List ℕ) → IsSpelled before bytes → IsFirstNumber before bytes next after → next < number → IsPassed before bytes number next after
+passed_one before bytes number next after h first low = passed_more before bytes number before bytes next after (passed_none before bytes number h) first low
+
+passed_front : (front tail : List ℕ) (at number : ℕ) → IsSpelled at (front ++ tail) → All (λ b. b < 128) front → at + sum front < number → IsPassed at (front ++ tail) number (at + sum front) tail
+passed_front [] tail at number h low fits = let same : at + sum [] ≡ at = omega arith in rw same (passed_none at tail number h)
+passed_front (b ∷ front) tail at number h low fits =
+    let first = first_byte at b (front ++ tail) h (All-head (λ m. m < 128) b front low) in
+    let sum_is : sum (b ∷ front) ≡ 0 + b + sum front = sum_by-append (λ m. m) (b ∷ []) front in
+    let below : at + b + sum front < number = omega (arith, fits, sum_is) in
+    let more = passed_front front tail (at + b) number first.spelled (All-tail (λ m. m < 128) b front low) below in
+    let same : at + sum (b ∷ front) ≡ at + b + sum front = omega (arith, sum_is) in
+    rw same (passed_on at (b ∷ (front ++ tail)) number (at + b) (front ++ tail) (at + b + sum front) tail (passed_one at (b ∷ (front ++ tail)) number (at + b) (front ++ tail) h first (omega (arith, below))) more)
+
+-- the numbers of a block
+pub passed_block : (at : ℕ) (bytes : List ℕ) (number total : ℕ) → IsSpelled at bytes → IsBlock bytes total → at + total < number → IsPassed at bytes number (at + total) (drop 16 bytes)
+passed_block at bytes number total h block fits =
+    let whole : take 16 bytes ++ drop 16 bytes ≡ bytes = take-append-drop 16 bytes in
+    rw (block.total_is) (subst (λ xs. IsPassed at xs number (at + sum (take 16 bytes)) (drop 16 bytes)) whole
+    (passed_front (take 16 bytes) (drop 16 bytes) at number (rw whole h) block.low (omega (arith, fits, block.total_is))))
+
+pub sum_more : (bytes : List ℕ) (i : ℕ) → i < length bytes → sum (take (i + 1) bytes) ≡ sum (take i bytes) + get_or bytes i 0
+sum_more bytes i inside = sum_by_more (λ b. b) bytes i 0 inside
+
+pub block_is : (bytes : List ℕ) (total most : ℕ) → 16 ≤ length bytes → total ≡ sum (take 16 bytes) → ((k : ℕ) → k < 16 → get_or bytes k 0 ≤ most) → most < 128 → IsBlock bytes total
+block_is bytes total most long total_is below low = record {
+  long = long;
+  low = All-from_get_or (λ b. b < 128) (take 16 bytes) 0 (λ k inside. let before : k < 16 = omega (arith, inside, length-take-le 16 bytes long) in omega (arith, get_or-take 16 bytes k 0 before, below k before, low));
+  total_is = total_is;
+}
+
+-- the greatest so far
+pub most_more : (bytes : List ℕ) (i most most' : ℕ) → ((k : ℕ) → k < i → get_or bytes k 0 ≤ most) → most ≤ most' → get_or bytes i 0 ≤ most' → (k : ℕ) → k < i + 1 → get_or bytes k 0 ≤ most'
+most_more bytes i most most' below up here k before = cases (cases_eq k i)
+  where
+    cases : (k ≡ i) ⊎ (k ≢ i) → get_or bytes k 0 ≤ most'
+    cases (inl e) = rw e here
+    cases (inr ne) = omega (arith, below k (omega (arith, before, ne)), up)

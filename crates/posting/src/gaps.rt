@@ -1,11 +1,14 @@
 //! Numbers as they are stored: each as its distance from the one before it, in groups of seven bits.
 
-ghost use Rattle.std.specs.Prelude.{◌≡◌, ℕ, List, ◌+◌, ◌^◌, ◌<◌, ◌≤◌, ◌++◌, All, length, take, drop};
+ghost use Rattle.std.specs.Prelude.{◌≡◌, ℕ, List, ◌+◌, ◌^◌, ◌<◌, ◌≤◌, ◌++◌, All, IfSome, IfNone, length, take, drop};
 ghost use Rattle.smallvec.specs.SmallVec.{HasRoomFor};
 ghost use Rattle.posting.specs.Stored.{groups, bytes_of};
-ghost use Rattle.posting.specs.Private.Gaps.{IsSpelled, IsFirstNumber, IsPassed, numbers_after, limit};
+ghost use Rattle.posting.specs.Private.Gaps.{IsSpelled, IsFirstNumber, IsPassed, IsBlock, numbers_after, limit};
 
 use smallvec::SmallVec;
+
+/// How many bytes are looked at together.
+const BLOCK: usize = 16;
 
 /// The first number of bytes that follow one, and the bytes after it.
 pub(crate) fn first_number(bytes: &[u8], before: u32) -> (u32, &[u8])
@@ -44,14 +47,52 @@ pub(crate) fn pass(bytes: &[u8], before: u32, number: u32) -> (&[u8], u32)
     let mut rest = bytes;
     let mut at = before;
     while !rest.is_empty() {
-        let (next, after) = first_number(rest, at);
-        if next >= number {
-            return (rest, at);
+        match step(rest, at, number) {
+            Some((after, next)) => {
+                rest = after;
+                at = next;
+            }
+            None => return (rest, at),
         }
-        rest = after;
-        at = next;
     }
     (rest, at)
+}
+
+// Passes some of the numbers, if the first one is below this one: all of a block at once, where they are.
+fn step(bytes: &[u8], before: u32, number: u32) -> Option<(&[u8], u32)>
+    requires spelled { IsSpelled before bytes.now }
+    requires some { 0 < length bytes.now }
+    ensures some { IfSome result (λ s. IsPassed before bytes.now number s.1 s.0.now × (length s.0.now < length bytes.now)) }
+    ensures none { IfNone result (All (λ n. number ≤ n) (numbers_after before bytes.now)) }
+{
+    if let Some(sum) = sum_of_block(bytes) {
+        if sum < number.saturating_sub(before) {
+            return Some((&bytes[BLOCK..], before + sum));
+        }
+    }
+    let (next, after) = first_number(bytes, before);
+    if next < number {
+        Some((after, next))
+    } else {
+        None
+    }
+}
+
+// The sum of the first bytes, where each of them is the whole of a number.
+fn sum_of_block(bytes: &[u8]) -> Option<u32>
+    ensures { IfSome result (λ total. IsBlock bytes.now total) }
+{
+    if bytes.len() < BLOCK {
+        return None;
+    }
+    let mut total = 0u32;
+    let mut most = 0u8;
+    for i in 0..BLOCK {
+        let byte = bytes[i];
+        total += byte as u32;
+        most = most.max(byte);
+    }
+    if most < 128 { Some(total) } else { None }
 }
 
 /// Puts a number's groups after the bytes, where there is room for five.

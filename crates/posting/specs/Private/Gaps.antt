@@ -1,5 +1,5 @@
 -- Stored numbers, read back.
-use Rattle.std.specs.Prelude.{◌≡◌, ℕ, zero, suc, ◌+◌, ◌-◌, ◌*◌, ◌^◌, ◌<◌, ◌≤◌, if◌then◌else◌, nat_lt, nat_le, List, [], ◌∷◌, ◌++◌, All, filter, length, true, ◌||◌}
+use Rattle.std.specs.Prelude.{◌≡◌, ℕ, zero, suc, ◌+◌, ◌-◌, ◌*◌, ◌^◌, ◌<◌, ◌≤◌, if◌then◌else◌, nat_lt, nat_le, List, [], ◌∷◌, ◌++◌, All, filter, length, true, ◌||◌, take, sum}
 use Rattle.std.specs.List.Sorted.{IsStrictlyIncreasing}
 use Rattle.posting.specs.ListValue.{has, without}
 use Rattle.posting.specs.Stored.{bytes_of, bytes_after}
@@ -54,6 +54,12 @@ pub record IsPassed (before : ℕ) (bytes : List ℕ) (number at : ℕ) (rest : 
   pub ends : at ≡ last_of before passed
   pub below : All (λ n. n < number) passed
   pub spelled : IsSpelled at rest
+
+-- Each of the first bytes is the whole of a number, and this is their sum.
+pub record IsBlock (bytes : List ℕ) (total : ℕ) : Type 0 where
+  pub long : 16 ≤ length bytes
+  pub low : All (λ b. b < 128) (take 16 bytes)
+  pub total_is : total ≡ sum (take 16 bytes)
 
 abbrev pub not_below : ℕ → List ℕ → List ℕ
 not_below number numbers = filter (λ n. nat_le number n) numbers
