@@ -24,15 +24,14 @@ def with_those_below(names, lines):
     return found
 
 
-def copy_crates(folder, names, own=""):
-    """Copies the text of these crates and of those below them into a folder, as a repository with a crate of its own where
-    one is named, which uses them."""
+def copy_crates(folder, names, own="", kept=False):
+    """Copies these crates and those below them into a folder, as a repository with a crate of its own where one is named, which
+    uses them. What `rt` has of crates that are proved already is kept where that is asked for."""
     lines = lines_of_crates()
     used = with_those_below(names, lines)
     for name in used:
-        for part in ("src", "specs", "proofs"):
-            if (TOP / "crates" / name / part).is_dir():
-                shutil.copytree(TOP / "crates" / name / part, pathlib.Path(folder, "crates", name, part))
+        left_out = () if kept else ("out",)
+        shutil.copytree(TOP / "crates" / name, pathlib.Path(folder, "crates", name), ignore=shutil.ignore_patterns(*left_out))
     written = [lines[name] for name in used] + (["%s: %s" % (own, " ".join(names))] if own else [])
     pathlib.Path(folder, "crates.txt").write_text("\n".join(written) + "\n", encoding="utf-8")
     shutil.copy(TOP / "HANDLES", folder)
