@@ -191,7 +191,7 @@ def lines_of_crates():
     """The crates of the repository, each with those that it uses."""
     with open(os.path.join(ROOT, "crates.txt")) as file:
         lines = [line.split("#")[0].split(":") for line in file]
-    return {name.strip(): uses.split() for name, uses in (line for line in lines if len(line) == 2)}
+    return {name.split()[0]: uses.split() for name, uses in (line for line in lines if len(line) == 2)}
 
 
 def with_those_below(names, uses):

@@ -20,7 +20,7 @@ sys.path.insert(0, str(pathlib.Path(__file__).resolve().parent))
 import compare_with_grep as grep
 
 # The first so many bytes of candidates are looked at line by line.
-FEW_BYTES = 16384
+FEW_BYTES = 8192
 SEARCHES_OF_A_RUN = 500
 
 

@@ -11,6 +11,3 @@ pub mod help;
 pub use arguments::{Request, Settings, read_arguments};
 pub use error::ArgumentError;
 pub use help::HELP;
-
-#[cfg(test)]
-mod tests;

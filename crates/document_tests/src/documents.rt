@@ -62,68 +62,81 @@ fn names_rise_by_their_bytes(rt: HostRuntime) -> Result<(), Fail> {
     Ok(())
 }
 
+/// Whether a body of these pieces is refused for this fault and its bytes come back, or, with no fault, is made
+/// and shared.
+fn is_made(
+    alloc: Global,
+    pieces: &[(&[u8], usize)],
+    fault: Option<BodyErrorKind>,
+) -> Result<bool, Fail> {
+    let bytes = built(alloc, pieces)?;
+    let handed = bytes.clone()?;
+    match Body::new(bytes) {
+        Ok(body) => Ok(fault.is_none() && is_shared(body, &handed)?),
+        Err(error) => Ok(fault == Some(error.kind) && error.bytes == handed),
+    }
+}
+
+/// Whether the body has these bytes, once it is held and shared too.
+fn is_shared(body: Body, bytes: &[u8]) -> Result<bool, Fail> {
+    let is_same = body.as_bytes() == bytes;
+    let held = Held::new(body)?;
+    let shared = held.share()?;
+    Ok(is_same && held.body().as_bytes() == bytes && shared.body().as_bytes() == bytes)
+}
+
+const BODIES: &[(&[(&[u8], usize)], Option<BodyErrorKind>)] = &[
+    (&[], None),
+    (&[(b"a", 4096)], None),
+    (&[(b"a", 4096), (b"\n", 1), (b"b", 4096)], None),
+    (&[(b"a\n", 262_144)], None),
+    (&[(b"sixteen bytes..\n", 65_536)], None),
+    (&[(b"\n", 1_048_576)], None),
+    (&[(b"\n", 1_048_577)], Some(BodyErrorKind::TooLong)),
+    (&[(b"a", 4097)], Some(BodyErrorKind::LineTooLong)),
+    (&[(b"a\0b", 1)], Some(BodyErrorKind::NotText)),
+    // the faults in their order
+    (&[(b"a", 4097), (b"\0", 1)], Some(BodyErrorKind::NotText)),
+    (&[(b"\0", 1_048_577)], Some(BodyErrorKind::TooLong)),
+];
+
 #[test]
 fn bodies(rt: HostRuntime) -> Result<(), Fail> {
-    let alloc = rt.alloc();
-    let rows: [(&[(&[u8], usize)], Option<BodyErrorKind>); 11] = [
-        (&[], None),
-        (&[(b"a", 4096)], None),
-        (&[(b"a", 4096), (b"\n", 1), (b"b", 4096)], None),
-        (&[(b"a\n", 262_144)], None),
-        (&[(b"sixteen bytes..\n", 65_536)], None),
-        (&[(b"\n", 1_048_576)], None),
-        (&[(b"\n", 1_048_577)], Some(BodyErrorKind::TooLong)),
-        (&[(b"a", 4097)], Some(BodyErrorKind::LineTooLong)),
-        (&[(b"a\0b", 1)], Some(BodyErrorKind::NotText)),
-        // the faults in their order
-        (&[(b"a", 4097), (b"\0", 1)], Some(BodyErrorKind::NotText)),
-        (&[(b"\0", 1_048_577)], Some(BodyErrorKind::TooLong)),
-    ];
-    for (pieces, fault) in rows {
-        let bytes = built(alloc, pieces)?;
-        let handed = bytes.clone()?;
-        match Body::new(bytes) {
-            Ok(body) => {
-                assert!(rt; fault.is_none(), "of {pieces:?}");
-                assert!(rt; body.as_bytes() == handed.as_slice(), "of {pieces:?}");
-                let held = Held::new(body)?;
-                let shared = held.share()?;
-                assert!(rt;
-                    held.body().as_bytes() == handed.as_slice(),
-                    "of {pieces:?}"
-                );
-                assert!(rt;
-                    shared.body().as_bytes() == handed.as_slice(),
-                    "of {pieces:?}"
-                );
-            }
-            Err(error) => {
-                assert_eq!(rt; Some(error.kind), fault, "of {pieces:?}");
-                assert!(rt; error.bytes == handed, "of {pieces:?}");
-            }
-        }
+    for row in BODIES {
+        assert!(rt; is_made(rt.alloc(), row.0, row.1)?, "of {:?}", row.0);
     }
     Ok(())
 }
 
+/// Commands, their number, the number of documents that they leave, and the number and text of a document.
+type State<'a> = (&'a [u8], u32, u32, u32, Option<&'a [u8]>);
+
+/// Whether the commands lead there.
+fn leads_to(rt: &impl Abort, alloc: Global, state: &State<'_>) -> Result<bool, Fail> {
+    let index = index_of(rt, alloc, state.0)?;
+    Ok(
+        index.version() == state.1
+            && index.documents() == state.2
+            && text_at(&index, state.3) == state.4,
+    )
+}
+
 #[test]
 fn a_put_replaces_and_a_remove_takes_away(rt: HostRuntime) -> Result<(), Fail> {
-    let alloc = rt.alloc();
-    let all = b"f old|f new|g x|-f|-absent".as_slice();
-    for (commands, version, documents, number, text) in [
-        (b"".as_slice(), 0, 0, 1, None),
-        (b"f old".as_slice(), 1, 1, 1, Some(b"old".as_slice())),
-        (b"f old|f new".as_slice(), 2, 1, 1, None),
-        (b"f old|f new".as_slice(), 2, 1, 2, Some(b"new".as_slice())),
+    let all: &[u8] = b"f old|f new|g x|-f|-absent";
+    let states: [State<'_>; 8] = [
+        (b"", 0, 0, 1, None),
+        (b"f old", 1, 1, 1, Some(b"old".as_slice())),
+        (b"f old|f new", 2, 1, 1, None),
+        (b"f old|f new", 2, 1, 2, Some(b"new".as_slice())),
         (all, 5, 1, 2, None),
         (all, 5, 1, 3, Some(b"x".as_slice())),
         (all, 5, 1, 4, None),
         (all, 5, 1, 6, None),
-    ] {
-        let index = index_of(&rt, alloc, commands)?;
-        assert_eq!(rt; index.version(), version, "of {commands:?}");
-        assert_eq!(rt; index.documents(), documents, "of {commands:?}");
-        assert_eq!(rt; text_at(&index, number), text, "of {commands:?}");
+    ];
+    for state in &states {
+        let are = leads_to(&rt, rt.alloc(), state)?;
+        assert!(rt; are, "{:?} and document {}", state.0, state.3);
     }
     Ok(())
 }
@@ -146,59 +159,116 @@ fn bytes_that_are_held(rt: HostRuntime) -> Result<(), Fail> {
     Ok(())
 }
 
+/// An index of one document.
+fn index_of_one(alloc: Global, name: &Name, held: &Held) -> Result<Index, Fail> {
+    let mut index = Index::new(alloc);
+    index.apply_put(name, held)?;
+    Ok(index)
+}
+
+/// Whether the document 1 has the name and a body of these bytes, and is the only one.
+fn holds_one(index: &Index, name: &Name, bytes: &[u8]) -> bool {
+    match index.held(1) {
+        Some(held) => {
+            index.number(name) == Some(1)
+                && held.body().as_bytes() == bytes
+                && index.held_bytes() == bytes.len() as u64
+        }
+        None => false,
+    }
+}
+
+/// Whether nothing of the document 1 is left once its name is removed.
+fn holds_none(rt: &impl Abort, index: &mut Index, name: &Name) -> Result<bool, Fail> {
+    assert!(rt; index.version() < 1000);
+    index.remove(name)?;
+    Ok(index.number(name).is_none() && index.held(1).is_none() && index.held_bytes() == 0)
+}
+
+/// Whether a document that is in two indexes stays in one of them when it goes from the other.
+fn stays_in_one(
+    rt: &impl Abort,
+    alloc: Global,
+    name: &Name,
+    held: &Held,
+    bytes: &[u8],
+) -> Result<bool, Fail> {
+    let mut first = index_of_one(alloc, name, held)?;
+    let second = index_of_one(alloc, name, held)?;
+    Ok(
+        holds_one(&first, name, bytes)
+            && holds_none(rt, &mut first, name)?
+            && holds_one(&second, name, bytes),
+    )
+}
+
 /// Two indexes of one name and body.
 #[test]
 fn a_body_is_shared(rt: HostRuntime) -> Result<(), Fail> {
-    let alloc = rt.alloc();
-    let (name, body) = document(alloc, b"f", b"abc")?;
+    let (name, body) = document(rt.alloc(), b"f", b"abc")?;
     let held = Held::new(body)?;
-    let mut first = Index::new(alloc);
-    let mut second = Index::new(alloc);
-    first.apply_put(&name, &held)?;
-    second.apply_put(&name, &held)?;
-    first.remove(&name)?;
-    assert_eq!(rt; first.number(&name), None);
-    assert!(rt; first.held(1).is_none());
-    assert_eq!(rt; first.held_bytes(), 0);
-    assert_eq!(rt; second.number(&name), Some(1));
-    assert_eq!(rt; second.held_bytes(), 3);
-    is_for_threads(&second);
-    is_for_threads(&held);
-    is_for_threads(&name);
-    is_for_threads(&Command::Remove(name.copy()?));
-    match second.held(1) {
-        Some(found) => assert!(rt; found.body().as_bytes() == b"abc".as_slice()),
-        None => assert!(rt; false),
-    }
+    assert!(rt; stays_in_one(&rt, rt.alloc(), &name, &held, b"abc")?);
     Ok(())
 }
 
-/// A value that may be given to other threads and lent to several.
-fn is_for_threads<T: Send + Sync>(_value: &T) {}
+/// A type whose values may be given to other threads and lent to several.
+fn is_for_threads<T: Send + Sync>() {}
 
-/// Each of many documents is found by its number and its name while others go, first every second one and then
-/// those that are left.
 #[test]
-fn many_documents_go(rt: HostRuntime) -> Result<(), Fail> {
-    let alloc = rt.alloc();
+fn values_for_threads() {
+    is_for_threads::<Index>();
+    is_for_threads::<Held>();
+    is_for_threads::<Name>();
+    is_for_threads::<Command>();
+}
+
+/// 200 documents, each under a name of its own.
+fn many(rt: &impl Abort, alloc: Global) -> Result<Index, Fail> {
     let mut index = Index::new(alloc);
     for i in 0..200u8 {
         assert!(rt; index.version() < 1000);
         index.apply_put(&name_of(alloc, i)?, &held_of(alloc, i)?)?;
     }
+    Ok(index)
+}
+
+/// Whether the removal of this document leaves so many.
+fn leaves(
+    rt: &impl Abort,
+    alloc: Global,
+    index: &mut Index,
+    gone: u8,
+    left: u8,
+) -> Result<bool, Fail> {
+    assert!(rt; index.version() < 1000);
+    index.remove(&name_of(alloc, gone)?)?;
+    Ok(index.documents() == left as u32 && index.held_bytes() == 3 * left as u64)
+}
+
+/// Whether a document is found by its number and its name, or by neither.
+fn is_found(alloc: Global, index: &Index, i: u8, there: bool) -> Result<bool, Fail> {
+    let number = i as u32 + 1;
+    let found = index.number(&name_of(alloc, i)?);
+    Ok(index.document(number).is_some() == there && found == there.then_some(number))
+}
+
+/// Each of many documents is found by its number and its name while others go, first every second one and then
+/// those that are left.
+#[test]
+fn many_documents_go(rt: HostRuntime) -> Result<(), Fail> {
+    let mut index = many(&rt, rt.alloc())?;
     for i in 0..200u8 {
         let gone = if i < 100 { 2 * i } else { 2 * (i - 100) + 1 };
-        assert!(rt; index.version() < 1000);
-        index.remove(&name_of(alloc, gone)?)?;
-        assert_eq!(rt; index.documents(), 199 - i as u32);
-        assert_eq!(rt; index.held_bytes(), 3 * (199 - i as u64));
+        assert!(rt;
+            leaves(&rt, rt.alloc(), &mut index, gone, 199 - i)?,
+            "{gone}"
+        );
         for j in 0..200u8 {
             let order = if j % 2 == 0 { j / 2 } else { 100 + j / 2 };
-            let number = j as u32 + 1;
-            let there = order > i;
-            assert_eq!(rt; index.document(number).is_some(), there, "{j} after {i}");
-            let found = index.number(&name_of(alloc, j)?);
-            assert_eq!(rt; found, there.then_some(number), "{j} after {i}");
+            assert!(rt;
+                is_found(rt.alloc(), &index, j, order > i)?,
+                "{j} after {i}"
+            );
         }
     }
     Ok(())
@@ -213,31 +283,48 @@ fn held_of(alloc: Global, i: u8) -> Result<Held, Fail> {
     Ok(Held::new(body)?)
 }
 
-/// Where memory runs out, the command comes back and the index is as it was.
-#[test]
-fn a_refused_command_changes_nothing(rt: HostRuntime) -> Result<(), Fail> {
-    let alloc = rt.alloc();
-    let mut index = index_of(&rt, alloc, b"f abc|g abcd")?;
+/// Whether the candidates with the trigram bcd have the first numbers, and those with abc the second ones.
+fn have(alloc: Global, index: &Index, bcd: &[u32], abc: &[u32]) -> Result<bool, Fail> {
+    Ok(has(alloc, index, *b"bcd", bcd)? && has(alloc, index, *b"abc", abc)?)
+}
+
+/// Whether the command puts the text bcd under f.
+fn puts_bcd(command: &Command) -> bool {
+    match command {
+        Command::Put(name, body) => {
+            name.as_bytes() == b"f".as_slice() && body.as_bytes() == b"bcd".as_slice()
+        }
+        Command::Remove(_) => false,
+    }
+}
+
+/// Whether two commands were applied, of which the first put abc, and seven bytes are held.
+fn is_as_before(index: &Index) -> bool {
+    index.version() == 2 && index.held_bytes() == 7 && text_at(index, 1) == Some(b"abc".as_slice())
+}
+
+/// Puts the text bcd under f, and tells whether that is done. Where it is refused, the command comes back.
+fn put_bcd(rt: &impl Abort, alloc: Global, index: &mut Index) -> Result<bool, Fail> {
     let (name, body) = document(alloc, b"f", b"bcd")?;
     assert!(rt; index.version() < 1000);
     match index.apply(Command::Put(name, body)) {
-        Ok(()) => {
-            assert!(rt; has(alloc, &index, *b"bcd", &[2, 3])?);
-            assert!(rt; has(alloc, &index, *b"abc", &[2])?);
-        }
+        Ok(()) => Ok(true),
         Err(refused) => {
-            let is_same = match &refused.command {
-                Command::Put(name, body) => name.as_bytes() == b"f".as_slice()
-                    && body.as_bytes() == b"bcd".as_slice(),
-                Command::Remove(_) => false,
-            };
-            assert!(rt; is_same);
-            assert_eq!(rt; index.version(), 2);
-            assert_eq!(rt; index.held_bytes(), 7);
-            assert_eq!(rt; text_at(&index, 1), Some(b"abc".as_slice()));
-            assert!(rt; has(alloc, &index, *b"bcd", &[2])?);
-            assert!(rt; has(alloc, &index, *b"abc", &[1, 2])?);
+            assert!(rt; puts_bcd(&refused.command));
+            Ok(false)
         }
+    }
+}
+
+/// Where memory runs out, the command comes back and the index is as it was.
+#[test]
+fn a_refused_command_changes_nothing(rt: HostRuntime) -> Result<(), Fail> {
+    let mut index = index_of(&rt, rt.alloc(), b"f abc|g abcd")?;
+    if put_bcd(&rt, rt.alloc(), &mut index)? {
+        assert!(rt; have(rt.alloc(), &index, &[2, 3], &[2])?);
+    } else {
+        assert!(rt; is_as_before(&index));
+        assert!(rt; have(rt.alloc(), &index, &[2], &[1, 2])?);
     }
     Ok(())
 }
@@ -251,29 +338,18 @@ fn text_at(index: &Index, number: u32) -> Option<&[u8]> {
 }
 
 /// Commands, the numbers of their live documents, each of which has the trigram abc, and of those with bcd.
+const LIVE: &[(&[u8], &[u32], &[u32])] = &[
+    (b"", &[], &[]),
+    (b"f abc|g abcd", &[1, 2], &[2]),
+    (b"f abc|g abcd|g abc", &[1, 3], &[]),
+    (b"f abc|g abcd|g abc|-f", &[3], &[]),
+];
+
 #[test]
 fn live_numbers_and_candidates(rt: HostRuntime) -> Result<(), Fail> {
-    let alloc = rt.alloc();
-    for (commands, live, with_bcd) in [
-        (b"".as_slice(), [].as_slice(), [].as_slice()),
-        (
-            b"f abc|g abcd".as_slice(),
-            [1, 2].as_slice(),
-            [2].as_slice(),
-        ),
-        (
-            b"f abc|g abcd|g abc".as_slice(),
-            [1, 3].as_slice(),
-            [].as_slice(),
-        ),
-        (
-            b"f abc|g abcd|g abc|-f".as_slice(),
-            [3].as_slice(),
-            [].as_slice(),
-        ),
-    ] {
-        let are = are_numbers(&rt, alloc, commands, live, with_bcd)?;
-        assert!(rt; are, "of {commands:?}");
+    for row in LIVE {
+        let are = are_numbers(&rt, rt.alloc(), row.0, row.1, row.2)?;
+        assert!(rt; are, "of {:?}", row.0);
     }
     Ok(())
 }

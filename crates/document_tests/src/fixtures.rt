@@ -1,7 +1,7 @@
 //! What several tests start from.
 
 use index::{Body, Command, Index, Name};
-use std::alloc::Global;
+use std::alloc::{AllocError, Global};
 use std::process::Abort;
 use std::test::Fail;
 
@@ -48,13 +48,19 @@ pub(crate) fn index_of(rt: &impl Abort, alloc: Global, commands: &[u8]) -> Resul
     Ok(index)
 }
 
+/// Appends the piece so many times.
+fn append_times(text: &mut Vec<u8>, piece: &[u8], times: usize) -> Result<(), AllocError> {
+    for _ in 0..times {
+        text.extend_from_slice(piece)?;
+    }
+    Ok(())
+}
+
 /// The text of these pieces, each so many times.
 pub(crate) fn built(alloc: Global, pieces: &[(&[u8], usize)]) -> Result<Vec<u8>, Fail> {
     let mut text = Vec::new(alloc);
-    for (piece, times) in pieces {
-        for _ in 0..*times {
-            text.extend_from_slice(piece)?;
-        }
+    for piece in pieces {
+        append_times(&mut text, piece.0, piece.1)?;
     }
     Ok(text)
 }

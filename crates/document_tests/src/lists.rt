@@ -64,6 +64,42 @@ fn sets_keep_their_numbers_rising(rt: HostRuntime) -> Result<(), Fail> {
     Ok(())
 }
 
+#[test]
+fn sets_are_stored_as_gaps(rt: HostRuntime) -> Result<(), Fail> {
+    let alloc = rt.alloc();
+    let rows: [([&[u32]; 3], &[u8]); 5] = [
+        ([&[], &[], &[]], &[]),
+        (
+            [&[5, 300, 70000], &[], &[]],
+            &[0x05, 0xa7, 0x02, 0xc4, 0xa0, 0x04],
+        ),
+        ([&[5, 300, 70000], &[300], &[]], &[0x05, 0xeb, 0xa2, 0x04]),
+        ([&[0, 1, 128], &[], &[]], &[0x00, 0x01, 0x7f]),
+        ([&[4294967295], &[], &[]], &[0xff, 0xff, 0xff, 0xff, 0x0f]),
+    ];
+    for (steps, want) in rows {
+        let set = set_of(alloc, &steps)?;
+        assert!(rt; set.stored() == want, "of {steps:?}");
+    }
+    Ok(())
+}
+
+#[test]
+fn numbers_are_looked_up(rt: HostRuntime) -> Result<(), Fail> {
+    let alloc = rt.alloc();
+    let lookup = set_of(alloc, &[&FAR, &[300], &[]])?.lookup(alloc)?;
+    for (number, there) in [
+        (0, false),
+        (1, true),
+        (300, false),
+        (70000, true),
+        (4294967295, true),
+    ] {
+        assert!(rt; lookup.has(number) == there, "of {number}");
+    }
+    Ok(())
+}
+
 /// The set of a text: each small letter puts its number in, and a capital takes the small letter's number out.
 fn set_of_text(alloc: Global, text: &[u8]) -> Result<List, AllocError> {
     let mut set = List::new(alloc);
@@ -112,19 +148,34 @@ fn sets_join_and_meet(rt: HostRuntime) -> Result<(), Fail> {
     Ok(())
 }
 
+fn numbers_below_300(alloc: Global) -> Result<Vec<u32>, AllocError> {
+    let mut numbers = Vec::new(alloc);
+    for number in 0..300 {
+        numbers.push(number)?;
+    }
+    Ok(numbers)
+}
+
+/// Takes the number out of the set and of the numbers in it, and tells whether the others stay.
+fn goes(
+    alloc: Global,
+    set: &mut List,
+    held: &mut Vec<u32>,
+    number: u32,
+) -> Result<bool, AllocError> {
+    set.remove(number);
+    held.retain(|other| *other != number);
+    lists(alloc, set, held)
+}
+
 /// Takes the numbers below 300 out of a set, in the order of the multiples of a factor, from a first one on,
 /// and tells whether the others always stayed.
 fn go_in_order(alloc: Global, factor: u32, first: u32) -> Result<bool, AllocError> {
-    let mut left = Vec::new(alloc);
-    for number in 0..300 {
-        left.push(number)?;
-    }
-    let mut set = set_of(alloc, &[&left, &[], &[]])?;
+    let mut held = numbers_below_300(alloc)?;
+    let mut set = set_of(alloc, &[&held, &[], &[]])?;
     for i in 0..300u32 {
         let number = factor.wrapping_mul(i).wrapping_add(first) % 300;
-        set.remove(number);
-        left.retain(|held| *held != number);
-        if !lists(alloc, &set, &left)? {
+        if !goes(alloc, &mut set, &mut held, number)? {
             return Ok(false);
         }
     }

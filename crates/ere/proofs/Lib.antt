@@ -1,6 +1,9 @@
 pub mod Forms
 pub mod Words
 mod SetLemmas
+pub mod Bits
+pub mod SetWords
+mod LaneLemmas
 mod Texts
 mod BracketLemmas
 mod BracketSteps

@@ -1,6 +1,6 @@
 -- Sets of line bytes, each as 256 truth values: value b says whether byte b is in the set.
 -- A character is one byte (this program's choice; POSIX.1-2017 XBD 9.1 leaves the locale open).
-use Rattle.std.specs.Prelude.{◌≡◌, ℕ, ◌<◌, Bool, false, true, not, ◌&&◌, ◌||◌, ◌==◌, nat_lt, nat_le, IsTrue, List, map, length, slice_index_or, count_by}
+use Rattle.std.specs.Prelude.{ℕ, Bool, false, true, not, ◌&&◌, ◌||◌, ◌==◌, nat_lt, nat_le, List, map, slice_index_or, count_by}
 use Rattle.std.specs.List.{range_with_len}
 
 -- any byte but 0 and the line feed
@@ -42,8 +42,3 @@ complement set = set_of (λ b. not (has set b))
 -- how many bytes are in the set
 abbrev pub size_of : List Bool → ℕ
 size_of set = count_by (λ held. held) set
-
--- the truth values of a set of line bytes
-pub record IsByteSet (set : List Bool) : Type 0 where
-  pub whole : length set ≡ 256
-  pub line_bytes : (b : ℕ) → b < 256 → IsTrue (slice_index_or set b false) → IsTrue (is_line_byte b)

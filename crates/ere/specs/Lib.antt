@@ -1,3 +1,4 @@
+pub mod Bits
 pub mod ByteSet
 pub mod Classes
 pub mod Brackets

@@ -1,2 +1,5 @@
 -- What only the contracts of private functions cite. A clause cites `pub` modules alone.
 pub mod Reading
+pub mod SetWords
+pub mod SetInverse
+pub mod Lanes

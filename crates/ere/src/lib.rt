@@ -12,6 +12,7 @@ pub mod laws;
 mod limits;
 mod parts;
 mod reader;
+mod sixteen;
 mod token;
 mod tree;
 

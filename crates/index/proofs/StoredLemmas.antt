@@ -11,7 +11,7 @@ use Rattle.std.proofs.lemmas.Option.{some_pair_parts}
 use Rattle.std.proofs.lemmas.List.Sums.{sum-map, sum_by-cons}
 use Rattle.query.specs.Trigrams.{ListsTrigrams, trigrams_of_body}
 use Rattle.posting.specs.ListValue.{has, without}
-use Rattle.posting.specs.Postings.{holds, SameSets}
+use Rattle.posting.specs.Postings.{holds}
 use Rattle.posting.proofs.Members.{has_at, All-has}
 use Rattle.index.specs.declared.slots.Slot.{Slot}
 use Rattle.index.specs.declared.slots.Entry.{Entry}

@@ -1,4 +1,4 @@
--- Which documents a journal of commands leaves (this program's choice).
+-- Which documents a list of commands leaves (this program's choice).
 use Rattle.std.specs.Prelude.{◌≡◌, ℕ, suc, ◌+◌, ◌==◌, ◌||◌, Bool, false, if◌then◌else◌, List, [], ◌∷◌, ◌++◌, map, length, Option, Some, None, bytes_eq, Contains, ◌↔◌}
 use Rattle.std.specs.Ordering.{nat_cmp}
 use Rattle.std.specs.Cmp.Lexicographic.{slice_cmp}
@@ -8,7 +8,7 @@ use Rattle.query.specs.Query.{Formula, is_met}
 use Rattle.index.specs.declared.command.Command.{Command}
 use Rattle.index.specs.declared.command.Command.TheVariants.{Put, Remove}
 
--- A document: its number is the place of its Put in the journal, counted from 1.
+-- A document: its number is the place of its Put among the commands, counted from 1.
 pub record Document : Type 0 where
   pub number : ℕ
   pub name : List ℕ

@@ -325,9 +325,10 @@ fn numbers_among(
     ensures numbers { IfOk result (λ v. v.items ≡ filter (has chosen.now.members) (values numbers.now)) }
     ensures ordered { IsOrdered (slice_cmp nat_cmp) numbers.now }
 {
-    numbers
-        .values()
+    let values = numbers.values();
+    let among = chosen.lookup(alloc)?;
+    values
         .copied()
-        .filter(|number| chosen.has(*number))
+        .filter(|number| among.has(*number))
         .collect(alloc)
 }

@@ -1,12 +1,14 @@
--- Single bits of words, and the positions of a set of words.
-use Rattle.std.proofs.Common.{◌≡◌, ◌≢◌, ℕ, zero, suc, ◌+◌, ◌-◌, ◌*◌, ◌/◌, ◌%◌, ◌^◌, ◌≤◌, ◌<◌, max, min, Bool, true, false, not, ◌&&◌, ◌||◌, ◌==◌, nat_le, IsTrue, List, length, get_or, set, refl, sym, ap, ◌∙◌, arith, w64}
+-- Bits that move, and the positions of a set of words.
+use Rattle.std.proofs.Common.{◌≡◌, ◌≢◌, ℕ, ◌+◌, ◌-◌, ◌*◌, ◌/◌, ◌%◌, ◌^◌, ◌≤◌, ◌<◌, Bool, true, false, not, ◌&&◌, ◌||◌, ◌==◌, nat_le, IsTrue, List, length, get_or, set, refl, sym, ap, ◌∙◌, arith, w64}
 use Rattle.std.proofs.lemmas.List.{get_or-set_same, get_or-set_other}
 use Rattle.std.proofs.lemmas.Bool.Decides.{nat_tests}
-use Rattle.std.proofs.lemmas.Nat.{shr-shr, and_le_l}
-use Rattle.std.proofs.lemmas.Nat.Bits.{bit_at-lt, bit_at_and, bit_at_or, bit_at-zero, bit_at_lowest, shr_and_one, bit_at_not, bit_at_above, bit_at_ones, bit_at_ones_above, ones_shr, bit_at-trailing_zeros, bit_at_set_same, bit_at_set_other, bit_at_cat_low, bit_at_cat_high}
+use Rattle.std.proofs.lemmas.Nat.{shr-shr, and_le_l, pow_pos}
+use Rattle.std.proofs.lemmas.Nat.Bits.{bit_at-zero, bit_at_lowest, bit_at_above, bit_at_ones, bit_at_ones_above, ones_shr, bit_at-trailing_zeros, bit_at_cat_low, bit_at_cat_high}
 use Rattle.std.specs.Prelude.{bit_and, bit_or}
 use Rattle.std.specs.Int.{bit_at, bit_not, trailing_zeros}
-use Rattle.matcher.specs.PositionSets.{has_bit, has_position}
+use Rattle.ere.proofs.Bits.{has_or, has_zero, has_cleared}
+use Rattle.ere.specs.Bits.{has_bit}
+use Rattle.matcher.specs.PositionSets.{has_position}
 use Rattle.matcher.specs.Private.Moves.{HasNone}
 
 pub false≢true : false ≡ true → ⊥
@@ -17,80 +19,12 @@ pub is_false : (b : Bool) → (IsTrue b → ⊥) → b ≡ false
 is_false true h = absurd (h refl)
 is_false false h = refl
 
--- tests of numbers below 2
-max_is_or : (x y : ℕ) → x < 2 → y < 2 → (max x y == 1) ≡ ((x == 1) || (y == 1))
-max_is_or zero zero p q = refl
-max_is_or zero (suc zero) p q = refl
-max_is_or (suc zero) zero p q = refl
-max_is_or (suc zero) (suc zero) p q = refl
-max_is_or (suc (suc x)) y p q = absurd (omega arith)
-max_is_or x (suc (suc y)) p q = absurd (omega arith)
-
-min_is_and : (x y : ℕ) → x < 2 → y < 2 → (min x y == 1) ≡ ((x == 1) && (y == 1))
-min_is_and zero zero p q = refl
-min_is_and zero (suc zero) p q = refl
-min_is_and (suc zero) zero p q = refl
-min_is_and (suc zero) (suc zero) p q = refl
-min_is_and (suc (suc x)) y p q = absurd (omega arith)
-min_is_and x (suc (suc y)) p q = absurd (omega arith)
-
-less_is_not : (x : ℕ) → x < 2 → ((1 - x) == 1) ≡ not (x == 1)
-less_is_not zero p = refl
-less_is_not (suc zero) p = refl
-less_is_not (suc (suc x)) p = absurd (omega arith)
-
-pub has_or : (a b i : ℕ) → has_bit (bit_or a b) i ≡ (has_bit a i || has_bit b i)
-has_or a b i = ap (λ n. n == 1) (bit_at_or a b i) ∙ max_is_or (bit_at a i) (bit_at b i) (bit_at-lt a i) (bit_at-lt b i)
-
-pub has_and : (a b i : ℕ) → has_bit (bit_and a b) i ≡ (has_bit a i && has_bit b i)
-has_and a b i = ap (λ n. n == 1) (bit_at_and a b i) ∙ min_is_and (bit_at a i) (bit_at b i) (bit_at-lt a i) (bit_at-lt b i)
-
-pub has_not : (a i : ℕ) → a < 2 ^ 64 → i < 64 → has_bit (bit_not w64 a) i ≡ not (has_bit a i)
-has_not a i small inside = ap (λ n. n == 1) (bit_at_not w64 a i small inside) ∙ less_is_not (bit_at a i) (bit_at-lt a i)
-
-pub has_zero : (i : ℕ) → has_bit 0 i ≡ false
-has_zero i = ap (λ n. n == 1) (bit_at-zero i)
-
--- `word >> bit & 1 == 1`
-pub tests_bit : (word bit : ℕ) → (bit_and (word / 2 ^ bit) 1 == 1) ≡ has_bit word bit
-tests_bit word bit = ap (λ n. n == 1) (shr_and_one word bit)
-
--- `1 << bit`
-pub has_one_bit : (bit b : ℕ) → bit < 64 → has_bit (1 * 2 ^ bit % 2 ^ 64) b ≡ (b == bit)
-has_one_bit bit b inside = sym (or_zero (has_bit (1 * 2 ^ bit % 2 ^ 64) b)) ∙ ap (λ t. t || has_bit (1 * 2 ^ bit % 2 ^ 64) b) (sym (has_zero b)) ∙ sym (has_or 0 (1 * 2 ^ bit % 2 ^ 64) b) ∙ go (b == bit) refl
-  where
-    or_zero : (t : Bool) → (false || t) ≡ t
-    or_zero t = refl
-
-    go : (t : Bool) → (b == bit) ≡ t → has_bit (bit_or 0 (1 * 2 ^ bit % 2 ^ 64)) b ≡ (b == bit)
-    go true e = let same : b ≡ bit = grind (arith, nat_tests) in rw (e, same) (ap (λ n. n == 1) (bit_at_set_same w64 0 bit inside))
-    go false e = let other : b ≢ bit = grind (arith, nat_tests) in rw e (ap (λ n. n == 1) (bit_at_set_other w64 0 bit inside b other) ∙ has_zero b)
-
-pub has_with : (word bit b : ℕ) → bit < 64 → has_bit (bit_or word (1 * 2 ^ bit % 2 ^ 64)) b ≡ (has_bit word b || b == bit)
-has_with word bit b inside = has_or word (1 * 2 ^ bit % 2 ^ 64) b ∙ ap (λ t. has_bit word b || t) (has_one_bit bit b inside)
-
-and_swap : (x y : Bool) → (x && y) ≡ (y && x)
-and_swap true true = refl
-and_swap true false = refl
-and_swap false true = refl
-and_swap false false = refl
-
-pub has_only : (word bit b : ℕ) → bit < 64 → has_bit (bit_and word (1 * 2 ^ bit % 2 ^ 64)) b ≡ (b == bit && has_bit word b)
-has_only word bit b inside = has_and word (1 * 2 ^ bit % 2 ^ 64) b ∙ ap (λ t. has_bit word b && t) (has_one_bit bit b inside) ∙ and_swap (has_bit word b) (b == bit)
-
-pub has_without : (word other b : ℕ) → other < 2 ^ 64 → b < 64 → has_bit (bit_and word (bit_not w64 other)) b ≡ (has_bit word b && not (has_bit other b))
-has_without word other b small inside = has_and word (bit_not w64 other) b ∙ ap (λ t. has_bit word b && t) (has_not other b small inside)
-
 -- the lowest bit of a word that is not 0
 pub some_bit : (word : ℕ) → 0 < word → word < 2 ^ 64 → (trailing_zeros w64 word < 64) × IsTrue (has_bit word (trailing_zeros w64 word))
 some_bit word some small = let lowest = bit_at-trailing_zeros w64 word some small in (lowest.0, ap (λ n. n == 1) lowest.1)
 
 pub lowest_bit : (word : ℕ) → 0 < word → word < 2 ^ 64 → (trailing_zeros w64 word < 64) × ((b : ℕ) → b < trailing_zeros w64 word → has_bit word b ≡ false)
 lowest_bit word some small = let lowest = bit_at-trailing_zeros w64 word some small in (lowest.0, λ b below. ap (λ n. n == 1) (lowest.2 b below))
-
--- `word & !(1 << bit)`
-pub has_cleared : (word bit b : ℕ) → bit < 64 → b < 64 → has_bit (bit_and word (bit_not w64 (1 * 2 ^ bit % 2 ^ 64))) b ≡ (has_bit word b && not (b == bit))
-has_cleared word bit b inside within = has_without word (1 * 2 ^ bit % 2 ^ 64) b (omega arith) within ∙ ap (λ t. has_bit word b && not t) (has_one_bit bit b inside)
 
 pub cleared_less : (word bit : ℕ) → bit < 64 → IsTrue (has_bit word bit) → bit_and word (bit_not w64 (1 * 2 ^ bit % 2 ^ 64)) < word
 cleared_less word bit inside held = less (bit_and word (bit_not w64 (1 * 2 ^ bit % 2 ^ 64))) (and_le_l word (bit_not w64 (1 * 2 ^ bit % 2 ^ 64))) (λ e. false≢true (sym gone ∙ ap (λ n. has_bit n bit) e ∙ held))
@@ -193,3 +127,17 @@ none_held words none = record { none = λ k. empty_word words k (none (k / 64)) 
 pub and_all : (t : Bool) → (t && true) ≡ t
 and_all true = refl
 and_all false = refl
+
+-- `word << at`
+pub has_moved_to : (word at b : ℕ) → b < 64 → has_bit (word * 2 ^ at % 2 ^ 64) b ≡ (nat_le at b && has_bit word (b - at))
+has_moved_to word at b inside = ap (λ n. n == 1) (sym (bit_at_cat_low (word * 2 ^ at / 2 ^ 64) 64 (word * 2 ^ at % 2 ^ 64) b inside) ∙ ap (λ n. bit_at n b) (whole (word * 2 ^ at))) ∙ go (nat_le at b) refl
+  where
+    whole : (n : ℕ) → n / 2 ^ 64 * 2 ^ 64 + n % 2 ^ 64 ≡ n + 0
+    whole n = omega arith
+
+    go : (t : Bool) → nat_le at b ≡ t → has_bit (word * 2 ^ at + 0) b ≡ (t && has_bit word (b - at))
+    go true e = let from : at ≤ b = grind (arith, nat_tests) in ap (λ n. n == 1) (bit_at_cat_high word at 0 b (pow_pos at) from)
+    go false e = let before : b < at = grind (arith, nat_tests) in ap (λ n. n == 1) (bit_at_cat_low word at 0 b before) ∙ has_zero b
+
+pub has_no_more : (word b : ℕ) → word < 2 ^ 16 → 16 ≤ b → has_bit word b ≡ false
+has_no_more word b small far = ap (λ n. n == 1) (bit_at_above word 16 b small far)

@@ -3,9 +3,9 @@ use Rattle.std.proofs.Common.{◌≡◌, ℕ, zero, suc, ◌+◌, ◌*◌, ◌/�
 use Rattle.std.proofs.lemmas.Nat.Bits.{bit_at-lt, bit_at-suc, bit_at_lowest, bit_at_and, bit_at_xor, bit_at_cat_low}
 use Rattle.std.specs.Prelude.{bit_and, bit_or, bit_xor}
 use Rattle.std.specs.Int.{bit_at}
-use Rattle.matcher.specs.PositionSets.{has_bit}
+use Rattle.ere.specs.Bits.{has_bit}
 use Rattle.matcher.specs.Private.Moving.{comes, flood}
-use Rattle.matcher.proofs.Bits.{has_or}
+use Rattle.ere.proofs.Bits.{has_or}
 
 -- what is carried into a place of a sum, of which `carried` comes into the lowest
 abbrev carry : ℕ → ℕ → ℕ → ℕ → ℕ

@@ -6,7 +6,8 @@ use Rattle.std.proofs.lemmas.Bool.Decides.{nat_tests}
 use Rattle.std.specs.Int.{trailing_zeros}
 use Rattle.matcher.specs.declared.words.TheConstants.{WORDS}
 use Rattle.matcher.specs.Private.Bounds.{IsBounded}
-use Rattle.matcher.specs.PositionSets.{has_bit, has_position}
+use Rattle.ere.specs.Bits.{has_bit}
+use Rattle.matcher.specs.PositionSets.{has_position}
 use Rattle.matcher.specs.Private.Moves.{more_unless, absent_below, absent, HasNone, IsEither, IsNew}
 use Rattle.matcher.proofs.Bits.{false≢true, some_bit, position_in, same_word, empty_word, none_held, position_set_same, position_set_other}
 use Rattle.matcher.proofs.Shifting.{none_before, none_after}

@@ -1,10 +1,11 @@
 -- Which bytes of a line are in a set, as bits of a word.
-use Rattle.std.proofs.Common.{◌≡◌, ℕ, zero, suc, ◌+◌, ◌≤◌, ◌<◌, Bool, true, false, not, ◌&&◌, ◌||◌, ◌==◌, nat_lt, IsTrue, List, length, get_or, refl, sym, ap, ◌∙◌, arith}
+use Rattle.std.proofs.Common.{◌≡◌, ℕ, zero, suc, ◌+◌, ◌-◌, ◌^◌, ◌≤◌, ◌<◌, Bool, true, false, not, ◌&&◌, ◌||◌, ◌==◌, nat_le, nat_lt, IsTrue, List, length, get_or, refl, sym, ap, ◌∙◌, arith}
 use Rattle.std.proofs.lemmas.Bool.Decides.{nat_tests}
 use Rattle.ere.specs.ByteSet.{has}
-use Rattle.matcher.specs.PositionSets.{has_bit}
-use Rattle.matcher.specs.Private.Moving.{passes, IsPassing}
-use Rattle.matcher.proofs.Bits.{has_zero}
+use Rattle.ere.specs.Bits.{has_bit}
+use Rattle.matcher.specs.Private.Moving.{passes, IsPassing, IsPassingFrom}
+use Rattle.ere.proofs.Bits.{has_zero}
+use Rattle.matcher.proofs.Bits.{has_no_more}
 
 pub passes_is : (members : List Bool) (line : List ℕ) (at : ℕ) → at < length line → passes members line at ≡ has members (get_or line at 0)
 passes_is members line at inside = let test : nat_lt at (length line) ≡ true = grind (arith, nat_tests) in rw test refl
@@ -64,3 +65,48 @@ picked_all pass word found rest b none h = sym (or_none (has_bit found b)) ∙ a
     or_none : (t : Bool) → (t || false) ≡ t
     or_none true = refl
     or_none false = refl
+
+-- sixteen positions more
+module _ (members : List Bool) (line : List ℕ) (found held moved both base at from : ℕ) (low : at ≤ from) (high : from ≤ at + 16) (in_line : base + at + 16 ≤ length line) (h : IsPassingFrom members line found base from) (small : held < 2 ^ 16) (looked_at : (k : ℕ) → k < 16 → has_bit held k ≡ has members (get_or line (base + at + k) 0)) where
+  shown : (b : ℕ) → at ≤ b → b < at + 16 → has_bit held (b - at) ≡ passes members line (base + b)
+  shown b from_at below =
+      let place : base + at + (b - at) ≡ base + b = omega arith in
+      looked_at (b - at) (omega arith) ∙ ap (λ n. has members (get_or line n 0)) place ∙ sym (passes_is members line (base + b) (omega arith))
+
+  pub sixteen_more : ((b : ℕ) → b < 64 → has_bit moved b ≡ (nat_le at b && has_bit held (b - at))) → ((b : ℕ) → has_bit both b ≡ (has_bit found b || has_bit moved b)) → IsPassingFrom members line both base at
+  sixteen_more moves joins = record { each = λ b inside. joins b ∙ ap (λ t. t || has_bit moved b) (h.each b inside) ∙ ap (λ t. (nat_le from b && passes members line (base + b)) || t) (moves b inside) ∙ go b (nat_le at b) (nat_lt b (at + 16)) refl refl }
+    where
+      all : (t p : Bool) → ((t && p) || (true && p)) ≡ (true && p)
+      all true true = refl
+      all true false = refl
+      all false p = refl
+
+      rest : (p : Bool) → (p || false) ≡ p
+      rest true = refl
+      rest false = refl
+
+      go : (b : ℕ) (t u : Bool) → nat_le at b ≡ t → nat_lt b (at + 16) ≡ u → ((nat_le from b && passes members line (base + b)) || (nat_le at b && has_bit held (b - at))) ≡ (nat_le at b && passes members line (base + b))
+      go b false u e f = let before : nat_le from b ≡ false = grind (arith, nat_tests) in rw (e, before) refl
+      go b true true e f =
+          let from_at : at ≤ b = grind (arith, nat_tests) in
+          let below : b < at + 16 = grind (arith, nat_tests) in
+          rw (e, shown b from_at below) (all (nat_le from b) (passes members line (base + b)))
+      go b true false e f =
+          let past : nat_le from b ≡ true = grind (arith, nat_tests) in
+          let far : at + 16 ≤ b = grind (arith, nat_tests) in
+          rw (e, past, has_no_more held (b - at) small (omega arith)) (rest (passes members line (base + b)))
+
+-- from the word's last position that a byte follows, there is none
+pub from_end : (members : List Bool) (line : List ℕ) (base end : ℕ) → ((bit : ℕ) → end ≤ bit → bit < 64 → length line ≤ base + bit) → IsPassingFrom members line 0 base end
+from_end members line base end past = record { each = λ b inside. has_zero b ∙ go b inside (nat_le end b) refl }
+  where
+    go : (b : ℕ) → b < 64 → (t : Bool) → nat_le end b ≡ t → false ≡ (nat_le end b && passes members line (base + b))
+    go b inside false e = rw e refl
+    go b inside true e =
+        let from : end ≤ b = grind (arith, nat_tests) in
+        let out : length line ≤ base + b = past b from inside in
+        let none : nat_lt (base + b) (length line) ≡ false = grind (arith, nat_tests) in
+        rw (e, none) refl
+
+pub from_start : (members : List Bool) (line : List ℕ) (word base from : ℕ) → from ≡ 0 → IsPassingFrom members line word base from → (bit : ℕ) → bit < 64 → has_bit word bit ≡ passes members line (base + bit)
+from_start members line word base from none h bit inside = let all : nat_le from bit ≡ true = grind (arith, nat_tests) in h.each bit inside ∙ ap (λ t. t && passes members line (base + bit)) all

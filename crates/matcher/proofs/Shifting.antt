@@ -9,9 +9,11 @@ use Rattle.matcher.specs.declared.words.TheConstants.{WORDS}
 use Rattle.matcher.specs.Private.Bounds.{IsBounded}
 use Rattle.matcher.specs.Private.Moving.{passes, arrives, comes, flood}
 use Rattle.matcher.specs.Spans.{Spans, Steps}
-use Rattle.matcher.specs.PositionSets.{has_bit, has_position}
+use Rattle.ere.specs.Bits.{has_bit}
+use Rattle.matcher.specs.PositionSets.{has_position}
 use Rattle.matcher.specs.Private.Moves.{Moves}
-use Rattle.matcher.proofs.Bits.{false≢true, has_zero, position_in, same_word, empty_word, position_set_same, position_set_other}
+use Rattle.ere.proofs.Bits.{has_zero}
+use Rattle.matcher.proofs.Bits.{false≢true, position_in, same_word, empty_word, position_set_same, position_set_other}
 
 pub and_false : (a b : Bool) → b ≡ false → (a && b) ≡ false
 and_false true b e = e

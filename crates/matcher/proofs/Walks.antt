@@ -298,6 +298,22 @@ moves_few_closed relation rounds most start found fresh less h none_fresh = reco
   complete = λ i k held r. widened_all relation (λ count. count ≤ rounds) start found fresh h.widened none_fresh r.0 i k held r.2;
 }
 
+steps_stay : (relation : Relation) (count i : ℕ) → ((j : ℕ) → relation j j) → Steps relation count i i
+unfolding Steps
+steps_stay relation zero i stays = refl
+steps_stay relation (suc count) i stays = (i, steps_stay relation count i stays, stays i)
+
+-- Where a step can stay, at most so many are as good as exactly so many.
+pub moves_exactly : (relation : Relation) (count : ℕ) (from to : Positions) → ((i : ℕ) → relation i i) → Moves (FewSteps relation count) from to → Moves (Steps relation count) from to
+moves_exactly relation count from to stays moves = record {
+  sound = λ k h.
+      let few = moves.sound k h in
+      let words = few.2.0 in
+      let sum : words + (count - words) ≡ count = let less = few.2.1 in omega arith in
+      (few.0, few.1, subst (λ n. Steps relation n few.0 k) sum (steps_join relation words (count - words) few.0 k k few.2.2 (steps_stay relation (count - words) k stays)));
+  complete = λ i k h r. moves.complete i k h (count, omega arith, r);
+}
+
 -- counted repeats
 pub moves_impossible : (line : List ℕ) (body : Tree) (least most : ℕ) (from to : Positions) → most < least → HasNone to → Moves (Spans line (repeat body least (Some most))) from to
 unfolding Spans

@@ -25,6 +25,19 @@ pub fn advance<S: PositionSet>(tree: &Ere, line: &[u8], at: &mut S)
     }
 }
 
+/// The same, where a set, which most members are, costs no call.
+#[cycle(walk)]
+#[inline(always)]
+fn advance_over<S: PositionSet>(tree: &Ere, line: &[u8], at: &mut S)
+    requires { length line.now ≤ S.longest }
+    ensures { Moves (Spans line.now (form tree.now)) (S.words at.old) (S.words at.new) }
+{
+    match tree {
+        Ere::Set(members) => at.step(members, line),
+        _ => advance(tree, line, at),
+    }
+}
+
 /// By a word of each member, one behind the other.
 #[cycle(walk)]
 fn advance_each<S: PositionSet>(members: &[Ere], line: &[u8], at: &mut S)
@@ -32,7 +45,7 @@ fn advance_each<S: PositionSet>(members: &[Ere], line: &[u8], at: &mut S)
     ensures { Moves (SpansEach line.now (trees_of (map form members.now))) (S.words at.old) (S.words at.new) }
 {
     for member in members {
-        advance(member, line, at);
+        advance_over(member, line, at);
         if at.is_empty() {
             return;
         }
@@ -49,7 +62,7 @@ fn advance_some<S: PositionSet>(members: &[Ere], line: &[u8], at: &mut S)
     let mut one = S::none();
     for i in (0..members.len()).rev() {
         one.copy(at);
-        advance(&members[i], line, &mut one);
+        advance_over(&members[i], line, &mut one);
         found.add(&mut one);
     }
     at.copy(&found);
@@ -99,6 +112,11 @@ fn advance_exactly<S: PositionSet>(body: &Ere, count: u8, line: &[u8], at: &mut 
     requires { length line.now ≤ S.longest }
     ensures { Moves (Steps (Spans line.now (form body.now)) count) (S.words at.old) (S.words at.new) }
 {
+    // With words that can be empty, fewer are as good.
+    if can_be_empty(body) {
+        advance_at_most(body, count, line, at);
+        return;
+    }
     for _word in 0..count {
         if at.is_empty() {
             return;
@@ -187,11 +205,16 @@ fn each_past<S: PositionSet>(members: &[Ere], line: &[u8], at: &mut S, done: &S)
 
 /// By a word of a member that stands at the front, or that does not. Whether the next one stands there too.
 #[cycle(walk)]
+#[inline(always)]
 fn member_past<S: PositionSet>(member: &Ere, leads: bool, line: &[u8], at: &mut S, done: &S) -> bool
     requires { length line.now ≤ S.longest }
     ensures moved { MovesIf leads (Spans line.now (form member.now)) (S.words done.now) (S.words at.old) (S.words at.new) }
     ensures next { IsTrue result → IsTrue leads × ((place : ℕ) → Spans line.now (form member.now) place place) }
 {
+    if let Ere::Set(members) = member {
+        at.step(members, line);
+        return false;
+    }
     if leads {
         advance_past(member, line, at, done);
         can_be_empty(member)
@@ -209,9 +232,9 @@ fn some_past<S: PositionSet>(members: &[Ere], line: &[u8], at: &mut S, done: &S)
 {
     let mut found = S::none();
     let mut one = S::none();
-    for i in (0..members.len()).rev() {
+    for place in (0..members.len()).rev() {
         one.copy(at);
-        advance_past(&members[i], line, &mut one, done);
+        advance_past(&members[place], line, &mut one, done);
         found.add(&mut one);
     }
     at.copy(&found);

@@ -2,17 +2,22 @@
 
 ghost use Rattle.std.specs.Prelude.{◌≡◌, ℕ, ◌+◌, ◌-◌, ◌≤◌, ◌<◌, ◌↔◌, ◌&&◌, ◌||◌, ◌==◌, nat_le, nat_lt, false, not, IsTrue, length, slice_index};
 ghost use Rattle.ere.specs.ByteSet.{has};
-ghost use Rattle.matcher.specs.PositionSets.{has_bit, has_position};
+ghost use Rattle.ere.specs.Bits.{has_bit};
+ghost use Rattle.matcher.specs.PositionSets.{has_position};
 ghost use Rattle.matcher.specs.Private.Bounds.{IsBounded};
-ghost use Rattle.matcher.specs.Private.Moving.{passes, arrives, flood, IsPassing};
+ghost use Rattle.matcher.specs.Private.Moving.{passes, arrives, flood, IsPassing, IsPassingFrom};
 
 use ere::{ByteSet, MAX_LINE};
+use std::simd::prelude::*;
 
 /// How many positions a word has.
 pub(crate) const BITS: usize = 64;
 
 /// From how many positions on a word's are looked at all together.
 const FEW: u32 = 9;
+
+/// How many bytes are looked at together.
+const SIXTEEN: usize = 16;
 
 /// How many words the positions of a line of the greatest length need.
 pub const WORDS: usize = MAX_LINE / BITS + 1;
@@ -140,45 +145,58 @@ pub(crate) fn reached(word: u64, base: usize, members: &ByteSet, line: &[u8]) ->
 }
 
 /// All positions of a word that have a byte of the set after them. They are found from the last one down,
-/// eight at a time.
+/// sixteen at a time.
 fn passing(base: usize, members: &ByteSet, line: &[u8]) -> u64
     requires { base ≤ MAX_LINE }
     ensures { (bit : ℕ) → bit < 64 → has_bit result bit ≡ passes members.now line.now (base + bit) }
 {
     let end = line.len().saturating_sub(base).min(BITS);
-    let eights = end / 8;
-    let mut passing = last_passing(base, 8 * eights, end, members, line);
-    for i in (0..eights).rev() {
-        passing = eight_passing(passing, base + 8 * i, members, line);
+    if end < SIXTEEN {
+        return few_passing(base, end, members, line);
+    }
+    let mut passing = 0;
+    let mut from = end;
+    while from > 0 {
+        // The first sixteen may have some among them that were looked at.
+        let at = from.saturating_sub(SIXTEEN);
+        passing = sixteen_passing(passing, at, base, members, line);
+        from = at;
     }
     passing
 }
 
-/// The bits from `start` on, moved down to be the lowest, where none passes from `end` on.
-fn last_passing(base: usize, start: usize, end: usize, members: &ByteSet, line: &[u8]) -> u64
-    requires ordered { start ≤ end }
+/// The same, where none passes from `end` on.
+fn few_passing(base: usize, end: usize, members: &ByteSet, line: &[u8]) -> u64
     requires inside { end ≤ 64 }
-    requires in_line { start < end → base + end ≤ length line.now }
+    requires in_line { 0 < end → base + end ≤ length line.now }
     requires last { (bit : ℕ) → end + bit < 64 → passes members.now line.now (base + end + bit) ≡ false }
-    ensures { IsPassing members.now line.now result (base + start) (64 - start) }
+    ensures { IsPassing members.now line.now result base 64 }
 {
     let mut passing = 0;
-    for bit in (start..end).rev() {
+    for bit in (0..end).rev() {
         passing = moved_up(passing, bit_if(members.has(line[base + bit])));
     }
     passing
 }
 
-/// The bits that were found, moved up, with those of the eight positions before them.
-fn eight_passing(found: u64, at: usize, members: &ByteSet, line: &[u8]) -> u64
-    requires { at + 8 ≤ length line.now }
-    ensures { (count : ℕ) → count + 8 ≤ 64 → IsPassing members.now line.now found (at + 8) count → IsPassing members.now line.now result at (count + 8) }
+/// The positions of a word that were found, which are those that pass from one on, with the sixteen from `at` on.
+#[inline(always)]
+fn sixteen_passing(found: u64, at: usize, base: usize, members: &ByteSet, line: &[u8]) -> u64
+    requires inside { at + 16 ≤ 64 }
+    requires in_line { base + at + 16 ≤ length line.now }
+    ensures { (from : ℕ) → at ≤ from → from ≤ at + 16 → IsPassingFrom members.now line.now found base from → IsPassingFrom members.now line.now result base at }
 {
-    let mut passing = found;
-    for bit in (0..8).rev() {
-        passing = moved_up(passing, bit_if(members.has(line[at + bit])));
-    }
-    passing
+    let held = members.which_of(sixteen_at(line, base + at));
+    either(found, moved_to(held, at))
+}
+
+/// Sixteen bytes of the line.
+#[inline(always)]
+fn sixteen_at(line: &[u8], at: usize) -> u8x16
+    requires { at + 16 ≤ length line.now }
+    ensures { (k : ℕ) → k < 16 → slice_index result k ≡ slice_index line.now (at + k) }
+{
+    u8x16::from_slice(&line[at..])
 }
 
 /// Whether the word has the position and a byte of the set stands after it.
@@ -277,6 +295,14 @@ fn flooded(word: u64, passing: u64) -> u64
     ensures { (b : ℕ) → b < 64 → has_bit result b ≡ flood (has_bit word) (has_bit passing) b }
 {
     word | (word & passing).wrapping_add(passing) ^ passing
+}
+
+/// Each bit of the word moved up to begin at a bit.
+fn moved_to(word: u64, at: usize) -> u64
+    requires { at < 64 }
+    ensures { (b : ℕ) → b < 64 → has_bit result b ≡ (nat_le at b && has_bit word (b - at)) }
+{
+    word << at
 }
 
 /// Each bit of the word moved up by one, and the bit carried in as the lowest.

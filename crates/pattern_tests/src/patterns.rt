@@ -5,6 +5,7 @@ use crate::fixtures::{built, halves};
 use ere::{ByteSet, Ere, EreErrorKind, parse};
 use std::alloc::Global;
 use std::process::Abort;
+use std::simd::prelude::*;
 use std::test::Fail;
 
 /// Appends a tree in one line: a set as its bytes in brackets, all else as in `(cat [a] (repeat 2 - [01]))`.
@@ -394,4 +395,43 @@ fn operations_of_byte_sets(rt: HostRuntime) {
     set.insert(b'\xff');
     assert!(rt; set.has(b'x') && set.has(b'\xff') && !set.has(b'y'));
     assert_eq!(rt; set.len(), 2);
+}
+
+/// A set is four words: bytes on both sides of the places where they meet.
+#[test]
+fn byte_sets_where_words_meet(rt: HostRuntime) {
+    let lasts = ByteSet::of(|b| b % 64 == 63);
+    let set = lasts.union(&ByteSet::of(|b| b % 64 == 0));
+    // 63, 64, 127, 128, 191, 192 and 255, for 0 is no line byte
+    assert_eq!(rt; set.len(), 7);
+    let rest = set.complement();
+    assert_eq!(rt; rest.len(), 247);
+    for i in 0..256usize {
+        let byte = i as u8;
+        let meets = i % 64 == 63 || (i % 64 == 0 && i != 0);
+        assert_eq!(rt; set.has(byte), meets, "{byte}");
+        assert_eq!(rt; rest.has(byte), !meets && i != 0 && i != 10, "{byte}");
+    }
+}
+
+#[test]
+fn sizes_of_byte_sets(rt: HostRuntime) {
+    assert_eq!(rt; ByteSet::all().len(), 254);
+    assert!(rt; ByteSet::all().complement().is_empty());
+    assert_eq!(rt; ByteSet::between(60, 70).len(), 11);
+    assert_eq!(rt; ByteSet::between(0, 255).len(), 254);
+    assert_eq!(rt; ByteSet::between(70, 60).len(), 0);
+    assert_eq!(rt; ByteSet::single(200).len(), 1);
+    assert!(rt; ByteSet::single(b'\n').is_empty());
+    assert!(rt; !ByteSet::single(255).is_empty());
+}
+
+#[test]
+fn sixteen_bytes_at_once(rt: HostRuntime) {
+    let set = ByteSet::of(|b| b % 64 == 63 || b == b'a');
+    let bytes = u8x16::from_array([
+        0, 10, 63, 64, 97, 98, 127, 128, 191, 192, 225, 255, 97, 62, 1, 63,
+    ]);
+    // 63, 97, 127, 191, 255, 97 and 63
+    assert_eq!(rt; set.which_of(bytes), 0b1001_1001_0101_0100);
 }

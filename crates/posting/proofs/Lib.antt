@@ -1,9 +1,10 @@
 pub mod Laws
 pub mod Rising
+pub mod Groups
 pub mod Members
-pub mod Merging
+pub mod Walks
 pub mod Meeting
-pub mod Repeats
+pub mod Merging
 pub mod Slots
 pub mod Tables
 pub mod Changes

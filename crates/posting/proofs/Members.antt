@@ -10,7 +10,6 @@ use Rattle.std.proofs.lemmas.Bool.Decides.{nat_tests}
 use Rattle.std.proofs.lemmas.List.Folds.{list_any_at, list_any_none}
 use Rattle.std.proofs.lemmas.List.Elements.{All-cons, All-head, All-tail, All-weaker, All-from_get_or}
 use Rattle.posting.specs.ListValue.{has, without}
-use Rattle.posting.specs.Private.Repeats.{Rises}
 use Rattle.posting.proofs.Rising.{rising-head, rising-tail, rising_far, rises_at}
 
 pub has_at : (xs : List ℕ) (i n : ℕ) → i < length xs → get_or xs i 0 ≡ n → has xs n ≡ true
@@ -27,7 +26,7 @@ pub lacks_above : (xs : List ℕ) (n : ℕ) → All (λ m. m < n) xs → has xs 
 lacks_above xs n h = lacks_from_all xs n (All-weaker (λ m. m < n) (λ m. m ≢ n) (λ m lt e. omega arith) xs h)
 
 -- a number that a place among rising numbers has to hold is not there
-pub lacks_at : (xs : List ℕ) (i n : ℕ) → Rises xs → ((k : ℕ) → k < i → k < length xs → get_or xs k 0 < n) → (i < length xs → n < get_or xs i 0) → has xs n ≡ false
+pub lacks_at : (xs : List ℕ) (i n : ℕ) → IsStrictlyIncreasing xs → ((k : ℕ) → k < i → k < length xs → get_or xs k 0 < n) → (i < length xs → n < get_or xs i 0) → has xs n ≡ false
 lacks_at xs i n rises below at = lacks_from_all xs n (All-from_get_or (λ m. m ≢ n) xs 0 differs)
   where
     differs : (k : ℕ) → k < length xs → get_or xs k 0 ≢ n
@@ -103,10 +102,10 @@ same_rising (x ∷ xs) (y ∷ ys) up up' same =
 abbrev pub SearchedFor : List ℕ → ℕ → Result ℕ ℕ → Type 0
 SearchedFor xs n r = MatchResult r (λ i. (i < length xs) × (get_or xs i 0 ≡ n)) (λ i. (i ≤ length xs) × ((k : ℕ) → k < i → get_or xs k 0 < n) × ((k : ℕ) → i ≤ k → k < length xs → n < get_or xs k 0))
 
-pub searched_for : (xs : List ℕ) (n : ℕ) (r : Result ℕ ℕ) → Rises xs → IsBinarySearchResult (λ y. nat_cmp y n) xs r → SearchedFor xs n r
+pub searched_for : (xs : List ℕ) (n : ℕ) (r : Result ℕ ℕ) → IsStrictlyIncreasing xs → IsBinarySearchResult (λ y. nat_cmp y n) xs r → SearchedFor xs n r
 searched_for xs n r rises h = searched xs n r h (rises_at xs rises)
 
-pub has-searched : (xs : List ℕ) (n : ℕ) (r : Result ℕ ℕ) → Rises xs → SearchedFor xs n r → has xs n ≡ is_ok r
+pub has-searched : (xs : List ℕ) (n : ℕ) (r : Result ℕ ℕ) → IsStrictlyIncreasing xs → SearchedFor xs n r → has xs n ≡ is_ok r
 has-searched xs n (Ok i) rising found = has_at xs i n found.0 found.1
 has-searched xs n (Err i) rising absent = lacks_at xs i n rising (λ k before _. absent.1 k before) (λ inside. absent.2 i (omega arith) inside)
 

@@ -1,3 +1,4 @@
 pub mod ListValue
+pub mod Stored
 pub mod Postings
 pub mod Private

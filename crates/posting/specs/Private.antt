@@ -1,3 +1,3 @@
 -- What only the contracts of private functions cite. A clause cites `pub` modules alone.
-pub mod Repeats
+pub mod Gaps
 pub mod Pages

@@ -2,9 +2,10 @@
 //! Expression Matching with a Trigram Index" (2012).
 #![tactic(auto)]
 
+mod gaps;
 pub mod list;
 mod pages;
 pub mod postings;
 
-pub use list::{List, Numbers};
+pub use list::{List, Lookup, Numbers};
 pub use postings::Postings;

@@ -13,8 +13,10 @@ use crate::output::write_text;
 use cli::{HELP, Request, Settings, read_arguments};
 use std::alloc::Global;
 use std::io::{Read, Write};
-use tsearch::Options;
+use std::sync::Wait;
+use std::thread::Threads;
 use tsearch::run::run;
+use tsearch::{Gate, Options, Place};
 
 /// The status where an argument is refused, or the program has no answer or cannot write it.
 const REFUSED: u8 = 2;
@@ -25,7 +27,7 @@ const REFUSED: u8 = 2;
 /// files of the source. Its transcript is written to `out`, or the help where they ask for that. What keeps
 /// the program from it is said on standard error; where that takes nothing either, the status alone says it.
 #[tactic(auto, using(crate::proofs::AnswerLemmas::refused_have_none))]
-pub fn respond<R: Eprint, D: Disk, I: Read + Drop, O: Write + Drop>(
+pub fn respond<R: Eprint + Threads + Wait + Sync, D: Disk, I: Read + Drop, O: Write + Drop>(
     rt: &R,
     alloc: Global,
     arguments: &[String],
@@ -37,7 +39,7 @@ pub fn respond<R: Eprint, D: Disk, I: Read + Drop, O: Write + Drop>(
         source.old.failures source.new.failures (O.contents out) (O.contents written) result) ⊎ (result ≡ 2) }
     ensures refused { AreRefused (map string_bytes arguments.now) → result ≡ 2 }
 {
-    match answer(alloc, arguments, source, input, out) {
+    match answer(rt, alloc, arguments, source, input, out) {
         Ok(answered) => answered.0,
         Err(error) => report(rt, &error),
     }
@@ -57,7 +59,8 @@ pub fn report<R: Eprint>(rt: &R, error: &ProgramError) -> u8
 
 /// Does what the arguments ask for, and gives the status and the writer with what was written.
 #[tactic(auto, using(crate::proofs::AnswerLemmas::run_answers, crate::proofs::AnswerLemmas::run_fails, crate::proofs::AnswerLemmas::help_answers, crate::proofs::AnswerLemmas::help_fails))]
-fn answer<D: Disk, I: Read + Drop, O: Write + Drop>(
+fn answer<R: Threads + Wait + Sync, D: Disk, I: Read + Drop, O: Write + Drop>(
+    rt: &R,
     alloc: Global,
     arguments: &[String],
     source: &mut FileSource<'_, D>,
@@ -69,7 +72,7 @@ fn answer<D: Disk, I: Read + Drop, O: Write + Drop>(
     ensures failed { IfErr result (IsFailure (map string_bytes arguments.now)) }
 {
     match read_arguments(alloc, arguments) {
-        Ok(Request::Run(settings)) => run_script(alloc, &settings, source, input, out),
+        Ok(Request::Run(settings)) => run_script(rt, alloc, &settings, source, input, out),
         Ok(Request::Help) => show_help(out),
         Err(error) => Err(ProgramError::Arguments(error)),
     }
@@ -91,8 +94,16 @@ fn show_help<O: Write + Drop>(mut out: O) -> Result<(u8, O), ProgramError>
     }
 }
 
+/// A gate that is always open: the readers of the program wait for nobody.
+struct Open;
+
+impl Gate for Open {
+    fn turn(&self, _search: u32, _place: Place) {}
+}
+
 /// Reads the script, runs it and writes its transcript, and gives the status of the run.
-fn run_script<D: Disk, I: Read + Drop, O: Write + Drop>(
+fn run_script<R: Threads + Wait + Sync, D: Disk, I: Read + Drop, O: Write + Drop>(
+    rt: &R,
     alloc: Global,
     settings: &Settings<'_>,
     source: &mut FileSource<'_, D>,
@@ -109,7 +120,7 @@ fn run_script<D: Disk, I: Read + Drop, O: Write + Drop>(
         readers: settings.readers,
         max_commands: settings.max_commands,
     };
-    let transcript = match run(alloc, &script, options, source) {
+    let transcript = match run(rt, alloc, &script, options, source, &Open) {
         Ok(transcript) => transcript,
         Err(error) => return Err(ProgramError::Run(error)),
     };

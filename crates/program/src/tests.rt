@@ -9,9 +9,11 @@ use cli::HELP;
 use std::alloc::Global;
 use std::io::{self, Read, Write};
 use std::process::Abort;
+use std::sync::Wait;
 use std::test::Fail;
+use std::thread::Threads;
 use tsearch::run::run;
-use tsearch::{Options, Transcript};
+use tsearch::{Gate, Options, Place, Transcript};
 
 /// Files in memory: paths with their bytes.
 #[derive(Drop)]
@@ -36,7 +38,7 @@ const FILES: &[(&str, &[u8])] = &[
 ];
 
 /// The program over these files and this input gives this status, and writes this to standard output.
-fn assert_answers<R: Abort + Eprint + AllocGlobal>(
+fn assert_answers<R: Abort + Eprint + AllocGlobal + Threads + Wait + Sync>(
     rt: &R,
     texts: &[&str],
     input: &[u8],
@@ -160,18 +162,21 @@ impl Write for FailingWriter {
 
 const TEXT: &[u8] = b"search 1 version 1 lines 1\na:1:x\n";
 
-fn one_hit(rt: &HostRuntime) -> Result<Transcript, Fail> {
+struct Open;
+
+impl Gate for Open {
+    fn turn(&self, _search: u32, _place: Place) {}
+}
+
+fn one_hit<R: AllocGlobal + Threads + Wait + Sync>(rt: &R) -> Result<Transcript, Fail> {
     let options = Options {
         readers: 2,
         max_commands: 1,
     };
     let script = b"put a 1\nx\npublish\nsearch x\n";
-    Ok(run(
-        rt.alloc(),
-        script,
-        options,
-        &mut FileSource::new(&Memory { files: FILES }),
-    )?)
+    let memory = Memory { files: FILES };
+    let mut source = FileSource::new(&memory);
+    Ok(run(rt, rt.alloc(), script, options, &mut source, &Open)?)
 }
 
 #[test]

@@ -6,6 +6,10 @@
 #![tactic(auto)]
 
 #[cfg(test)]
+mod gates;
+#[cfg(test)]
+mod readers;
+#[cfg(test)]
 mod runs;
 #[cfg(test)]
 mod scripts;

@@ -5,9 +5,11 @@ ghost use Rattle.std.specs.Prelude.{◌≡◌, Some, Contains};
 use std::alloc::Global;
 use std::io::{self, Write};
 use std::process::Abort;
+use std::sync::Wait;
 use std::test::Fail;
+use std::thread::Threads;
 use tsearch::run::run;
-use tsearch::{Fault, Options, RunError, Source, WriteError, status, write_transcript};
+use tsearch::{Fault, Gate, Options, Place, RunError, Source, WriteError, status, write_transcript};
 
 /// What a table has under a path.
 #[derive(Clone, Copy, Debug)]
@@ -69,9 +71,16 @@ fn source_over<'a>(rows: &'a [Row<'a>], large: &'a [u8], failing: u32) -> Table<
     }
 }
 
+/// A gate that holds nobody.
+struct Open;
+
+impl Gate for Open {
+    fn turn(&self, _search: u32, _place: Place) {}
+}
+
 /// The script has this text and this status, with any number of readers.
-fn expect_text(
-    rt: &impl Abort,
+fn expect_text<R: Abort + Threads + Wait + Sync>(
+    rt: &R,
     alloc: Global,
     source: &mut Table<'_>,
     script: &[u8],
@@ -85,7 +94,7 @@ fn expect_text(
             readers,
             max_commands: 65_536,
         };
-        let transcript = run(alloc, script, options, source)?;
+        let transcript = run(rt, alloc, script, options, source, &Open)?;
         let mut text = Vec::new(alloc);
         write_transcript(alloc, &transcript, false, &mut text)?;
         assert_eq!(rt; text.as_slice(), want, "of {:?}", script);
@@ -229,7 +238,8 @@ fn writers(rt: HostRuntime) -> Result<(), Fail> {
         max_commands: 65_536,
     };
     let script = b"put a.txt 11\nhello world\npublish\nsearch o w\n";
-    let transcript = run(alloc, script, options, &mut source_over(&[], b"", 0))?;
+    let mut source = source_over(&[], b"", 0);
+    let transcript = run(&rt, alloc, script, options, &mut source, &Open)?;
     let mut text = Vec::new(alloc);
     write_transcript(alloc, &transcript, false, &mut text)?;
     assert_eq!(rt; text.len(), 47);
@@ -281,7 +291,8 @@ fn a_script_too_long(rt: HostRuntime) -> Result<(), Fail> {
         readers: 2,
         max_commands: 65_536,
     };
-    match run(alloc, &script, options, &mut source_over(&[], b"", 0)) {
+    let mut source = source_over(&[], b"", 0);
+    match run(&rt, alloc, &script, options, &mut source, &Open) {
         Err(RunError::ScriptTooLong) => Ok(()),
         Err(error) => Err(Fail::from(error)),
         Ok(_) => Err(Fail::from("a transcript")),

@@ -22,8 +22,8 @@ use memchr::memchr;
 use std::alloc::{AllocError, Global};
 
 /// How many bytes of bodies are looked at line by line before a pattern is compiled. To compile one takes
-/// about as long as the matcher takes for so many bytes.
-const FEW_BYTES: usize = 16384;
+/// about as long as the matcher takes for so many bytes: measured, for 4,000 to 25,000 of them.
+const FEW_BYTES: usize = 8192;
 
 /// The lines with a match in these documents, document after document. The watch is told of each document. An
 /// `Err` comes only where memory ran out.

@@ -38,8 +38,25 @@ pub fn open<R: Wait>(
     ensures count { IfOk result (λ opened. length opened.1.items ≡ readers) }
     ensures readings { IfOk result (λ opened. All (λ reading. reading ≡ known opened.0.opening []) opened.1.items) }
 {
+    open_with_places(rt, alloc, max_commands, readers, readers)
+}
+
+// Where there are fewer places than readings, one of these gets none.
+fn open_with_places<R: Wait>(
+    rt: &R,
+    alloc: Global,
+    max_commands: u32,
+    places: usize,
+    readers: usize,
+) -> Result<(Desk, Vec<Reading>), OpenError>
+    requires commands { max_commands ≤ 1000000 }
+    requires places { (0 < places) × (places ≤ 17) }
+    ensures desk { IfOk result (λ opened. opened.0 ≡ desk_state opened.0.opening max_commands [] []) }
+    ensures count { IfOk result (λ opened. length opened.1.items ≡ readers) }
+    ensures readings { IfOk result (λ opened. All (λ reading. reading ≡ known opened.0.opening []) opened.1.items) }
+{
     let (head, front) = Front::open();
-    let writer = shelves(alloc, &front, readers)?;
+    let writer = shelves(alloc, &front, places)?;
     let (mut writer, met) = writer.publish_as::<Meet, R>(rt);
     let readings = match met {
         Ok(()) => readings(alloc, &mut writer, &front, readers),
@@ -57,10 +74,10 @@ pub fn open<R: Wait>(
     }
 }
 
-// Two copies of an index with no commands.
-fn shelves(alloc: Global, front: &Front, readers: usize) -> Result<ShelfWriter, AllocError>
+// Two copies of an index with no commands, with so many places for readings.
+fn shelves(alloc: Global, front: &Front, places: usize) -> Result<ShelfWriter, AllocError>
     requires front { front.now.commands ≡ [] }
-    requires readers { (0 < readers) × (readers ≤ 17) }
+    requires places { (0 < places) × (places ≤ 17) }
     ensures front { IfOk result (λ writer. writer.desk.shown.value.front ≡ front.now) }
     ensures empty { IfOk result (λ writer. drop writer.behind writer.log.items ≡ []) }
 {
@@ -72,7 +89,7 @@ fn shelves(alloc: Global, front: &Front, readers: usize) -> Result<ShelfWriter, 
         index: Index::new(alloc),
         front: front.again(),
     };
-    ShelfWriter::new(alloc, first, second, readers)
+    ShelfWriter::new(alloc, first, second, places)
 }
 
 // So many readings that have seen as much as the writer has met.
@@ -93,4 +110,25 @@ fn readings(
         readings.push(Reading::of(writer, front)?)?;
     }
     Ok(readings)
+}
+
+#[cfg(test)]
+mod tests {
+    use super::*;
+    use std::test::Fail;
+
+    /// A reading gets no place where each is in use.
+    #[test]
+    fn fewer_places_than_readings(rt: HostRuntime) -> Result<(), Fail> {
+        for (places, readers, fault) in [(2, 2, None), (2, 3, Some(OpenError::NoPlace))] {
+            match open_with_places(&rt, rt.alloc(), 1, places, readers) {
+                Ok((desk, _readings)) => {
+                    desk.close(&rt);
+                    assert!(rt; fault.is_none());
+                }
+                Err(error) => assert_eq!(rt; Some(error), fault),
+            }
+        }
+        Ok(())
+    }
 }

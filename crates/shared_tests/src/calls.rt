@@ -4,7 +4,8 @@ ghost use Rattle.std.specs.Prelude.{◌≡◌};
 
 use crate::fixtures::{body, name, put};
 use shared::{
-    Answer, Desk, Prepared, PutError, PutErrorKind, Reading, RemoveError, Returned, Told, open,
+    Answer, Desk, MAX_READINGS, Prepared, PutError, PutErrorKind, Reading, RemoveError, Returned,
+    SearchError, Told, open,
 };
 use std::alloc::Global;
 use std::process::Abort;
@@ -93,6 +94,55 @@ fn learns_both(rt: &impl Abort, reading: &mut Reading, last: &Told, first: &Told
     assert_eq!(rt; reading.seen(), 3);
     reading.learn(first);
     assert_eq!(rt; reading.seen(), 3);
+}
+
+/// Every number of readings gets its places.
+#[test]
+fn places_for_all_readings(rt: HostRuntime) -> Result<(), Fail> {
+    for readers in 1..=MAX_READINGS {
+        match open(&rt, rt.alloc(), 1, readers) {
+            Ok((desk, _readings)) => desk.close(&rt),
+            Err(error) => assert!(rt; false, "{readers} readings: {error:?}"),
+        }
+    }
+    Ok(())
+}
+
+/// There is no entry once the desk is closed, and not before. What was seen stays.
+#[test]
+fn a_closed_desk_is_not_entered(rt: HostRuntime) -> Result<(), Fail> {
+    let alloc = rt.alloc();
+    let pattern = prepared(alloc, b"x")?;
+    let (mut desk, mut readings) = match open(&rt, alloc, 1, 1) {
+        Ok(opened) => opened,
+        Err(_) => return Err(Fail::from("nothing opened")),
+    };
+    let published = publishes_one(&rt, alloc, &mut desk);
+    let mut reading = readings.pop();
+    let entered = match &mut reading {
+        Some(reading) => reading.search(alloc, &pattern).is_ok(),
+        None => false,
+    };
+    desk.close(&rt);
+    published?;
+    assert!(rt; entered);
+    if let Some(reading) = &mut reading {
+        is_not_entered(&rt, alloc, reading, &pattern);
+    }
+    Ok(())
+}
+
+fn publishes_one<R: Wait>(rt: &R, alloc: Global, desk: &mut Desk) -> Result<(), Fail> {
+    put(alloc, desk, b"a", b"x")?;
+    desk.publish(rt)?;
+    Ok(())
+}
+
+fn is_not_entered(rt: &impl Abort, alloc: Global, reading: &mut Reading, pattern: &Prepared) {
+    let no_entry = Some(SearchError::NoEntry);
+    assert_eq!(rt; reading.take(alloc, pattern).err(), no_entry);
+    assert_eq!(rt; reading.search(alloc, pattern).err(), no_entry);
+    assert_eq!(rt; reading.seen(), 1);
 }
 
 fn prepared(alloc: Global, pattern: &[u8]) -> Result<Prepared, Fail> {

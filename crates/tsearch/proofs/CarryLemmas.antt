@@ -1,27 +1,46 @@
 -- Items that are carried out have their entries.
-use Rattle.std.proofs.Common.{◌≡◌, ℕ, ◌+◌, inl, List, [], ◌∷◌, Some, None, refl, ap, ◌∙◌}
-use Rattle.index.specs.State.{State}
+use Rattle.std.proofs.Common.{◌≡◌, ℕ, ◌+◌, inl, List, [], ◌∷◌, ◌++◌, Some, None, Ok, Err, refl, sym, ap, ◌∙◌, subst}
+use Rattle.std.proofs.lemmas.List.{append-nil}
+use Rattle.std.specs.Prelude.{Result, IfOk, IfErr, length}
+use Rattle.index.specs.State.{State, state_of}
+use Rattle.index.specs.declared.command.Command.{Command}
 use Rattle.index.specs.declared.command.Command.TheVariants.{Put, Remove}
-use Rattle.search.specs.Pattern.{Pattern}
 use Rattle.script.specs.Items as item
-use Rattle.tsearch.specs.declared.items.Counts.{Counts}
+use Rattle.shared.specs.Desk.{DeskState}
+use Rattle.shared.specs.History.{Known, known}
 use Rattle.tsearch.specs.declared.transcript.Entry.{Entry}
 use Rattle.tsearch.specs.declared.transcript.Entry.TheVariants.{Refused, Published}
+use Rattle.tsearch.specs.declared.transcript.Reason.{Reason}
 use Rattle.tsearch.specs.declared.transcript.Reason.TheVariants as reason
-use Rattle.tsearch.specs.Legal.{IsNamed, bad_name, no_memory, named, HasBody, bad_body, with_body, IsRoomFor, full, accepted, IsPut, IsRemove, no_such_file, is_there, IsPublish}
+use Rattle.tsearch.specs.Legal.{IsNamed, bad_name, no_memory, named, HasBody, bad_body, with_body, IsRoomFor, full, accepted, IsPut, HasLoaded, IsRemove, no_such_file, is_there}
 use Rattle.tsearch.specs.Legal as legal
-use Rattle.tsearch.specs.Rows.{failures_in}
-use Rattle.tsearch.specs.Private.StoreState.{StoreState, all_published}
-use Rattle.tsearch.specs.Private.Entries.{IsLoadedEntry}
-use Rattle.tsearch.specs.Private.Steps.{store_after, IsSearchedNow, IsSearchNow, IsSearchInNow, IsEntryNow, IsCarriedOut, IsCounted}
-use Rattle.tsearch.specs.Private.Steps as now
+use Rattle.tsearch.specs.Rows.{accepted_by, version_in, failures_in}
+use Rattle.tsearch.specs.Private.Entries.{entry_of, published_entry_of, desk_after, IsLoaded, IsCounted}
+use Rattle.tsearch.specs.Private.Items.{searches_in, IsEntered, Tells, all, nothing}
 use Rattle.tsearch.proofs.ItemLemmas.{counted_same, no_failure_in_body}
+
+-- what an entry of a command says of versions, searches and the desk
+pub no_version : (line : ℕ) (done : Result ℕ Reason) → version_in (Some (entry_of line done)) ≡ []
+no_version line (Ok count) = refl
+no_version line (Err why) = refl
+
+pub no_search_entry : (line : ℕ) (done : Result ℕ Reason) → searches_in (entry_of line done) ≡ 0
+no_search_entry line (Ok count) = refl
+no_search_entry line (Err why) = refl
+
+accepted_after : (line : ℕ) (done : Result ℕ Reason) (commands : List Command) (desk : DeskState) → (desk_after done commands desk).accepted ≡ desk.accepted ++ accepted_by (Some (entry_of line done)) commands
+accepted_after line (Ok count) commands desk = refl
+accepted_after line (Err why) commands desk = sym (append-nil desk.accepted)
+
+same_opening : (done : Result ℕ Reason) (commands : List Command) (desk : DeskState) → ((desk_after done commands desk).opening ≡ desk.opening) × ((desk_after done commands desk).limit ≡ desk.limit)
+same_opening (Ok count) commands desk = (refl, refl)
+same_opening (Err why) commands desk = (refl, refl)
 
 no_failure_at : {entry entry' : Entry} → entry ≡ entry' → failures_in (Some entry') ≡ 0 → failures_in (Some entry) ≡ 0
 no_failure_at is none = ap (λ e. failures_in (Some e)) is ∙ none
 
 no_failure_in_room : (most : ℕ) (state : State) (line : ℕ) (entry : Entry) → IsRoomFor most state line entry → failures_in (Some entry) ≡ 0
-no_failure_in_room most state line entry (full all is) = no_failure_at is refl
+no_failure_in_room most state line entry (full limit is) = no_failure_at is refl
 no_failure_in_room most state line entry (accepted room is) = no_failure_at is refl
 
 no_failure_named : (name : List ℕ) (line : ℕ) (entry : Entry) (Else : Type 0) → (Else → failures_in (Some entry) ≡ 0) → IsNamed name line entry Else → failures_in (Some entry) ≡ 0
@@ -33,80 +52,97 @@ no_failure_in_remove : (most : ℕ) (state : State) (name : List ℕ) (line : �
 no_failure_in_remove most state name line entry (no_such_file none is) = no_failure_at is refl
 no_failure_in_remove most state name line entry (is_there there room) = no_failure_in_room most state line entry room
 
-module _ (Holds : List ℕ → List ℕ → Type 0) (store : StoreState) (counts : Counts) (failed line : ℕ) (entry : Entry) where
-  pub carried_put : (name body : List ℕ) (store' : StoreState) → IsPut store.most store.accepted name body line entry → store' ≡ store_after (Some entry) (Put name body ∷ []) store → IsCarriedOut Holds store counts failed (item.numbered line (item.put name body)) (Some entry) store' failed
-  unfolding IsEntryNow
-  carried_put name body store' is left = record {
+module _ (Holds : List ℕ → List ℕ → Type 0) (desk : DeskState) (told : Known) (failed line : ℕ) (done : Result ℕ Reason) (entry : Entry) (is : entry ≡ entry_of line done) where
+  pub carried_put : (name body : List ℕ) (desk' : DeskState) → IsPut desk.limit (state_of desk.accepted) name body line (entry_of line done) → desk' ≡ desk_after done (Put name body ∷ []) desk → IsEntered Holds desk told failed (item.numbered line (item.put name body)) entry desk' told failed
+  unfolding legal.IsEntryOf
+  carried_put name body desk' legal_is left = rw (is, left) (record {
     loaded = None;
-    legal = is;
-    left = left;
-    counted = counted_same entry failed (no_failure_named name line entry _ (λ h. no_failure_in_body store.most store.accepted body line entry (inl h)) is);
-  }
+    legal = λ readers before after same. subst (λ c. IsPut desk.limit (state_of c) name body line (entry_of line done)) (sym same) legal_is;
+    no_search = refl;
+    no_sync = refl;
+    no_search_entry = no_search_entry line done;
+    opening = (same_opening done (Put name body ∷ []) desk).0;
+    limit = (same_opening done (Put name body ∷ []) desk).1;
+    accepted = accepted_after line done (Put name body ∷ []) desk;
+    tells = nothing (no_version line done) refl;
+    counted = counted_same (entry_of line done) failed (no_failure_named name line _ _ (λ h. no_failure_in_body desk.limit (state_of desk.accepted) body line (entry_of line done) (inl h)) legal_is);
+  })
 
-  pub carried_load : (name path : List ℕ) (store' : StoreState) (failed' : ℕ) → IsLoadedEntry Holds store failed name path line entry store' failed' → IsCarriedOut Holds store counts failed (item.numbered line (item.load name path)) (Some entry) store' failed'
-  unfolding IsEntryNow
-  carried_load name path store' failed' is = record {
-    loaded = is.loaded;
-    legal = is.legal;
-    left = is.left;
-    counted = is.counted;
-  }
+  pub carried_load : (name path : List ℕ) (desk' : DeskState) (failed' : ℕ) → IsLoaded Holds desk failed name path done desk' failed' → IsEntered Holds desk told failed (item.numbered line (item.load name path)) entry desk' told failed'
+  unfolding legal.IsEntryOf
+  carried_load name path desk' failed' load = rw (is, load.left) (record {
+    loaded = load.loaded;
+    legal = λ readers before after same. subst (λ c. IsNamed name line (entry_of line done) (HasLoaded Holds desk.limit (state_of c) path load.loaded line (entry_of line done))) (sym same) (load.legal line);
+    no_search = refl;
+    no_sync = refl;
+    no_search_entry = no_search_entry line done;
+    opening = (same_opening done _ desk).0;
+    limit = (same_opening done _ desk).1;
+    accepted = accepted_after line done _ desk;
+    tells = nothing (no_version line done) refl;
+    counted = load.counted line;
+  })
 
-  pub carried_remove : (name : List ℕ) (store' : StoreState) → IsNamed name line entry (IsRemove store.most store.accepted name line entry) → store' ≡ store_after (Some entry) (Remove name ∷ []) store → IsCarriedOut Holds store counts failed (item.numbered line (item.remove name)) (Some entry) store' failed
-  unfolding IsEntryNow
-  carried_remove name store' is left = record {
+  pub carried_remove : (name : List ℕ) (desk' : DeskState) → IsNamed name line (entry_of line done) (IsRemove desk.limit (state_of desk.accepted) name line (entry_of line done)) → desk' ≡ desk_after done (Remove name ∷ []) desk → IsEntered Holds desk told failed (item.numbered line (item.remove name)) entry desk' told failed
+  unfolding legal.IsEntryOf
+  carried_remove name desk' legal_is left = rw (is, left) (record {
     loaded = None;
-    legal = is;
-    left = left;
-    counted = counted_same entry failed (no_failure_named name line entry _ (no_failure_in_remove store.most store.accepted name line entry) is);
-  }
+    legal = λ readers before after same. subst (λ c. IsNamed name line (entry_of line done) (IsRemove desk.limit (state_of c) name line (entry_of line done))) (sym same) legal_is;
+    no_search = refl;
+    no_sync = refl;
+    no_search_entry = no_search_entry line done;
+    opening = (same_opening done (Remove name ∷ []) desk).0;
+    limit = (same_opening done (Remove name ∷ []) desk).1;
+    accepted = accepted_after line done (Remove name ∷ []) desk;
+    tells = nothing (no_version line done) refl;
+    counted = counted_same (entry_of line done) failed (no_failure_named name line _ _ (no_failure_in_remove desk.limit (state_of desk.accepted) name line (entry_of line done)) legal_is);
+  })
 
-  pub carried_publish : (store' : StoreState) → entry ≡ Published line store.accepted.version → store' ≡ all_published store → IsCarriedOut Holds store counts failed (item.numbered line item.publish) (Some entry) store' failed
-  unfolding IsEntryNow
-  carried_publish store' is left = record {
+
+-- publishes, and lines that are no items
+module _ (Holds : List ℕ → List ℕ → Type 0) (desk : DeskState) (told : Known) (failed line : ℕ) (entry : Entry) where
+  pub carried_publish : (desk' : DeskState) (told' : Known) (published : Result ℕ Reason) → entry ≡ published_entry_of line published
+      → IfOk published (λ version. (version ≡ length desk.accepted) × (told' ≡ known desk.opening desk.accepted)) → IfErr published (λ why. (why ≡ reason.OutOfMemory) × (told' ≡ told))
+      → desk'.accepted ≡ desk.accepted → (desk'.opening ≡ desk.opening) × (desk'.limit ≡ desk.limit)
+      → IsEntered Holds desk told failed (item.numbered line item.publish) entry desk' told' failed
+  unfolding legal.IsEntryOf
+  carried_publish desk' told' (Ok version) is' ok err kept others = rw is' (record {
     loaded = None;
-    legal = legal.published is;
-    left = rw is left;
-    counted = counted_same entry failed (no_failure_at is refl);
-  }
+    legal = λ readers before after same. subst (λ c. legal.IsPublish (state_of c) line (Published line version)) (sym same) (legal.published (ap (Published line) ok.0));
+    no_search = refl;
+    no_sync = refl;
+    no_search_entry = refl;
+    opening = others.0;
+    limit = others.1;
+    accepted = kept ∙ sym (append-nil desk.accepted);
+    tells = all line (ap (Published line) ok.0) ok.1;
+    counted = counted_same (Published line version) failed refl;
+  })
+  carried_publish desk' told' (Err why) is' ok err kept others = rw is' (record {
+    loaded = None;
+    legal = λ readers before after same. legal.no_memory (ap (Refused line) err.0);
+    no_search = refl;
+    no_sync = refl;
+    no_search_entry = refl;
+    opening = others.0;
+    limit = others.1;
+    accepted = kept ∙ sym (append-nil desk.accepted);
+    tells = nothing refl err.1;
+    counted = counted_same (Refused line why) failed (no_failure_at (ap (Refused line) err.0) refl);
+  })
 
-  searched_leaves : (number turn : ℕ) (IsIt : Pattern → Type 0) → IsSearchedNow store.published number turn IsIt entry → (store ≡ store_after (Some entry) [] store) × (failures_in (Some entry) ≡ 0)
-  searched_leaves number turn IsIt (now.no_memory is) = (rw is refl, no_failure_at is refl)
-  searched_leaves number turn IsIt (now.found pattern answer is_it is answered) = (rw is refl, no_failure_at is refl)
+  pub carried_bad_line : entry ≡ Refused line reason.BadLine → IsEntered Holds desk told failed (item.numbered line item.bad_line) entry desk told failed
+  unfolding legal.IsEntryOf
+  carried_bad_line is = rw is (record { loaded = None; legal = λ readers before after same. refl; no_search = refl; no_sync = refl; no_search_entry = refl; opening = refl; limit = refl; accepted = sym (append-nil desk.accepted); tells = nothing refl refl; counted = counted_same (Refused line reason.BadLine) failed refl })
 
-  search_leaves : (text : List ℕ) → IsSearchNow store.published (counts.searches + 1) (counts.turns + 1) text entry → (store ≡ store_after (Some entry) [] store) × (failures_in (Some entry) ≡ 0)
-  search_leaves text (now.bad_pattern fault other none is) = (rw is refl, no_failure_at is refl)
-  search_leaves text (now.searched is) = searched_leaves _ _ _ is
+  pub carried_bad_put : entry ≡ Refused line reason.BadPut → IsEntered Holds desk told failed (item.numbered line item.bad_put) entry desk told failed
+  unfolding legal.IsEntryOf
+  carried_bad_put is = rw is (record { loaded = None; legal = λ readers before after same. refl; no_search = refl; no_sync = refl; no_search_entry = refl; opening = refl; limit = refl; accepted = sym (append-nil desk.accepted); tells = nothing refl refl; counted = counted_same (Refused line reason.BadPut) failed refl })
 
-  search_in_leaves : (name_text text : List ℕ) → IsSearchInNow store.published (counts.searches + 1) (counts.turns + 1) name_text text entry → (store ≡ store_after (Some entry) [] store) × (failures_in (Some entry) ≡ 0)
-  search_in_leaves name_text text (now.bad_name_pattern fault other none is) = (rw is refl, no_failure_at is refl)
-  search_in_leaves name_text text (now.bad_pattern fault other some none is) = (rw is refl, no_failure_at is refl)
-  search_in_leaves name_text text (now.searched is) = searched_leaves _ _ _ is
+  pub carried_truncated : entry ≡ Refused line reason.Truncated → IsEntered Holds desk told failed (item.numbered line item.truncated) entry desk told failed
+  unfolding legal.IsEntryOf
+  carried_truncated is = rw is (record { loaded = None; legal = λ readers before after same. refl; no_search = refl; no_sync = refl; no_search_entry = refl; opening = refl; limit = refl; accepted = sym (append-nil desk.accepted); tells = nothing refl refl; counted = counted_same (Refused line reason.Truncated) failed refl })
 
-  pub carried_search : (text : List ℕ) → IsSearchNow store.published (counts.searches + 1) (counts.turns + 1) text entry → IsCarriedOut Holds store counts failed (item.numbered line (item.search text)) (Some entry) store failed
-  unfolding IsEntryNow
-  carried_search text is =
-      let leaves = search_leaves text is in
-      record { loaded = None; legal = is; left = leaves.0; counted = counted_same entry failed leaves.1 }
-
-  pub carried_search_in : (name_text text : List ℕ) → IsSearchInNow store.published (counts.searches + 1) (counts.turns + 1) name_text text entry → IsCarriedOut Holds store counts failed (item.numbered line (item.search_in name_text text)) (Some entry) store failed
-  unfolding IsEntryNow
-  carried_search_in name_text text is =
-      let leaves = search_in_leaves name_text text is in
-      record { loaded = None; legal = is; left = leaves.0; counted = counted_same entry failed leaves.1 }
-
-  pub carried_bad_line : entry ≡ Refused line reason.BadLine → IsCarriedOut Holds store counts failed (item.numbered line item.bad_line) (Some entry) store failed
-  unfolding IsEntryNow
-  carried_bad_line is = record { loaded = None; legal = is; left = rw is refl; counted = counted_same entry failed (no_failure_at is refl) }
-
-  pub carried_bad_put : entry ≡ Refused line reason.BadPut → IsCarriedOut Holds store counts failed (item.numbered line item.bad_put) (Some entry) store failed
-  unfolding IsEntryNow
-  carried_bad_put is = record { loaded = None; legal = is; left = rw is refl; counted = counted_same entry failed (no_failure_at is refl) }
-
-  pub carried_truncated : entry ≡ Refused line reason.Truncated → IsCarriedOut Holds store counts failed (item.numbered line item.truncated) (Some entry) store failed
-  unfolding IsEntryNow
-  carried_truncated is = record { loaded = None; legal = is; left = rw is refl; counted = counted_same entry failed (no_failure_at is refl) }
-
-  pub carried_open_body : entry ≡ Refused line reason.BodyNotClosed → IsCarriedOut Holds store counts failed (item.numbered line item.body_not_closed) (Some entry) store failed
-  unfolding IsEntryNow
-  carried_open_body is = record { loaded = None; legal = is; left = rw is refl; counted = counted_same entry failed (no_failure_at is refl) }
+  pub carried_open_body : entry ≡ Refused line reason.BodyNotClosed → IsEntered Holds desk told failed (item.numbered line item.body_not_closed) entry desk told failed
+  unfolding legal.IsEntryOf
+  carried_open_body is = rw is (record { loaded = None; legal = λ readers before after same. refl; no_search = refl; no_sync = refl; no_search_entry = refl; opening = refl; limit = refl; accepted = sym (append-nil desk.accepted); tells = nothing refl refl; counted = counted_same (Refused line reason.BodyNotClosed) failed refl })

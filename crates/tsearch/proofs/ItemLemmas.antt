@@ -11,15 +11,13 @@ use Rattle.index.specs.declared.error.BodyErrorKind.TheVariants as body
 use Rattle.std.proofs.Common.{length, ◌^◌}
 use Rattle.tsearch.specs.Rows.{failures_in}
 use Rattle.index.specs.Text.{greatest_body, IsName, IsNameFault, IsBodyFault}
-use Rattle.search.specs.Pattern.{Pattern, HasTree}
-use Rattle.search.specs.Scan.{IsAnswerOf}
+use Rattle.search.specs.Pattern.{HasTree}
 use Rattle.tsearch.specs.declared.transcript.Entry.{Entry}
 use Rattle.tsearch.specs.declared.transcript.Entry.TheVariants.{Refused, SearchRefused}
 use Rattle.tsearch.specs.declared.transcript.SearchReason.TheVariants as search_reason
-use Rattle.tsearch.specs.Legal.{IsNamed, bad_name, no_memory, named, bad_body, with_body, full, accepted, IsPut, HasLoaded, loaded_body, IsFailedTimes}
-use Rattle.tsearch.specs.Private.Entries.{reason_of_name, reason_of_fault, reason_of_fault_of, HasBodyOrNoMemory}
-use Rattle.tsearch.specs.Private.Steps.{IsSearchedNow, IsSearchNow, IsSearchInNow, found, IsCounted}
-use Rattle.tsearch.specs.Private.Steps as now
+use Rattle.tsearch.specs.Legal.{IsNamed, bad_name, no_memory, named, bad_body, with_body, full, accepted, IsPut, HasLoaded, loaded_body, IsFailedTimes, Context, search_number, IsSearch, IsSearchIn}
+use Rattle.tsearch.specs.Legal as legal
+use Rattle.tsearch.specs.Private.Entries.{reason_of_name, reason_of_fault, reason_of_fault_of, HasBodyOrNoMemory, IsCounted}
 
 pub named_fault : (error : NameError) (bytes : List ℕ) (line : ℕ) (entry : Entry) (Else : Type 0) → IsNameFault error bytes → entry ≡ Refused line (reason_of_name error) → IsNamed bytes line entry Else
 unfolding IsNameFault
@@ -35,11 +33,6 @@ named_body most state bytes bytes' line entry is (inr ran_out) = no_memory is ra
 pub named_loaded : (Holds : List ℕ → List ℕ → Type 0) (most : ℕ) (state : State) (bytes path bytes' : List ℕ) (line : ℕ) (entry : Entry) → IsName bytes → Holds path bytes' → HasBodyOrNoMemory most state bytes' line entry → IsNamed bytes line entry (HasLoaded Holds most state path (Some bytes') line entry)
 named_loaded Holds most state bytes path bytes' line entry is held (inl body_is) = named is (loaded_body bytes' refl held body_is)
 named_loaded Holds most state bytes path bytes' line entry is held (inr ran_out) = no_memory is ran_out.2
-
--- What is found for a pattern is found for each text that spells it.
-pub searched_by : (published : State) (number turn : ℕ) (pattern : Pattern) (IsIt : Pattern → Type 0) (entry : Entry) → IsIt pattern → IsSearchedNow published number turn (λ p. p ≡ pattern) entry → IsSearchedNow published number turn IsIt entry
-searched_by published number turn pattern IsIt entry is (now.no_memory ran_out) = now.no_memory ran_out
-searched_by published number turn pattern IsIt entry is (found p answer same entry_is answered) = found pattern answer is entry_is (subst (λ q. IsAnswerOf published q answer) same answered)
 
 -- A kind of fault is want of memory, or it is not.
 memory_or_not : (k : EreErrorKind) → (k ≡ kind.OutOfMemory) ⊎ (k ≡ kind.OutOfMemory → ⊥)
@@ -87,35 +80,42 @@ reason_in_pattern kind.TooDeep error h = refl
 reason_in_pattern kind.TooLarge error h = refl
 reason_in_pattern kind.OutOfMemory error h = absurd (h refl)
 
-pub search_refused : (published : State) (number turn : ℕ) (text : List ℕ) (entry : Entry) (error : EreError) → ((error.kind ≡ kind.OutOfMemory → ⊥) → HasNoTree text) → entry ≡ SearchRefused number (reason_of_fault false error) → IsSearchNow published number turn text entry
-search_refused published number turn text entry error none is = by_kind (memory_or_not error.kind)
+pub search_refused : (text : List ℕ) (error : EreError) → ((error.kind ≡ kind.OutOfMemory → ⊥) → HasNoTree text) → (context : Context) → IsSearch context text (SearchRefused (search_number context) (reason_of_fault false error))
+search_refused text error none context = by_kind (memory_or_not error.kind)
   where
-    by_kind : (error.kind ≡ kind.OutOfMemory) ⊎ (error.kind ≡ kind.OutOfMemory → ⊥) → IsSearchNow published number turn text entry
-    by_kind (inl memory) = now.searched (now.no_memory (is ∙ ap (SearchRefused number) (reason_of_memory false error.kind error memory)))
-    by_kind (inr fault) = now.bad_pattern error fault (none fault) (is ∙ ap (SearchRefused number) (reason_in_pattern error.kind error fault))
+    by_kind : (error.kind ≡ kind.OutOfMemory) ⊎ (error.kind ≡ kind.OutOfMemory → ⊥) → IsSearch context text (SearchRefused (search_number context) (reason_of_fault false error))
+    by_kind (inl memory) = legal.searched (legal.no_memory (ap (SearchRefused (search_number context)) (reason_of_memory false error.kind error memory)))
+    by_kind (inr fault) = legal.bad_pattern error fault (none fault) (ap (SearchRefused (search_number context)) (reason_in_pattern error.kind error fault))
 
-pub search_in_refused : (published : State) (number turn : ℕ) (name_text text : List ℕ) (entry : Entry) (in_name : Bool) (error : EreError) → ((error.kind ≡ kind.OutOfMemory → ⊥) → MatchBool in_name (HasNoTree name_text) (HasTree name_text × HasNoTree text)) → entry ≡ SearchRefused number (reason_of_fault in_name error) → IsSearchInNow published number turn name_text text entry
-search_in_refused published number turn name_text text entry true error none is = by_kind (memory_or_not error.kind)
+pub search_in_refused : (name_text text : List ℕ) (in_name : Bool) (error : EreError) → ((error.kind ≡ kind.OutOfMemory → ⊥) → MatchBool in_name (HasNoTree name_text) (HasTree name_text × HasNoTree text)) → (context : Context) → IsSearchIn context name_text text (SearchRefused (search_number context) (reason_of_fault in_name error))
+search_in_refused name_text text true error none context = by_kind (memory_or_not error.kind)
   where
-    by_kind : (error.kind ≡ kind.OutOfMemory) ⊎ (error.kind ≡ kind.OutOfMemory → ⊥) → IsSearchInNow published number turn name_text text entry
-    by_kind (inl memory) = now.searched (now.no_memory (is ∙ ap (SearchRefused number) (reason_of_memory true error.kind error memory)))
-    by_kind (inr fault) = now.bad_name_pattern error fault (none fault) (is ∙ ap (SearchRefused number) (reason_in_name error.kind error fault))
-search_in_refused published number turn name_text text entry false error none is = by_kind (memory_or_not error.kind)
+    by_kind : (error.kind ≡ kind.OutOfMemory) ⊎ (error.kind ≡ kind.OutOfMemory → ⊥) → IsSearchIn context name_text text (SearchRefused (search_number context) (reason_of_fault true error))
+    by_kind (inl memory) = legal.searched (legal.no_memory (ap (SearchRefused (search_number context)) (reason_of_memory true error.kind error memory)))
+    by_kind (inr fault) = legal.bad_name_pattern error fault (none fault) (ap (SearchRefused (search_number context)) (reason_in_name error.kind error fault))
+search_in_refused name_text text false error none context = by_kind (memory_or_not error.kind)
   where
-    by_kind : (error.kind ≡ kind.OutOfMemory) ⊎ (error.kind ≡ kind.OutOfMemory → ⊥) → IsSearchInNow published number turn name_text text entry
-    by_kind (inl memory) = now.searched (now.no_memory (is ∙ ap (SearchRefused number) (reason_of_memory false error.kind error memory)))
-    by_kind (inr fault) = now.bad_pattern error fault (none fault).0 (none fault).1 (is ∙ ap (SearchRefused number) (reason_in_pattern error.kind error fault))
+    by_kind : (error.kind ≡ kind.OutOfMemory) ⊎ (error.kind ≡ kind.OutOfMemory → ⊥) → IsSearchIn context name_text text (SearchRefused (search_number context) (reason_of_fault false error))
+    by_kind (inl memory) = legal.searched (legal.no_memory (ap (SearchRefused (search_number context)) (reason_of_memory false error.kind error memory)))
+    by_kind (inr fault) = legal.bad_pattern error fault (none fault).0 (none fault).1 (ap (SearchRefused (search_number context)) (reason_in_pattern error.kind error fault))
+
+-- memory ran out
+pub search_without_memory : (text : List ℕ) (context : Context) → IsSearch context text (SearchRefused (search_number context) search_reason.OutOfMemory)
+search_without_memory text context = legal.searched (legal.no_memory refl)
+
+pub search_in_without_memory : (name_text text : List ℕ) (context : Context) → IsSearchIn context name_text text (SearchRefused (search_number context) search_reason.OutOfMemory)
+search_in_without_memory name_text text context = legal.searched (legal.no_memory refl)
 
 pub too_long_body : (bytes : List ℕ) → greatest_body < length bytes → IsBodyFault body.TooLong bytes
 unfolding IsBodyFault
 too_long_body bytes h = h
 
 -- Only a source that failed counts as a failure.
-pub no_failure_in_name : (error : NameError) (line : ℕ) → failures_in (Some (Refused line (reason_of_name error))) ≡ 0
-no_failure_in_name name.Empty line = refl
-no_failure_in_name name.TooLong line = refl
-no_failure_in_name name.BadByte line = refl
-no_failure_in_name name.OutOfMemory line = refl
+pub no_failure_in_name : (error : NameError) → failures_in (Some (Refused 0 (reason_of_name error))) ≡ 0
+no_failure_in_name name.Empty = refl
+no_failure_in_name name.TooLong = refl
+no_failure_in_name name.BadByte = refl
+no_failure_in_name name.OutOfMemory = refl
 
 no_failure_at : {entry entry' : Entry} → entry ≡ entry' → failures_in (Some entry') ≡ 0 → failures_in (Some entry) ≡ 0
 no_failure_at is none = ap (λ e. failures_in (Some e)) is ∙ none

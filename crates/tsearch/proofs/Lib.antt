@@ -1,8 +1,14 @@
 pub mod ItemLemmas
 pub mod CarryLemmas
+pub mod SearchLemmas
+pub mod SeatLemmas
+pub mod CloseLemmas
 pub mod RowLemmas
-pub mod EntryLemmas
-pub mod StoreLemmas
-pub mod RunLemmas
+pub mod TallyLemmas
 pub mod LegalLemmas
+pub mod SettleLemmas
+pub mod RunLemmas
+pub mod LoopLemmas
+pub mod DriveLemmas
+pub mod SessionLemmas
 pub mod WriteLemmas

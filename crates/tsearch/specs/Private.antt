@@ -1,5 +1,8 @@
 -- What only the contracts of private functions cite. A clause cites `pub` modules alone.
-pub mod StoreState
-pub mod StoreParts
-pub mod Steps
 pub mod Entries
+pub mod Items
+pub mod Searches
+pub mod Tallies
+pub mod Seats
+pub mod Sessions
+pub mod Runs

@@ -1,223 +1,182 @@
 //! The items of a script, carried out.
 
-ghost use Rattle.std.specs.Prelude.{◌≡◌, ℕ, ◌+◌, ◌<◌, ◌^◌, ◌≤◌, List, [], ◌∷◌, Option, Some, None};
+ghost use Rattle.std.specs.Prelude.{◌≡◌, ℕ, ◌+◌, ◌<◌, ◌^◌, ◌≤◌, List, [], ◌∷◌, length, IfOk, IfErr};
 ghost use Rattle.index.specs.declared.command.Command.TheVariants.{Put as put_command, Remove as remove_command};
+ghost use Rattle.index.specs.State.{state_of};
 ghost use Rattle.script.specs.Reading.{shown_item};
-ghost use Rattle.script.specs.Items.{numbered as numbered_item, load as load_item};
-ghost use Rattle.tsearch.specs.Legal.{IsPut, IsNamed, HasBody, HasLoaded, IsRemove, IsRoomFor};
-ghost use Rattle.tsearch.specs.Rows.{command_of, failures_in};
-ghost use Rattle.search.specs.Prepared.{pattern_of};
-ghost use Rattle.tsearch.specs.Private.Entries.{reason_of_name, reason_of_fault, IsAccepted, HasBodyOrNoMemory, IsLoadedEntry};
-ghost use Rattle.tsearch.specs.Private.Steps.{store_after, IsSearchNow, IsSearchInNow, IsSearchedNow, IsCarriedOut, IsCounted};
+ghost use Rattle.script.specs.Items.{numbered as numbered_item};
+ghost use Rattle.shared.specs.Desk.{DeskState, IsPutFault};
+ghost use Rattle.shared.specs.History.{known};
+ghost use Rattle.tsearch.specs.Legal.{IsPut, IsNamed, IsRemove};
+ghost use Rattle.tsearch.specs.Private.Entries.{reason_of_name, entry_of, published_entry_of, desk_after, HasBodyOrNoMemory, IsLoaded};
+ghost use Rattle.tsearch.specs.Private.Items.{IsCarriedOut};
 
 use crate::source::{Fault, Source};
-use crate::store::{AcceptError, Store};
-use crate::transcript::{Entry, Reason, SearchReason};
-use ere::{EreError, EreErrorKind};
-use index::{Body, BodyErrorKind, Command, MAX_BODY, Name, NameError};
+use crate::transcript::{Entry, Reason};
+use index::{Body, BodyErrorKind, MAX_BODY, Name, NameError};
 use script::{Item, Numbered};
-use search::Prepared;
+use shared::{Desk, PutErrorKind, RemoveError, Told};
 use std::alloc::Global;
+use std::sync::Wait;
 
-fn refused(line: u32, reason: Reason) -> Entry
-    ensures { result ≡ Entry.Refused line reason }
-{
-    Entry::Refused { line, reason }
-}
-
-/// The entry of a line whose name is none, or for which memory ran out.
-fn refused_name(line: u32, error: NameError) -> Entry
-    ensures { result ≡ Entry.Refused line (reason_of_name error) }
+/// Why a line is refused whose name is none, or for which memory ran out.
+fn reason_of_name(error: NameError) -> Reason
+    ensures { result ≡ reason_of_name error }
 {
     match error {
-        NameError::OutOfMemory => refused(line, Reason::OutOfMemory),
-        error => refused(line, Reason::Name(error)),
+        NameError::OutOfMemory => Reason::OutOfMemory,
+        error => Reason::Name(error),
     }
 }
 
-/// Accepts a command whose name and body are found good. It is full exactly where the limit is reached.
-fn accept(store: &mut Store, line: u32, command: Command) -> Entry
-    ensures entry { IsAccepted store.old.most store.old.accepted line result }
-    ensures store { store.new ≡ store_after (Some result) (command ∷ []) store.old }
+fn put_body(desk: &mut Desk, name: Name, bytes: Vec<u8>) -> Result<u32, Reason>
+    ensures entry { (line : ℕ) → HasBodyOrNoMemory desk.old.limit (state_of desk.old.accepted) bytes.items line (entry_of line result) }
+    ensures desk { desk.new ≡ desk_after result (put_command name bytes.items ∷ []) desk.old }
 {
-    match store.accept(command) {
-        Ok(commands) => Entry::Accepted { line, commands },
-        Err(AcceptError::Full) => refused(line, Reason::Full),
-        Err(AcceptError::OutOfMemory) => refused(line, Reason::OutOfMemory),
+    let body = match Body::new(bytes) {
+        Ok(body) => body,
+        Err(error) => return Err(Reason::Body(error.kind)),
+    };
+    match desk.put(name, body) {
+        Ok(commands) => Ok(commands),
+        Err(refused) => match refused.kind {
+            PutErrorKind::Full => Err(Reason::Full),
+            PutErrorKind::OutOfMemory => Err(Reason::OutOfMemory),
+        },
     }
 }
 
-fn put_body(store: &mut Store, line: u32, name: Name, bytes: Vec<u8>) -> Entry
-    ensures entry { HasBodyOrNoMemory store.old.most store.old.accepted bytes.items line result }
-    ensures store { store.new ≡ store_after (Some result) (put_command name bytes.items ∷ []) store.old }
-{
-    match Body::new(bytes) {
-        Ok(body) => accept(store, line, Command::Put(name, body)),
-        Err(error) => refused(line, Reason::Body(error.kind)),
-    }
-}
-
-fn put(alloc: Global, store: &mut Store, line: u32, name: &[u8], body: &[u8]) -> Entry
-    ensures entry { IsPut store.old.most store.old.accepted name.now body.now line result }
-    ensures store { store.new ≡ store_after (Some result) (put_command name.now body.now ∷ []) store.old }
+fn put(alloc: Global, desk: &mut Desk, name: &[u8], body: &[u8]) -> Result<u32, Reason>
+    ensures entry { (line : ℕ) → IsPut desk.old.limit (state_of desk.old.accepted) name.now body.now line (entry_of line result) }
+    ensures desk { desk.new ≡ desk_after result (put_command name.now body.now ∷ []) desk.old }
 {
     let name = match Name::new(alloc, name) {
         Ok(name) => name,
-        Err(error) => return refused_name(line, error),
+        Err(error) => return Err(reason_of_name(error)),
     };
     if body.len() > MAX_BODY {
-        return refused(line, Reason::Body(BodyErrorKind::TooLong));
+        return Err(Reason::Body(BodyErrorKind::TooLong));
     }
     match Vec::from_slice(alloc, body) {
-        Ok(bytes) => put_body(store, line, name, bytes),
-        Err(_) => refused(line, Reason::OutOfMemory),
+        Ok(bytes) => put_body(desk, name, bytes),
+        Err(_) => Err(Reason::OutOfMemory),
     }
 }
 
 /// Asks the source once, where the name is a name, and says `CannotLoad` exactly where the source failed then.
 fn load<S: Source>(
     alloc: Global,
-    store: &mut Store,
+    desk: &mut Desk,
     source: &mut S,
-    line: u32,
     name: &[u8],
     path: &[u8],
-) -> Entry
+) -> Result<u32, Reason>
     ensures counted { S.failed source.old ≤ S.failed source.new }
-    ensures entry { IsLoadedEntry (S.holds source.old) store.old (S.failed source.old) name.now path.now line result store.new (S.failed source.new) }
+    ensures entry { IsLoaded (S.holds source.old) desk.old (S.failed source.old) name.now path.now result desk.new (S.failed source.new) }
     ensures same { (path body : List ℕ) → (S.holds source.new path body → S.holds source.old path body) × (S.holds source.old path body → S.holds source.new path body) }
 {
     let name = match Name::new(alloc, name) {
         Ok(name) => name,
-        Err(error) => return refused_name(line, error),
+        Err(error) => return Err(reason_of_name(error)),
     };
     match source.read(alloc, path) {
-        Ok(bytes) => put_body(store, line, name, bytes),
-        Err(Fault::Failed) => refused(line, Reason::CannotLoad),
-        Err(Fault::OutOfMemory) => refused(line, Reason::OutOfMemory),
+        Ok(bytes) => put_body(desk, name, bytes),
+        Err(Fault::Failed) => Err(Reason::CannotLoad),
+        Err(Fault::OutOfMemory) => Err(Reason::OutOfMemory),
     }
 }
 
-fn remove(alloc: Global, store: &mut Store, line: u32, name: &[u8]) -> Entry
-    ensures entry { IsNamed name.now line result (IsRemove store.old.most store.old.accepted name.now line result) }
-    ensures store { store.new ≡ store_after (Some result) (remove_command name.now ∷ []) store.old }
+fn remove(alloc: Global, desk: &mut Desk, name: &[u8]) -> Result<u32, Reason>
+    ensures entry { (line : ℕ) → IsNamed name.now line (entry_of line result) (IsRemove desk.old.limit (state_of desk.old.accepted) name.now line (entry_of line result)) }
+    ensures desk { desk.new ≡ desk_after result (remove_command name.now ∷ []) desk.old }
 {
     let name = match Name::new(alloc, name) {
         Ok(name) => name,
-        Err(error) => return refused_name(line, error),
+        Err(error) => return Err(reason_of_name(error)),
     };
-    if !store.has(&name) {
-        return refused(line, Reason::NoSuchFile);
+    match desk.remove(&name) {
+        Ok(commands) => Ok(commands),
+        Err(RemoveError::NoSuchFile) => Err(Reason::NoSuchFile),
+        Err(RemoveError::Full) => Err(Reason::Full),
+        Err(RemoveError::OutOfMemory) => Err(Reason::OutOfMemory),
     }
-    accept(store, line, Command::Remove(name))
 }
 
-/// A search that is next to be answered: its number, and the turn that reader 0 then takes.
-#[derive(Clone, Copy, Debug)]
-struct Next {
-    number: u32,
-    turn: u32,
-}
-
-fn search_with(alloc: Global, store: &Store, next: Next, prepared: &Prepared) -> Entry
-    ensures { IsSearchedNow store.now.published next.number next.turn (λ pattern. pattern ≡ pattern_of prepared.now) result }
+/// The entry of a command.
+fn entry_of(line: u32, done: Result<u32, Reason>) -> Entry
+    ensures { result ≡ entry_of line done }
 {
-    match store.find(alloc, prepared) {
-        Ok(answer) => Entry::Found {
-            search: next.number,
-            reader: 0,
-            turn: next.turn,
-            answer,
-        },
-        Err(_) => Entry::SearchRefused {
-            search: next.number,
-            reason: SearchReason::OutOfMemory,
-        },
+    match done {
+        Ok(commands) => Entry::Accepted { line, commands },
+        Err(reason) => Entry::Refused { line, reason },
     }
 }
 
-fn search(alloc: Global, store: &Store, next: Next, pattern: &[u8]) -> Entry
-    ensures { IsSearchNow store.now.published next.number next.turn pattern.now result }
+/// Publishes all that is accepted, and keeps what that tells.
+fn publish<R: Wait>(rt: &R, desk: &mut Desk, told: &mut Told) -> Result<u32, Reason>
+    ensures ok { IfOk result (λ version. (version ≡ length desk.old.accepted) × (told.new ≡ known desk.old.opening desk.old.accepted)) }
+    ensures err { IfErr result (λ reason. (reason ≡ Reason.OutOfMemory) × (told.new ≡ told.old)) }
+    ensures accepted { desk.new.accepted ≡ desk.old.accepted }
+    ensures opening { (desk.new.opening ≡ desk.old.opening) × (desk.new.limit ≡ desk.old.limit) }
 {
-    match Prepared::new(alloc, pattern) {
-        Ok(prepared) => search_with(alloc, store, next, &prepared),
-        Err(error) => Entry::SearchRefused {
-            search: next.number,
-            reason: reason_of(false, error),
-        },
+    match desk.publish(rt) {
+        Ok(published) => {
+            let version = published.version();
+            *told = published;
+            Ok(version)
+        }
+        Err(_) => Err(Reason::OutOfMemory),
     }
 }
 
-fn search_in(alloc: Global, store: &Store, next: Next, name_pattern: &[u8], pattern: &[u8]) -> Entry
-    ensures { IsSearchInNow store.now.published next.number next.turn name_pattern.now pattern.now result }
+fn publish_entry(line: u32, done: Result<u32, Reason>) -> Entry
+    ensures { result ≡ published_entry_of line done }
 {
-    match Prepared::within(alloc, name_pattern, pattern) {
-        Ok(prepared) => search_with(alloc, store, next, &prepared),
-        Err(error) => Entry::SearchRefused {
-            search: next.number,
-            reason: reason_of(error.in_name, error.error),
-        },
+    match done {
+        Ok(version) => Entry::Published { line, version },
+        Err(reason) => Entry::Refused { line, reason },
     }
 }
 
-fn reason_of(in_name: bool, error: EreError) -> SearchReason
-    ensures { result ≡ reason_of_fault in_name error }
-{
-    if error.kind == EreErrorKind::OutOfMemory {
-        SearchReason::OutOfMemory
-    } else if in_name {
-        SearchReason::NamePattern(error)
-    } else {
-        SearchReason::Pattern(error)
-    }
+/// What became of an item.
+#[derive(Drop)]
+pub enum Outcome {
+    /// It was carried out, or refused.
+    Entry(Entry),
+    /// It is a search, which readings are to answer.
+    Search,
+    /// It is a sync: the searches before it are to be answered before anything after it is done.
+    Sync,
 }
 
-/// What a run has counted so far.
-#[derive(Clone, Copy, Debug, PartialEq, Eq)]
-pub struct Counts {
-    /// The searches, refused ones too.
-    pub searches: u32,
-    /// The searches that were answered.
-    pub turns: u32,
-}
-
-/// Carries out an item, and says what became of it. A sync does nothing, since nobody else is at work.
-pub fn carry_out<S: Source>(
+/// Carries out an item at the desk, and keeps what a publish tells. Searches and syncs are none of its business.
+pub fn carry_out<R: Wait, S: Source>(
+    rt: &R,
     alloc: Global,
-    store: &mut Store,
+    desk: &mut Desk,
+    told: &mut Told,
     source: &mut S,
-    counts: Counts,
     item: Numbered<'_>,
-) -> Option<Entry>
-    requires searches { counts.searches + 1 < 2 ^ 32 }
-    requires turns { counts.turns + 1 < 2 ^ 32 }
-    ensures done { IsCarriedOut (S.holds source.old) store.old counts (S.failed source.old)
-        (numbered_item item.entry.line (shown_item item.entry.item)) result store.new (S.failed source.new) }
+) -> Outcome
+    ensures done { IsCarriedOut (S.holds source.old) desk.old told.old (S.failed source.old)
+        (numbered_item item.entry.line (shown_item item.entry.item)) result desk.new told.new (S.failed source.new) }
     ensures same { (path body : List ℕ) → (S.holds source.new path body → S.holds source.old path body) × (S.holds source.old path body → S.holds source.new path body) }
     ensures counted { S.failed source.old ≤ S.failed source.new }
 {
     let line = item.line;
-    let next = Next {
-        number: counts.searches + 1,
-        turn: counts.turns + 1,
-    };
     match item.item {
-        Item::Put { name, body } => Some(put(alloc, store, line, name, body)),
-        Item::Load { name, path } => Some(load(alloc, store, source, line, name, path)),
-        Item::Remove { name } => Some(remove(alloc, store, line, name)),
-        Item::Publish => Some(Entry::Published {
-            line,
-            version: store.publish(),
-        }),
-        Item::Search { pattern } => Some(search(alloc, store, next, pattern)),
-        Item::SearchIn {
-            name_pattern,
-            pattern,
-        } => Some(search_in(alloc, store, next, name_pattern, pattern)),
-        Item::Sync => None,
-        Item::BadLine => Some(refused(line, Reason::BadLine)),
-        Item::BadPut => Some(refused(line, Reason::BadPut)),
-        Item::Truncated => Some(refused(line, Reason::Truncated)),
-        Item::BodyNotClosed => Some(refused(line, Reason::BodyNotClosed)),
+        Item::Put { name, body } => Outcome::Entry(entry_of(line, put(alloc, desk, name, body))),
+        Item::Load { name, path } => {
+            Outcome::Entry(entry_of(line, load(alloc, desk, source, name, path)))
+        }
+        Item::Remove { name } => Outcome::Entry(entry_of(line, remove(alloc, desk, name))),
+        Item::Publish => Outcome::Entry(publish_entry(line, publish(rt, desk, told))),
+        Item::Search { .. } => Outcome::Search,
+        Item::SearchIn { .. } => Outcome::Search,
+        Item::Sync => Outcome::Sync,
+        Item::BadLine => Outcome::Entry(entry_of(line, Err(Reason::BadLine))),
+        Item::BadPut => Outcome::Entry(entry_of(line, Err(Reason::BadPut))),
+        Item::Truncated => Outcome::Entry(entry_of(line, Err(Reason::Truncated))),
+        Item::BodyNotClosed => Outcome::Entry(entry_of(line, Err(Reason::BodyNotClosed))),
     }
 }

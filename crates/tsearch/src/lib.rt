@@ -4,15 +4,20 @@
 //! and `status` says how it ended.
 #![tactic(auto)]
 
+mod closing;
+mod drive;
 mod items;
 mod output;
 pub mod run;
+mod searches;
+mod seats;
 mod session;
+mod settled;
 mod source;
-mod store;
 mod texts;
 mod transcript;
 
+pub use readers::{Gate, Place};
 pub use output::{WriteError, write_transcript};
 pub use run::{Options, RunError};
 pub use source::{Fault, Source};

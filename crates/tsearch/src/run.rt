@@ -2,18 +2,25 @@
 
 ghost use Rattle.std.specs.Prelude.{◌≡◌, ℕ, ◌<◌, ◌≤◌, ◌↔◌, List, IfOk, IsErrOf, length};
 ghost use Rattle.tsearch.specs.Legal.{IsLegal};
+ghost use Rattle.tsearch.specs.Private.Runs.{IsReady};
 
-use crate::session::Session;
+use crate::drive::{Plan, drive};
+use crate::searches::prepare_all;
 use crate::source::Source;
-use crate::transcript::Transcript;
-use script::{MAX_SCRIPT, ScriptReader};
-use std::alloc::Global;
+use crate::transcript::{Entry, Transcript};
+use core::mem::replace_with;
+use readers::Gate;
+use script::MAX_SCRIPT;
+use shared::{Desk, OpenError, Reading, open};
+use std::alloc::{AllocError, Global};
+use std::sync::Wait;
+use std::thread::{self, Threads};
 use thiserror::Error;
 
 /// How a script is run.
 #[derive(Clone, Copy, Debug, PartialEq, Eq)]
 pub struct Options {
-    /// How many readers there are, 0 to 16.
+    /// How many readers there are besides reader 0, each with a thread of its own, 0 to 16.
     pub readers: u32,
     /// How many commands are accepted at most, 1 to 1,000,000.
     pub max_commands: u32,
@@ -25,6 +32,9 @@ pub enum RunError {
     /// The run itself could not go on.
     #[error("tsearch: out of memory")]
     OutOfMemory,
+    /// A reader got no place.
+    #[error("tsearch: no place for a reader")]
+    NoPlace,
     /// The script has over 67,108,864 bytes. This is looked at first.
     #[error("tsearch: script too long")]
     ScriptTooLong,
@@ -32,21 +42,29 @@ pub enum RunError {
 
 /// Runs a script, and says what became of each of its items.
 ///
-/// The transcript is legal for the script (`docs/DEFINITIONS.md`): each search is answered for the
-/// documents after some published list of commands, and lists exactly the lines with a match. An item that is
-/// refused is an entry of the transcript, and the run goes on with the next item, except after the three faults
-/// that end the reading of a script: a put without its form, without its bytes, or with a byte other than a line
-/// feed after them.
+/// The script is read on the calling thread, which is the one writer. A search is sent to one of the readers, each of
+/// which answers its searches in a thread of its own; without readers, and where a reader gives no answer that may
+/// stand, the calling thread answers it, as reader 0. A sync waits for the answers of all searches before it. A reader
+/// calls the gate at each place of a search; reader 0 does not.
+///
+/// The transcript is legal for the script (`docs/DEFINITIONS.md`), whatever the number of readers and however their
+/// steps fall: each search is answered for the documents after some published list of commands, and lists exactly the
+/// lines with a match. An item that is refused is an entry of the transcript, and the run goes on with the next item,
+/// except after the three faults that end the reading of a script: a put without its form, without its bytes, or with
+/// a byte other than a line feed after them.
 ///
 /// Whatever the answer, the source holds afterwards what it held before, and its count of failures did not fall.
 ///
-/// `ScriptTooLong` is answered exactly where the script has over 67,108,864 bytes, and `OutOfMemory` where
-/// memory ran out for the transcript itself. After an `Err` there is no transcript.
-pub fn run<S: Source>(
+/// `ScriptTooLong` is answered exactly where the script has over 67,108,864 bytes, `NoPlace` where a reader got no
+/// place, and `OutOfMemory` where memory ran out for the run itself. After an `Err` there is no transcript. All workers
+/// have ended when `run` returns.
+pub fn run<R: Threads + Wait + Sync, S: Source + Drop, G: Gate>(
+    rt: &R,
     alloc: Global,
     script: &[u8],
     options: Options,
     source: &mut S,
+    gate: &G,
 ) -> Result<Transcript, RunError>
     requires readers { options.readers ≤ 16 }
     requires commands { 0 < options.max_commands }
@@ -59,15 +77,83 @@ pub fn run<S: Source>(
     if script.len() > MAX_SCRIPT {
         return Err(RunError::ScriptTooLong);
     }
-    let mut reader = ScriptReader::new(script);
-    let mut session = Session::new(alloc, options.max_commands);
-    while let Some(item) = reader.next_item() {
-        match session.take(alloc, source, item) {
-            Ok(()) => {}
-            Err(_) => return Err(RunError::OutOfMemory),
-        }
+    let searches = match prepare_all(alloc, script) {
+        Ok(searches) => searches,
+        Err(_) => return Err(RunError::OutOfMemory),
+    };
+    let (mut desk, readings) = match open(rt, alloc, options.max_commands, options.readers as usize + 1) {
+        Ok(opened) => opened,
+        Err(OpenError::NoPlace) => return Err(RunError::NoPlace),
+        Err(OpenError::OutOfMemory) => return Err(RunError::OutOfMemory),
+    };
+    let plan = Plan {
+        rt,
+        alloc,
+        script,
+        options,
+        searches: &searches,
+        gate,
+    };
+    let ran = in_scope(&plan, &mut desk, readings, source);
+    desk.close(rt);
+    match ran {
+        Ok(entries) => Ok(Transcript { entries }),
+        Err(_) => Err(RunError::OutOfMemory),
     }
-    Ok(Transcript {
-        entries: session.entries,
-    })
+}
+
+/// Runs the script with workers in a scope, which have all ended afterwards.
+fn in_scope<R: Threads + Wait + Sync, S: Source + Drop, G: Gate>(
+    plan: &Plan<'_, R, G>,
+    desk: &mut Desk,
+    readings: Vec<Reading>,
+    source: &mut S,
+) -> Result<Vec<Entry>, AllocError>
+    requires script { length plan.now.script.now ≤ MAX_SCRIPT }
+    requires ready { IsReady plan.now.script.now plan.now.searches.now plan.now.options desk.old readings.items }
+    ensures legal { IfOk result (λ entries. IsLegal plan.now.script.now plan.now.options (S.holds source.old) (S.failed source.old) (S.failed source.new) entries.items) }
+    ensures same { (path body : List ℕ) → (S.holds source.new path body → S.holds source.old path body) × (S.holds source.old path body → S.holds source.new path body) }
+    ensures counted { S.failed source.old ≤ S.failed source.new }
+{
+    replace_with(
+        source,
+        readings,
+        |source: S, readings: Vec<Reading>| -> (S, Result<Vec<Entry>, AllocError>)
+            requires script { length plan.now.script.now ≤ MAX_SCRIPT }
+            requires ready { IsReady plan.now.script.now plan.now.searches.now plan.now.options desk.now readings.items }
+            ensures legal { IfOk result.1 (λ entries. IsLegal plan.entry.now.script.now plan.entry.now.options (S.holds source) (S.failed source) (S.failed result.0) entries.items) }
+            ensures same { (path body : List ℕ) → (S.holds result.0 path body → S.holds source path body) × (S.holds source path body → S.holds result.0 path body) }
+            ensures counted { S.failed source ≤ S.failed result.0 }
+        { scoped(plan, desk, readings, source) },
+    )
+}
+
+// A closure keeps only what can be let go, so the source is passed through it by value.
+fn scoped<R: Threads + Wait + Sync, S: Source + Drop, G: Gate>(
+    plan: &Plan<'_, R, G>,
+    desk: &mut Desk,
+    readings: Vec<Reading>,
+    source: S,
+) -> (S, Result<Vec<Entry>, AllocError>)
+    requires script { length plan.now.script.now ≤ MAX_SCRIPT }
+    requires ready { IsReady plan.now.script.now plan.now.searches.now plan.now.options desk.old readings.items }
+    ensures legal { IfOk result.1 (λ entries. IsLegal plan.now.script.now plan.now.options (S.holds source) (S.failed source) (S.failed result.0) entries.items) }
+    ensures same { (path body : List ℕ) → (S.holds result.0 path body → S.holds source path body) × (S.holds source path body → S.holds result.0 path body) }
+    ensures counted { S.failed source ≤ S.failed result.0 }
+{
+    thread::scope(
+        thread::scope_env(),
+        plan.rt,
+        move |scope| -> (S, Result<Vec<Entry>, AllocError>)
+            requires script { length plan.now.script.now ≤ MAX_SCRIPT }
+            requires ready { IsReady plan.now.script.now plan.now.searches.now plan.now.options desk.now readings.items }
+            ensures legal { IfOk result.1 (λ entries. IsLegal plan.entry.now.script.now plan.entry.now.options (S.holds source) (S.failed source) (S.failed result.0) entries.items) }
+            ensures same { (path body : List ℕ) → (S.holds result.0 path body → S.holds source path body) × (S.holds source path body → S.holds result.0 path body) }
+            ensures counted { S.failed source ≤ S.failed result.0 }
+        {
+            let mut source = source;
+            let ran = drive(scope, plan, desk, readings, &mut source);
+            (source, ran)
+        },
+    )
 }

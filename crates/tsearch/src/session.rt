@@ -1,93 +1,215 @@
 //! A run, from item to item.
 
-ghost use Rattle.std.specs.Prelude.{◌≡◌, ℕ, ◌+◌, ◌<◌, ◌^◌, List, [], OnOk, Some, ◌≤◌};
+ghost use Rattle.std.specs.Prelude.{◌≡◌, ℕ, ◌+◌, ◌<◌, ◌^◌, List, [], ◌∷◌, ◌++◌, OnOk, IfOk, IfSome, Some, ◌≤◌, All, Contains, length};
+ghost use Rattle.index.specs.State.{state_of};
+ghost use Rattle.search.specs.Prepared.{pattern_of};
+ghost use Rattle.search.specs.Scan.{IsAnswerOf};
 ghost use Rattle.script.specs.Items.{numbered as numbered_item};
 ghost use Rattle.script.specs.Reading.{shown_item};
 ghost use Rattle.tsearch.specs.Rows.{searches_of};
+ghost use Rattle.tsearch.specs.Private.Items.{searches_in};
 
-use crate::items::{Counts, carry_out};
+use crate::closing::{Open, close};
+use crate::items::{Outcome, carry_out};
+use crate::searches::refusal;
+use crate::seats::Seat;
+use crate::settled::Settled;
 use crate::source::Source;
-use crate::store::Store;
-use crate::transcript::Entry;
+use crate::transcript::{Entry, SearchReason};
 use script::{Item, Numbered};
+use search::Prepared;
+use shared::{Desk, Reading, Told};
 use std::alloc::{AllocError, Global};
+use std::collections::VecDeque;
+use std::sync::Wait;
+use std::thread::Threads;
 
-/// What a run has done so far.
+/// A run between two items.
+///
+/// Entries stand in the order of their items. Those that come after a search that is still open are pending, and so
+/// is that search, with no entry, until it is settled.
 #[derive(Drop)]
 pub struct Session {
-    /// The accepted commands and the published documents.
-    pub store: Store,
+    /// What was published last.
+    pub told: Told,
+    /// The versions that were published, rising, after 0.
+    pub versions: Vec<u32>,
     /// How many searches there were.
-    pub counts: Counts,
-    /// What the items were answered, in their order.
-    pub entries: Vec<Entry>,
+    pub searches: u32,
+    /// The reading of reader 0.
+    pub reading: Reading,
+    pub settled: Settled,
+    pub pending: VecDeque<Option<Entry>>,
+}
+
+/// What an item asks of the readers.
+#[derive(Clone, Copy, Debug, PartialEq, Eq)]
+pub enum Step {
+    /// Nothing.
+    Entry,
+    /// It is a search with this number, which is open.
+    Search(u32),
+    /// All searches so far are to be settled before the next item.
+    Sync,
 }
 
 impl Session {
-    ghost use Rattle.tsearch.specs.Private.StoreState.{empty_store};
-    ghost use Rattle.tsearch.specs.Private.Steps.{TakesItem};
+    ghost use Rattle.tsearch.specs.Private.Sessions.{IsFresh, IsStep, IsSettled, IsAsked, AreListed, SettlesNext};
+    ghost use Rattle.tsearch.specs.Private.Seats.{IsSeat};
 
-    /// A run before its first item, which accepts at most this many commands, up to 1,000,000. It takes no
-    /// memory.
-    pub fn new(alloc: Global, most: u32) -> Session
-        requires { most ≤ 1000000 }
-        ensures store { result.store ≡ empty_store most }
-        ensures counts { (result.counts.searches ≡ 0) × (result.counts.turns ≡ 0) }
-        ensures entries { result.entries.items ≡ [] }
+    /// A run before its first item, with as many readers besides reader 0 as are given. An `Err` comes only where memory
+    /// ran out.
+    pub fn new(
+        alloc: Global,
+        told: Told,
+        reading: Reading,
+        readers: u32,
+    ) -> Result<Session, AllocError>
+        requires { readers ≤ 16 }
+        ensures told { IfOk result (λ session. (session.told ≡ told) × (session.reading ≡ reading)) }
+        ensures empty { IfOk result (λ session. (session.versions.items ≡ 0 ∷ []) × (session.searches ≡ 0) × (session.pending.items ≡ [])) }
+        ensures settled { IfOk result (λ session. IsFresh (readers + 1) session.settled) }
     {
-        Session {
-            store: Store::new(alloc, most),
-            counts: Counts {
-                searches: 0,
-                turns: 0,
-            },
-            entries: Vec::new(alloc),
-        }
+        Ok(Session {
+            told,
+            versions: vec![in alloc; 0]?,
+            searches: 0,
+            reading,
+            settled: Settled::new(alloc, readers + 1)?,
+            pending: VecDeque::new(alloc),
+        })
     }
 
-    /// Carries out the next item. An `Err` comes only where memory ran out, and ends the run.
-    pub fn take<S: Source>(
+    /// Takes the next item: it is carried out, or it is a search, and open unless its pattern is refused. An `Err`
+    /// comes only where memory ran out, and ends the run.
+    pub fn take<R: Wait, S: Source>(
         &mut self,
+        rt: &R,
         alloc: Global,
+        desk: &mut Desk,
         source: &mut S,
+        searches: &[Option<Prepared>],
         item: Numbered<'_>,
-    ) -> Result<(), AllocError>
-        requires searches { self.old.counts.searches + 1 < 2 ^ 32 }
-        requires turns { self.old.counts.turns + 1 < 2 ^ 32 }
-        ensures ok { OnOk result (TakesItem (S.holds source.old) self.old (S.failed source.old)
-            (numbered_item item.entry.line (shown_item item.entry.item)) self.new (S.failed source.new)) }
+    ) -> Result<Step, AllocError>
+        requires searches { self.old.searches + 1 < 2 ^ 32 }
+        ensures ok { IfOk result (λ step. IsStep (S.holds source.old) desk.old (S.failed source.old) self.old
+            (numbered_item item.entry.line (shown_item item.entry.item)) step desk.new (S.failed source.new) self.new) }
         ensures same { (path body : List ℕ) → (S.holds source.new path body → S.holds source.old path body) × (S.holds source.old path body → S.holds source.new path body) }
         ensures counted { S.failed source.old ≤ S.failed source.new }
     {
-        let entry = carry_out(alloc, &mut self.store, source, self.counts, item);
-        self.counts.searches += searches_in(&item.item);
-        if let Some(entry) = entry {
-            self.counts.turns += found_in(&entry);
-            self.entries.push(entry)?;
+        match carry_out(rt, alloc, desk, &mut self.told, source, item) {
+            Outcome::Entry(entry) => {
+                self.note(&entry)?;
+                self.pending.push_back(Some(entry))?;
+                Ok(Step::Entry)
+            }
+            Outcome::Search => Ok(self.ask(alloc, searches, item.item)?),
+            Outcome::Sync => Ok(Step::Sync),
+        }
+    }
+
+    /// Notes the version of a publish.
+    fn note(&mut self, entry: &Entry) -> Result<(), AllocError>
+        ensures listed { OnOk result (AreListed self.old.versions.items (Some entry.now) self.new.versions.items) }
+        ensures told { self.new.told ≡ self.old.told }
+        ensures pending { self.new.pending ≡ self.old.pending }
+        ensures reading { self.new.reading ≡ self.old.reading }
+        ensures searches { self.new.searches ≡ self.old.searches }
+        ensures settled { self.new.settled ≡ self.old.settled }
+    {
+        if let Entry::Published { version, .. } = entry {
+            self.versions.push(*version)?;
         }
         Ok(())
     }
-}
 
-fn searches_in(item: &Item<'_>) -> u32
-    ensures count { result ≡ searches_of (shown_item item.now) }
-    ensures few { result < 2 }
-{
-    match item {
-        Item::Search { .. } => 1,
-        Item::SearchIn { .. } => 1,
-        _ => 0,
+    /// Takes a search.
+    fn ask(
+        &mut self,
+        alloc: Global,
+        searches: &[Option<Prepared>],
+        item: Item<'_>,
+    ) -> Result<Step, AllocError>
+        requires searches { self.old.searches + 1 < 2 ^ 32 }
+        ensures { IfOk result (λ step. IsAsked self.old (shown_item item.entry) step self.new) }
+    {
+        let number = self.searches + 1;
+        self.searches = number;
+        match searches.get(self.searches as usize - 1) {
+            Some(Some(_)) => {
+                self.pending.push_back(None)?;
+                Ok(Step::Search(number))
+            }
+            _ => {
+                let reason = refusal(alloc, item);
+                let entry = Entry::SearchRefused {
+                    search: number,
+                    reason,
+                };
+                self.pending.push_back(Some(entry))?;
+                Ok(Step::Entry)
+            }
+        }
     }
-}
 
-ghost use Rattle.tsearch.specs.Private.Steps.{found_in};
+    /// Settles all that is pending: the open searches get the answers of their readers, or of reader 0. It waits for
+    /// the workers. An `Err` comes only where memory ran out, and ends the run.
+    pub fn settle<R: Threads + Wait>(
+        &mut self,
+        rt: &R,
+        alloc: Global,
+        searches: &[Option<Prepared>],
+        seats: &mut Vec<Seat<'_>>,
+    ) -> Result<(), AllocError>
+        requires opening { self.old.reading.opening ≡ self.old.told.opening }
+        requires seats { All (IsSeat self.old.told.opening searches.now) seats.old.items }
+        requires count { (length self.old.settled.lasts.items ≡ length seats.old.items + 1) × (length seats.old.items ≤ 16) }
+        requires few { self.old.settled.searches + length self.old.pending.items < 2 ^ 32 }
+        ensures ok { OnOk result (IsSettled searches.now self.old self.new) }
+        ensures opening { self.new.reading.opening ≡ self.new.told.opening }
+        ensures seats { All (IsSeat self.old.told.opening searches.now) seats.new.items }
+        ensures count { length seats.new.items ≡ length seats.old.items }
+    {
+        while let Some(entry) = self.pending.pop_front() {
+            self.settle_next(rt, alloc, searches, seats, entry)?;
+        }
+        Ok(())
+    }
 
-fn found_in(entry: &Entry) -> u32
-    ensures count { result ≡ found_in (Some entry.now) }
-    ensures few { result < 2 }
-{
-    match entry {
-        Entry::Found { .. } => 1,
-        _ => 0,
+    /// Settles what was pending first.
+    fn settle_next<R: Threads + Wait>(
+        &mut self,
+        rt: &R,
+        alloc: Global,
+        searches: &[Option<Prepared>],
+        seats: &mut Vec<Seat<'_>>,
+        entry: Option<Entry>,
+    ) -> Result<(), AllocError>
+        requires opening { self.old.reading.opening ≡ self.old.told.opening }
+        requires seats { All (IsSeat self.old.told.opening searches.now) seats.old.items }
+        requires count { (length self.old.settled.lasts.items ≡ length seats.old.items + 1) × (length seats.old.items ≤ 16) }
+        requires few { self.old.settled.searches + 1 < 2 ^ 32 }
+        ensures ok { OnOk result (SettlesNext searches.now self.old entry self.new) }
+        ensures few { self.new.settled.searches ≤ self.old.settled.searches + 1 }
+        ensures kept { (self.new.told ≡ self.old.told) × (self.new.versions ≡ self.old.versions) × (self.new.searches ≡ self.old.searches) × (self.new.pending ≡ self.old.pending) }
+        ensures opening { self.new.reading.opening ≡ self.old.reading.opening }
+        ensures seats { All (IsSeat self.old.told.opening searches.now) seats.new.items }
+        ensures count { (length seats.new.items ≡ length seats.old.items) × (length self.new.settled.lasts.items ≡ length self.old.settled.lasts.items) }
+    {
+        match entry {
+            Some(entry) => self.settled.push(entry),
+            None => {
+                let asked = Open {
+                    searches,
+                    told: &self.told,
+                    versions: &self.versions,
+                    number: self.settled.searches + 1,
+                    least: self.settled.published,
+                };
+                let lasts = &mut self.settled.lasts;
+                let entry = close(rt, alloc, asked, lasts, &mut self.reading, seats);
+                self.settled.push(entry)
+            }
+        }
     }
 }

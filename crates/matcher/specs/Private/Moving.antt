@@ -1,7 +1,8 @@
 -- Where bytes of a set lead.
-use Rattle.std.specs.Prelude.{◌≡◌, ◌+◌, ◌<◌, ℕ, zero, suc, Bool, false, ◌&&◌, ◌||◌, List, length, nat_lt, slice_index}
+use Rattle.std.specs.Prelude.{◌≡◌, ◌+◌, ◌<◌, ℕ, zero, suc, Bool, false, ◌&&◌, ◌||◌, List, length, nat_le, nat_lt, slice_index}
 use Rattle.ere.specs.ByteSet.{has}
-use Rattle.matcher.specs.PositionSets.{has_bit, has_position}
+use Rattle.ere.specs.Bits.{has_bit}
+use Rattle.matcher.specs.PositionSets.{has_position}
 
 -- whether a byte of the set stands after the position
 abbrev pub passes : List Bool → List ℕ → ℕ → Bool
@@ -24,3 +25,7 @@ flood held pass k = held k || comes held pass k
 -- The lowest bits of a word say which positions pass, from one on.
 pub record IsPassing (members : List Bool) (line : List ℕ) (word at count : ℕ) : Type 0 where
   pub each : (bit : ℕ) → bit < count → has_bit word bit ≡ passes members line (at + bit)
+
+-- The bits of a word are the positions that pass, counted from a base, but for those before one.
+pub record IsPassingFrom (members : List Bool) (line : List ℕ) (word base from : ℕ) : Type 0 where
+  pub each : (bit : ℕ) → bit < 64 → has_bit word bit ≡ (nat_le from bit && passes members line (base + bit))

@@ -1,23 +1,23 @@
--- The entries of single items.
-use Rattle.std.specs.Prelude.{◌≡◌, ℕ, ◌<◌, ◌⊎◌, Bool, true, false, List, Option, Some}
+-- The entries of commands and publishes.
+use Rattle.std.specs.Prelude.{◌≡◌, ℕ, ◌+◌, ◌<◌, ◌⊎◌, Bool, true, false, List, [], ◌++◌, Option, Some, Result, Ok, Err}
 use Rattle.ere.specs.declared.error.EreError.{EreError}
 use Rattle.ere.specs.declared.error.EreErrorKind.{EreErrorKind}
 use Rattle.ere.specs.declared.error.EreErrorKind.TheVariants as kind
+use Rattle.index.specs.declared.command.Command.{Command}
 use Rattle.index.specs.declared.error.NameError.{NameError}
 use Rattle.index.specs.declared.error.NameError.TheVariants as name
-use Rattle.index.specs.State.{State}
+use Rattle.index.specs.State.{State, state_of}
 use Rattle.index.specs.Text.{IsBody}
 use Rattle.script.specs.Items.{load}
+use Rattle.shared.specs.Desk.{DeskState}
 use Rattle.tsearch.specs.declared.transcript.Entry.{Entry}
-use Rattle.tsearch.specs.declared.transcript.Entry.TheVariants.{Refused}
+use Rattle.tsearch.specs.declared.transcript.Entry.TheVariants.{Accepted, Refused, Published}
 use Rattle.tsearch.specs.declared.transcript.Reason.{Reason}
 use Rattle.tsearch.specs.declared.transcript.Reason.TheVariants as reason
 use Rattle.tsearch.specs.declared.transcript.SearchReason.{SearchReason}
 use Rattle.tsearch.specs.declared.transcript.SearchReason.TheVariants as search_reason
-use Rattle.tsearch.specs.Legal.{IsRoomFor, HasBody, IsNamed, HasLoaded}
+use Rattle.tsearch.specs.Legal.{IsRoomFor, HasBody, IsNamed, HasLoaded, IsFailedTimes, greatest_failures}
 use Rattle.tsearch.specs.Rows.{command_of, failures_in}
-use Rattle.tsearch.specs.Private.StoreState.{StoreState}
-use Rattle.tsearch.specs.Private.Steps.{store_after, IsCounted}
 
 abbrev pub reason_of_name : NameError → Reason
 reason_of_name name.OutOfMemory = reason.OutOfMemory
@@ -31,6 +31,21 @@ reason_of_fault_of false _ error = search_reason.Pattern error
 abbrev pub reason_of_fault : Bool → EreError → SearchReason
 reason_of_fault in_name error = reason_of_fault_of in_name error.kind error
 
+-- the entry of a command that was accepted or refused
+abbrev pub entry_of : ℕ → Result ℕ Reason → Entry
+entry_of line (Ok commands) = Accepted line commands
+entry_of line (Err why) = Refused line why
+
+-- the entry of a publish
+abbrev pub published_entry_of : ℕ → Result ℕ Reason → Entry
+published_entry_of line (Ok version) = Published line version
+published_entry_of line (Err why) = Refused line why
+
+-- the desk after these commands were accepted or refused
+abbrev pub desk_after : Result ℕ Reason → List Command → DeskState → DeskState
+desk_after (Ok count) commands desk = record desk { accepted = desk.accepted ++ commands }
+desk_after (Err why) commands desk = desk
+
 abbrev pub RanOut : ℕ → Entry → Type 0
 RanOut line entry = entry ≡ Refused line reason.OutOfMemory
 
@@ -42,9 +57,14 @@ IsAccepted most state line entry = IsRoomFor most state line entry ⊎ ((state.v
 abbrev pub HasBodyOrNoMemory : ℕ → State → List ℕ → ℕ → Entry → Type 0
 HasBodyOrNoMemory most state body line entry = HasBody most state body line entry ⊎ (IsBody body × (state.version < most) × RanOut line entry)
 
+-- A source's count rose by this number of failures, and stays once it is the greatest.
+pub record IsCounted (failures failed failed' : ℕ) : Type 0 where
+  pub rises : IsFailedTimes failures failed failed'
+  pub stays : failed ≡ greatest_failures → failed' ≡ greatest_failures
+
 -- A load: the source is asked once, unless the name is none, and failed exactly where the entry says so.
-pub record IsLoadedEntry (Holds : List ℕ → List ℕ → Type 0) (store : StoreState) (failed : ℕ) (name path : List ℕ) (line : ℕ) (entry : Entry) (store' : StoreState) (failed' : ℕ) : Type 0 where
+pub record IsLoaded (Holds : List ℕ → List ℕ → Type 0) (desk : DeskState) (failed : ℕ) (name path : List ℕ) (done : Result ℕ Reason) (desk' : DeskState) (failed' : ℕ) : Type 0 where
   pub loaded : Option (List ℕ)
-  pub legal : IsNamed name line entry (HasLoaded Holds store.most store.accepted path loaded line entry)
-  pub left : store' ≡ store_after (Some entry) (command_of (load name path) loaded) store
-  pub counted : IsCounted (failures_in (Some entry)) failed failed'
+  pub legal : (line : ℕ) → IsNamed name line (entry_of line done) (HasLoaded Holds desk.limit (state_of desk.accepted) path loaded line (entry_of line done))
+  pub left : desk' ≡ desk_after done (command_of (load name path) loaded) desk
+  pub counted : (line : ℕ) → IsCounted (failures_in (Some (entry_of line done))) failed failed'

@@ -28,6 +28,9 @@ advance-returns-in-Alt g t c = rw (ap form c.in-Alt.is ∙ form-Alt c.in-Alt.mem
 pub advance-returns-in-Repeat : goal.advance-returns-in-Repeat
 advance-returns-in-Repeat g t c = rw (ap form c.in-Repeat.is ∙ form-Repeat c.in-Repeat.body c.in-Repeat.least c.in-Repeat.greatest) (rw (← c.deref-in-Repeat.ensures) c.advance_counted.ensures)
 
+pub advance_over-returns-in-Set : goal.advance_over-returns-in-Set
+advance_over-returns-in-Set g t c = rw (ap form c.in-Set.is ∙ form-Set c.in-Set.members) c.step.ensures
+
 pub advance_at_most-loop-round-init : goal.advance_at_most-loop-round-init
 advance_at_most-loop-round-init g t c = rw c.copy.ensures (walks.widened_by_none (Spans c.args.line.now (form c.args.body.now)) (g.S.PositionSet.words c.args.at.now))
 
@@ -50,14 +53,17 @@ advance_counted-returns-else-most-least g t c = rw c.in-Some.is (walks.moves_bet
 
 pub advance_each-returns-then-is_empty : goal.advance_each-returns-then-is_empty
 advance_each-returns-then-is_empty g t c =
-    let rest : Moves (SpansEach c.args.line.now (trees_of (map form (drop (c.loop-member.member-index + 1) c.args.members.now)))) (g.S.PositionSet.words c.advance.new.at) (g.S.PositionSet.words c.advance.new.at) = walks.moves_none _ (g.S.PositionSet.words c.advance.new.at) (g.S.PositionSet.words c.advance.new.at) (c.if-is_empty.ensures) (c.if-is_empty.ensures) in
-    c.loop-member.invariant (g.S.PositionSet.words c.advance.new.at) (walks.moves_members c.args.line.now c.args.members.now c.loop-member.member-index c.member-item.result (g.S.PositionSet.words c.loop-member.at) (g.S.PositionSet.words c.advance.new.at) (g.S.PositionSet.words c.advance.new.at) c.loop-member-test.true c.member-item.is c.advance.ensures rest)
+    let rest : Moves (SpansEach c.args.line.now (trees_of (map form (drop (c.loop-member.member-index + 1) c.args.members.now)))) (g.S.PositionSet.words c.advance_over.new.at) (g.S.PositionSet.words c.advance_over.new.at) = walks.moves_none _ (g.S.PositionSet.words c.advance_over.new.at) (g.S.PositionSet.words c.advance_over.new.at) (c.if-is_empty.ensures) (c.if-is_empty.ensures) in
+    c.loop-member.invariant (g.S.PositionSet.words c.advance_over.new.at) (walks.moves_members c.args.line.now c.args.members.now c.loop-member.member-index c.member-item.result (g.S.PositionSet.words c.loop-member.at) (g.S.PositionSet.words c.advance_over.new.at) (g.S.PositionSet.words c.advance_over.new.at) c.loop-member-test.true c.member-item.is c.advance_over.ensures rest)
 
 pub advance_each-loop-member-preserved : goal.advance_each-loop-member-preserved
-advance_each-loop-member-preserved g t c = λ to h. c.loop-member.invariant to (walks.moves_members c.args.line.now c.args.members.now c.loop-member.member-index c.member-item.result (g.S.PositionSet.words c.loop-member.at) (g.S.PositionSet.words c.advance.new.at) to c.loop-member-test.true c.member-item.is c.advance.ensures h)
+advance_each-loop-member-preserved g t c = λ to h. c.loop-member.invariant to (walks.moves_members c.args.line.now c.args.members.now c.loop-member.member-index c.member-item.result (g.S.PositionSet.words c.loop-member.at) (g.S.PositionSet.words c.advance_over.new.at) to c.loop-member-test.true c.member-item.is c.advance_over.ensures h)
 
 pub advance_each-returns : goal.advance_each-returns
 advance_each-returns g t c = c.loop-member.invariant (g.S.PositionSet.words c.loop-member.at) (walks.moves_no_members c.args.line.now c.args.members.now c.loop-member.member-index (g.S.PositionSet.words c.loop-member.at) c.loop-member-test.false)
+
+pub advance_exactly-returns-then-can_be_empty : goal.advance_exactly-returns-then-can_be_empty
+advance_exactly-returns-then-can_be_empty g t c = walks.moves_exactly (Spans c.args.line.now (form c.args.body.now)) c.args.count (g.S.PositionSet.words c.args.at.now) (g.S.PositionSet.words c.advance_at_most.new.at) (c.if-can_be_empty.ensures refl c.args.line.now) c.advance_at_most.ensures
 
 pub advance_exactly-loop-word-init : goal.advance_exactly-loop-word-init
 advance_exactly-loop-word-init g t c = walks.moves_zero_steps (Spans c.args.line.now (form c.args.body.now)) (g.S.PositionSet.words c.args.at.now)
@@ -75,8 +81,8 @@ pub advance_some-loop-i-preserved : goal.advance_some-loop-i-preserved
 advance_some-loop-i-preserved g t c =
     let next : c.loop-i.i ≡ (c.loop-i.i - 1) + 1 = omega arith in
     let rest : Moves (SpansSome c.args.line.now (trees_of (map form (drop ((c.loop-i.i - 1) + 1) c.args.members.now)))) (g.S.PositionSet.words c.args.at.now) (g.S.PositionSet.words c.loop-i.found) = subst (λ i. Moves (SpansSome c.args.line.now (trees_of (map form (drop i c.args.members.now)))) (g.S.PositionSet.words c.args.at.now) (g.S.PositionSet.words c.loop-i.found)) next c.loop-i.invariant in
-    let one : Moves (Spans c.args.line.now (form c.index-members-i.result)) (g.S.PositionSet.words c.args.at.now) (g.S.PositionSet.words c.advance.new.at) = rw c.copy.ensures at c.advance.ensures in
-    walks.moves_by_member c.args.line.now c.args.members.now (c.loop-i.i - 1) c.index-members-i.result (g.S.PositionSet.words c.args.at.now) (g.S.PositionSet.words c.advance.new.at) (g.S.PositionSet.words c.loop-i.found) (g.S.PositionSet.words c.add.new.self) (omega arith) c.index-members-i.is one rest c.add.ensures.both
+    let one : Moves (Spans c.args.line.now (form c.index-members-i.result)) (g.S.PositionSet.words c.args.at.now) (g.S.PositionSet.words c.advance_over.new.at) = rw c.copy.ensures at c.advance_over.ensures in
+    walks.moves_by_member c.args.line.now c.args.members.now (c.loop-i.i - 1) c.index-members-i.result (g.S.PositionSet.words c.args.at.now) (g.S.PositionSet.words c.advance_over.new.at) (g.S.PositionSet.words c.loop-i.found) (g.S.PositionSet.words c.add.new.self) (omega arith) c.index-members-i.is one rest c.add.ensures.both
 
 pub advance_any-returns-in-Set : goal.advance_any-returns-in-Set
 advance_any-returns-in-Set g t c = rw (ap form c.in-Set.is ∙ form-Set c.in-Set.members) c.sweep.ensures
@@ -125,6 +131,9 @@ each_past-loop-member-preserved g t c = λ to h. c.loop-member.invariant to (rou
 pub each_past-returns : goal.each_past-returns
 each_past-returns g t c = c.loop-member.invariant (g.S.PositionSet.words c.loop-member.at) (rounds.past_if c.loop-member.leads _ (g.S.PositionSet.words c.args.done.now) (g.S.PositionSet.words c.loop-member.at) (g.S.PositionSet.words c.loop-member.at) (walks.moves_no_members c.args.line.now c.args.members.now c.loop-member.member-index (g.S.PositionSet.words c.loop-member.at) c.loop-member-test.false))
 
+pub member_past-returns-in-Set-clause-moved : goal.member_past-returns-in-Set-clause-moved
+member_past-returns-in-Set-clause-moved g t c = rw (ap form c.in-Set.is ∙ form-Set c.in-Set.members) (rounds.past_if c.args.leads _ (g.S.PositionSet.words c.args.done.now) (g.S.PositionSet.words c.args.at.now) (g.S.PositionSet.words c.step.new.self) c.step.ensures)
+
 pub more_past-returns-in-Set : goal.more_past-returns-in-Set
 more_past-returns-in-Set g t c = rw (ap form c.in-Set.is ∙ form-Set c.in-Set.members) (rounds.past_of_moves _ (g.S.PositionSet.words c.args.done.now) (g.S.PositionSet.words c.args.at.now) (g.S.PositionSet.words c.sweep.new.self) (rounds.moves_more _ (g.S.PositionSet.words c.args.at.now) (g.S.PositionSet.words c.step.new.self) (g.S.PositionSet.words c.sweep.new.self) c.step.ensures c.sweep.ensures))
 
@@ -137,12 +146,12 @@ more_past-loop-grown-preserved g t c = rw c.copy-in-loop-grown.ensures (rounds.r
 pub more_past-returns : goal.more_past-returns
 more_past-returns g t c = rw c.copy-3.ensures (rounds.rounded_all (Spans c.args.line.now (form c.args.body.now)) (g.S.PositionSet.words c.args.done.now) (g.S.PositionSet.words c.args.at.now) (g.S.PositionSet.words c.add-in-loop-grown.new.self) (g.S.PositionSet.words c.loop-grown.known) (g.S.PositionSet.words c.add-grown.new.self) (g.S.PositionSet.words c.add-grown.new.fresh) (rounds.rounded_more (Spans c.args.line.now (form c.args.body.now)) (g.S.PositionSet.words c.args.done.now) (g.S.PositionSet.words c.args.at.now) (g.S.PositionSet.words c.loop-grown.found) (g.S.PositionSet.words c.loop-grown.over) (g.S.PositionSet.words c.loop-grown.known) (g.S.PositionSet.words c.loop-grown.at) (g.S.PositionSet.words c.advance_past.new.at) (g.S.PositionSet.words c.add-in-loop-grown.new.self) (g.S.PositionSet.words c.add-in-loop-grown.new.fresh) (g.S.PositionSet.words c.add-grown.new.self) (g.S.PositionSet.words c.add-grown.new.fresh) c.loop-grown.invariant c.advance_past.ensures c.add-in-loop-grown.ensures.both c.add-in-loop-grown.ensures.new c.add-grown.ensures.both c.add-grown.ensures.new) (rw c.if-not-grown.true at c.add-grown.ensures.grown))
 
-pub some_past-loop-i-init : goal.some_past-loop-i-init
-some_past-loop-i-init g t c = rounds.past_of_moves _ (g.S.PositionSet.words c.args.done.now) (g.S.PositionSet.words c.args.at.now) (g.S.PositionSet.words c.none-found.result) (walks.moves_by_no_member c.args.line.now c.args.members.now (length c.args.members.now) (g.S.PositionSet.words c.args.at.now) (g.S.PositionSet.words c.none-found.result) (omega arith) c.none-found.ensures)
+pub some_past-loop-place-init : goal.some_past-loop-place-init
+some_past-loop-place-init g t c = rounds.past_of_moves _ (g.S.PositionSet.words c.args.done.now) (g.S.PositionSet.words c.args.at.now) (g.S.PositionSet.words c.none-found.result) (walks.moves_by_no_member c.args.line.now c.args.members.now (length c.args.members.now) (g.S.PositionSet.words c.args.at.now) (g.S.PositionSet.words c.none-found.result) (omega arith) c.none-found.ensures)
 
-pub some_past-loop-i-preserved : goal.some_past-loop-i-preserved
-some_past-loop-i-preserved g t c =
-    let next : c.loop-i.i ≡ (c.loop-i.i - 1) + 1 = omega arith in
-    let rest : MovesPast (SpansSome c.args.line.now (trees_of (map form (drop ((c.loop-i.i - 1) + 1) c.args.members.now)))) (g.S.PositionSet.words c.args.done.now) (g.S.PositionSet.words c.args.at.now) (g.S.PositionSet.words c.loop-i.found) = subst (λ i. MovesPast (SpansSome c.args.line.now (trees_of (map form (drop i c.args.members.now)))) (g.S.PositionSet.words c.args.done.now) (g.S.PositionSet.words c.args.at.now) (g.S.PositionSet.words c.loop-i.found)) next c.loop-i.invariant in
-    let one : MovesPast (Spans c.args.line.now (form c.index-members-i.result)) (g.S.PositionSet.words c.args.done.now) (g.S.PositionSet.words c.args.at.now) (g.S.PositionSet.words c.advance_past.new.at) = rw c.copy.ensures at c.advance_past.ensures in
-    rounds.past_by_member c.args.line.now c.args.members.now (c.loop-i.i - 1) c.index-members-i.result (g.S.PositionSet.words c.args.done.now) (g.S.PositionSet.words c.args.at.now) (g.S.PositionSet.words c.advance_past.new.at) (g.S.PositionSet.words c.loop-i.found) (g.S.PositionSet.words c.add.new.self) (omega arith) c.index-members-i.is one rest c.add.ensures.both
+pub some_past-loop-place-preserved : goal.some_past-loop-place-preserved
+some_past-loop-place-preserved g t c =
+    let next : c.loop-place.place ≡ (c.loop-place.place - 1) + 1 = omega arith in
+    let rest : MovesPast (SpansSome c.args.line.now (trees_of (map form (drop ((c.loop-place.place - 1) + 1) c.args.members.now)))) (g.S.PositionSet.words c.args.done.now) (g.S.PositionSet.words c.args.at.now) (g.S.PositionSet.words c.loop-place.found) = subst (λ i. MovesPast (SpansSome c.args.line.now (trees_of (map form (drop i c.args.members.now)))) (g.S.PositionSet.words c.args.done.now) (g.S.PositionSet.words c.args.at.now) (g.S.PositionSet.words c.loop-place.found)) next c.loop-place.invariant in
+    let one : MovesPast (Spans c.args.line.now (form c.index-members-place.result)) (g.S.PositionSet.words c.args.done.now) (g.S.PositionSet.words c.args.at.now) (g.S.PositionSet.words c.advance_past.new.at) = rw c.copy.ensures at c.advance_past.ensures in
+    rounds.past_by_member c.args.line.now c.args.members.now (c.loop-place.place - 1) c.index-members-place.result (g.S.PositionSet.words c.args.done.now) (g.S.PositionSet.words c.args.at.now) (g.S.PositionSet.words c.advance_past.new.at) (g.S.PositionSet.words c.loop-place.found) (g.S.PositionSet.words c.add.new.self) (omega arith) c.index-members-place.is one rest c.add.ensures.both

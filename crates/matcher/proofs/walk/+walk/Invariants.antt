@@ -25,8 +25,8 @@ abbrev pub invariant-each_past-loop-member : goal.invariant-each_past-loop-membe
 invariant-each_past-loop-member g l =
     (to : List ℕ) → MovesIf l.leads (SpansEach l.line (trees_of (map form (drop l.member-index l.members)))) (g.S.PositionSet.words l.done) (g.S.PositionSet.words l.at) to → MovesPast (SpansEach l.line (trees_of (map form l.members))) (g.S.PositionSet.words l.done) (g.S.PositionSet.words l.initial.at) to
 
-abbrev pub invariant-some_past-loop-i : goal.invariant-some_past-loop-i
-invariant-some_past-loop-i g l = MovesPast (SpansSome l.line (trees_of (map form (drop l.i l.members)))) (g.S.PositionSet.words l.done) (g.S.PositionSet.words l.at) (g.S.PositionSet.words l.found)
+abbrev pub invariant-some_past-loop-place : goal.invariant-some_past-loop-place
+invariant-some_past-loop-place g l = MovesPast (SpansSome l.line (trees_of (map form (drop l.place l.members)))) (g.S.PositionSet.words l.done) (g.S.PositionSet.words l.at) (g.S.PositionSet.words l.found)
 
 abbrev pub invariant-more_past-loop-grown : goal.invariant-more_past-loop-grown
 invariant-more_past-loop-grown g l = IsRounded (Spans l.line (form l.body)) (g.S.PositionSet.words l.done) (g.S.PositionSet.words l.fn.at) (g.S.PositionSet.words l.found) (g.S.PositionSet.words l.over) (g.S.PositionSet.words l.known) (g.S.PositionSet.words l.at)

@@ -1,4 +1,4 @@
-use Rattle.matcher.proofs.Bits.{has_and}
+use Rattle.ere.proofs.Bits.{has_and}
 use Rattle.matcher.proofs.words.both.Goals as goal
 
 pub returns : goal.returns

@@ -1,4 +1,4 @@
-use Rattle.matcher.proofs.Bits.{has_or}
+use Rattle.ere.proofs.Bits.{has_or}
 use Rattle.matcher.proofs.words.either.Goals as goal
 
 pub returns : goal.returns

@@ -1,5 +1,5 @@
 use Rattle.std.proofs.Common.{◌∙◌, ◌&&◌, ap}
-use Rattle.matcher.specs.PositionSets.{has_bit}
+use Rattle.ere.specs.Bits.{has_bit}
 use Rattle.matcher.proofs.words.followed.Goals as goal
 
 pub returns-else-word-lt-FEW : goal.returns-else-word-lt-FEW

@@ -1,5 +1,5 @@
 use Rattle.std.proofs.Common.{◌≡◌, ℕ, ◌+◌, ◌<◌, ◌&&◌, ◌||◌}
-use Rattle.matcher.specs.PositionSets.{has_bit}
+use Rattle.ere.specs.Bits.{has_bit}
 use Rattle.matcher.specs.Private.Moving.{passes}
 use Rattle.matcher.proofs.words.followed_each.Given as goal
 

@@ -1,4 +1,4 @@
-use Rattle.matcher.proofs.Bits.{has_only}
+use Rattle.ere.proofs.Bits.{has_only}
 use Rattle.matcher.proofs.words.only_bit.Goals as goal
 
 pub returns : goal.returns

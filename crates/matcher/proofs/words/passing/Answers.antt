@@ -1,8 +1,18 @@
-use Rattle.std.proofs.Common.{◌+◌, ◌-◌, ◌*◌, refl, arith}
-use Rattle.matcher.proofs.Passing.{passing_at}
+use Rattle.std.proofs.Common.{arith}
+use Rattle.matcher.proofs.Passing.{from_end, from_start}
 use Rattle.matcher.proofs.words.passing.Goals as goal
 
-pub loop-i-preserved : goal.loop-i-preserved
-loop-i-preserved c =
-    let found = passing_at c.args.members.now c.args.line.now c.loop-i.passing (c.args.base + 8 * c.loop-i.i) (c.args.base + 8 * (c.loop-i.i - 1) + 8) (64 - 8 * c.loop-i.i) (64 - 8 * c.loop-i.i) (omega arith) refl c.loop-i.invariant in
-    passing_at c.args.members.now c.args.line.now c.eight_passing-passing.result (c.args.base + 8 * (c.loop-i.i - 1)) (c.args.base + 8 * (c.loop-i.i - 1)) (64 - 8 * c.loop-i.i + 8) (64 - 8 * (c.loop-i.i - 1)) refl (omega arith) (c.eight_passing-passing.ensures (64 - 8 * c.loop-i.i) (omega arith) found)
+pub loop-from-init : goal.loop-from-init
+loop-from-init c = record {
+  within = omega arith;
+  found = from_end c.args.members.now c.args.line.now c.args.base c.min-end.result (λ bit far inside. omega arith);
+}
+
+pub loop-from-preserved : goal.loop-from-preserved
+loop-from-preserved c = record {
+  within = omega arith;
+  found = c.sixteen_passing-passing.ensures c.loop-from.from (omega arith) (omega arith) c.loop-from.invariant.found;
+}
+
+pub returns : goal.returns
+returns c = from_start c.args.members.now c.args.line.now c.loop-from.passing c.args.base c.loop-from.from (omega arith) c.loop-from.invariant.found

@@ -1,7 +1,7 @@
 use Rattle.std.proofs.Common.{◌∙◌, ◌+◌, sym, arith}
-use Rattle.matcher.specs.PositionSets.{has_bit}
+use Rattle.ere.specs.Bits.{has_bit}
 use Rattle.matcher.specs.Private.Moving.{passes}
-use Rattle.matcher.proofs.Bits.{has_zero}
+use Rattle.ere.proofs.Bits.{has_zero}
 use Rattle.matcher.proofs.Shifting.{flood_from, flood_none}
 use Rattle.matcher.proofs.words.reached.Goals as goal
 

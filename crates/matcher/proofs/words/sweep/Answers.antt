@@ -1,7 +1,7 @@
 use Rattle.std.proofs.Common.{◌≡◌, ◌∙◌, ap, arith}
 use Rattle.matcher.specs.declared.words.TheConstants.{WORDS}
-use Rattle.matcher.specs.PositionSets.{has_bit}
-use Rattle.matcher.proofs.Bits.{has_zero}
+use Rattle.ere.specs.Bits.{has_bit}
+use Rattle.ere.proofs.Bits.{has_zero}
 use Rattle.matcher.proofs.Shifting.{swept_first, swept_more, swept_all, swept_bounded, none_swept_on}
 use Rattle.matcher.proofs.words.sweep.Goals as goal
 

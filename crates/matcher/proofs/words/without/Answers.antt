@@ -1,5 +1,5 @@
 use Rattle.std.proofs.Common.{arith}
-use Rattle.matcher.proofs.Bits.{has_without}
+use Rattle.ere.proofs.Bits.{has_without}
 use Rattle.matcher.proofs.words.without.Goals as goal
 
 pub returns : goal.returns

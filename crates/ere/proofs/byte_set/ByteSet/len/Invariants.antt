@@ -1,8 +1,6 @@
-use Rattle.std.proofs.Common.{◌≡◌, ◌≤◌, take, count_by}
+use Rattle.std.proofs.Common.{◌≡◌}
+use Rattle.ere.proofs.SetWords.{count_before}
 use Rattle.ere.proofs.byte_set.ByteSet.len.Given as goal
 
-abbrev pub invariant-loop-held : goal.invariant-loop-held
-invariant-loop-held l = record {
-  counted : l.count ≡ count_by (λ held. held) (take l.held-index l.held-items);
-  below : l.count ≤ l.held-index;
-}
+abbrev pub invariant-loop-word : goal.invariant-loop-word
+invariant-loop-word l = l.count ≡ count_before l.word-items l.word-index

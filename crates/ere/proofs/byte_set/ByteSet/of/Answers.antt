@@ -1,29 +1,23 @@
-use Rattle.std.proofs.Common.{◌≡◌, arith, Bool, false, ◌&&◌, ◌∙◌, length-set}
+use Rattle.std.proofs.Common.{◌≡◌, ◌&&◌, false, ap, sym, arith, ◌∙◌}
 use Rattle.ere.specs.ByteSet.{is_line_byte}
-use Rattle.ere.proofs.SetLemmas.{set_of_all, set_more, IsByteSet-lines, and_at_true, and_at_false}
+use Rattle.ere.proofs.SetLemmas.{and_falls, of_none, of_more, of_same, of_all}
 use Rattle.ere.proofs.byte_set.ByteSet.of.Goals as goal
-use Rattle.ere.proofs.byte_set.ByteSet.of.Goals.{then-is_line_byte, else-is_line_byte}
+use Rattle.ere.proofs.byte_set.ByteSet.of.Goals.{then-is_line_byte+then-test, else-is_line_byte, else-is_line_byte-via-then-is_line_byte+else-test, else-is_line_byte-via-else-is_line_byte}
+
+pub loop-i-init : goal.loop-i-init
+loop-i-init g c = λ passes agree. c.empty-set.ensures ∙ of_none passes
 
 pub loop-i-preserved : goal.loop-i-preserved
-loop-i-preserved g c =
-    let v = c.if-is_line_byte.members in
-    let tested : (t : Bool) × (v ≡ (is_line_byte c.loop-i.i && t)) =
-    elim c.if-is_line_byte.branch [
-      | then-is_line_byte w ↦ (w.test.result, w.members-is ∙ and_at_true (is_line_byte c.loop-i.i) w.test.result (cc))
-      | else-is_line_byte w ↦ (false, w.members-is ∙ w.if-is_line_byte.false ∙ and_at_false (is_line_byte c.loop-i.i) false (cc))
-    ] in
-    record {
-      whole = length-set c.loop-i.members c.loop-i.i v ∙ c.loop-i.invariant.whole;
-      lines = set_more (λ k held. (t : Bool) × (held ≡ (is_line_byte k && t))) c.loop-i.members c.loop-i.i v (omega (arith, c.loop-i.invariant.whole)) c.loop-i.invariant.lines tested;
-      passes = λ passes agree. set_more (λ k held. held ≡ (is_line_byte k && passes k)) c.loop-i.members c.loop-i.i v (omega (arith, c.loop-i.invariant.whole)) (c.loop-i.invariant.passes passes agree)
-          (elim c.if-is_line_byte.branch [
-            | then-is_line_byte w ↦ w.members-is ∙ agree _ _ w.test.ensures ∙ and_at_true (is_line_byte c.loop-i.i) (passes c.loop-i.i) (cc)
-            | else-is_line_byte w ↦ w.members-is ∙ w.if-is_line_byte.false ∙ and_at_false (is_line_byte c.loop-i.i) (passes c.loop-i.i) (cc)
-          ]);
-    }
-
-pub invariant_of-result : goal.invariant_of-result
-invariant_of-result g c = IsByteSet-lines c.loop-i.members c.loop-i.invariant.whole (λ k below. c.loop-i.invariant.lines k (omega arith))
+loop-i-preserved g c = λ passes agree. elim c.if-is_line_byte.branch [
+  | then-is_line_byte+then-test w ↦ w.set-is ∙ w.insert.ensures ∙ of_more passes c.loop-i.set c.loop-i.i (sym (agree _ _ w.test.ensures) ∙ w.if-test.true) (c.loop-i.invariant passes agree)
+  | else-is_line_byte w ↦
+      let none : (is_line_byte c.loop-i.i && passes c.loop-i.i) ≡ false =
+      elim w.else-is_line_byte.branch [
+        | else-is_line_byte-via-then-is_line_byte+else-test w' ↦ ap (λ t. is_line_byte c.loop-i.i && t) (sym (agree _ _ w'.test.ensures) ∙ w'.if-test.false) ∙ and_falls (is_line_byte c.loop-i.i)
+        | else-is_line_byte-via-else-is_line_byte w' ↦ ap (λ t. t && passes c.loop-i.i) (sym c.is_line_byte.ensures ∙ w'.if-is_line_byte.false)
+      ] in
+      w.set-is ∙ of_same passes c.loop-i.set c.loop-i.i none (c.loop-i.invariant passes agree)
+]
 
 pub returns : goal.returns
-returns g c = λ passes agree. set_of_all passes c.loop-i.members c.loop-i.invariant.whole (λ k below. c.loop-i.invariant.passes passes agree k (omega arith))
+returns g c = λ passes agree. of_all passes c.loop-i.set c.loop-i.i (omega arith) (c.loop-i.invariant passes agree)

@@ -1,0 +1,41 @@
+"""What more readers bring: python3 bench/readers.py FOLDER.
+
+One script over the folder's files: 200 searches that match much, all sent before the first answer is waited for. Prints the
+seconds with 0, 1, 2 and 4 readers, the least and the median of five runs, with the time to the first publish taken off
+and the output in a file; and how many times as fast as with one reader that is.
+"""
+import os
+import statistics
+import sys
+import tempfile
+
+sys.path.insert(0, os.path.dirname(os.path.abspath(__file__)))
+import corpus
+import timed
+import trees
+
+RUNS = 5
+SEARCHES = ["search " + pattern for pattern in ("[0-9]+", "return", "(if|while|for) *\\(", "[a-z]+[0-9]+ [a-z]+", "x.*y.*z")] * 40
+
+
+def main():
+    timed.need_program()
+    with tempfile.TemporaryDirectory() as target:
+        taken = corpus.make(sys.argv[1], target)
+        print("files %(files)d, bytes %(bytes)d, %(searches)d searches" % dict(taken, searches=len(SEARCHES)))
+
+        def spent(readers, searches):
+            words = [timed.PROGRAM, "--readers", str(readers), "--max-commands", "1000000", trees.script_with(target, searches)]
+            return [timed.run(words)["seconds"] for _ in range(RUNS)]
+
+        print("| readers | seconds | times as fast as one |\n|---|---|---|")
+        one = None
+        for readers in (1, 0, 2, 4):
+            base = statistics.median(spent(readers, []))
+            seconds = [second - base for second in spent(readers, SEARCHES)]
+            one = one or statistics.median(seconds)
+            print("| %d | %.2f / %.2f | %.2f |" % (readers, min(seconds), statistics.median(seconds), one / statistics.median(seconds)), flush=True)
+
+
+if __name__ == "__main__":
+    main()

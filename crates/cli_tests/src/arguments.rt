@@ -1,0 +1,134 @@
+//! Arguments, their settings, and the refusals.
+
+use cli::arguments::not_text;
+use cli::{ArgumentError, HELP, Request, Settings, read_arguments};
+use std::alloc::Global;
+use std::process::Abort;
+use std::test::Fail;
+
+/// The program's arguments, its name before them.
+fn arguments(alloc: Global, texts: &[&str]) -> Result<Vec<String>, Fail> {
+    let mut arguments = vec![in alloc; String::from_str(alloc, "tsearch")?]?;
+    for text in texts {
+        arguments.push(String::from_str(alloc, text)?)?;
+    }
+    Ok(arguments)
+}
+
+fn assert_gives(
+    rt: &impl Abort,
+    alloc: Global,
+    texts: &[&str],
+    wanted: Settings<'_>,
+) -> Result<(), Fail> {
+    let arguments = arguments(alloc, texts)?;
+    assert!(rt; read_arguments(alloc, &arguments)? == Request::Run(wanted));
+    Ok(())
+}
+
+#[test]
+fn settings_have_defaults(rt: HostRuntime) -> Result<(), Fail> {
+    let wanted = Settings {
+        readers: 2,
+        max_commands: 65536,
+        stats: false,
+        file: None,
+    };
+    assert_gives(&rt, rt.alloc(), &[], wanted)
+}
+
+#[test]
+fn each_option_is_read_by_its_name(rt: HostRuntime) -> Result<(), Fail> {
+    let texts = [
+        "--readers",
+        "16",
+        "--stats",
+        "a file",
+        "--max-commands=1000000",
+    ];
+    let wanted = Settings {
+        readers: 16,
+        max_commands: 1_000_000,
+        stats: true,
+        file: Some("a file"),
+    };
+    assert_gives(&rt, rt.alloc(), &texts, wanted)
+}
+
+#[test]
+fn least_numbers_are_read(rt: HostRuntime) -> Result<(), Fail> {
+    let wanted = Settings {
+        readers: 0,
+        max_commands: 1,
+        stats: false,
+        file: Some("-"),
+    };
+    let texts = ["--readers=0", "--max-commands", "1", "-"];
+    assert_gives(&rt, rt.alloc(), &texts, wanted)
+}
+
+/// Arguments are refused, with a text for standard error that begins so.
+fn assert_refused(rt: &impl Abort, alloc: Global, texts: &[&str], begin: &str) -> Result<(), Fail> {
+    let arguments = arguments(alloc, texts)?;
+    match read_arguments(alloc, &arguments) {
+        Err(ArgumentError::Refused(error)) => {
+            let text = format!(in alloc; "{}", ArgumentError::Refused(error))?;
+            assert!(rt; text.as_str().starts_with(begin));
+            assert!(rt; text.as_str().ends_with('\n'));
+            Ok(())
+        }
+        _ => Err(Fail::from("arguments that were to be refused")),
+    }
+}
+
+#[test]
+fn numbers_outside_their_limits_are_refused(rt: HostRuntime) -> Result<(), Fail> {
+    let begin = "error: invalid value";
+    assert_refused(&rt, rt.alloc(), &["--readers", "17"], begin)?;
+    assert_refused(&rt, rt.alloc(), &["--readers", "4294967297"], begin)?;
+    assert_refused(&rt, rt.alloc(), &["--max-commands", "0"], begin)?;
+    assert_refused(&rt, rt.alloc(), &["--max-commands", "1000001"], begin)?;
+    assert_refused(&rt, rt.alloc(), &["--max-commands", "many"], begin)
+}
+
+#[test]
+fn other_arguments_are_refused(rt: HostRuntime) -> Result<(), Fail> {
+    assert_refused(
+        &rt,
+        rt.alloc(),
+        &["a", "b"],
+        "error: unexpected argument 'b'",
+    )?;
+    assert_refused(&rt, rt.alloc(), &["--readers", "-1"], "error: ")?;
+    assert_refused(&rt, rt.alloc(), &["--readers", ""], "error: ")?;
+    assert_refused(
+        &rt,
+        rt.alloc(),
+        &["--readers"],
+        "error: a value is required",
+    )?;
+    assert_refused(&rt, rt.alloc(), &["--stats=yes"], "error: unexpected value")?;
+    assert_refused(
+        &rt,
+        rt.alloc(),
+        &["--version"],
+        "error: unexpected argument",
+    )
+}
+
+#[test]
+fn arguments_ask_for_the_help(rt: HostRuntime) -> Result<(), Fail> {
+    for text in ["--help", "-h"] {
+        let arguments = arguments(rt.alloc(), &["--stats", text])?;
+        assert!(rt; read_arguments(rt.alloc(), &arguments)? == Request::Help);
+    }
+    assert!(rt; HELP.ends_with('\n'));
+    Ok(())
+}
+
+#[test]
+fn arguments_that_are_no_text_are_refused(rt: HostRuntime) -> Result<(), Fail> {
+    let text = format!(in rt.alloc(); "{}", not_text(rt.alloc()))?;
+    assert!(rt; text.as_str().starts_with("error: invalid UTF-8"));
+    Ok(())
+}

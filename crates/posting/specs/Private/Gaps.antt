@@ -1,0 +1,80 @@
+-- Stored numbers, read back.
+use Rattle.std.specs.Prelude.{◌≡◌, ℕ, zero, suc, ◌+◌, ◌-◌, ◌*◌, ◌^◌, ◌<◌, ◌≤◌, if◌then◌else◌, nat_lt, nat_le, List, [], ◌∷◌, ◌++◌, All, filter, length, true, ◌||◌, take, sum}
+use Rattle.std.specs.List.Sorted.{IsStrictlyIncreasing}
+use Rattle.posting.specs.ListValue.{has, without}
+use Rattle.posting.specs.Stored.{bytes_of, bytes_after}
+
+-- the numbers of these bytes, of which the first is known by its distance
+unfoldable pub numbers_in : (ℕ → ℕ) → List ℕ → List ℕ
+numbers_in number [] = []
+numbers_in number (b ∷ bytes) =
+    if nat_lt b 128 then number b ∷ numbers_in (λ gap. number b + gap) bytes
+    else numbers_in (λ high. number (b - 128 + 128 * high)) bytes
+
+-- the numbers of bytes that follow a number
+abbrev pub numbers_after : ℕ → List ℕ → List ℕ
+numbers_after before bytes = numbers_in (λ gap. before + gap) bytes
+
+-- the last of the numbers that follow one, or that one
+unfoldable pub last_of : ℕ → List ℕ → ℕ
+last_of before [] = before
+last_of before (n ∷ numbers) = last_of n numbers
+
+-- The bytes are those of some rising numbers that follow one.
+pub record IsSpelled (before : ℕ) (bytes : List ℕ) : Type 0 where
+  pub spelled : bytes ≡ bytes_after before (numbers_after before bytes)
+  pub rising : IsStrictlyIncreasing (numbers_after before bytes)
+  pub from : All (λ n. before ≤ n) (numbers_after before bytes)
+  pub bound : All (λ n. n < 2 ^ 32) (numbers_after before bytes)
+
+-- what a list keeps: bytes, how many numbers there are after the first, and the last one
+pub record IsStored (bytes : List ℕ) (others last : ℕ) : Type 0 where
+  pub spelled : IsSpelled 0 bytes
+  pub counted : others ≡ length (numbers_after 0 bytes) - 1
+  pub ends : last ≡ last_of 0 (numbers_after 0 bytes)
+
+-- the first number, and the bytes after it
+pub record IsFirstNumber (before : ℕ) (bytes : List ℕ) (number : ℕ) (rest : List ℕ) : Type 0 where
+  pub numbers : numbers_after before bytes ≡ number ∷ numbers_after number rest
+  pub spelled : IsSpelled number rest
+  pub stored : bytes ≡ bytes_of (number - before) ++ rest
+  pub order : before ≤ number
+  pub shorter : length rest < length bytes
+
+-- what groups of seven bits hold is below this, where so many follow the first one
+unfoldable pub limit : ℕ → ℕ
+limit zero = 128
+limit (suc more) = 128 * limit more
+
+-- The numbers below one were passed.
+pub record IsPassed (before : ℕ) (bytes : List ℕ) (number at : ℕ) (rest : List ℕ) : Type 0 where
+  pub passed : List ℕ
+  pub numbers : numbers_after before bytes ≡ passed ++ numbers_after at rest
+  pub stored : bytes ≡ bytes_after before passed ++ rest
+  pub ends : at ≡ last_of before passed
+  pub below : All (λ n. n < number) passed
+  pub spelled : IsSpelled at rest
+
+-- Each of the first bytes is the whole of a number, and this is their sum.
+pub record IsBlock (bytes : List ℕ) (total : ℕ) : Type 0 where
+  pub long : 16 ≤ length bytes
+  pub low : All (λ b. b < 128) (take 16 bytes)
+  pub total_is : total ≡ sum (take 16 bytes)
+
+abbrev pub not_below : ℕ → List ℕ → List ℕ
+not_below number numbers = filter (λ n. nat_le number n) numbers
+
+-- It is one of the numbers, and none is below it.
+pub record IsLeast (number : ℕ) (numbers : List ℕ) : Type 0 where
+  pub there : has numbers number ≡ true
+  pub least : All (λ n. number ≤ n) numbers
+
+-- The least number of two lists was taken out of both.
+pub record IsLower (left right : List ℕ) (number : ℕ) (left' right' : List ℕ) : Type 0 where
+  pub there : (has left number || has right number) ≡ true
+  pub least_left : All (λ n. number ≤ n) left
+  pub least_right : All (λ n. number ≤ n) right
+  pub left_is : left' ≡ without number left
+  pub right_is : right' ≡ without number right
+  pub rising_left : IsStrictlyIncreasing left
+  pub rising_right : IsStrictlyIncreasing right

@@ -1,0 +1,141 @@
+//! Numbers as they are stored: each as its distance from the one before it, in groups of seven bits.
+
+ghost use Rattle.std.specs.Prelude.{◌≡◌, ℕ, List, ◌+◌, ◌^◌, ◌<◌, ◌≤◌, ◌++◌, All, IfSome, IfNone, length, take, drop};
+ghost use Rattle.smallvec.specs.SmallVec.{HasRoomFor};
+ghost use Rattle.posting.specs.Stored.{groups, bytes_of};
+ghost use Rattle.posting.specs.Private.Gaps.{IsSpelled, IsFirstNumber, IsPassed, IsBlock, numbers_after, limit};
+
+use smallvec::SmallVec;
+
+/// How many bytes are looked at together.
+const BLOCK: usize = 16;
+
+/// The first number of bytes that follow one, and the bytes after it.
+pub(crate) fn first_number(bytes: &[u8], before: u32) -> (u32, &[u8])
+    requires spelled { IsSpelled before bytes.now }
+    requires some { 0 < length bytes.now }
+    ensures { IsFirstNumber before bytes.now result.0 result.1.now }
+{
+    let (gap, rest) = first_gap(bytes);
+    (before + gap, rest)
+}
+
+// The number in the first groups, and the bytes after them.
+fn first_gap(bytes: &[u8]) -> (u32, &[u8])
+    ensures gap { (more gap : ℕ) (rest : List ℕ) → gap < limit more → gap < 2 ^ 32
+        → bytes.now ≡ groups more gap ++ rest → (result.0 ≡ gap) × (result.1.now ≡ rest) }
+{
+    match bytes.split_first() {
+        None => (0, bytes),
+        Some((byte, rest)) => {
+            let low = *byte as u32;
+            if low < 128 {
+                return (low, rest);
+            }
+            let (high, rest) = first_gap(rest);
+            (high.wrapping_mul(128).wrapping_add(low - 128), rest)
+        }
+    }
+}
+
+/// The bytes from the first number on that isn't below this one, and the number before it.
+pub(crate) fn pass(bytes: &[u8], before: u32, number: u32) -> (&[u8], u32)
+    requires { IsSpelled before bytes.now }
+    ensures passed { IsPassed before bytes.now number result.1 result.0.now }
+    ensures next { All (λ n. number ≤ n) (numbers_after result.1 result.0.now) }
+{
+    let mut rest = bytes;
+    let mut at = before;
+    while !rest.is_empty() {
+        match step(rest, at, number) {
+            Some((after, next)) => {
+                rest = after;
+                at = next;
+            }
+            None => return (rest, at),
+        }
+    }
+    (rest, at)
+}
+
+// Passes some of the numbers, if the first one is below this one: all of a block at once, where they are.
+fn step(bytes: &[u8], before: u32, number: u32) -> Option<(&[u8], u32)>
+    requires spelled { IsSpelled before bytes.now }
+    requires some { 0 < length bytes.now }
+    ensures some { IfSome result (λ s. IsPassed before bytes.now number s.1 s.0.now × (length s.0.now < length bytes.now)) }
+    ensures none { IfNone result (All (λ n. number ≤ n) (numbers_after before bytes.now)) }
+{
+    if let Some(sum) = sum_of_block(bytes) {
+        if sum < number.saturating_sub(before) {
+            return Some((&bytes[BLOCK..], before + sum));
+        }
+    }
+    let (next, after) = first_number(bytes, before);
+    if next < number {
+        Some((after, next))
+    } else {
+        None
+    }
+}
+
+// The sum of the first bytes, where each of them is the whole of a number.
+fn sum_of_block(bytes: &[u8]) -> Option<u32>
+    ensures { IfSome result (λ total. IsBlock bytes.now total) }
+{
+    if bytes.len() < BLOCK {
+        return None;
+    }
+    let mut total = 0u32;
+    let mut most = 0u8;
+    for i in 0..BLOCK {
+        let byte = bytes[i];
+        total += byte as u32;
+        most = most.max(byte);
+    }
+    if most < 128 { Some(total) } else { None }
+}
+
+/// Puts a number's groups after the bytes, where there is room for five.
+pub(crate) fn push_gap(bytes: &mut SmallVec<u8, 16>, gap: u32)
+    requires { HasRoomFor bytes.old 5 }
+    ensures items { bytes.new.items ≡ bytes.old.items ++ bytes_of gap }
+    ensures capacity { bytes.new.capacity ≡ bytes.old.capacity }
+{
+    let mut rest = gap;
+    while rest >= 128 {
+        bytes.push_reserved((rest % 128 + 128) as u8);
+        rest /= 128;
+    }
+    bytes.push_reserved(rest as u8);
+}
+
+/// Writes a number's groups over these bytes, and moves those after them up to it. The result is how many
+/// bytes there are then.
+pub(crate) fn replace(bytes: &mut [u8], from: usize, to: usize, gap: u32) -> usize
+    requires fits { from + length (bytes_of gap) ≤ to }
+    requires within { to ≤ length bytes.old }
+    ensures len { length bytes.new ≡ length bytes.old }
+    ensures bytes { take result bytes.new ≡ take from bytes.old ++ (bytes_of gap ++ drop to bytes.old) }
+{
+    let end = write_gap(bytes, from, gap);
+    let left = bytes.len() - to;
+    bytes.copy_within(to.., end);
+    end + left
+}
+
+fn write_gap(bytes: &mut [u8], from: usize, gap: u32) -> usize
+    requires { from + length (bytes_of gap) ≤ length bytes.old }
+    ensures len { length bytes.new ≡ length bytes.old }
+    ensures place { result ≡ from + length (bytes_of gap) }
+    ensures bytes { bytes.new ≡ take from bytes.old ++ (bytes_of gap ++ drop result bytes.old) }
+{
+    let mut place = from;
+    let mut left = gap;
+    while left >= 128 {
+        bytes[place] = (left % 128 + 128) as u8;
+        left /= 128;
+        place += 1;
+    }
+    bytes[place] = left as u8;
+    place + 1
+}

@@ -1,0 +1,13 @@
+-- What a worker is given.
+use Rattle.std.specs.Prelude.{List, Option}
+use Rattle.search.specs.declared.pattern.Prepared.{Prepared}
+use Rattle.shared.specs.History.{Known}
+
+-- The searches of a run by their numbers, the first one's being 1: nothing stands for a search that is refused for
+-- its pattern. And what the worker's reading knew when the worker was started.
+pub record Task : Type 0 where
+  pub searches : List (Option Prepared)
+  pub before : Known
+
+abbrev pub task : List (Option Prepared) → Known → Task
+task searches before = record { searches = searches; before = before }

@@ -1,0 +1,19 @@
+//! Where workers are in their searches.
+
+/// A place in a worker's search.
+#[derive(Clone, Copy, Debug, PartialEq, Eq)]
+pub enum Place {
+    /// The search begins: nothing is looked at yet.
+    Begin,
+    /// The documents are taken, and their lines are matched next. What is published can change meanwhile.
+    Matching,
+    /// The search has its answer, or is refused.
+    Done,
+}
+
+/// What workers call at each place of a search. A call returns before the worker goes on, so it can hold the
+/// worker there. Several workers may call at once.
+pub trait Gate: Sync {
+    /// The search of this number is at this place.
+    fn turn(&self, search: u32, place: Place);
+}

@@ -1,0 +1,112 @@
+//! Gates that hold workers, and gates that remember where workers were.
+
+use readers::{Gate, Place};
+use std::sync::atomic::{AtomicBool, AtomicU64, Ordering};
+
+/// How often a flag is looked at before a wait for it is given up.
+const LOOKS: u64 = 2_000_000_000;
+
+/// A flag that one thread raises and another waits for.
+#[derive(Drop)]
+pub(crate) struct Flag {
+    raised: AtomicBool,
+    given_up: AtomicBool,
+}
+
+impl Flag {
+    pub(crate) fn new() -> Flag {
+        Flag {
+            raised: AtomicBool::new(false),
+            given_up: AtomicBool::new(false),
+        }
+    }
+
+    pub(crate) fn raise(&self) {
+        self.raised.store(true, Ordering::SeqCst);
+    }
+
+    /// Comes back once the flag is raised, or after so many looks at it.
+    pub(crate) fn wait(&self) {
+        for _ in 0..LOOKS {
+            if self.raised.load(Ordering::SeqCst) {
+                return;
+            }
+        }
+        self.given_up.store(true, Ordering::SeqCst);
+    }
+
+    /// Whether a wait was given up.
+    pub(crate) fn is_given_up(&self) -> bool {
+        self.given_up.load(Ordering::SeqCst)
+    }
+}
+
+/// Holds nobody.
+#[derive(Drop)]
+pub(crate) struct Open;
+
+impl Gate for Open {
+    fn turn(&self, _search: u32, _place: Place) {}
+}
+
+/// Holds search 1 at its begin until search 2 is done.
+#[derive(Drop)]
+pub(crate) struct SecondFirst {
+    pub(crate) second_done: Flag,
+}
+
+impl Gate for SecondFirst {
+    fn turn(&self, search: u32, place: Place) {
+        if search == 1 && place == Place::Begin {
+            self.second_done.wait();
+        }
+        if search == 2 && place == Place::Done {
+            self.second_done.raise();
+        }
+    }
+}
+
+/// Tells when search 1 is about to match, and holds it there until it is released.
+#[derive(Drop)]
+pub(crate) struct HeldMatching {
+    pub(crate) matching: Flag,
+    pub(crate) released: Flag,
+}
+
+impl HeldMatching {
+    pub(crate) fn new() -> HeldMatching {
+        HeldMatching {
+            matching: Flag::new(),
+            released: Flag::new(),
+        }
+    }
+}
+
+impl Gate for HeldMatching {
+    fn turn(&self, search: u32, place: Place) {
+        if search == 1 && place == Place::Matching {
+            self.matching.raise();
+            self.released.wait();
+        }
+    }
+}
+
+/// Remembers the calls of one worker in decimal digits: for each call the number of the search, below 10, and
+/// then the place, 1 to 3.
+#[derive(Drop)]
+pub(crate) struct Digits {
+    pub(crate) word: AtomicU64,
+}
+
+impl Gate for Digits {
+    fn turn(&self, search: u32, place: Place) {
+        let digit = match place {
+            Place::Begin => 1,
+            Place::Matching => 2,
+            Place::Done => 3,
+        };
+        let word = self.word.load(Ordering::SeqCst);
+        let call = u64::from(search).wrapping_mul(10).wrapping_add(digit);
+        self.word.store(word.wrapping_mul(100).wrapping_add(call), Ordering::SeqCst);
+    }
+}

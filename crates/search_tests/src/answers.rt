@@ -1,0 +1,247 @@
+//! Answers of searches: their hits, their counts, their text, and which documents are looked at.
+
+ghost use Rattle.std.specs.Prelude.{◌≡◌, [], ◌∷◌, None, IfOk};
+ghost use Rattle.ere.specs.Limits.{IsTreeOf};
+ghost use Rattle.ere.specs.Tree.{Tree};
+ghost use Rattle.index.specs.declared.command.Command.TheVariants.{Put};
+ghost use Rattle.index.specs.State.{state_of};
+ghost use Rattle.search.specs.Pattern.{Pattern, IsPatternOf};
+ghost use Rattle.search.specs.Scan.{IsAnswerOf};
+
+use crate::fixtures::{Kept, answer_text, built, document, index_of};
+use ere::EreErrorKind;
+use index::{Body, Command, Index, Name};
+use search::{Answer, Prepared, find};
+use std::alloc::Global;
+use std::process::Abort;
+use std::test::Fail;
+
+/// A search on one thread, from commands to the answer: two documents are put, and searched.
+fn search_two(
+    alloc: Global,
+    first: (Name, Body),
+    second: (Name, Body),
+    pattern: &[u8],
+) -> Result<Answer, Fail>
+    // The answer is that of the pattern's tree and of the two commands.
+    ensures { IfOk result (λ answer. (tree : Pattern) × IsPatternOf pattern.now tree
+        × IsAnswerOf (state_of (Put first.0 first.1 ∷ Put second.0 second.1 ∷ [])) tree answer) }
+{
+    let prepared = Prepared::new(alloc, pattern)?;
+    let mut index = Index::new(alloc);
+    index.apply(Command::Put(first.0, first.1))?;
+    index.apply(Command::Put(second.0, second.1))?;
+    Ok(find(alloc, &index, &prepared)?)
+}
+
+/// Whether the pattern's answer over these commands has this text, and these are the numbers of the documents that
+/// were looked at, each of them once.
+fn is_answered(rt: &impl Abort, alloc: Global, row: &[&[u8]; 4]) -> Result<bool, Fail> {
+    let index = index_of(rt, alloc, row[0])?;
+    let mut kept = Kept::new();
+    let text = answer_text(alloc, &index, row[1], true, &mut kept)?;
+    Ok(text.as_slice() == row[2] && kept.has_read(row[3]))
+}
+
+/// Commands, a pattern, the text of its answer, and the numbers of the documents that are looked at.
+const ROWS: &[[&[u8]; 4]] = &[
+    [
+        b"b hit|a hit|B hit",
+        b"hit",
+        b"search 1 version 3 lines 3 candidates 3 of 3\nB:1:hit\na:1:hit\nb:1:hit\n",
+        b"\x01\x02\x03",
+    ],
+    [
+        b"f old|f new",
+        b"old",
+        b"search 1 version 2 lines 0 candidates 0 of 1\n",
+        b"",
+    ],
+    [
+        b"a |b \n|c a\n\nb",
+        b"^$",
+        b"search 1 version 3 lines 2 candidates 3 of 3\nb:1:\nc:2:\n",
+        b"\x01\x02\x03",
+    ],
+    [
+        b"a Google Code Search|b Search Google|c Goo",
+        b"Google.*Search",
+        b"search 1 version 3 lines 1 candidates 2 of 3\na:1:Google Code Search\n",
+        b"\x01\x02",
+    ],
+    [
+        b"f abc\ndef",
+        b"abc.def",
+        b"search 1 version 1 lines 0 candidates 1 of 1\n",
+        b"\x01",
+    ],
+    [
+        b"f abc\ndef",
+        b"cde",
+        b"search 1 version 1 lines 0 candidates 0 of 1\n",
+        b"",
+    ],
+    [
+        b"f a",
+        b"[^\x01-\xff]",
+        b"search 1 version 1 lines 0 candidates 0 of 1\n",
+        b"",
+    ],
+    [
+        b"a abbcdd|b abcd|c abcxbd",
+        b"ab+cd+",
+        b"search 1 version 3 lines 2 candidates 2 of 3\na:1:abbcdd\nb:1:abcd\n",
+        b"\x01\x02",
+    ],
+    [
+        b"f zzz",
+        b"[a-p]bc",
+        b"search 1 version 1 lines 0 candidates 0 of 1\n",
+        b"",
+    ],
+    [
+        b"f zzz",
+        b"[a-q]bc",
+        b"search 1 version 1 lines 0 candidates 1 of 1\n",
+        b"\x01",
+    ],
+];
+
+#[test]
+fn rows(rt: HostRuntime) -> Result<(), Fail> {
+    for row in ROWS {
+        assert!(rt; is_answered(&rt, rt.alloc(), row)?, "of {row:?}");
+    }
+    Ok(())
+}
+
+fn name_of(i: u32) -> [u8; 2] {
+    [b'a' + (i % 16) as u8, b'a' + (i / 16 % 26) as u8]
+}
+
+/// Of each five texts one has a match of `Google.*Search`, one has its trigrams without a match, and three have few
+/// of them.
+fn text_of(i: u32) -> &'static [u8] {
+    match i % 5 {
+        0 => b" Google Code Search",
+        1 => b" Search\nGoogle",
+        _ => b" Goo",
+    }
+}
+
+/// Commands that put documents, so many.
+fn puts_of(alloc: Global, count: u32) -> Result<Vec<u8>, Fail> {
+    let mut commands = Vec::new(alloc);
+    for i in 0..count {
+        commands.push(b'|')?;
+        commands.extend_from_slice(&name_of(i))?;
+        commands.extend_from_slice(text_of(i))?;
+    }
+    Ok(commands)
+}
+
+#[test]
+fn a_watch_sees_the_candidates_alone(rt: HostRuntime) -> Result<(), Fail> {
+    let alloc = rt.alloc();
+    let index = index_of(&rt, alloc, &puts_of(alloc, 300)?)?;
+    let mut kept = Kept::new();
+    let text = answer_text(alloc, &index, b"Google.*Search", true, &mut kept)?;
+    let head = b"search 1 version 300 lines 60 candidates 120 of 300\naa:1:Google Code Search\n";
+    assert!(rt; text.starts_with(head), "{text:?}");
+    for (number, times) in kept.times.iter().enumerate() {
+        let i = number.wrapping_sub(1);
+        let is_read = i < 300 && i % 5 < 2;
+        assert_eq!(rt; *times, is_read as u8, "document {number}");
+    }
+    Ok(())
+}
+
+/// A body of 1,048,575 bytes, searched again and again.
+#[test]
+fn a_large_body_and_many_searches(rt: HostRuntime) -> Result<(), Fail> {
+    let alloc = rt.alloc();
+    let commands = built(
+        alloc,
+        &[(b"f ", 1), (b"straw\n", 174_760), (b"a needle\nin hay", 1)],
+    )?;
+    assert_eq!(rt; commands.len(), 1_048_577);
+    let index = index_of(&rt, alloc, &commands)?;
+    let mut kept = Kept::new();
+    for _ in 0..150 {
+        let text = answer_text(alloc, &index, b"n[aeiou]{2}dle", true, &mut kept)?;
+        let want = b"search 1 version 1 lines 1 candidates 1 of 1\nf:174761:a needle\n";
+        assert_eq!(rt; text.as_slice(), want.as_slice());
+    }
+    let text = answer_text(alloc, &index, b"s.*w$", true, &mut kept)?;
+    let head = b"search 1 version 1 lines 174760 candidates 1 of 1\nf:1:straw\n";
+    assert!(rt; text.starts_with(head));
+    Ok(())
+}
+
+/// The text of the answer within names.
+fn text_within(
+    alloc: Global,
+    index: &Index,
+    name_pattern: &[u8],
+    pattern: &[u8],
+) -> Result<Vec<u8>, Fail> {
+    let prepared = Prepared::within(alloc, name_pattern, pattern)?;
+    let mut text = Vec::new(alloc);
+    find(alloc, index, &prepared)?.write_to(7, false, &mut text)?;
+    Ok(text)
+}
+
+#[test]
+fn names_as_lines(rt: HostRuntime) -> Result<(), Fail> {
+    let alloc = rt.alloc();
+    let index = index_of(&rt, alloc, b"a.c x\ny\nx|a.h x")?;
+    let rows: [[&[u8]; 3]; 3] = [
+        [
+            b"c$",
+            b"x",
+            b"search 7 version 2 lines 2\na.c:1:x\na.c:3:x\n",
+        ],
+        [b"", b"y", b"search 7 version 2 lines 1\na.c:2:y\n"],
+        [b"^h", b"x", b"search 7 version 2 lines 0\n"],
+    ];
+    for row in &rows {
+        let text = text_within(alloc, &index, row[0], row[1])?;
+        assert_eq!(rt; text.as_slice(), row[2], "of {row:?}");
+    }
+    Ok(())
+}
+
+#[test]
+fn refused_patterns(rt: HostRuntime) -> Result<(), Fail> {
+    let alloc = rt.alloc();
+    match Prepared::new(alloc, b"*a") {
+        Ok(_) => assert!(rt; false),
+        Err(error) => assert_eq!(rt; error.kind, EreErrorKind::NothingToRepeat),
+    }
+    for (name_pattern, pattern, in_name) in [
+        (b"*a".as_slice(), b"*b".as_slice(), true),
+        (b"a".as_slice(), b"*b".as_slice(), false),
+    ] {
+        match Prepared::within(alloc, name_pattern, pattern) {
+            Ok(_) => assert!(rt; false),
+            Err(refused) => {
+                assert_eq!(rt; refused.in_name, in_name);
+                assert_eq!(rt; refused.error.kind, EreErrorKind::NothingToRepeat);
+            }
+        }
+    }
+    Ok(())
+}
+
+#[test]
+fn two_documents(rt: HostRuntime) -> Result<(), Fail> {
+    let alloc = rt.alloc();
+    let first = document(alloc, b"f", b"abc\ndef")?;
+    let second = document(alloc, b"e", b"abd")?;
+    let answer = search_two(alloc, first, second, b"ab")?;
+    assert_eq!(rt; answer.version(), 2);
+    assert_eq!(rt; answer.documents(), 2);
+    assert_eq!(rt; answer.candidates(), 2);
+    assert_eq!(rt; answer.hits().len(), 2);
+    Ok(())
+}

@@ -1,0 +1,29 @@
+use Rattle.std.proofs.Common.{◌≡◌, ℕ, ◌+◌, List, [], ◌∷◌, ◌++◌, Some, None, refl, ap, arith}
+use Rattle.tsearch.specs.Private.Sessions as sessions
+use Rattle.tsearch.proofs.session.Session.ask.Goals as goal
+
+pub returns-in_ok-push_back-in-Some-Some : goal.returns-in_ok-push_back-in-Some-Some
+returns-in_ok-push_back-in-Some-Some c = record {
+  entry = None;
+  is = sessions.asked;
+  no_sync = λ same. cc;
+  pending = c.in_ok-push_back-in-Some-Some.ensures.items;
+  searches = refl;
+  told = refl;
+  versions = refl;
+  settled = refl;
+  reading = refl;
+}
+
+pub returns-in_ok-push_back-in_default : goal.returns-in_ok-push_back-in_default
+returns-in_ok-push_back-in_default c = record {
+  entry = Some _;
+  is = sessions.refused c.refusal-reason.result c.refusal-reason.ensures;
+  no_sync = λ same. cc;
+  pending = c.in_ok-push_back-in_default.ensures.items;
+  searches = refl;
+  told = refl;
+  versions = refl;
+  settled = refl;
+  reading = refl;
+}

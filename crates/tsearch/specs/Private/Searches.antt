@@ -1,0 +1,47 @@
+-- Searches that are prepared before a run, and refused ones.
+use Rattle.std.specs.Prelude.{◌≡◌, ℕ, ◌+◌, List, [], ◌∷◌, ◌++◌, Option, Some, None, IfSome, slice_get}
+use Rattle.search.specs.declared.pattern.Prepared.{Prepared}
+use Rattle.search.specs.Pattern.{Pattern, IsPatternOf, IsPatternWithin}
+use Rattle.search.specs.Prepared.{pattern_of}
+use Rattle.script.specs.Items.{Item, Numbered, IsItemsOf, search, search_in}
+use Rattle.tsearch.specs.declared.transcript.Entry.TheVariants.{SearchRefused}
+use Rattle.tsearch.specs.declared.transcript.SearchReason.{SearchReason}
+use Rattle.tsearch.specs.Rows.{searches_of}
+use Rattle.tsearch.specs.Legal.{Context, search_number, IsSearch, IsSearchIn}
+
+-- the pattern that a search asks for
+abbrev pub Asks : Item → Pattern → Type 0
+Asks (search text) pattern = IsPatternOf text pattern
+Asks (search_in name_text text) pattern = IsPatternWithin name_text text pattern
+Asks _ pattern = Unit {0}
+
+-- An item is added to the searches, where it is one: with its pattern, or with nothing.
+pub data IsListed (item : Item) (old new : List (Option Prepared)) : Type 0 where
+  other : searches_of item ≡ 0 → new ≡ old → IsListed item old new
+  listed : (found : Option Prepared) → searches_of item ≡ 1 → IfSome found (λ prepared. Asks item (pattern_of prepared)) → new ≡ old ++ found ∷ [] → IsListed item old new
+
+-- how many searches the items have
+unfoldable pub searches_among : List Numbered → ℕ
+searches_among [] = 0
+searches_among (item ∷ items) = searches_of item.item + searches_among items
+
+-- Each search among the items has its place in the list, by its number, where it asks for the pattern that is there,
+-- if one is there.
+unfoldable pub ArePaired : List Numbered → List (Option Prepared) → Type 0
+ArePaired items searches =
+    (before : List Numbered) (item : Numbered) (after : List Numbered) (prepared : Prepared)
+    → items ≡ before ++ item ∷ after → searches_of item.item ≡ 1
+    → slice_get searches (searches_among before) ≡ Some (Some prepared)
+    → Asks item.item (pattern_of prepared)
+
+-- The list has the searches of the script.
+pub record ArePrepared (script : List ℕ) (searches : List (Option Prepared)) : Type 0 where
+  pub items : List Numbered
+  pub are : IsItemsOf script items
+  pub paired : ArePaired items searches
+
+-- The search may be refused so, whatever stands around it.
+abbrev pub IsRefusalOf : Item → SearchReason → Type 0
+IsRefusalOf (search text) why = (context : Context) → IsSearch context text (SearchRefused (search_number context) why)
+IsRefusalOf (search_in name_text text) why = (context : Context) → IsSearchIn context name_text text (SearchRefused (search_number context) why)
+IsRefusalOf _ why = Unit {0}

@@ -1,0 +1,106 @@
+-- Steps of a run.
+use Rattle.std.specs.Prelude.{◌≡◌, ℕ, ◌+◌, ◌≢◌, List, [], ◌∷◌, ◌++◌, Bool, true, Option, Some, None, Contains, ◌⊎◌, replicate}
+use Rattle.script.specs.Items.{Item, Numbered}
+use Rattle.search.specs.declared.pattern.Prepared.{Prepared}
+use Rattle.shared.specs.Desk.{DeskState}
+use Rattle.shared.specs.History.{Known, known}
+use Rattle.logbook.specs.Pages.{Book}
+use Rattle.tsearch.specs.declared.session.Session.{Session}
+use Rattle.tsearch.specs.declared.session.Step.{Step}
+use Rattle.tsearch.specs.declared.session.Step.TheVariants as step
+use Rattle.tsearch.specs.declared.settled.Settled.{Settled}
+use Rattle.tsearch.specs.declared.settled.Last.{Last}
+use Rattle.tsearch.specs.declared.transcript.Entry.{Entry}
+use Rattle.tsearch.specs.declared.transcript.Entry.TheVariants.{SearchRefused}
+use Rattle.tsearch.specs.declared.transcript.SearchReason.{SearchReason}
+use Rattle.tsearch.specs.Rows.{version_in, searches_of, is_sync}
+use Rattle.tsearch.specs.Private.Items.{IsEntered, IsLeft}
+use Rattle.tsearch.specs.Private.Searches.{IsRefusalOf}
+use Rattle.tsearch.specs.Private.Tallies.{last, Tally, tally, tally_with, IsClosed, Settles}
+
+abbrev pub tally_of : Settled → Tally
+tally_of settled = tally settled.searches settled.published settled.lasts.items
+
+-- Nothing is settled yet, and no reader has answered.
+pub record IsFresh (readers : ℕ) (settled : Settled) : Type 0 where
+  pub entries : settled.entries.items ≡ []
+  pub searches : settled.searches ≡ 0
+  pub published : settled.published ≡ 0
+  pub lasts : settled.lasts.items ≡ replicate readers (last 0 0)
+
+-- A run before its first item: nothing is told of but version 0.
+pub record IsStart (opening : Book) (readers : ℕ) (session : Session) : Type 0 where
+  pub told : session.told ≡ known opening []
+  pub reading : session.reading.opening ≡ opening
+  pub versions : session.versions.items ≡ 0 ∷ []
+  pub searches : session.searches ≡ 0
+  pub pending : session.pending.items ≡ []
+  pub settled : IsFresh (readers + 1) session.settled
+
+-- What an item leaves for the entries that are pending: its entry, or nothing where it is an open search.
+pub data IsPended (Holds : List ℕ → List ℕ → Type 0) (desk : DeskState) (told : Known) (failed number : ℕ) (item : Numbered) : Option Entry → DeskState → Known → ℕ → Type 0 where
+  entered : {desk' : DeskState} {told' : Known} {failed' : ℕ} (entry : Entry) → IsEntered Holds desk told failed item entry desk' told' failed'
+      → IsPended Holds desk told failed number item (Some entry) desk' told' failed'
+  refused : {desk' : DeskState} {told' : Known} {failed' : ℕ} (why : SearchReason) → searches_of item.item ≡ 1 → IsRefusalOf item.item why → IsLeft desk told failed desk' told' failed'
+      → IsPended Holds desk told failed number item (Some (SearchRefused number why)) desk' told' failed'
+  asked : {desk' : DeskState} {told' : Known} {failed' : ℕ} → searches_of item.item ≡ 1 → IsLeft desk told failed desk' told' failed'
+      → IsPended Holds desk told failed number item None desk' told' failed'
+
+-- A version that is listed now was listed before, or is that of the entry.
+abbrev pub AreListed : List ℕ → Option Entry → List ℕ → Type 0
+AreListed versions entry versions' = (version : ℕ) → Contains versions' version → Contains versions version ⊎ Contains (version_in entry) version
+
+-- One more item is pending.
+pub record Pends (Holds : List ℕ → List ℕ → Type 0) (desk : DeskState) (failed : ℕ) (old : Session) (item : Numbered) (desk' : DeskState) (failed' : ℕ) (new : Session) : Type 0 where
+  pub entry : Option Entry
+  pub is : IsPended Holds desk old.told failed (old.searches + 1) item entry desk' new.told failed'
+  pub pending : new.pending.items ≡ old.pending.items ++ entry ∷ []
+  pub versions : AreListed old.versions.items entry new.versions.items
+  pub searches : new.searches ≡ old.searches + searches_of item.item
+  pub settled : new.settled ≡ old.settled
+  pub reading : new.reading ≡ old.reading
+
+-- A search was taken: it is open, or refused.
+pub data IsPendingSearch (number : ℕ) (item : Item) : Option Entry → Type 0 where
+  refused : (why : SearchReason) → IsRefusalOf item why → IsPendingSearch number item (Some (SearchRefused number why))
+  asked : IsPendingSearch number item None
+
+pub record IsAsked (old : Session) (item : Item) (next : Step) (new : Session) : Type 0 where
+  pub entry : Option Entry
+  pub is : IsPendingSearch (old.searches + 1) item entry
+  pub no_sync : next ≢ step.Sync
+  pub pending : new.pending.items ≡ old.pending.items ++ entry ∷ []
+  pub searches : new.searches ≡ old.searches + 1
+  pub told : new.told ≡ old.told
+  pub versions : new.versions ≡ old.versions
+  pub settled : new.settled ≡ old.settled
+  pub reading : new.reading ≡ old.reading
+
+-- The item was taken: a sync leaves all as it is.
+abbrev pub IsStep : (List ℕ → List ℕ → Type 0) → DeskState → ℕ → Session → Numbered → Step → DeskState → ℕ → Session → Type 0
+IsStep Holds desk failed old item step.Sync desk' failed' new = (is_sync item.item ≡ true) × (desk' ≡ desk) × (failed' ≡ failed) × (new ≡ old)
+IsStep Holds desk failed old item _ desk' failed' new = Pends Holds desk failed old item desk' failed' new
+
+-- An entry that was pending first, or the search that was open, is settled.
+pub data SettlesNext (searches : List (Option Prepared)) (old : Session) (entry : Option Entry) (new : Session) : Type 0 where
+  ready : (settled : Entry) → entry ≡ Some settled → new.settled.entries.items ≡ old.settled.entries.items ++ settled ∷ []
+      → tally_of new.settled ≡ tally_with settled old.settled.lasts.items (tally_of old.settled) → SettlesNext searches old entry new
+  closed : (settled : Entry) (lasts : List Last) → entry ≡ None → new.settled.entries.items ≡ old.settled.entries.items ++ settled ∷ []
+      → IsClosed searches old.told.commands old.versions.items (old.settled.searches + 1) old.settled.published old.settled.lasts.items settled lasts
+      → tally_of new.settled ≡ tally_with settled lasts (tally_of old.settled) → SettlesNext searches old entry new
+
+-- All that was pending is settled.
+pub record IsSettled (searches : List (Option Prepared)) (old new : Session) : Type 0 where
+  pub entries : List Entry
+  pub settles : Settles searches old.told.commands old.versions.items (tally_of old.settled) old.pending.items entries (tally_of new.settled)
+  pub settled : new.settled.entries.items ≡ old.settled.entries.items ++ entries
+  pub pending : new.pending.items ≡ []
+  pub told : new.told ≡ old.told
+  pub versions : new.versions ≡ old.versions
+  pub count : new.searches ≡ old.searches
+
+-- A run went on by one item. Without readers all is settled after each.
+pub data Advances (Holds : List ℕ → List ℕ → Type 0) (searches : List (Option Prepared)) (readers : ℕ) (desk : DeskState) (failed : ℕ) (old : Session) (item : Numbered) (desk' : DeskState) (failed' : ℕ) (new : Session) : Type 0 where
+  synced : is_sync item.item ≡ true → desk' ≡ desk → failed' ≡ failed → IsSettled searches old new → Advances Holds searches readers desk failed old item desk' failed' new
+  pended : readers ≢ 0 → Pends Holds desk failed old item desk' failed' new → Advances Holds searches readers desk failed old item desk' failed' new
+  settled : (mid : Session) → readers ≡ 0 → Pends Holds desk failed old item desk' failed' mid → IsSettled searches mid new → Advances Holds searches readers desk failed old item desk' failed' new

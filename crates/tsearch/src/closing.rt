@@ -1,0 +1,194 @@
+//! Open searches: whose answer each one gets.
+
+ghost use Rattle.std.specs.Prelude.{◌≡◌, ℕ, ◌+◌, ◌-◌, ◌<◌, ◌≤◌, ◌^◌, List, Some, All, IfSome, IfNone, Contains, MatchBool, length, slice_get, slice_set};
+ghost use Rattle.index.specs.State.{state_of};
+ghost use Rattle.search.specs.Prepared.{pattern_of};
+ghost use Rattle.search.specs.Scan.{IsAnswerOf};
+ghost use Rattle.tsearch.specs.Private.Seats.{IsSeat};
+ghost use Rattle.tsearch.specs.Private.Tallies.{IsUseful, IsClosed, IsTaken, CanStand, last, last_of};
+
+use crate::seats::Seat;
+use crate::settled::Last;
+use crate::transcript::{Entry, SearchReason};
+use readers::Given;
+use search::{Answer, Prepared};
+use shared::{Reading, SearchError, Told};
+use std::alloc::Global;
+use std::sync::Wait;
+use std::thread::Threads;
+
+/// A search that is open, after all that was to be answered with it was read.
+#[derive(Clone, Copy)]
+pub struct Open<'a> {
+    pub searches: &'a [Option<Prepared>],
+    /// What was published last.
+    pub told: &'a Told,
+    /// The versions that were published, rising, after 0.
+    pub versions: &'a [u32],
+    /// Its number.
+    pub number: u32,
+    /// The version that was published last before it.
+    pub least: u32,
+}
+
+/// Closes an open search: with the answer of its reader, where that may stand, or else with one of reader 0. It is
+/// refused where memory ran out for that.
+pub fn close<R: Threads + Wait>(
+    rt: &R,
+    alloc: Global,
+    asked: Open<'_>,
+    lasts: &mut Vec<Last>,
+    reading: &mut Reading,
+    seats: &mut Vec<Seat<'_>>,
+) -> Entry
+    requires number { 0 < asked.number }
+    requires opening { reading.old.opening ≡ asked.told.now.opening }
+    requires seats { All (IsSeat asked.told.now.opening asked.searches.now) seats.old.items }
+    requires count { (length lasts.old.items ≡ length seats.old.items + 1) × (length seats.old.items ≤ 16) }
+    ensures closed { IsClosed asked.entry.searches.now asked.entry.told.now.commands asked.entry.versions.now asked.entry.number asked.entry.least lasts.old.items result lasts.new.items }
+    ensures opening { reading.new.opening ≡ reading.old.opening }
+    ensures seats { All (IsSeat asked.entry.told.now.opening asked.entry.searches.now) seats.new.items }
+    ensures count { length seats.new.items ≡ length seats.old.items }
+{
+    if let Some(found) = answer_of_reader(rt, asked, lasts, seats) {
+        return found;
+    }
+    match answer_of_first(rt, alloc, asked, lasts, reading) {
+        Some(found) => found,
+        None => Entry::SearchRefused {
+            search: asked.number,
+            reason: SearchReason::OutOfMemory,
+        },
+    }
+}
+
+/// The answer of the reader that the search was sent to, where it gave one that may stand.
+fn answer_of_reader<R: Threads>(
+    rt: &R,
+    asked: Open<'_>,
+    lasts: &mut Vec<Last>,
+    seats: &mut Vec<Seat<'_>>,
+) -> Option<Entry>
+    requires number { 0 < asked.number }
+    requires seats { All (IsSeat asked.told.now.opening asked.searches.now) seats.old.items }
+    requires count { (length lasts.old.items ≡ length seats.old.items + 1) × (length seats.old.items ≤ 16) }
+    ensures closed { IfSome result (λ entry. IsClosed asked.entry.searches.now asked.entry.told.now.commands asked.entry.versions.now asked.entry.number asked.entry.least lasts.old.items entry lasts.new.items) }
+    ensures none { IfNone result (lasts.new.items ≡ lasts.old.items) }
+    ensures seats { All (IsSeat asked.entry.told.now.opening asked.entry.searches.now) seats.new.items }
+    ensures count { length seats.new.items ≡ length seats.old.items }
+{
+    let count = seats.len();
+    if count == 0 {
+        return None;
+    }
+    let at = (asked.number as usize - 1) % count;
+    let given = seats[at].next_answer(rt, asked.told, asked.number)?;
+    let last = lasts[at + 1];
+    if !can_stand(asked, last, &given) {
+        return None;
+    }
+    let version = given.answer.version();
+    lasts[at + 1] = Last {
+        turn: given.turn,
+        version,
+    };
+    Some(Entry::Found {
+        search: asked.number,
+        reader: at as u32 + 1,
+        turn: given.turn,
+        answer: given.answer,
+    })
+}
+
+/// Whether an answer may stand: its version was published, after what the search and its reader had seen, and its
+/// turn comes after the reader's last one.
+fn can_stand(asked: Open<'_>, last: Last, given: &Given) -> bool
+    ensures { MatchBool result (CanStand asked.entry.told.now.commands asked.entry.versions.now asked.entry.least last given.now) Unit }
+{
+    let version = given.answer.version();
+    if version > asked.told.version() {
+        return false;
+    }
+    if version < asked.least {
+        return false;
+    }
+    if version < last.version {
+        return false;
+    }
+    if given.turn <= last.turn {
+        return false;
+    }
+    is_published(asked.versions, version)
+}
+
+/// Whether a version is among these, which rise.
+fn is_published(versions: &[u32], version: u32) -> bool
+    ensures { MatchBool result (Contains versions.now version) Unit }
+{
+    versions.binary_search(&version).is_ok()
+}
+
+/// The answer of reader 0, from what was published last.
+fn answer_of_first<R: Wait>(
+    rt: &R,
+    alloc: Global,
+    asked: Open<'_>,
+    lasts: &mut Vec<Last>,
+    reading: &mut Reading,
+) -> Option<Entry>
+    requires number { 0 < asked.number }
+    requires opening { reading.old.opening ≡ asked.told.now.opening }
+    requires count { 0 < length lasts.old.items }
+    ensures closed { IfSome result (λ entry. IsClosed asked.entry.searches.now asked.entry.told.now.commands asked.entry.versions.now asked.entry.number asked.entry.least lasts.old.items entry lasts.new.items) }
+    ensures none { IfNone result (lasts.new.items ≡ lasts.old.items) }
+    ensures opening { reading.new.opening ≡ reading.old.opening }
+{
+    let prepared = search_at(asked.searches, asked.number)?;
+    let last = lasts[0];
+    if last.turn == u32::MAX {
+        return None;
+    }
+    let turn = last.turn + 1;
+    let answer = answer_last(rt, alloc, reading, asked.told, prepared)?;
+    lasts[0] = Last {
+        turn,
+        version: answer.version(),
+    };
+    Some(Entry::Found {
+        search: asked.number,
+        reader: 0,
+        turn,
+        answer,
+    })
+}
+
+/// The search of this number.
+fn search_at(searches: &[Option<Prepared>], number: u32) -> Option<&Prepared>
+    requires { 0 < number }
+    ensures { IfSome result (λ prepared. slice_get searches.now (number - 1) ≡ Some (Some prepared.now)) }
+{
+    searches.get(number as usize - 1)?.as_ref()
+}
+
+/// Searches until the answer is of what was published last. There is none where memory ran out.
+fn answer_last<R: Wait>(
+    rt: &R,
+    alloc: Global,
+    reading: &mut Reading,
+    told: &Told,
+    prepared: &Prepared,
+) -> Option<Answer>
+    requires { reading.old.opening ≡ told.now.opening }
+    ensures answer { IfSome result (IsAnswerOf (state_of told.now.commands) (pattern_of prepared.now)) }
+    ensures opening { reading.new.opening ≡ reading.old.opening }
+{
+    reading.learn(told);
+    for _ in rt.forever() {
+        match reading.search(alloc, prepared) {
+            Ok(answer) if answer.version() == told.version() => return Some(answer),
+            Err(SearchError::OutOfMemory) => return None,
+            _ => {}
+        }
+    }
+    None
+}

@@ -1,0 +1,143 @@
+//! A run, from its first item to its last.
+
+ghost use Rattle.std.specs.Prelude.{◌≡◌, ℕ, ◌+◌, ◌<◌, ◌≤◌, ◌^◌, List, [], All, IfOk, OnOk, length};
+ghost use Rattle.logbook.specs.Pages.{Book};
+ghost use Rattle.script.specs.Items.{numbered as numbered_item};
+ghost use Rattle.script.specs.Reading.{shown_item};
+ghost use Rattle.shared.specs.Desk.{desk_state};
+ghost use Rattle.shared.specs.History.{known};
+ghost use Rattle.tsearch.specs.Legal.{IsLegal};
+ghost use Rattle.tsearch.specs.Private.Searches.{ArePrepared};
+ghost use Rattle.tsearch.specs.Private.Seats.{IsSeat};
+ghost use Rattle.tsearch.specs.Private.Sessions.{Advances, IsStart};
+
+use crate::run::Options;
+use crate::seats::{Seat, seats};
+use crate::session::{Session, Step};
+use crate::source::Source;
+use crate::transcript::Entry;
+use readers::Gate;
+use script::{MAX_SCRIPT, Numbered, ScriptReader};
+use search::Prepared;
+use shared::{Desk, Reading};
+use std::alloc::{AllocError, Global};
+use std::sync::Wait;
+use std::thread::{Scope, Threads};
+
+/// What a run is given, and what it lends to its workers.
+#[derive(Drop)]
+pub struct Plan<'a, R, G> {
+    pub rt: &'a R,
+    pub alloc: Global,
+    pub script: &'a [u8],
+    pub options: Options,
+    /// The searches of the script.
+    pub searches: &'a [Option<Prepared>],
+    pub gate: &'a G,
+}
+
+/// Carries out the items of a script. Workers are started in the scope. An `Err` comes only where memory ran out.
+pub fn drive<'s, 'a: 's, E, R: Threads + Wait + Sync, S: Source, G: Gate>(
+    scope: &Scope<'s, E>,
+    plan: &Plan<'a, R, G>,
+    desk: &mut Desk,
+    readings: Vec<Reading>,
+    source: &mut S,
+) -> Result<Vec<Entry>, AllocError>
+    requires script { length plan.now.script.now ≤ MAX_SCRIPT }
+    requires searches { ArePrepared plan.now.script.now plan.now.searches.now }
+    requires readers { plan.now.options.readers ≤ 16 }
+    requires desk { desk.old ≡ desk_state desk.old.opening plan.now.options.max_commands [] [] }
+    requires readings { All (λ reading. reading ≡ known desk.old.opening []) readings.items }
+    requires count { length readings.items ≡ plan.now.options.readers + 1 }
+    ensures legal { IfOk result (λ entries. IsLegal plan.now.script.now plan.now.options (S.holds source.old) (S.failed source.old) (S.failed source.new) entries.items) }
+    ensures same { (path body : List ℕ) → (S.holds source.new path body → S.holds source.old path body) × (S.holds source.old path body → S.holds source.new path body) }
+    ensures counted { S.failed source.old ≤ S.failed source.new }
+{
+    let (mut session, mut seats) = start(plan, desk, readings)?;
+    let mut reader = ScriptReader::new(plan.script);
+    while let Some(item) = reader.next_item() {
+        advance(scope, plan, desk, source, &mut session, &mut seats, item)?;
+    }
+    session.settle(plan.rt, plan.alloc, plan.searches, &mut seats)?;
+    let settled = session.settled;
+    Ok(settled.entries)
+}
+
+/// A run before its first item, and its readers. A publish of nothing tells of version 0.
+fn start<'a, R: Wait, G>(
+    plan: &Plan<'a, R, G>,
+    desk: &mut Desk,
+    readings: Vec<Reading>,
+) -> Result<(Session, Vec<Seat<'a>>), AllocError>
+    requires readers { plan.now.options.readers ≤ 16 }
+    requires desk { desk.old ≡ desk_state desk.old.opening plan.now.options.max_commands [] [] }
+    requires readings { All (λ reading. reading ≡ known desk.old.opening []) readings.items }
+    requires count { length readings.items ≡ plan.now.options.readers + 1 }
+    ensures session { IfOk result (λ started. IsStart desk.old.opening plan.now.options.readers started.0) }
+    ensures seats { IfOk result (λ started. All (IsSeat desk.old.opening plan.now.searches.now) started.1.items) }
+    ensures count { IfOk result (λ started. length started.1.items ≡ plan.now.options.readers) }
+    ensures desk { desk.new ≡ desk.old }
+{
+    let mut readings = readings;
+    let told = desk.publish(plan.rt)?;
+    let Some(reading) = readings.pop() else {
+        return Err(AllocError);
+    };
+    let session = Session::new(plan.alloc, told, reading, plan.options.readers)?;
+    let seats = seats(plan.alloc, readings)?;
+    Ok((session, seats))
+}
+
+/// Takes an item. A search is sent to its reader. At a sync, and after each item where there are no readers, all that
+/// is pending is settled.
+fn advance<'s, 'a: 's, E, R: Threads + Wait + Sync, S: Source, G: Gate>(
+    scope: &Scope<'s, E>,
+    plan: &Plan<'a, R, G>,
+    desk: &mut Desk,
+    source: &mut S,
+    session: &mut Session,
+    seats: &mut Vec<Seat<'a>>,
+    item: Numbered<'_>,
+) -> Result<(), AllocError>
+    requires searches { session.old.searches + 1 < 2 ^ 32 }
+    requires opening { (session.old.reading.opening ≡ session.old.told.opening) × (session.old.told.opening ≡ desk.old.opening) }
+    requires seats { All (IsSeat desk.old.opening plan.now.searches.now) seats.old.items }
+    requires count { (length session.old.settled.lasts.items ≡ length seats.old.items + 1) × (length seats.old.items ≤ 16) × (length seats.old.items ≡ plan.now.options.readers) }
+    requires few { session.old.settled.searches + length session.old.pending.items + 1 < 2 ^ 32 }
+    ensures ok { OnOk result (Advances (S.holds source.old) plan.now.searches.now plan.now.options.readers desk.old (S.failed source.old) session.old
+        (numbered_item item.entry.line (shown_item item.entry.item)) desk.new (S.failed source.new) session.new) }
+    ensures opening { OnOk result ((session.new.reading.opening ≡ session.new.told.opening) × (session.new.told.opening ≡ desk.new.opening) × (desk.new.opening ≡ desk.old.opening)) }
+    ensures seats { OnOk result (All (IsSeat desk.old.opening plan.now.searches.now) seats.new.items) }
+    ensures count { OnOk result ((length session.new.settled.lasts.items ≡ length session.old.settled.lasts.items) × (length seats.new.items ≡ length seats.old.items)) }
+    ensures few { OnOk result ((session.new.searches ≤ session.old.searches + 1) × (session.new.settled.searches + length session.new.pending.items ≤ session.old.settled.searches + length session.old.pending.items + 1)) }
+    ensures same { (path body : List ℕ) → (S.holds source.new path body → S.holds source.old path body) × (S.holds source.old path body → S.holds source.new path body) }
+    ensures counted { S.failed source.old ≤ S.failed source.new }
+{
+    match session.take(plan.rt, plan.alloc, desk, source, plan.searches, item)? {
+        Step::Entry => {}
+        Step::Search(number) => send(scope, plan, seats, number),
+        Step::Sync => return session.settle(plan.rt, plan.alloc, plan.searches, seats),
+    }
+    if plan.options.readers == 0 {
+        session.settle(plan.rt, plan.alloc, plan.searches, seats)?;
+    }
+    Ok(())
+}
+
+/// Sends a search to its reader, where there are readers.
+fn send<'s, 'a: 's, E, R: Wait + Sync, G: Gate>(
+    scope: &Scope<'s, E>,
+    plan: &Plan<'a, R, G>,
+    seats: &mut Vec<Seat<'a>>,
+    number: u32,
+)
+    ensures seats { (opening : Book) → All (IsSeat opening plan.now.searches.now) seats.old.items → All (IsSeat opening plan.now.searches.now) seats.new.items }
+    ensures count { length seats.new.items ≡ length seats.old.items }
+{
+    if seats.is_empty() {
+        return;
+    }
+    let at = (number as usize).saturating_sub(1) % seats.len();
+    seats[at].send(scope, plan.rt, plan.alloc, plan.searches, plan.gate, number);
+}

@@ -1,0 +1,111 @@
+//! The searches of a script, prepared.
+
+ghost use Rattle.std.specs.Prelude.{◌≡◌, ℕ, ◌≤◌, List, IfOk, IfSome, OnOk, MatchBool, length};
+ghost use Rattle.search.specs.Prepared.{pattern_of};
+ghost use Rattle.script.specs.Reading.{shown_item};
+ghost use Rattle.script.specs.Items.{search as search_item, search_in as search_in_item};
+ghost use Rattle.tsearch.specs.Rows.{searches_of};
+ghost use Rattle.tsearch.specs.Private.Entries.{reason_of_fault};
+ghost use Rattle.tsearch.specs.Private.Searches.{Asks, IsListed, ArePrepared, IsRefusalOf};
+
+use crate::transcript::SearchReason;
+use ere::{EreError, EreErrorKind};
+use script::{Item, MAX_SCRIPT, ScriptReader};
+use search::Prepared;
+use std::alloc::{AllocError, Global};
+
+/// The searches of a script by their numbers, the first one's being 1. There is none where it is refused. An `Err`
+/// comes only where memory ran out.
+pub fn prepare_all(alloc: Global, script: &[u8]) -> Result<Vec<Option<Prepared>>, AllocError>
+    requires { length script.now ≤ MAX_SCRIPT }
+    ensures { IfOk result (λ searches. ArePrepared script.now searches.items) }
+{
+    let mut reader = ScriptReader::new(script);
+    let mut searches = Vec::new(alloc);
+    while let Some(item) = reader.next_item() {
+        list(alloc, item.item, &mut searches)?;
+    }
+    Ok(searches)
+}
+
+/// Adds the item to the searches, where it is one.
+fn list(
+    alloc: Global,
+    item: Item<'_>,
+    searches: &mut Vec<Option<Prepared>>,
+) -> Result<(), AllocError>
+    ensures { OnOk result (IsListed (shown_item item.entry) searches.old.items searches.new.items) }
+{
+    if is_search(&item) {
+        searches.push(prepare(alloc, item))?;
+    }
+    Ok(())
+}
+
+fn is_search(item: &Item<'_>) -> bool
+    ensures { MatchBool result (searches_of (shown_item item.now) ≡ 1) (searches_of (shown_item item.now) ≡ 0) }
+{
+    match item {
+        Item::Search { .. } => true,
+        Item::SearchIn { .. } => true,
+        _ => false,
+    }
+}
+
+/// Prepares a search.
+fn prepare(alloc: Global, item: Item<'_>) -> Option<Prepared>
+    ensures { IfSome result (λ prepared. Asks (shown_item item.entry) (pattern_of prepared)) }
+{
+    match item {
+        Item::Search { pattern } => Prepared::new(alloc, pattern).ok(),
+        Item::SearchIn {
+            name_pattern,
+            pattern,
+        } => Prepared::within(alloc, name_pattern, pattern).ok(),
+        _ => None,
+    }
+}
+
+/// Why a search was not prepared: its first fault, or that memory ran out.
+pub fn refusal(alloc: Global, item: Item<'_>) -> SearchReason
+    ensures { IsRefusalOf (shown_item item.entry) result }
+{
+    match item {
+        Item::Search { pattern } => search_refusal(alloc, pattern),
+        Item::SearchIn {
+            name_pattern,
+            pattern,
+        } => search_in_refusal(alloc, name_pattern, pattern),
+        _ => SearchReason::OutOfMemory,
+    }
+}
+
+fn search_refusal(alloc: Global, pattern: &[u8]) -> SearchReason
+    ensures { IsRefusalOf (search_item pattern.now) result }
+{
+    match Prepared::new(alloc, pattern) {
+        Ok(_) => SearchReason::OutOfMemory,
+        Err(error) => reason_of(false, error),
+    }
+}
+
+fn search_in_refusal(alloc: Global, name_pattern: &[u8], pattern: &[u8]) -> SearchReason
+    ensures { IsRefusalOf (search_in_item name_pattern.now pattern.now) result }
+{
+    match Prepared::within(alloc, name_pattern, pattern) {
+        Ok(_) => SearchReason::OutOfMemory,
+        Err(error) => reason_of(error.in_name, error.error),
+    }
+}
+
+fn reason_of(in_name: bool, error: EreError) -> SearchReason
+    ensures { result ≡ reason_of_fault in_name error }
+{
+    if error.kind == EreErrorKind::OutOfMemory {
+        SearchReason::OutOfMemory
+    } else if in_name {
+        SearchReason::NamePattern(error)
+    } else {
+        SearchReason::Pattern(error)
+    }
+}

@@ -1,0 +1,150 @@
+//! Readers: each has a reading of its own, which is at rest or with a worker.
+
+ghost use Rattle.std.specs.Prelude.{◌≡◌, ℕ, ◌≤◌, ◌<◌, All, IfOk, IfSome, List, [], length, Option, None};
+ghost use Rattle.logbook.specs.Pages.{Book};
+ghost use Rattle.shared.specs.History.{Known};
+ghost use Rattle.search.specs.declared.pattern.Prepared.{Prepared as PreparedValue};
+ghost use Rattle.readers.specs.Report.{IsReport};
+ghost use Rattle.tsearch.specs.Private.Tallies.{IsUseful};
+ghost use Rattle.tsearch.specs.Private.Seats.{IsOf, IsSeat};
+
+use readers::{Gate, Given, Reading, Report, Worker};
+use search::Prepared;
+use shared::Told;
+use std::alloc::{AllocError, Global};
+use std::sync::Wait;
+use std::thread::{Scope, Threads};
+
+/// A reader of a run.
+#[derive(Drop)]
+pub struct Seat<'a> {
+    /// At rest.
+    reading: Option<Reading>,
+    /// At work.
+    worker: Option<Worker<'a>>,
+    turns: u32,
+    /// The answers of the last worker that were not taken yet, the first one last.
+    given: Vec<Given>,
+}
+
+/// Readers with these readings, all at rest.
+pub fn seats<'a>(alloc: Global, readings: Vec<Reading>) -> Result<Vec<Seat<'a>>, AllocError>
+    ensures count { IfOk result (λ seats. length seats.items ≡ length readings.items) }
+    ensures seats { IfOk result (λ seats. (opening : Book) (searches : List (Option PreparedValue)) → All (λ reading. reading.opening ≡ opening) readings.items → All (IsSeat opening searches) seats.items) }
+{
+    let mut seats = Vec::with_capacity(alloc, readings.len())?;
+    for reading in readings {
+        seats.push(Seat {
+            reading: Some(reading),
+            worker: None,
+            turns: 0,
+            given: Vec::new(alloc),
+        })?;
+    }
+    Ok(seats)
+}
+
+impl<'a> Seat<'a> {
+    /// Sends the number of a search to the reader's worker, which is started where there is none. Where it cannot be
+    /// started, or the number cannot be sent, the search stays open.
+    pub fn send<'s, E, R: Wait + Sync, G: Gate>(
+        &mut self,
+        scope: &Scope<'s, E>,
+        rt: &'a R,
+        alloc: Global,
+        searches: &'a [Option<Prepared>],
+        gate: &'a G,
+        number: u32,
+    )
+    where
+        'a: 's,
+        ensures { (opening : Book) → IsSeat opening searches.now self.old → IsSeat opening searches.now self.new }
+    {
+        self.start(scope, rt, alloc, searches, gate);
+        if let Some(worker) = &self.worker {
+            worker.send(rt, number);
+        }
+    }
+
+    // Starts a worker with the reading, where that is at rest.
+    fn start<'s, E, R: Wait + Sync, G: Gate>(
+        &mut self,
+        scope: &Scope<'s, E>,
+        rt: &'a R,
+        alloc: Global,
+        searches: &'a [Option<Prepared>],
+        gate: &'a G,
+    )
+    where
+        'a: 's,
+        ensures { (opening : Book) → IsSeat opening searches.now self.old → IsSeat opening searches.now self.new }
+    {
+        let Some(reading) = self.reading.take() else {
+            return;
+        };
+        match Worker::start(scope, rt, alloc, searches, gate, reading, self.turns) {
+            Ok(worker) => self.work_with(worker),
+            Err(report) => self.keep(report),
+        }
+    }
+
+    // The reading is with this worker from now on.
+    fn work_with(&mut self, worker: Worker<'a>)
+        requires { self.old.reading ≡ None }
+        ensures { (opening : Book) → worker.entry.before.opening ≡ opening → IsSeat opening worker.entry.searches self.new }
+    {
+        self.worker = Some(worker);
+    }
+
+    /// Waits until the reader's worker has gone through its searches, where it has one. The reading then learns what
+    /// was published last. The next answer is taken, if it is one for the search of this number.
+    pub fn next_answer<R: Threads>(&mut self, rt: &R, told: &Told, number: u32) -> Option<Given>
+        requires { IsOf told.now.opening self.old }
+        ensures given { IfSome result (λ given. given.search ≡ number) }
+        ensures seat { (searches : List (Option PreparedValue)) → IsSeat told.now.opening searches self.old → IsSeat told.now.opening searches self.new }
+        ensures useful { (searches : List (Option PreparedValue)) → IsSeat told.now.opening searches self.old → IfSome result (IsUseful searches told.now.commands) }
+    {
+        self.rest(rt);
+        self.next_given(told, number)
+    }
+
+    // Waits until the reader's worker has ended, where it has one.
+    fn rest<R: Threads>(&mut self, rt: &R)
+        ensures opening { (opening : Book) → IsOf opening self.old → IsOf opening self.new }
+        ensures seat { (opening : Book) (searches : List (Option PreparedValue)) → IsSeat opening searches self.old → IsSeat opening searches self.new }
+    {
+        let Some(worker) = self.worker.take() else {
+            return;
+        };
+        self.keep(worker.join(rt));
+    }
+
+    // Learns what was published last, and takes the next answer if it is one for the search of this number.
+    fn next_given(&mut self, told: &Told, number: u32) -> Option<Given>
+        requires { IsOf told.now.opening self.old }
+        ensures given { IfSome result (λ given. given.search ≡ number) }
+        ensures seat { (searches : List (Option PreparedValue)) → IsSeat told.now.opening searches self.old → IsSeat told.now.opening searches self.new }
+        ensures useful { (searches : List (Option PreparedValue)) → IsSeat told.now.opening searches self.old → IfSome result (IsUseful searches told.now.commands) }
+    {
+        let Some(reading) = &mut self.reading else {
+            return None;
+        };
+        reading.learn(told);
+        match self.given.last() {
+            Some(given) if given.search == number => self.given.pop(),
+            _ => None,
+        }
+    }
+
+    // Keeps the reading and the answers of a worker that has ended.
+    fn keep(&mut self, report: Report)
+        ensures { (opening : Book) (searches : List (Option PreparedValue)) (before : Known) → before.opening ≡ opening → IsReport searches before report
+            → IfSome self.old.worker (λ worker. (worker.searches ≡ searches) × (worker.before.opening ≡ opening)) → IsSeat opening searches self.new }
+    {
+        let mut given = report.given;
+        given.reverse();
+        self.reading = Some(report.reading);
+        self.turns = report.turns;
+        self.given = given;
+    }
+}

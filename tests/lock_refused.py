@@ -1,0 +1,43 @@
+#!/usr/bin/env python3
+"""Shows that a search cannot take a lock: a body of `Reading::take` with a lock round the index does not compile.
+
+A call that may wait for another thread takes a handle with the bound `Wait`. `Reading::search`, `take`, `learn` and `seen` are
+given none, and nothing that they are given is one. The compiler refuses such a body before the prover sees it, so it cannot be
+an edit of must-fail. The last line counts: N passed, M failed.
+
+Usage: tests/lock_refused.py
+"""
+
+import pathlib
+import subprocess
+import sys
+import tempfile
+
+import copies
+
+OLD = "            let taken = take(asked.alloc, &shelf.index, asked.prepared);\n"
+NEW = """            let lock = std::sync::Mutex::new(&shelf.index);
+            let index = lock.lock(&asked.alloc);
+            let taken = take(asked.alloc, *index, asked.prepared);
+"""
+WANTED = "the trait bound `Global: Wait` is not satisfied"
+
+
+def main():
+    with tempfile.TemporaryDirectory() as folder:
+        copies.copy_crates(folder, ["shared"])
+        crate = pathlib.Path(folder, "crates", "shared")
+        text = (crate / "src/reading.rt").read_text(encoding="utf-8")
+        if text.count(OLD) != 1:
+            sys.exit("tests/lock_refused.py: reading.rt has another text")
+        (crate / "src/reading.rt").write_text(text.replace(OLD, NEW), encoding="utf-8")
+        done = subprocess.run(["rt", "try", "--test"], cwd=crate, capture_output=True, text=True, check=False)
+    errors = [line for line in (done.stdout + done.stderr).splitlines() if ": error" in line]
+    refused = done.returncode != 0 and len(errors) == 1 and WANTED in errors[0]
+    print("a lock round the index: %s" % ("; ".join(errors) or "NOT REFUSED"))
+    print("1 passed, 0 failed" if refused else "0 passed, 1 failed")
+    sys.exit(0 if refused else 1)
+
+
+if __name__ == "__main__":
+    main()
