@@ -1,9 +1,8 @@
 -- Items that are pending once they are taken.
-use Rattle.std.proofs.Common.{◌≡◌, ℕ, ◌+◌, List, [], ◌∷◌, ◌++◌, Option, Some, None, Ok, Err, Result, OnOk, ◌⊎◌, inl, refl, sym, ap, ◌∙◌, subst, arith}
+use Rattle.std.proofs.Common.{◌≡◌, ℕ, ◌+◌, List, [], ◌∷◌, ◌++◌, Option, Some, None, Ok, Err, Result, OnOk, inl, refl, sym, ap, ◌∙◌, subst, arith}
 use Rattle.std.specs.Prelude.{Contains}
-use Rattle.script.specs.Items.{Item, Numbered}
+use Rattle.script.specs.Items.{Numbered}
 use Rattle.shared.specs.Desk.{DeskState}
-use Rattle.shared.specs.History.{Known}
 use Rattle.tsearch.specs.declared.session.Session.{Session}
 use Rattle.tsearch.specs.declared.session.Step.{Step}
 use Rattle.tsearch.specs.declared.session.Step.TheVariants as step

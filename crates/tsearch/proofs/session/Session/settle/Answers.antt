@@ -1,4 +1,4 @@
-use Rattle.std.proofs.Common.{◌≡◌, ◌∙◌, ◌+◌, ◌∷◌, refl, sym, ap, subst, arith, length, All}
+use Rattle.std.proofs.Common.{◌∙◌, ◌+◌, refl, sym, ap, subst, arith, length, All}
 use Rattle.tsearch.specs.Private.Seats.{IsSeat}
 use Rattle.tsearch.proofs.LoopLemmas.{settling_starts, settling_goes_on}
 use Rattle.tsearch.proofs.session.Session.settle.Goals as goal

@@ -1,6 +1,5 @@
-use Rattle.std.proofs.Common.{◌≡◌, ◌+◌, ℕ, List, None, sym, ap, subst}
+use Rattle.std.proofs.Common.{◌+◌, ap, subst}
 use Rattle.tsearch.specs.Private.Tallies.{IsClosed}
-use Rattle.tsearch.specs.Private.Sessions.{SettlesNext}
 use Rattle.tsearch.proofs.SessionLemmas.{settled_ready, settled_closed, on_ok}
 use Rattle.tsearch.proofs.session.Session.settle_next.Goals as goal
 
