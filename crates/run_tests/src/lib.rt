@@ -10,8 +10,6 @@ mod cases;
 #[cfg(test)]
 mod gates;
 #[cfg(test)]
-mod readers;
-#[cfg(test)]
 mod rows;
 #[cfg(test)]
 mod runs;
@@ -19,3 +17,5 @@ mod runs;
 mod scripts;
 #[cfg(test)]
 mod sources;
+#[cfg(test)]
+mod timing;

@@ -88,6 +88,7 @@ impl Source for Timed<'_> {
     ghost failed = { λ source. source.failures };
 
     fn read(&mut self, alloc: Global, path: &[u8]) -> Result<Vec<u8>, Fault> {
+        let failures = self.failures;
         let body = if path == b"q".as_slice() {
             self.gate.there.wait();
             b"w".as_slice()
@@ -95,7 +96,7 @@ impl Source for Timed<'_> {
             self.gate.released.raise();
             b"z".as_slice()
         } else {
-            self.failures = self.failures.saturating_add(1);
+            self.failures = failures.saturating_add(1);
             return Err(Fault::Failed);
         };
         match Vec::from_slice(alloc, body) {
