@@ -1,10 +1,13 @@
 //! Gates that hold readers.
 
-use tsearch::{Gate, Place};
 use std::sync::atomic::{AtomicBool, Ordering};
+use tsearch::{Gate, Place};
 
 /// How often a flag is looked at before a wait for it is given up.
 const LOOKS: u64 = 2_000_000_000;
+
+/// How often a reader that is late looks up before it goes on.
+const LATE_LOOKS: u64 = 100_000;
 
 /// A flag that one thread raises and another waits for.
 #[derive(Drop)]
@@ -27,12 +30,9 @@ impl Flag {
 
     /// Comes back once the flag is raised, or after so many looks at it.
     pub(crate) fn wait(&self) {
-        for _ in 0..LOOKS {
-            if self.raised.load(Ordering::SeqCst) {
-                return;
-            }
+        if !is_seen(&self.raised, LOOKS) {
+            self.given_up.store(true, Ordering::SeqCst);
         }
-        self.given_up.store(true, Ordering::SeqCst);
     }
 
     /// Whether a wait was given up.
@@ -41,12 +41,45 @@ impl Flag {
     }
 }
 
+// Whether one of so many looks finds the word true.
+fn is_seen(word: &AtomicBool, looks: u64) -> bool {
+    for _ in 0..looks {
+        if word.load(Ordering::SeqCst) {
+            return true;
+        }
+    }
+    false
+}
+
 /// Holds nobody.
 #[derive(Drop)]
 pub(crate) struct Open;
 
 impl Gate for Open {
     fn turn(&self, _search: u32, _place: Place) {}
+}
+
+/// Holds each search for a while at its begin, so that the script goes on before it is answered, and one with an odd
+/// number again before it matches, so that the next one comes to its end first.
+#[derive(Drop)]
+pub(crate) struct Late {
+    never: AtomicBool,
+}
+
+impl Late {
+    pub(crate) fn new() -> Late {
+        Late {
+            never: AtomicBool::new(false),
+        }
+    }
+}
+
+impl Gate for Late {
+    fn turn(&self, search: u32, place: Place) {
+        if place == Place::Begin || place == Place::Matching && search % 2 == 1 {
+            is_seen(&self.never, LATE_LOOKS);
+        }
+    }
 }
 
 /// Holds search 1 at its begin until search 2 is done.
@@ -66,26 +99,33 @@ impl Gate for SecondFirst {
     }
 }
 
-/// Tells when search 1 is about to match, and holds it there until it is released.
+/// Tells when search 1 is at a place, and holds it there until it is released.
 #[derive(Drop)]
-pub(crate) struct HeldMatching {
-    pub(crate) matching: Flag,
+pub(crate) struct Held {
+    place: Place,
+    pub(crate) there: Flag,
     pub(crate) released: Flag,
 }
 
-impl HeldMatching {
-    pub(crate) fn new() -> HeldMatching {
-        HeldMatching {
-            matching: Flag::new(),
+impl Held {
+    pub(crate) fn at(place: Place) -> Held {
+        Held {
+            place,
+            there: Flag::new(),
             released: Flag::new(),
         }
     }
+
+    /// Whether a wait for one of the two was given up.
+    pub(crate) fn is_given_up(&self) -> bool {
+        self.there.is_given_up() || self.released.is_given_up()
+    }
 }
 
-impl Gate for HeldMatching {
+impl Gate for Held {
     fn turn(&self, search: u32, place: Place) {
-        if search == 1 && place == Place::Matching {
-            self.matching.raise();
+        if search == 1 && place == self.place {
+            self.there.raise();
             self.released.wait();
         }
     }
