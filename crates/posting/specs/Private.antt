@@ -1,3 +1,4 @@
 -- What only the contracts of private functions cite. A clause cites `pub` modules alone.
 pub mod Gaps
 pub mod Pages
+pub mod Selection

@@ -1,12 +1,12 @@
 //! The sets of all trigrams.
 
 ghost use Rattle.std.specs.Prelude.{◌≡◌, ◌≢◌, ℕ, ◌<◌, false, ◌∷◌, [], ◌++◌, All, map, IfOk, IfSome, IfNone, OnOk};
-ghost use Rattle.std.specs.List.Sorted.{IsStrictlyIncreasing};
 ghost use Rattle.query.specs.Query.{formula_of, formulas_of, all_of, one_of};
 ghost use Rattle.posting.specs.ListValue.{without, HasRoom};
 ghost use Rattle.posting.specs.Postings.{no_numbers, set_of, holds, IsPrepared, IsAbove, AllDiffer, SameSets, KeepsRoom, AddsNumber, WithdrawsNumber, GivesBack, selected};
+ghost use Rattle.posting.specs.Private.Selection.{Finds};
 
-use crate::list::List;
+use crate::list::{List, union_of};
 use crate::pages;
 use crate::pages::Owned;
 use query::{Query, Trigram};
@@ -149,66 +149,82 @@ impl Postings {
         }
     }
 
+    // The numbers of `within` that meet the query.
     #[cycle(narrow)]
     fn narrow(&self, alloc: Global, query: &Query, within: &List) -> Result<List, AllocError>
-        requires { IsStrictlyIncreasing within.now.members }
         ensures { IfOk result (λ chosen. chosen.members
             ≡ selected self.now (formula_of query.now) within.now.members) }
     {
         match query {
             Query::Any => within.copy(),
-            Query::None => Ok(List::new(alloc)),
             Query::Has(trigram) => match self.list(*trigram) {
                 Some(list) => within.intersect(list),
                 None => Ok(List::new(alloc)),
             },
-            Query::And(members) => self.narrow_by_all(alloc, members, within),
-            Query::Or(members) => self.narrow_by_one(alloc, members, within),
+            _ => within.intersect(&self.collect(alloc, query, within)?),
+        }
+    }
+
+    // The numbers of `within` that meet the query, and maybe others. So what is found for many members is met with
+    // `within` once.
+    #[cycle(narrow)]
+    fn collect(&self, alloc: Global, query: &Query, within: &List) -> Result<List, AllocError>
+        ensures { IfOk result (λ found. Finds self.now (formula_of query.now) within.now.members found.members) }
+    {
+        match query {
+            Query::Any => within.copy(),
+            Query::None => Ok(List::new(alloc)),
+            Query::Has(trigram) => match self.list(*trigram) {
+                Some(list) => list.shortened(within),
+                None => Ok(List::new(alloc)),
+            },
+            Query::And(members) => self.collect_all(alloc, members, within),
+            Query::Or(members) => self.collect_any(alloc, members, within),
         }
     }
 
     // By the member with the fewest numbers first, so that the longer lists are looked at in few places.
     #[cycle(narrow)]
-    fn narrow_by_all(
+    fn collect_all(
         &self,
         alloc: Global,
         members: &[Query],
         within: &List,
     ) -> Result<List, AllocError>
-        requires { IsStrictlyIncreasing within.now.members }
-        ensures { IfOk result (λ chosen. chosen.members
-            ≡ selected self.now (all_of (formulas_of (map formula_of members.now))) within.now.members) }
+        ensures { IfOk result (λ found. Finds self.now (all_of (formulas_of (map formula_of members.now)))
+            within.now.members found.members) }
     {
         let (first, _) = self.fewest(members);
-        let mut chosen = match members.get(first) {
-            Some(member) => self.narrow(alloc, member, within)?,
+        let mut found = match members.get(first) {
+            Some(member) => self.collect(alloc, member, within)?,
             None => within.copy()?,
         };
         for (i, member) in members.iter().enumerate() {
+            if found.is_empty() {
+                return Ok(found);
+            }
             if i != first {
-                chosen = self.narrow(alloc, member, &chosen)?;
+                found = self.narrow(alloc, member, &found)?;
             }
         }
-        Ok(chosen)
+        Ok(found)
     }
 
     #[cycle(narrow)]
-    fn narrow_by_one(
+    fn collect_any(
         &self,
         alloc: Global,
         members: &[Query],
         within: &List,
     ) -> Result<List, AllocError>
-        requires { IsStrictlyIncreasing within.now.members }
-        ensures { IfOk result (λ chosen. chosen.members
-            ≡ selected self.now (one_of (formulas_of (map formula_of members.now))) within.now.members) }
+        ensures { IfOk result (λ found. Finds self.now (one_of (formulas_of (map formula_of members.now)))
+            within.now.members found.members) }
     {
-        let mut chosen = List::new(alloc);
+        let mut lists = Vec::new(alloc);
         for member in members {
-            let more = self.narrow(alloc, member, within)?;
-            chosen = chosen.union(&more)?;
+            lists.push(self.collect(alloc, member, within)?)?;
         }
-        Ok(chosen)
+        union_of(alloc, &lists)
     }
 
     // No more numbers than this meet the query.

@@ -1,59 +1,94 @@
-use Rattle.std.proofs.Common.{◌∙◌, sym}
-use Rattle.posting.proofs.Selection.{chosen-Any, chosen-None, chosen-Has, chosen-Has_empty, chosen-And, chosen-Or, narrowed_from_first, narrowed_from_all, narrowed_more, narrowed_passed, narrowed_ends, joined_begins, joined_more, joined_ends}
+use Rattle.std.proofs.Common.{◌≡◌, ℕ, true, ◌∙◌, filter, refl}
+use Rattle.std.proofs.lemmas.Result.{IfOk-weaker}
+use Rattle.query.specs.declared.query.Query.TheVariants as query
+use Rattle.query.specs.Query.{formula_of, formulas_of, all_of, one_of}
+use Rattle.std.specs.Prelude.{map}
+use Rattle.std.specs.List.{list_any}
+use Rattle.posting.specs.ListValue.{has}
+use Rattle.posting.specs.Postings.{selected}
+use Rattle.posting.specs.Private.Selection.{Finds}
+use Rattle.posting.proofs.Selection.{chosen-Any, chosen-Has, chosen-Has_empty, narrowed_by_found, found-Any, found-None, found-Has, found-And, found-Or, narrowed_more, narrowed_passed, narrowed_ends, narrowed_to_none, joined_ends}
 use Rattle.posting.proofs.postings.Postings.+narrow.Goals as goal
-use Rattle.posting.proofs.postings.Postings.+narrow.Goals.{narrow_by_all-in-Some+in_ok-chosen-in-Some, narrow_by_all-in-None+in_ok-chosen-in-None, narrow_by_all-then-i-first+in_ok-chosen, narrow_by_all-else-i-first}
+use Rattle.posting.proofs.postings.Postings.+narrow.Goals.{collect_all-then-i-first+in_ok-found, collect_all-else-i-first}
 
 pub narrow-returns-in-Any : goal.narrow-returns-in-Any
 narrow-returns-in-Any t c = rw (c.in-Any.is, chosen-Any c.args.self.now c.args.within.now.members) (assumption)
-
-pub narrow-returns-in-None : goal.narrow-returns-in-None
-narrow-returns-in-None t c = rw (c.in-None.is, chosen-None c.args.self.now c.args.within.now.members) (assumption)
 
 pub narrow-returns-in-Some : goal.narrow-returns-in-Some
 narrow-returns-in-Some t c =
     rw (c.in-Has.is, chosen-Has c.args.self.now c.in-Has.trigram c.args.within.now.members, ← c.in-Some.ensures.some) (assumption)
 
-pub narrow-returns-in-None-list : goal.narrow-returns-in-None-list
-narrow-returns-in-None-list t c =
-    rw (c.in-Has.is, chosen-Has_empty c.args.self.now c.in-Has.trigram c.args.within.now.members c.in-None-list.ensures.none) c.new-in-None-list.ensures
+pub narrow-returns-in-None : goal.narrow-returns-in-None
+narrow-returns-in-None t c =
+    rw (c.in-Has.is, chosen-Has_empty c.args.self.now c.in-Has.trigram c.args.within.now.members c.in-None.ensures.none) c.new.ensures
 
-pub narrow-returns-in-And : goal.narrow-returns-in-And
-narrow-returns-in-And t c =
-    rw (c.in-And.is, chosen-And c.args.self.now c.in-And.members c.args.within.now.members, ← c.deref.ensures.value) (assumption)
+pub narrow-returns-in_ok-collect-in_default : goal.narrow-returns-in_ok-collect-in_default
+narrow-returns-in_ok-collect-in_default t c =
+    let table = c.args.self.now in
+    let asked = c.args.within.now.members in
+    let found = c.in_ok-collect-in_default.field-0.members in
+    IfOk-weaker c.intersect-in_default-2.result (λ chosen. chosen.members ≡ filter (has found) asked) (λ chosen. chosen.members ≡ selected table (formula_of c.args.query.now) asked)
+    (λ v e. e ∙ narrowed_by_found table (formula_of c.args.query.now) asked found c.in_ok-collect-in_default.ensures)
+    c.intersect-in_default-2.ensures
 
-pub narrow-returns-in-Or : goal.narrow-returns-in-Or
-narrow-returns-in-Or t c =
-    rw (c.in-Or.is, chosen-Or c.args.self.now c.in-Or.members c.args.within.now.members, ← c.deref-in-Or.ensures.value) (assumption)
+pub collect-returns-in-Any : goal.collect-returns-in-Any
+collect-returns-in-Any t c =
+    let asked = c.args.within.now.members in
+    rw c.in-Any.is
+    (IfOk-weaker c.copy.result (λ set. set.members ≡ asked) (λ set. Finds c.args.self.now (formula_of query.Any) asked set.members)
+    (λ v same. found-Any c.args.self.now asked v.members same) c.copy.ensures)
 
-pub narrow_by_all-loop-i-init : goal.narrow_by_all-loop-i-init
-narrow_by_all-loop-i-init t c =
-    elim c.match-get.branch [
-      | narrow_by_all-in-Some+in_ok-chosen-in-Some w ↦
-          rw w.chosen-is (narrowed_from_first c.args.self.now c.args.members.now c.fewest-first.result.0 w.in-Some.member.now c.args.within.now.members w.in_ok-chosen-in-Some.chosen.members w.in-Some.ensures.lookup.3.0 w.in-Some.ensures.lookup.1 w.in_ok-chosen-in-Some.ensures)
-      | narrow_by_all-in-None+in_ok-chosen-in-None w ↦
-          rw w.chosen-is (narrowed_from_all c.args.self.now c.args.members.now c.fewest-first.result.0 c.args.within.now.members w.in_ok-chosen-in-None.chosen.members w.in-None.ensures.lookup.3 w.in_ok-chosen-in-None.ensures)
-    ]
+pub collect-returns-in-None : goal.collect-returns-in-None
+collect-returns-in-None t c = rw c.in-None.is (found-None c.args.self.now c.args.within.now.members c.new.result.members c.new.ensures)
 
-pub narrow_by_all-loop-i-preserved : goal.narrow_by_all-loop-i-preserved
-narrow_by_all-loop-i-preserved t c =
+pub collect-returns-in-Some : goal.collect-returns-in-Some
+collect-returns-in-Some t c =
+    let asked = c.args.within.now.members in
+    rw c.in-Has.is
+    (IfOk-weaker c.shortened.result (λ set. (n : ℕ) → has asked n ≡ true → has set.members n ≡ has c.in-Some.list.now.members n) (λ set. Finds c.args.self.now (formula_of (query.Has c.in-Has.trigram)) asked set.members)
+    (λ v same. found-Has c.args.self.now c.in-Has.trigram asked v.members (rw c.in-Some.ensures.some at same)) c.shortened.ensures)
+
+pub collect-returns-in-None-list : goal.collect-returns-in-None-list
+collect-returns-in-None-list t c =
+    rw c.in-Has.is
+    (found-Has c.args.self.now c.in-Has.trigram c.args.within.now.members c.new-in-None-list.result.members (λ n there. rw (c.new-in-None-list.ensures, c.in-None-list.ensures.none) refl))
+
+pub collect-returns-in-And : goal.collect-returns-in-And
+collect-returns-in-And t c =
+    let asked = c.args.within.now.members in
+    rw c.in-And.is
+    (IfOk-weaker c.collect_all.result (λ set. Finds c.args.self.now (all_of (formulas_of (map formula_of c.in-And.members.items))) asked set.members) (λ set. Finds c.args.self.now (formula_of (query.And c.in-And.members)) asked set.members)
+    (λ v found. found-And c.args.self.now c.in-And.members asked v.members found) (rw c.deref.ensures.value at c.collect_all.ensures))
+
+pub collect-returns-in-Or : goal.collect-returns-in-Or
+collect-returns-in-Or t c =
+    let asked = c.args.within.now.members in
+    rw c.in-Or.is
+    (IfOk-weaker c.collect_any.result (λ set. Finds c.args.self.now (one_of (formulas_of (map formula_of c.in-Or.members.items))) asked set.members) (λ set. Finds c.args.self.now (formula_of (query.Or c.in-Or.members)) asked set.members)
+    (λ v found. found-Or c.args.self.now c.in-Or.members asked v.members found) (rw c.deref-in-Or.ensures.value at c.collect_any.ensures))
+
+pub collect_all-returns-then-is_empty : goal.collect_all-returns-then-is_empty
+collect_all-returns-then-is_empty t c =
+    narrowed_to_none c.args.self.now c.args.members.now c.fewest-first.result.0 c.loop-i.i c.args.within.now.members c.loop-i.found.members (c.is_empty.ensures.empty.0 c.if-is_empty.true) c.loop-i.invariant
+
+pub collect_all-loop-i-preserved : goal.collect_all-loop-i-preserved
+collect_all-loop-i-preserved t c =
     elim c.if-i-first.branch [
-      | narrow_by_all-then-i-first+in_ok-chosen w ↦
-          rw (w.chosen-is, w.in_ok-chosen.ensures)
-          (narrowed_more c.args.self.now c.args.members.now c.fewest-first.result.0 c.loop-i.i c.index-members-i.result c.args.within.now.members c.loop-i.chosen.members c.loop-i-test.true c.index-members-i.is c.loop-i.invariant)
-      | narrow_by_all-else-i-first w ↦
-          rw w.chosen-is (c.loop-i.invariant ∙ narrowed_passed c.args.self.now c.args.members.now c.fewest-first.result.0 c.loop-i.i c.index-members-i.result c.args.within.now.members w.if-i-first.false c.loop-i-test.true)
+      | collect_all-then-i-first+in_ok-found w ↦
+          rw w.found-is
+          (narrowed_more c.args.self.now c.args.members.now c.fewest-first.result.0 c.loop-i.i c.index-members-i.result c.args.within.now.members c.loop-i.found.members w.in_ok-found.found.members c.loop-i-test.true c.index-members-i.is c.loop-i.invariant w.in_ok-found.ensures)
+      | collect_all-else-i-first w ↦
+          rw w.found-is
+          (narrowed_passed c.args.self.now c.args.members.now c.fewest-first.result.0 c.loop-i.i c.index-members-i.result c.args.within.now.members c.loop-i.found.members w.if-i-first.false c.loop-i-test.true c.loop-i.invariant)
     ]
 
-pub narrow_by_all-returns : goal.narrow_by_all-returns
-narrow_by_all-returns t c = c.loop-i.invariant ∙ narrowed_ends c.args.self.now c.args.members.now c.fewest-first.result.0 c.loop-i.i c.args.within.now.members c.loop-i-test.false
+pub collect_all-returns : goal.collect_all-returns
+collect_all-returns t c = narrowed_ends c.args.self.now c.args.members.now c.fewest-first.result.0 c.loop-i.i c.args.within.now.members c.loop-i.found.members c.loop-i-test.false c.loop-i.invariant
 
-pub narrow_by_one-loop-member-init : goal.narrow_by_one-loop-member-init
-narrow_by_one-loop-member-init t c = c.new-chosen.ensures ∙ sym (joined_begins c.args.self.now c.args.members.now c.args.within.now.members)
-
-pub narrow_by_one-loop-member-preserved : goal.narrow_by_one-loop-member-preserved
-narrow_by_one-loop-member-preserved t c =
-    joined_more c.args.self.now c.args.members.now c.loop-member.member-index c.member-item.result c.args.within.now.members c.loop-member.chosen.members c.in_ok-more.more.members c.in_ok-chosen.chosen.members
-    c.requires c.loop-member-test.true c.member-item.is c.loop-member.invariant c.in_ok-more.ensures c.in_ok-chosen.ensures.rising c.in_ok-chosen.ensures.members
-
-pub narrow_by_one-returns : goal.narrow_by_one-returns
-narrow_by_one-returns t c = c.loop-member.invariant ∙ joined_ends c.args.self.now c.args.members.now c.loop-member.member-index c.args.within.now.members c.loop-member-test.false
+pub collect_any-returns : goal.collect_any-returns
+collect_any-returns t c =
+    let lists = c.loop-member.lists.items in
+    let asked = c.args.within.now.members in
+    IfOk-weaker c.union_of.result (λ all. (n : ℕ) → has all.members n ≡ list_any (λ set. has set.members n) lists) (λ found. Finds c.args.self.now (one_of (formulas_of (map formula_of c.args.members.now))) asked found.members)
+    (λ v union. joined_ends c.args.self.now c.args.members.now c.loop-member.member-index asked v.members lists c.loop-member-test.false c.loop-member.invariant union)
+    (rw c.deref.ensures.value at c.union_of.ensures)
