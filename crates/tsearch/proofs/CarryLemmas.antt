@@ -1,5 +1,5 @@
 -- Items that are carried out have their entries.
-use Rattle.std.proofs.Common.{◌≡◌, ℕ, ◌+◌, inl, List, [], ◌∷◌, ◌++◌, Some, None, Ok, Err, refl, sym, ap, ◌∙◌, subst}
+use Rattle.std.proofs.Common.{◌≡◌, ℕ, inl, List, [], ◌∷◌, ◌++◌, Some, None, Ok, Err, refl, sym, ap, ◌∙◌, subst}
 use Rattle.std.proofs.lemmas.List.{append-nil}
 use Rattle.std.specs.Prelude.{Result, IfOk, IfErr, length}
 use Rattle.index.specs.State.{State, state_of}
@@ -15,8 +15,8 @@ use Rattle.tsearch.specs.declared.transcript.Reason.TheVariants as reason
 use Rattle.tsearch.specs.Legal.{IsNamed, bad_name, no_memory, named, HasBody, bad_body, with_body, IsRoomFor, full, accepted, IsPut, HasLoaded, IsRemove, no_such_file, is_there}
 use Rattle.tsearch.specs.Legal as legal
 use Rattle.tsearch.specs.Rows.{accepted_by, version_in, failures_in}
-use Rattle.tsearch.specs.Private.Entries.{entry_of, published_entry_of, desk_after, IsLoaded, IsCounted}
-use Rattle.tsearch.specs.Private.Items.{searches_in, IsEntered, Tells, all, nothing}
+use Rattle.tsearch.specs.Private.Entries.{entry_of, published_entry_of, desk_after, IsLoaded}
+use Rattle.tsearch.specs.Private.Items.{searches_in, IsEntered, all, nothing}
 use Rattle.tsearch.proofs.ItemLemmas.{counted_same, no_failure_in_body}
 
 -- what an entry of a command says of versions, searches and the desk
@@ -97,7 +97,6 @@ module _ (Holds : List ℕ → List ℕ → Type 0) (desk : DeskState) (told : K
     tells = nothing (no_version line done) refl;
     counted = counted_same (entry_of line done) failed (no_failure_named name line _ _ (no_failure_in_remove desk.limit (state_of desk.accepted) name line (entry_of line done)) legal_is);
   })
-
 
 -- publishes, and lines that are no items
 module _ (Holds : List ℕ → List ℕ → Type 0) (desk : DeskState) (told : Known) (failed line : ℕ) (entry : Entry) where

@@ -1,5 +1,5 @@
 -- Open searches that are closed.
-use Rattle.std.proofs.Common.{◌≡◌, ℕ, ◌+◌, ◌-◌, ◌<◌, ◌≤◌, inl, inr, List, Option, Some, None, Ok, Err, Result, refl, sym, ap, ◌∙◌, subst, arith, length, set, take}
+use Rattle.std.proofs.Common.{◌≡◌, ℕ, ◌+◌, ◌-◌, ◌<◌, ◌≤◌, inl, inr, List, Option, Some, Ok, Err, Result, refl, sym, ap, ◌∙◌, subst, arith, length, set}
 use Rattle.std.proofs.lemmas.List.{take_all, get_or_default}
 use Rattle.std.proofs.Common.{get_or}
 use Rattle.std.specs.Prelude.{Contains, IfOk, MatchBool, is_ok, slice_get}
@@ -14,9 +14,8 @@ use Rattle.search.specs.declared.pattern.Prepared.{Prepared}
 use Rattle.search.specs.Prepared.{pattern_of}
 use Rattle.search.specs.Scan.{Answer, IsAnswerOf}
 use Rattle.tsearch.specs.declared.settled.Last.{Last}
-use Rattle.tsearch.specs.declared.transcript.Entry.{Entry}
 use Rattle.tsearch.specs.declared.transcript.Entry.TheVariants.{Found}
-use Rattle.tsearch.specs.Private.Tallies.{last, last_of, IsUseful, CanStand, IsTaken, IsClosed, found}
+use Rattle.tsearch.specs.Private.Tallies.{last, last_of, IsUseful, CanStand, IsClosed, found}
 
 -- what a search in a list finds is in it
 pub found_in_list : ((x y : ℕ) → nat_cmp x y ≡ Equal → x ≡ y) → (versions : List ℕ) (v : ℕ) (r : Result ℕ ℕ) → IsSearchInRange r (length versions) → IfOk r (HoldsAt (λ y. nat_cmp y v ≡ Equal) versions) → MatchBool (is_ok r) (Contains versions v) (Unit {0})

@@ -1,5 +1,5 @@
 -- What stays the same from item to item of a run.
-use Rattle.std.proofs.Common.{◌≡◌, ℕ, ◌+◌, ◌≤◌, List, [], ◌∷◌, ◌++◌, Option, refl, sym, ap, ◌∙◌, subst, arith, length, length-append}
+use Rattle.std.proofs.Common.{◌≡◌, ℕ, ◌+◌, ◌≤◌, List, [], ◌∷◌, Option, sym, ap, ◌∙◌, subst, arith, length, length-append}
 use Rattle.script.specs.Items.{Numbered}
 use Rattle.shared.specs.Desk.{DeskState}
 use Rattle.shared.specs.History.{Known}

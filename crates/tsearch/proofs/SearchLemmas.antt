@@ -1,10 +1,10 @@
 -- The searches of a script, prepared one after the other.
-use Rattle.std.proofs.Common.{◌≡◌, ℕ, zero, suc, ◌+◌, ◌≤◌, ◌<◌, ◌⊎◌, inl, inr, List, [], ◌∷◌, ◌++◌, Option, Some, None, refl, sym, ap, ◌∙◌, subst, arith, length, append_assoc}
+use Rattle.std.proofs.Common.{◌≡◌, ℕ, zero, suc, ◌+◌, ◌<◌, ◌⊎◌, inl, inr, List, [], ◌∷◌, ◌++◌, Option, Some, refl, sym, ap, ◌∙◌, subst, arith, length, append_assoc}
 use Rattle.std.proofs.lemmas.List.{append-nil, length-append}
 use Rattle.std.specs.Prelude.{slice_get, IfSome}
 use Rattle.search.specs.declared.pattern.Prepared.{Prepared}
 use Rattle.search.specs.Prepared.{pattern_of}
-use Rattle.script.specs.Items.{Item, Numbered, ItemsFrom, IsItemsOf}
+use Rattle.script.specs.Items.{Numbered, ItemsFrom, IsItemsOf}
 use Rattle.script.specs.Position.{Position}
 use Rattle.script.specs.Reading.{Takes}
 use Rattle.tsearch.specs.Rows.{searches_of}

@@ -17,8 +17,8 @@ mod source;
 mod texts;
 mod transcript;
 
-pub use readers::{Gate, Place};
 pub use output::{WriteError, write_transcript};
+pub use readers::{Gate, Place};
 pub use run::{Options, RunError};
 pub use source::{Fault, Source};
 pub use transcript::{Entry, Reason, SearchReason, Transcript, status};

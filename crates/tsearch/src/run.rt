@@ -81,7 +81,12 @@ pub fn run<R: Threads + Wait + Sync, S: Source + Drop, G: Gate>(
         Ok(searches) => searches,
         Err(_) => return Err(RunError::OutOfMemory),
     };
-    let (mut desk, readings) = match open(rt, alloc, options.max_commands, options.readers as usize + 1) {
+    let (mut desk, readings) = match open(
+        rt,
+        alloc,
+        options.max_commands,
+        options.readers as usize + 1,
+    ) {
         Ok(opened) => opened,
         Err(OpenError::NoPlace) => return Err(RunError::NoPlace),
         Err(OpenError::OutOfMemory) => return Err(RunError::OutOfMemory),

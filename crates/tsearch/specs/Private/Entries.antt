@@ -1,5 +1,5 @@
 -- The entries of commands and publishes.
-use Rattle.std.specs.Prelude.{◌≡◌, ℕ, ◌+◌, ◌<◌, ◌⊎◌, Bool, true, false, List, [], ◌++◌, Option, Some, Result, Ok, Err}
+use Rattle.std.specs.Prelude.{◌≡◌, ℕ, ◌<◌, ◌⊎◌, Bool, true, false, List, ◌++◌, Option, Some, Result, Ok, Err}
 use Rattle.ere.specs.declared.error.EreError.{EreError}
 use Rattle.ere.specs.declared.error.EreErrorKind.{EreErrorKind}
 use Rattle.ere.specs.declared.error.EreErrorKind.TheVariants as kind

@@ -1,13 +1,12 @@
 -- Items that are carried out.
-use Rattle.std.specs.Prelude.{◌≡◌, ℕ, List, [], ◌++◌, length, Bool, true, false, Option, Some, None}
-use Rattle.index.specs.declared.command.Command.{Command}
-use Rattle.script.specs.Items.{Item, Numbered}
+use Rattle.std.specs.Prelude.{◌≡◌, ℕ, List, [], ◌++◌, length, true, false, Option, Some}
+use Rattle.script.specs.Items.{Numbered}
 use Rattle.shared.specs.Desk.{DeskState}
 use Rattle.shared.specs.History.{Known, known}
 use Rattle.tsearch.specs.declared.items.Outcome.{Outcome}
 use Rattle.tsearch.specs.declared.items.Outcome.TheVariants as outcome
 use Rattle.tsearch.specs.declared.transcript.Entry.{Entry}
-use Rattle.tsearch.specs.declared.transcript.Entry.TheVariants.{Accepted, Refused, Published, Found, SearchRefused}
+use Rattle.tsearch.specs.declared.transcript.Entry.TheVariants.{Published, Found, SearchRefused}
 use Rattle.tsearch.specs.Rows.{Row, commands_of, accepted_by, command_of, version_in, failures_in, searches_of, is_sync}
 use Rattle.tsearch.specs.Legal.{IsLegalRow}
 use Rattle.tsearch.specs.Private.Entries.{IsCounted}

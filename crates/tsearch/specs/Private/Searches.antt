@@ -1,5 +1,5 @@
 -- Searches that are prepared before a run, and refused ones.
-use Rattle.std.specs.Prelude.{◌≡◌, ℕ, ◌+◌, List, [], ◌∷◌, ◌++◌, Option, Some, None, IfSome, slice_get}
+use Rattle.std.specs.Prelude.{◌≡◌, ℕ, ◌+◌, List, [], ◌∷◌, ◌++◌, Option, Some, IfSome, slice_get}
 use Rattle.search.specs.declared.pattern.Prepared.{Prepared}
 use Rattle.search.specs.Pattern.{Pattern, IsPatternOf, IsPatternWithin}
 use Rattle.search.specs.Prepared.{pattern_of}

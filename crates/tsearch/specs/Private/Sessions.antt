@@ -1,5 +1,5 @@
 -- Steps of a run.
-use Rattle.std.specs.Prelude.{◌≡◌, ℕ, ◌+◌, ◌≢◌, List, [], ◌∷◌, ◌++◌, Bool, true, Option, Some, None, Contains, ◌⊎◌, replicate}
+use Rattle.std.specs.Prelude.{◌≡◌, ℕ, ◌+◌, ◌≢◌, List, [], ◌∷◌, ◌++◌, true, Option, Some, None, Contains, ◌⊎◌, replicate}
 use Rattle.script.specs.Items.{Item, Numbered}
 use Rattle.search.specs.declared.pattern.Prepared.{Prepared}
 use Rattle.shared.specs.Desk.{DeskState}

@@ -1,5 +1,5 @@
 -- Entries that are settled one after the other: searches that are still open get theirs.
-use Rattle.std.specs.Prelude.{◌≡◌, ℕ, ◌+◌, ◌-◌, ◌<◌, ◌≤◌, ◌⊎◌, List, [], ◌∷◌, ◌++◌, length, take, Option, Some, None, Contains, slice_get, slice_set, slice_index_or}
+use Rattle.std.specs.Prelude.{◌≡◌, ℕ, ◌+◌, ◌-◌, ◌<◌, ◌≤◌, ◌⊎◌, List, [], ◌∷◌, length, take, Option, Some, None, Contains, slice_get, slice_set, slice_index_or}
 use Rattle.index.specs.declared.command.Command.{Command}
 use Rattle.index.specs.State.{state_of}
 use Rattle.readers.specs.declared.report.Given.{Given}

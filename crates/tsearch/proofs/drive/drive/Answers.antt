@@ -1,4 +1,4 @@
-use Rattle.std.proofs.Common.{◌≡◌, ◌∙◌, ◌+◌, ℕ, List, sym, ap, subst, arith, length, All}
+use Rattle.std.proofs.Common.{◌∙◌, ◌+◌, sym, ap, subst, arith, length, All}
 use Rattle.std.proofs.lemmas.List.{length-replicate}
 use Rattle.tsearch.specs.Private.Seats.{IsSeat}
 use Rattle.tsearch.specs.Private.Tallies.{last}

@@ -1,6 +1,6 @@
-use Rattle.std.proofs.Common.{◌≡◌, ◌∙◌, ap, List, [], All, IfSome, Option, Some}
+use Rattle.std.proofs.Common.{◌≡◌, ◌∙◌, ap, [], Some}
 use Rattle.std.proofs.lemmas.List.Elements.{All-pop}
-use Rattle.shared.specs.History.{Known, known}
+use Rattle.shared.specs.History.{known}
 use Rattle.tsearch.proofs.drive.start.Goals as goal
 
 pub returns-clause-session : goal.returns-clause-session

@@ -1,4 +1,4 @@
-use Rattle.std.proofs.Common.{◌≡◌, ℕ, ◌+◌, List, [], ◌∷◌, ◌++◌, Some, None, refl, ap, arith}
+use Rattle.std.proofs.Common.{Some, None, refl}
 use Rattle.tsearch.specs.Private.Sessions as sessions
 use Rattle.tsearch.proofs.session.Session.ask.Goals as goal
 

@@ -1,4 +1,4 @@
-use Rattle.std.proofs.Common.{◌≡◌, ◌+◌, ◌<◌, ◌≤◌, ◌^◌, length}
+use Rattle.std.proofs.Common.{◌≡◌, ◌+◌, ◌<◌, ◌^◌, length}
 use Rattle.std.specs.Prelude.{All}
 use Rattle.tsearch.specs.Private.Seats.{IsSeat}
 use Rattle.tsearch.proofs.LoopLemmas.{IsSettling}
