@@ -10,9 +10,10 @@ Arguments:
   [FILE]  The script; without it standard input is read
 
 Options:
-      --readers <N>       A number of reader threads, 0 to 16 [default: 2]. It is checked,
-                          but no reader threads are there yet: searches are answered
-                          one after the other
+      --readers <N>       How many reader threads answer the searches, 0 to 16 [default: 2].
+                          With 0 each search is answered in its place. More readers help
+                          where many searches between two syncs match much, up to the
+                          number of processors
       --stats             Tells of each answer how many documents its trigrams left to be searched
       --max-commands <N>  How many puts, loads and removes are accepted, 1 to 1000000 [default: 65536]
   -h, --help              Print help

@@ -250,14 +250,6 @@ body_bytes-without gone (d ∷ ds) name body numbered at = go (d.number == gone)
         let rest = deeper found in
         rw e (omega (arith, rest, body_bytes-cons d (without_number gone ds)))
 
-pub body_bytes-kept : (gone : ℕ) (ds : List Document) → body_bytes (without_number gone ds) ≤ body_bytes ds
-body_bytes-kept gone [] = omega arith
-body_bytes-kept gone (d ∷ ds) = go (not (d.number == gone)) (body_bytes-kept gone ds)
-  where
-    go : (t : Bool) → body_bytes (without_number gone ds) ≤ body_bytes ds → body_bytes (cond t (d ∷ without_number gone ds) (without_number gone ds)) ≤ body_bytes (d ∷ ds)
-    go true h = omega (arith, h, body_bytes-cons d ds, body_bytes-cons d (without_number gone ds))
-    go false h = omega (arith, h, body_bytes-cons d ds)
-
 -- ---- a number that no document has
 
 pub without-absent_number : (gone : ℕ) (ds : List Document) → document_at gone ds ≡ None → without_number gone ds ≡ ds

@@ -140,7 +140,8 @@ impl Index {
         Ok(())
     }
 
-    /// Applies the `Remove` of this name. An `Err` comes only where memory ran out, and the index is as it was.
+    /// Applies the `Remove` of this name. It takes no memory, and never answers an `Err`: the type leaves room for
+    /// one, after which the index would be as it was.
     pub fn remove(&mut self, name: &Name) -> Result<(), AllocError>
         requires { self.old.version + 1 < 2 ^ 32 }
         ensures ok { OnOk result (self.new ≡ applied (remove_command name.now) self.old) }

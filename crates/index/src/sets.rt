@@ -3,7 +3,7 @@
 ghost use Rattle.std.specs.Prelude.{◌≡◌, ℕ, false, not, ◌==◌, ◌||◌, ◌&&◌, [], ◌∷◌, ◌++◌, filter, OnOk};
 ghost use Rattle.posting.specs.ListValue.{has, without};
 ghost use Rattle.posting.specs.Postings.{holds, SameSets};
-ghost use Rattle.index.specs.Private.Sets.{HasRoomFor, IsNew, KeepsRoomFor};
+ghost use Rattle.index.specs.Private.Sets.{HasRoomFor, IsNew};
 
 use posting::{List, Postings};
 use query::Trigram;
@@ -44,7 +44,6 @@ impl Sets {
         ensures live { self.new.live.members ≡ without number self.old.live.members }
         ensures postings { (trigram n : ℕ) → holds self.new.postings trigram n
             ≡ (holds self.old.postings trigram n && not (has trigrams.now trigram && n == number)) }
-        ensures room { KeepsRoomFor self.old self.new }
     {
         self.live.remove(number);
         self.postings.withdraw(number, trigrams);

@@ -50,7 +50,6 @@ impl Store {
         requires { (last : ℕ) × IsStore last self.old }
         ensures documents { stored self.new ≡ without_number number (stored self.old) }
         ensures store { (last : ℕ) → IsStore last self.old → IsStore last self.new }
-        ensures room { (body : List ℕ) → HasPlaceFor self.old body → HasPlaceFor self.new body }
     {
         if let Some(entry) = take(&mut self.slots, number) {
             self.sets.take_out(number, entry.held.trigrams());
@@ -84,9 +83,13 @@ impl Store {
             ≡ left_after gone (stored self.old) ++ document number entry.name entry.held ∷ [] }
         ensures store { IsStore number self.new }
     {
-        if let Some(old) = gone {
-            self.take_out(old);
-        }
+        // first, since the one that goes may give room back
         self.put_in(number, entry);
+        if let Some(old) = gone {
+            // none of those that were there has the new number
+            if old != number {
+                self.take_out(old);
+            }
+        }
     }
 }

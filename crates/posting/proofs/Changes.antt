@@ -7,7 +7,7 @@ use Rattle.std.proofs.lemmas.List.{get_or-take, length-take-le}
 use Rattle.std.proofs.lemmas.List.Folds.{list_any_more}
 use Rattle.std.proofs.lemmas.List.Elements.{All-from_get_or, All-more, All-weaker}
 use Rattle.posting.specs.ListValue.{ListValue, has, without, HasRoom}
-use Rattle.posting.specs.Postings.{set_of, holds, IsPrepared, IsAbove, AllDiffer, SameSets, KeepsRoom}
+use Rattle.posting.specs.Postings.{set_of, holds, IsPrepared, IsAbove, AllDiffer, SameSets, KeepsRoom, WithdrawsNumber, GivesBack, no_numbers}
 use Rattle.posting.proofs.Laws.{has-append, has-filter}
 use Rattle.posting.proofs.Members.{has_at, lacks_from_all}
 
@@ -83,17 +83,9 @@ holds-added old new trigrams number h t n = cases (has trigrams t) refl
     cases true e = rw e (ap (λ ms. has ms n) (h.done t e) ∙ has-append (set_of old t).members (number ∷ []) n ∙ ap (λ b. holds old t n || b) (or_false (number == n)))
     cases false e = rw e (ap (λ s. has s.members n) (h.left t e) ∙ sym (or_false (holds old t n)))
 
--- The number was taken out of the sets of some trigrams.
-pub record Withdrawn (old new : List ListValue) (trigrams : List ℕ) (number : ℕ) : Type 0 where
-  pub sets : (t n : ℕ) → holds new t n ≡ (holds old t n && not (has trigrams t && n == number))
-  pub room : KeepsRoom old new
-
 and_true : (a : Bool) → a ≡ (a && true)
 and_true true = refl
 and_true false = refl
-
-pub withdrawn_none : (table : List ListValue) (number : ℕ) → Withdrawn table table [] number
-withdrawn_none table number = record { sets = λ t n. and_true (holds table t n); room = λ t some. some }
 
 twice : (held named is : Bool) → ((held && not (named && is)) && not is) ≡ (held && not ((named || true) && is))
 twice true true true = refl
@@ -106,10 +98,18 @@ once : (held named is : Bool) → (held && not (named && is)) ≡ (held && not (
 once held true is = refl
 once held false is = refl
 
-pub withdrawn_more : (old now new : List ListValue) (trigrams : List ℕ) (i number : ℕ) → Withdrawn old now (take i trigrams) number → i < length trigrams → (set_of new (get_or trigrams i 0)).members ≡ without number (set_of now (get_or trigrams i 0)).members → ((t : ℕ) → t ≢ get_or trigrams i 0 → set_of new t ≡ set_of now t) → KeepsRoom now new → Withdrawn old new (take (i + 1) trigrams) number
-withdrawn_more old now new trigrams i number h inside at others room = record {
+-- The number went out of the sets of some trigrams, and those without a number gave their room back.
+pub record Withdrawn (old new : List ListValue) (trigrams : List ℕ) (number : ℕ) : Type 0 where
+  pub sets : WithdrawsNumber old new trigrams number
+  pub empty : GivesBack new trigrams
+
+pub withdrawn_none : (table : List ListValue) (number : ℕ) → Withdrawn table table [] number
+withdrawn_none table number = record { sets = λ t n. and_true (holds table t n); empty = λ t there none. absurd (false≢true there) }
+
+pub withdrawn_more : (old now new : List ListValue) (trigrams : List ℕ) (i number : ℕ) → Withdrawn old now (take i trigrams) number → i < length trigrams → (set_of new (get_or trigrams i 0)).members ≡ without number (set_of now (get_or trigrams i 0)).members → ((t : ℕ) → t ≢ get_or trigrams i 0 → set_of new t ≡ set_of now t) → ((set_of new (get_or trigrams i 0)).members ≡ [] → set_of new (get_or trigrams i 0) ≡ no_numbers) → Withdrawn old new (take (i + 1) trigrams) number
+withdrawn_more old now new trigrams i number h inside at others empty = record {
   sets = λ t n. rw (has-take_more trigrams i t inside) (sets t n (get_or trigrams i 0 == t) refl);
-  room = λ t some. room t (h.room t some);
+  empty = λ t there none. gone t (rw (has-take_more trigrams i t inside) at there) none (get_or trigrams i 0 == t) refl;
 }
   where
     sets : (t n : ℕ) (same : Bool) → (get_or trigrams i 0 == t) ≡ same → holds new t n ≡ (holds old t n && not ((has (take i trigrams) t || get_or trigrams i 0 == t) && n == number))
@@ -119,6 +119,15 @@ withdrawn_more old now new trigrams i number h inside at others room = record {
     sets t n false e =
         let ne : t ≢ get_or trigrams i 0 = grind (arith, nat_tests) in
         rw e (ap (λ s. has s.members n) (others t ne) ∙ h.sets t n ∙ once (holds old t n) (has (take i trigrams) t) (n == number))
+
+    gone : (t : ℕ) → (has (take i trigrams) t || get_or trigrams i 0 == t) ≡ true → (set_of new t).members ≡ [] → (same : Bool) → (get_or trigrams i 0 == t) ≡ same → set_of new t ≡ no_numbers
+    gone t there none true e =
+        let is : get_or trigrams i 0 ≡ t = grind (arith, nat_tests) in
+        rw (← is) (empty (rw (← is) at none))
+    gone t there none false e =
+        let ne : t ≢ get_or trigrams i 0 = grind (arith, nat_tests) in
+        let same = others t ne in
+        same ∙ h.empty t (sym (or_false (has (take i trigrams) t)) ∙ rw e at there) (ap (λ s. s.members) (sym same) ∙ none)
 
 -- Some trigrams' sets were given room, and no set changed.
 pub record Prepared (old new : List ListValue) (trigrams : List ℕ) : Type 0 where

@@ -7,5 +7,6 @@ pub mod Meeting
 pub mod Merging
 pub mod Slots
 pub mod Tables
+pub mod Places
 pub mod Changes
 pub mod Selection

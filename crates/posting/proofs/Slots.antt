@@ -2,10 +2,10 @@
 use Rattle.std.proofs.Common.{◌≡◌, ◌≢◌, ℕ, zero, suc, ◌-◌, ◌/◌, ◌%◌, ◌<◌, ◌≤◌, Bool, true, false, cond, ◌==◌, List, [], ◌∷◌, ◌++◌, ◌⊎◌, inl, inr, length, get_or, set, take, replicate, refl, sym, ap, arith}
 use Rattle.std.specs.declared.alloc.Global.{Global}
 use Rattle.std.specs.declared.vec.Vec.{Vec}
-use Rattle.std.proofs.lemmas.Bool.{cases_eq}
+use Rattle.std.proofs.lemmas.Bool.{cases_eq, cases_lt}
 use Rattle.std.proofs.lemmas.Bool.Decides.{nat_tests}
-use Rattle.std.proofs.lemmas.List.{get_or-set_same, get_or-set_other, take_all}
-use Rattle.posting.specs.Private.Pages.{page_size, page_at, slot_of}
+use Rattle.std.proofs.lemmas.List.{get_or-set_same, get_or-set_other, get_or_past, take_all}
+use Rattle.posting.specs.Private.Pages.{page_size, page_at, slot_of, HasSlot}
 
 -- an empty page after the others
 page_at-push : (pages : List (Vec ℕ Global)) (page : Vec ℕ Global) (k : ℕ) → page.items ≡ [] → page_at (pages ++ page ∷ []) k ≡ page_at pages k
@@ -57,8 +57,8 @@ get_or-zeros_after (s ∷ slots) n (suc i) = get_or-zeros_after slots n i
 same_place : (s t : ℕ) → s / page_size ≡ t / page_size → s % page_size ≡ t % page_size → s ≡ t
 same_place s t page place = omega arith
 
-pub slot_of-write : (pages : List (Vec ℕ Global)) (page : Vec ℕ Global) (trigram slot : ℕ) → trigram / page_size < length pages → page_size ≤ length (page_at pages (trigram / page_size)) → page.items ≡ set (page_at pages (trigram / page_size)) (trigram % page_size) slot → (t : ℕ) → slot_of (set pages (trigram / page_size) page) t ≡ cond (t == trigram) slot (slot_of pages t)
-slot_of-write pages page trigram slot inside full is t = cases (t == trigram) refl
+pub slot_of-write : (pages : List (Vec ℕ Global)) (page : Vec ℕ Global) (trigram slot : ℕ) → trigram / page_size < length pages → HasSlot pages trigram → page.items ≡ set (page_at pages (trigram / page_size)) (trigram % page_size) slot → (t : ℕ) → slot_of (set pages (trigram / page_size) page) t ≡ cond (t == trigram) slot (slot_of pages t)
+slot_of-write pages page trigram slot inside there is t = cases (t == trigram) refl
   where
     other_page : t / page_size ≢ trigram / page_size → slot_of (set pages (trigram / page_size) page) t ≡ slot_of pages t
     other_page other = ap (λ slots. get_or slots (t % page_size) 0) (page_at-set_other pages (trigram / page_size) (t / page_size) page other)
@@ -70,23 +70,30 @@ slot_of-write pages page trigram slot inside full is t = cases (t == trigram) re
     cases : (same : Bool) → (t == trigram) ≡ same → slot_of (set pages (trigram / page_size) page) t ≡ cond (t == trigram) slot (slot_of pages t)
     cases true e =
         let is_trigram : t ≡ trigram = grind (arith, nat_tests) in
-        let there : trigram % page_size < length (page_at pages (trigram / page_size)) = omega arith in
         rw e (rw is_trigram (rw (page_at-set_same pages (trigram / page_size) page inside) (rw is (get_or-set_same (page_at pages (trigram / page_size)) (trigram % page_size) slot 0 there))))
     cases false e =
         let ne : t ≢ trigram = grind (arith, nat_tests) in
         rw e (elim (cases_eq (t / page_size) (trigram / page_size)) [ inl same ↦ other_place ne same | inr other ↦ other_page other ])
 
-pub page_inside : (pages : List (Vec ℕ Global)) (k : ℕ) → page_size ≤ length (page_at pages k) → k < length pages
-page_inside [] k full = absurd (omega arith)
-page_inside (p ∷ pages) zero full = omega arith
-page_inside (p ∷ pages) (suc k) full = let inside = page_inside pages k full in omega arith
+pub page_inside : (pages : List (Vec ℕ Global)) (k : ℕ) → 0 < length (page_at pages k) → k < length pages
+page_inside [] k some = absurd (omega arith)
+page_inside (p ∷ pages) zero some = omega arith
+page_inside (p ∷ pages) (suc k) some = let inside = page_inside pages k some in omega arith
+
+-- a slot that isn't 0 is there
+pub HasSlot-from_slot : (pages : List (Vec ℕ Global)) (trigram : ℕ) → 0 < slot_of pages trigram → HasSlot pages trigram
+HasSlot-from_slot pages trigram some = cases (cases_lt (trigram % page_size) (length (page_at pages (trigram / page_size))))
+  where
+    cases : HasSlot pages trigram ⊎ (length (page_at pages (trigram / page_size)) ≤ trigram % page_size) → HasSlot pages trigram
+    cases (inl there) = there
+    cases (inr past) = absurd (omega (arith, get_or_past (page_at pages (trigram / page_size)) (trigram % page_size) 0 past))
 
 -- one slot of a page is written
-pub slot_of-written : (pages : List (Vec ℕ Global)) (page written : Vec ℕ Global) (trigram slot : ℕ) → page_size ≤ length (page_at pages (trigram / page_size)) → page ≡ get_or pages (trigram / page_size) page → written.items ≡ set page.items (trigram % page_size) slot → (t : ℕ) → slot_of (set pages (trigram / page_size) written) t ≡ cond (t == trigram) slot (slot_of pages t)
-slot_of-written pages page written trigram slot full is written_is =
-    let inside : trigram / page_size < length pages = page_inside pages (trigram / page_size) full in
+pub slot_of-written : (pages : List (Vec ℕ Global)) (page written : Vec ℕ Global) (trigram slot : ℕ) → HasSlot pages trigram → page ≡ get_or pages (trigram / page_size) page → written.items ≡ set page.items (trigram % page_size) slot → (t : ℕ) → slot_of (set pages (trigram / page_size) written) t ≡ cond (t == trigram) slot (slot_of pages t)
+slot_of-written pages page written trigram slot there is written_is =
+    let inside : trigram / page_size < length pages = page_inside pages (trigram / page_size) (omega arith) in
     let same : page_at pages (trigram / page_size) ≡ page.items = page_at-get_or pages (trigram / page_size) page inside is in
-    slot_of-write pages written trigram slot inside full (rw same written_is)
+    slot_of-write pages written trigram slot inside there (rw same written_is)
 
 -- a page is made longer
 pub slot_of-lengthened : (pages : List (Vec ℕ Global)) (k n : ℕ) (page long : Vec ℕ Global) → k < length pages → page ≡ get_or pages k page → length page.items < n → long.items ≡ take n page.items ++ replicate (n - length page.items) 0 → (t : ℕ) → slot_of (set pages k long) t ≡ slot_of pages t

@@ -49,6 +49,10 @@ AddsNumber old new trigrams number = (trigram n : ℕ) → holds new trigram n �
 abbrev pub WithdrawsNumber : List ListValue → List ListValue → List ℕ → ℕ → Type 0
 WithdrawsNumber old new trigrams number = (trigram n : ℕ) → holds new trigram n ≡ (holds old trigram n && not (has trigrams trigram && n == number))
 
+-- Where one of these trigrams' sets has no number it has no room either.
+abbrev pub GivesBack : List ListValue → List ℕ → Type 0
+GivesBack table trigrams = (trigram : ℕ) → IsTrue (has trigrams trigram) → (set_of table trigram).members ≡ [] → set_of table trigram ≡ no_numbers
+
 -- the numbers of a list whose trigrams meet the formula
 abbrev pub selected : List ListValue → Formula → List ℕ → List ℕ
 selected table formula numbers = filter (λ n. is_met formula (trigrams_with table n)) numbers

@@ -1,8 +1,9 @@
 //! Where the list of each trigram is.
 
-ghost use Rattle.std.specs.Prelude.{◌≡◌, ℕ, ◌+◌, ◌<◌, ◌≤◌, ◌/◌, if◌then◌else◌, ◌==◌, length, IfOk, OnOk};
+ghost use Rattle.std.specs.Prelude.{◌≡◌, ◌≢◌, ℕ, ◌+◌, ◌<◌, if◌then◌else◌, ◌==◌, IfOk, OnOk};
 ghost use Rattle.posting.specs.ListValue.{HasRoom};
-ghost use Rattle.posting.specs.Private.Pages.{IsSound, page_at, page_size, set_in_slot, slot_of, trigram_count};
+ghost use Rattle.posting.specs.Postings.{no_numbers};
+ghost use Rattle.posting.specs.Private.Pages.{IsSound, HasSlot, set_in_slot, slot_of, trigram_count};
 
 use crate::list::List;
 use query::Trigram;
@@ -10,6 +11,13 @@ use std::alloc::AllocError;
 
 // How many trigrams have their slots on a page.
 const PAGE: usize = 1024;
+
+/// A list of numbers, and the trigram whose list it is.
+#[derive(Drop)]
+pub(crate) struct Owned {
+    pub(crate) trigram: Trigram,
+    pub(crate) list: List,
+}
 
 /// The slot of a trigram: 0, or one more than the place of its list.
 pub(crate) fn slot(pages: &[Vec<u32>], trigram: Trigram) -> usize
@@ -29,7 +37,7 @@ pub(crate) fn slot(pages: &[Vec<u32>], trigram: Trigram) -> usize
 // Makes the page of a trigram, where it isn't there, with no list for its trigrams.
 fn make_page(pages: &mut Vec<Vec<u32>>, trigram: Trigram) -> Result<(), AllocError>
     ensures slots { (t : ℕ) → slot_of pages.new.items t ≡ slot_of pages.old.items t }
-    ensures ok { OnOk result (page_size ≤ length (page_at pages.new.items (trigram / page_size))) }
+    ensures ok { OnOk result (HasSlot pages.new.items trigram) }
 {
     let page = trigram.number() as usize / PAGE;
     let alloc = *pages.allocator();
@@ -44,7 +52,7 @@ fn make_page(pages: &mut Vec<Vec<u32>>, trigram: Trigram) -> Result<(), AllocErr
 }
 
 fn set_slot(pages: &mut Vec<Vec<u32>>, trigram: Trigram, slot: u32)
-    requires { page_size ≤ length (page_at pages.old.items (trigram / page_size)) }
+    requires { HasSlot pages.old.items trigram }
     ensures { (t : ℕ)
         → slot_of pages.new.items t ≡ (if t == trigram then slot else slot_of pages.old.items t) }
 {
@@ -58,7 +66,7 @@ fn set_slot(pages: &mut Vec<Vec<u32>>, trigram: Trigram, slot: u32)
 /// The error is that there is no memory for it.
 pub(crate) fn make_list(
     pages: &mut Vec<Vec<u32>>,
-    lists: &mut Vec<List>,
+    lists: &mut Vec<Owned>,
     trigram: Trigram,
 ) -> Result<usize, AllocError>
     requires { IsSound pages.old.items lists.old.items }
@@ -76,8 +84,27 @@ pub(crate) fn make_list(
     }
     make_page(pages, trigram)?;
     let place = lists.len();
-    let alloc = *lists.allocator();
-    lists.push(List::new(alloc))?;
+    let list = List::new(*lists.allocator());
+    lists.push(Owned { trigram, list })?;
     set_slot(pages, trigram, (place + 1) as u32);
     Ok(place)
+}
+
+/// Takes the trigram's list away. The last list comes to its place, so that the others need not move.
+pub(crate) fn drop_list(pages: &mut Vec<Vec<u32>>, lists: &mut Vec<Owned>, trigram: Trigram)
+    requires sound { IsSound pages.old.items lists.old.items }
+    requires listed { 0 < slot_of pages.old.items trigram }
+    ensures sound { IsSound pages.new.items lists.new.items }
+    ensures at { set_in_slot lists.new.items (slot_of pages.new.items trigram) ≡ no_numbers }
+    ensures others { (t : ℕ) → t ≢ trigram → set_in_slot lists.new.items (slot_of pages.new.items t)
+        ≡ set_in_slot lists.old.items (slot_of pages.old.items t) }
+    ensures bound { trigram < trigram_count }
+{
+    let slot = slot(pages, trigram);
+    let place = slot - 1;
+    lists.swap_remove(place);
+    set_slot(pages, trigram, 0);
+    if let Some(moved) = lists.get(place) {
+        set_slot(pages, moved.trigram, slot as u32);
+    }
 }

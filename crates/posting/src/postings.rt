@@ -4,22 +4,27 @@ ghost use Rattle.std.specs.Prelude.{◌≡◌, ◌≢◌, ℕ, ◌<◌, false, �
 ghost use Rattle.std.specs.List.Sorted.{IsStrictlyIncreasing};
 ghost use Rattle.query.specs.Query.{formula_of, formulas_of, all_of, one_of};
 ghost use Rattle.posting.specs.ListValue.{without, HasRoom};
-ghost use Rattle.posting.specs.Postings.{set_of, holds, IsPrepared, IsAbove, AllDiffer, SameSets, KeepsRoom, AddsNumber, WithdrawsNumber, selected};
+ghost use Rattle.posting.specs.Postings.{no_numbers, set_of, holds, IsPrepared, IsAbove, AllDiffer, SameSets, KeepsRoom, AddsNumber, WithdrawsNumber, GivesBack, selected};
 
 use crate::list::List;
 use crate::pages;
+use crate::pages::Owned;
 use query::{Query, Trigram};
 use std::alloc::{AllocError, Global};
 use std::marker::Model;
 
 /// A set of numbers for each trigram.
 ///
+/// A set takes memory only while it has a number or was prepared for one. Where the sets of trigrams are is
+/// noted on a page for each 1,024 trigrams, which stays once it was made, for the later sets of these trigrams:
+/// at most 64 MiB in all.
+///
 /// Contracts see it as a table of sets by the trigrams' numbers. A set has its numbers, and room for some
 /// more: `prepare` makes it, and `add` takes it.
 #[derive(Drop)]
 pub struct Postings {
     pages: Vec<Vec<u32>>,
-    lists: Vec<List>,
+    lists: Vec<Owned>,
 }
 
 impl Model for Postings {
@@ -48,7 +53,8 @@ impl Postings {
     /// Makes room for the number in the sets of these trigrams, so that `add` of it takes no memory. The
     /// sets stay as they are.
     ///
-    /// The error is that there is no memory for it; empty lists and some of the room may then be new.
+    /// The error is that there is no memory for it; empty lists and some of the room may then be new, and stay
+    /// until a `withdraw` from these sets.
     pub fn prepare(&mut self, number: u32, trigrams: &[Trigram]) -> Result<(), AllocError>
         ensures sets { SameSets self.old self.new }
         ensures room { KeepsRoom self.old self.new }
@@ -72,11 +78,11 @@ impl Postings {
         }
     }
 
-    /// Takes the number out of the sets of these trigrams; a set that hasn't got it stays as it is. It takes
-    /// no memory.
+    /// Takes the number out of the sets of these trigrams; a set that hasn't got it keeps its numbers. A set
+    /// without a number gives its memory and its room back. It takes no memory.
     pub fn withdraw(&mut self, number: u32, trigrams: &[Trigram])
         ensures sets { WithdrawsNumber self.old self.new trigrams.now number }
-        ensures room { KeepsRoom self.old self.new }
+        ensures empty { GivesBack self.new trigrams.now }
     {
         for trigram in trigrams {
             self.remove(*trigram, number);
@@ -102,8 +108,8 @@ impl Postings {
         ensures ok { OnOk result (HasRoom (set_of self.new trigram)) }
     {
         let place = pages::make_list(&mut self.pages, &mut self.lists, trigram)?;
-        let list = &mut self.lists[place];
-        list.room_for(number)
+        let owned = &mut self.lists[place];
+        owned.list.room_for(number)
     }
 
     fn push(&mut self, trigram: Trigram, number: u32)
@@ -113,19 +119,22 @@ impl Postings {
         ensures others { (t : ℕ) → t ≢ trigram → set_of self.new t ≡ set_of self.old t }
     {
         let place = pages::slot(&self.pages, trigram) - 1;
-        let list = &mut self.lists[place];
-        list.push(number);
+        let owned = &mut self.lists[place];
+        owned.list.push(number);
     }
 
     fn remove(&mut self, trigram: Trigram, number: u32)
         ensures at { (set_of self.new trigram).members ≡ without number (set_of self.old trigram).members }
         ensures others { (t : ℕ) → t ≢ trigram → set_of self.new t ≡ set_of self.old t }
-        ensures room { KeepsRoom self.old self.new }
+        ensures empty { (set_of self.new trigram).members ≡ [] → set_of self.new trigram ≡ no_numbers }
     {
         let slot = pages::slot(&self.pages, trigram);
         if slot > 0 {
-            let list = &mut self.lists[slot - 1];
-            list.remove(number);
+            let owned = &mut self.lists[slot - 1];
+            owned.list.remove(number);
+            if owned.list.is_empty() {
+                pages::drop_list(&mut self.pages, &mut self.lists, trigram);
+            }
         }
     }
 
@@ -136,7 +145,7 @@ impl Postings {
     {
         match pages::slot(&self.pages, trigram) {
             0 => None,
-            slot => Some(&self.lists[slot - 1]),
+            slot => Some(&self.lists[slot - 1].list),
         }
     }
 

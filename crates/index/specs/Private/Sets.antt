@@ -17,10 +17,6 @@ pub record IsNew (sets : Sets) (number : ℕ) (trigrams : List ℕ) : Type 0 whe
   pub postings : (trigram n : ℕ) → IsTrue (holds sets.postings trigram n) → n < number
   pub once : AllDiffer trigrams
 
--- Where there was room for one more document there is still.
-abbrev pub KeepsRoomFor : Sets → Sets → Type 0
-KeepsRoomFor old new = (trigrams : List ℕ) → HasRoomFor old trigrams → HasRoomFor new trigrams
-
 -- the trigrams of the document with a number
 abbrev pub trigrams_shown : Option (List ℕ × List ℕ) → TrigramSet
 trigrams_shown None trigram = false

@@ -1,30 +1,17 @@
-use Rattle.std.proofs.Common.{ap, arith}
-use Rattle.index.specs.State.{body_bytes}
-use Rattle.index.specs.Private.Store.{stored}
-use Rattle.index.proofs.StoredLemmas.{body_bytes-kept}
+use Rattle.std.proofs.Common.{◌∷◌, [], ◌++◌, Some, sym, ap, ◌∙◌}
+use Rattle.index.specs.Documents.{document}
+use Rattle.index.specs.Private.Store.{stored, left_after}
+use Rattle.index.proofs.StoredLemmas.{numbers_at_most, document_at-above, without-absent_number}
 use Rattle.index.proofs.store.Store.replace.Goals as goal
-use Rattle.index.proofs.store.Store.replace.Goals.{in-Some, in_default}
 
-pub put_in-requires-clause-store : goal.put_in-requires-clause-store
-put_in-requires-clause-store c =
-    elim c.match-gone.branch [
-      | in-Some w ↦ rw w.self-is (c.requires.store.0, w.take_out.ensures.store c.requires.store.0 c.requires.store.1, c.requires.store.2)
-      | in_default w ↦ rw w.self-is c.requires.store
-    ]
+pub returns-then-old-number-clause-store : goal.returns-then-old-number-clause-store
+returns-then-old-number-clause-store c = c.take_out.ensures.store c.args.number c.put_in.ensures.store
 
-pub put_in-requires-clause-room : goal.put_in-requires-clause-room
-put_in-requires-clause-room c =
-    elim c.match-gone.branch [
-      | in-Some w ↦ rw w.self-is (w.take_out.ensures.room c.args.entry.held c.requires.room)
-      | in_default w ↦ rw w.self-is c.requires.room
-    ]
-
-pub put_in-requires-clause-bytes : goal.put_in-requires-clause-bytes
-put_in-requires-clause-bytes c =
-    elim c.match-gone.branch [
-      | in-Some w ↦
-          let fewer = body_bytes-kept w.in-Some.old (stored c.args.self.now) in
-          let left = ap body_bytes w.take_out.ensures.documents in
-          rw w.self-is (omega (arith, c.requires.bytes, fewer, left))
-      | in_default w ↦ rw w.self-is c.requires.bytes
-    ]
+pub returns-else-old-number-clause-documents : goal.returns-else-old-number-clause-documents
+returns-else-old-number-clause-documents c =
+    let old = c.args.self.now in
+    let kept = c.requires.store.1 in
+    let absent = document_at-above c.args.number c.requires.store.0 (stored old) (numbers_at_most c.requires.store.0 old.slots.items kept.slots) c.requires.store.2 in
+    let same = without-absent_number c.args.number (stored old) absent in
+    c.put_in.ensures.documents
+    ∙ ap (λ ds. ds ++ document c.args.number c.args.entry.name c.args.entry.held ∷ []) (sym (ap (λ n. left_after n (stored old)) (c.in-Some.is ∙ ap Some c.if-old-number.false) ∙ same))

@@ -1,8 +1,5 @@
-use Rattle.std.proofs.Common.{◌≡◌, ℕ, ◌∷◌, [], sym, ◌∙◌, ap, subst, arith, length}
+use Rattle.std.proofs.Common.{◌≡◌, sym, ◌∙◌, ap, subst, arith, length}
 use Rattle.std.specs.Prelude.{option_map}
-use Rattle.std.proofs.lemmas.List.Elements.{All-nil, All-cons, All-head}
-use Rattle.posting.specs.ListValue.{HasRoom}
-use Rattle.posting.specs.Postings.{set_of}
 use Rattle.index.specs.State.{body_bytes}
 use Rattle.index.specs.Private.Slots.{documents_in, texts_of, without_number}
 use Rattle.index.specs.Private.Sets.{AreSetsOf}
@@ -30,16 +27,6 @@ returns-in-Some-clause-store c = λ last kept.
       slots = c.compact.ensures.numbers last (RiseTo-same last old.slots.items c.take.new.slots.items c.take.ensures.numbers kept.slots);
       sets = subst (λ ds. AreSetsOf ds c.take_out.new.self) (sym documents) (AreSetsOf-take (stored old) c.args.number c.in-Some.entry.name c.in-Some.entry.held c.trigrams.result.now old.sets c.take_out.new.self kept.sets at c.trigrams.ensures.trigrams c.take_out.ensures.live c.take_out.ensures.postings);
       bytes = omega (arith, size, bytes, left, kept.bytes);
-    }
-
-pub returns-in-Some-clause-room : goal.returns-in-Some-clause-room
-returns-in-Some-clause-room c = λ body place.
-    let room = λ (t : ℕ). HasRoom (set_of c.args.self.now.sets.postings t) in
-    let room_after = λ (t : ℕ). HasRoom (set_of c.take_out.new.self.postings t) in
-    record {
-      slots = omega (arith, place.slots, c.take.ensures.len, c.take.ensures.capacity, c.compact.ensures.len, c.compact.ensures.capacity);
-      live = (c.take_out.ensures.room [] (record { live = place.live; postings = All-nil room })).live;
-      postings = λ t is. All-head room_after t [] (c.take_out.ensures.room (t ∷ []) (record { live = place.live; postings = All-cons room t [] (place.postings t is) (All-nil room) })).postings;
     }
 
 pub returns-in_default-clause-store : goal.returns-in_default-clause-store

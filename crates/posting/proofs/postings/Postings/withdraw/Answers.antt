@@ -6,4 +6,4 @@ pub loop-trigram-preserved : goal.loop-trigram-preserved
 loop-trigram-preserved c =
     let item = get_or_read c.args.trigrams.now c.loop-trigram.trigram-index c.trigram-item.result c.loop-trigram-test.true c.trigram-item.is 0 in
     withdrawn_more c.args.self.now c.loop-trigram.self c.remove.new.self c.args.trigrams.now c.loop-trigram.trigram-index c.args.number c.loop-trigram.invariant c.loop-trigram-test.true
-    (rw item at c.remove.ensures.at) (rw item at c.remove.ensures.others) c.remove.ensures.room
+    (rw item at c.remove.ensures.at) (rw item at c.remove.ensures.others) (rw item at c.remove.ensures.empty)
