@@ -5,7 +5,7 @@ A case NAME of tests/cases has some of these files:
 
     NAME.script       the script, on standard input, or as FILE where an argument is {script}
     NAME.args         the arguments, one a line
-    NAME.run          a bash script that is run instead, with the paths PROGRAM and SCRIPT
+    NAME.run          a bash script that is run instead, with the paths PROGRAM and SCRIPT, and READERS
     NAME.setup        a bash script that is run before, in the case's own new folder
     NAME.stdout       what must be written to standard output; no file: nothing
     NAME.stdout-has   instead, lines each of which must be somewhere in it
@@ -13,9 +13,11 @@ A case NAME of tests/cases has some of these files:
     NAME.stderr-has   instead, lines each of which must be somewhere in it
     NAME.status       the status; no file: 0
 
-A case whose arguments say nothing of readers is run with each of several numbers of readers too, and must
-give the same. An example NAME.script of examples/ is run from the top of the repository, as FILE, and must
-write NAME.stdout and end with NAME.status.
+Each case is run in a new folder with each of several numbers of readers, and must give the same. With arguments it is
+run without such a number too. The number stands before the arguments, or is READERS for a bash script. A case whose
+arguments say something of readers or ask for the help, or whose bash script does not use READERS, is run once. An
+example NAME.script of examples/ is run from the top of the repository, as FILE, and must write NAME.stdout and end with
+NAME.status.
 
 Usage: tests/run.py [NAME..]   The last line counts: N passed, M failed.
 """
@@ -82,14 +84,19 @@ def compare(base, result):
         raise Wrong(f"the status is {status}, and should be {wanted}")
 
 
-def run_case(base):
-    script = base.with_suffix(".script")
+def words_of(base):
+    """The case's arguments."""
     args = base.with_suffix(".args")
+    return args.read_text().splitlines() if args.exists() else []
+
+
+def run_once(base, readers):
+    """Runs a case with a number of readers, or without one."""
+    script = base.with_suffix(".script")
     own_run = base.with_suffix(".run")
     setup = base.with_suffix(".setup")
-    words = args.read_text().splitlines() if args.exists() else []
     with tempfile.TemporaryDirectory() as folder:
-        env = dict(os.environ, PROGRAM=str(PROGRAM), SCRIPT=str(script), LC_ALL="C")
+        env = dict(os.environ, PROGRAM=str(PROGRAM), SCRIPT=str(script), READERS=readers or "", LC_ALL="C")
         if setup.exists():
             made = run(["bash", "-eu", str(setup)], folder, b"", env)
             if made[0] != 0:
@@ -97,21 +104,36 @@ def run_case(base):
         if own_run.exists():
             compare(base, run(["bash", "-u", str(own_run)], folder, b"", env))
             return
+        words = words_of(base)
         stdin = b"" if "{script}" in words else read_bytes(script)
-        command = [str(PROGRAM)] + [str(script) if word == "{script}" else word for word in words]
-        compare(base, run(command, folder, stdin, env))
-        if any(word.startswith("--readers") or word == "--help" for word in words):
-            return
-        for readers in READERS:
-            try:
-                compare(base, run(command[:1] + ["--readers", readers] + command[1:], folder, stdin, env))
-            except Wrong as wrong:
-                raise Wrong(f"with {readers} readers {wrong}") from None
+        command = [str(PROGRAM)] + (["--readers", readers] if readers else [])
+        compare(base, run(command + [str(script) if word == "{script}" else word for word in words], folder, stdin, env))
+
+
+def numbers_of_readers(base):
+    """The numbers of readers that a case is run with; None is none."""
+    own_run = base.with_suffix(".run")
+    if own_run.exists():
+        return READERS if "$READERS" in own_run.read_text() else [None]
+    fixed = any(word.startswith("--readers") or word == "--help" for word in words_of(base))
+    return [None] if fixed else [None] + READERS
+
+
+def run_case(base):
+    for readers in numbers_of_readers(base):
+        try:
+            run_once(base, readers)
+        except Wrong as wrong:
+            raise Wrong(f"with {readers} readers {wrong}" if readers else wrong) from None
 
 
 def run_example(base):
     script = base.with_suffix(".script").relative_to(TOP)
-    compare(base, run([str(PROGRAM), str(script)], TOP, b""))
+    for readers in READERS:
+        try:
+            compare(base, run([str(PROGRAM), "--readers", readers, str(script)], TOP, b""))
+        except Wrong as wrong:
+            raise Wrong(f"with {readers} readers {wrong}") from None
 
 
 def main():

@@ -1,5 +1,5 @@
 -- Answers, and what keeps the program from one.
-use Rattle.std.proofs.Common.{◌≡◌, ◌⊎◌, inl, inr, List, [], ℕ, Option}
+use Rattle.std.proofs.Common.{◌≡◌, inl, inr, List, [], ℕ, Option}
 use Rattle.std.specs.Prelude.{Result, Ok, Err, IfOk, IfErr}
 use Rattle.std.specs.Io.KnownBytes.{Appends, Keeps}
 use Rattle.std.proofs.KnownBytes.{Appends-kept}
