@@ -1,5 +1,5 @@
 -- Items that are pending once they are taken.
-use Rattle.std.proofs.Common.{◌≡◌, ℕ, ◌+◌, List, [], ◌∷◌, ◌++◌, Option, Some, None, Ok, Err, Result, OnOk, inl, refl, sym, ap, ◌∙◌, subst, arith}
+use Rattle.std.proofs.Common.{◌≡◌, ℕ, ◌+◌, List, [], ◌∷◌, ◌++◌, Option, Some, None, inl, refl, sym, ap, ◌∙◌, subst, arith}
 use Rattle.std.specs.Prelude.{Contains}
 use Rattle.script.specs.Items.{Numbered}
 use Rattle.shared.specs.Desk.{DeskState}
@@ -57,8 +57,3 @@ settled_ready searches old new settled entries count published lasts = sessions.
 
 pub settled_closed : (searches : List (Option Prepared)) (old new : Session) (settled : Entry) (lasts : List Last) → IsClosed searches old.told.commands old.versions.items (old.settled.searches + 1) old.settled.published old.settled.lasts.items settled lasts → new.settled.entries.items ≡ old.settled.entries.items ++ settled ∷ [] → new.settled.searches ≡ old.settled.searches + searches_in settled → new.settled.published ≡ last_or old.settled.published (version_in (Some settled)) → new.settled.lasts.items ≡ lasts → SettlesNext searches old None new
 settled_closed searches old new settled lasts is entries count published same = sessions.closed settled lasts refl entries is (same_tally count published same)
-
--- What holds of a success, where something follows from it.
-pub on_ok : {T E P Q : Type 0} (result : Result T E) → (P → Q) → OnOk result P → OnOk result Q
-on_ok (Ok done) follows is = follows is
-on_ok (Err error) follows is = is

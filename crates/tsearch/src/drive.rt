@@ -89,8 +89,8 @@ fn start<'a, R: Wait, G>(
     Ok((session, seats))
 }
 
-/// Takes an item. A search is sent to its reader. At a sync, and after each item where there are no readers, all that
-/// is pending is settled.
+/// Takes an item. A search is sent to its reader. All that is pending is settled at a sync, and where no reader is
+/// waited for.
 fn advance<'s, 'a: 's, E, R: Threads + Wait + Sync, S: Source, G: Gate>(
     scope: &Scope<'s, E>,
     plan: &Plan<'a, R, G>,
@@ -119,7 +119,8 @@ fn advance<'s, 'a: 's, E, R: Threads + Wait + Sync, S: Source, G: Gate>(
         Step::Search(number) => send(scope, plan, seats, number),
         Step::Sync => return session.settle(plan.rt, plan.alloc, plan.searches, seats),
     }
-    if plan.options.readers == 0 {
+    let at_once = plan.options.readers == 0 || !session.waits;
+    if at_once {
         session.settle(plan.rt, plan.alloc, plan.searches, seats)?;
     }
     Ok(())

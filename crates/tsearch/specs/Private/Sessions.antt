@@ -99,8 +99,8 @@ pub record IsSettled (searches : List (Option Prepared)) (old new : Session) : T
   pub versions : new.versions ≡ old.versions
   pub count : new.searches ≡ old.searches
 
--- A run went on by one item. Without readers all is settled after each.
+-- A run went on by one item. Without readers all is settled after each; with them, where no search is open.
 pub data Advances (Holds : List ℕ → List ℕ → Type 0) (searches : List (Option Prepared)) (readers : ℕ) (desk : DeskState) (failed : ℕ) (old : Session) (item : Numbered) (desk' : DeskState) (failed' : ℕ) (new : Session) : Type 0 where
   synced : is_sync item.item ≡ true → desk' ≡ desk → failed' ≡ failed → IsSettled searches old new → Advances Holds searches readers desk failed old item desk' failed' new
   pended : readers ≢ 0 → Pends Holds desk failed old item desk' failed' new → Advances Holds searches readers desk failed old item desk' failed' new
-  settled : (mid : Session) → readers ≡ 0 → Pends Holds desk failed old item desk' failed' mid → IsSettled searches mid new → Advances Holds searches readers desk failed old item desk' failed' new
+  settled : (mid : Session) → Pends Holds desk failed old item desk' failed' mid → IsSettled searches mid new → Advances Holds searches readers desk failed old item desk' failed' new
