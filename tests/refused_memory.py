@@ -5,7 +5,7 @@ The script puts a small document and one of 19 KB, and searches them line by lin
 stars, and with a pattern that is too large to be compiled. With the Nth request refused, each search's answer is the same or
 `refused: out of memory`, each other line does its work or is refused by the same words, or the program says that memory ran
 out. Anything else ends the comparison with status 1. The requests are counted by a library of a few lines that stands before
-the C library's; the command cc builds it.
+the C library's; the command cc builds it. A program that may start threads ends by `_exit`, so the count is told there too.
 
 Usage: tests/refused_memory.py
 """
@@ -24,6 +24,8 @@ COUNTING = r"""
 #include <stddef.h>
 #include <stdio.h>
 #include <stdlib.h>
+#include <sys/syscall.h>
+#include <unistd.h>
 extern void *__libc_malloc(size_t), *__libc_realloc(void *, size_t);
 static long requests, refused = -1;
 static int refuses(void) {
@@ -33,6 +35,7 @@ static int refuses(void) {
 void *malloc(size_t size) { return refuses() ? NULL : __libc_malloc(size); }
 void *realloc(void *old, size_t size) { return refuses() ? NULL : __libc_realloc(old, size); }
 __attribute__((destructor)) static void tell(void) { dprintf(2, "requests %ld\n", requests); }
+void _exit(int status) { tell(); syscall(SYS_exit_group, status); __builtin_unreachable(); }
 """
 
 SEARCHES = [b"xy|ca", b"line 44[0-3] .* 0x[0-3]{2}", b"^$", b"((a*|b)*|c)*d$|^line (0*)*7", b"e 44[0-2]|z$", b".{211}.{212}.{211}|line 7 of the body, int x"]
