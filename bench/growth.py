@@ -3,8 +3,8 @@
 Scripts of 2,000, 10,000 and 20,000 documents of about 2 KB, all of the same words: the time to the first publish, of
 one search, and of one document added, removed or replaced after each publish. What the changes are measured against has
 two publishes with a command between them, so that both of the program's indexes hold all documents before the first
-change. With a FOLDER, the changes for its files too, the resident memory for each byte of them before and after the
-second publish, and the memory after one document was replaced 1,000 and 100,000 times.
+change. Then the memory after one document was replaced 1,000 and 100,000 times. With a FOLDER, the changes for its files
+too, and the resident memory for each byte of them before and after the second publish.
 """
 import os
 import random
@@ -16,6 +16,7 @@ import corpus
 import timed
 
 MOST_CHANGES = 4000
+MOST_FILES = 2000
 MOST_REPLACED = 100000
 WORDS = "alpha beta gamma delta int return static void char const struct if else while for memory index search line".split()
 
@@ -76,10 +77,27 @@ def memory_after_replacing(target, count):
 
 
 def files_of(folder, target):
+    """What was taken, the scripts that store it with its bytes and by `load` lines, and the names."""
     taken = corpus.make(folder, target)
-    names = [os.path.relpath(path, os.path.join(os.fsencode(target), b"files")) for path in corpus.files_below(os.path.join(target, "files"))]
+    files = os.path.join(os.fsencode(target), b"files")
+    names = [os.path.relpath(path, files) for path in corpus.files_below(files)]
+    loads = [b"load %s %s\n" % (name, os.path.join(files, name)) for name in names]
     with open(os.path.join(target, "puts"), "rb") as puts:
-        return taken, [puts.read(), b"publish\n"], names
+        return taken, [puts.read(), b"publish\n"], loads + [b"publish\n"], names
+
+
+def show_files(folder, target):
+    taken, puts, loads, names = files_of(folder, target)
+    bodies = []
+    for name in random.Random(2).sample(names, min(len(names) // 2, MOST_FILES)):
+        with open(os.path.join(os.fsencode(target), b"files", name), "rb") as file:
+            bodies.append(file.read())
+    print("%(files)d files, %(bytes)d bytes:" % taken)
+    more = [put(b"one-more", b"one more\n"), b"publish\n"]
+    for what, script in ("in the script", puts), ("by load lines", loads):
+        resident = [memory(target, parts) / taken["bytes"] for parts in (script, script + more)]
+        print("files %s: resident %.2f bytes a byte, after a second publish %.2f" % (what, *resident), flush=True)
+    print("adding %.2f ms, removing %.2f, replacing %.2f" % tuple(times_of_changes(target, puts, names, bodies)))
 
 
 def main():
@@ -93,15 +111,7 @@ def main():
         print("one document replaced 1,000 times: %.1f MB; 100,000 times: %.1f MB" % (few / 1e6, many / 1e6))
     if len(sys.argv) > 1:
         with tempfile.TemporaryDirectory() as target:
-            taken, puts, names = files_of(sys.argv[1], target)
-            bodies = []
-            for name in random.Random(2).sample(names, len(names) // 2):
-                with open(os.path.join(os.fsencode(target), b"files", name), "rb") as file:
-                    bodies.append(file.read())
-            resident = [memory(target, parts) / taken["bytes"] for parts in (puts, puts + [put(b"one-more", b"one more\n"), b"publish\n"])]
-            print("%(files)d files, %(bytes)d bytes:" % taken, end=" ")
-            print("resident %.2f bytes a byte, after a second publish %.2f;" % tuple(resident), end=" ")
-            print("adding %.2f ms, removing %.2f, replacing %.2f" % tuple(times_of_changes(target, puts, names, bodies)))
+            show_files(sys.argv[1], target)
 
 
 main()

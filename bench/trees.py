@@ -1,8 +1,8 @@
 """tsearch beside `csearch`, `rg` and `grep -rE` on the same files: python3 bench/trees.py FOLDER.
 
-Prints the time from the script's first byte to the first publish, the resident memory, and for each pattern the lines
-found, the candidates, and what a search takes in tsearch and in the other tools, all on one thread and with their
-output in a file: the least and the median of five runs, in milliseconds. Nothing is asserted.
+Prints the time from the script's first byte to the first publish, beside what `cindex` takes, the resident memory, and
+for each pattern the lines found, the candidates, and what a search takes in tsearch and in the other tools, all on one
+thread and with their output in a file: the least and the median of five runs, in milliseconds. Nothing is asserted.
 """
 import os
 import re
@@ -70,19 +70,31 @@ def spent(words, env=None):
 
 def search_times(target, search, base):
     """The seconds of one search in each of some runs, of so many copies of it that they are above the noise."""
-    count = 1
+    count, most, wanted = 1, 4096, max(0.3, base / 2)
     while True:
         words = [timed.PROGRAM, "--stats", "--readers", "0", "--max-commands", "1000000", script_with(target, [search] * count)]
         found = timed.run(words)
-        if found["seconds"] - base > max(0.3, base) or count >= 4096:
+        spent_so_far = found["seconds"] - base
+        if spent_so_far > wanted or count == most:
             break
-        count *= 4
+        needed = 1.5 * count * wanted / spent_so_far if spent_so_far > 0.1 * wanted else 64 * count
+        count = min(most, max(2 * count, int(needed)))
     head = re.match(rb"search 1 version \d+ lines (\d+) candidates (\d+) of (\d+)", found["output"])
     return [max(seconds - base, 0) / count for seconds in spent(words)], head
 
 
 def shown(seconds):
     return "%.2f / %.2f" % (1000 * min(seconds), 1000 * statistics.median(seconds))
+
+
+def index_times(files, env):
+    """The seconds of each of some runs of cindex, each from nothing."""
+    seconds = []
+    for _ in range(RUNS):
+        if os.path.exists(env["CSEARCHINDEX"]):
+            os.remove(env["CSEARCHINDEX"])
+        seconds.append(timed.run(["cindex", files], env=env)["seconds"])
+    return seconds
 
 
 def others(files, env, pattern, name=None, glob=None):
@@ -116,7 +128,7 @@ def main():
         files = os.path.join(target, "files")
         env = dict(os.environ, CSEARCHINDEX=os.path.join(target, "csearchindex"), LC_ALL="C")
         if shutil.which("cindex"):
-            timed.run(["cindex", files], env=env)
+            print("cindex %s ms" % shown(index_times(files, env)))
         print("| kind | pattern | lines | candidates | tsearch | csearch | rg -j1 | grep -rE |\n|---|---|---|---|---|---|---|---|")
         for what, pattern in PATTERNS:
             row(target, files, env, base, what, "search " + pattern, pattern)

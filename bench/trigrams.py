@@ -187,9 +187,9 @@ PATTERNS = [
 WITHOUT_DOCUMENTS = ["zzqqxxyy", "unlikely_to_be_there_twice", "template.*#define.*inline.*sqlite"]
 
 
-def lines_of_crates():
-    """The crates of the repository, each with those that it uses."""
-    with open(os.path.join(ROOT, "crates.txt")) as file:
+def lines_of_crates(root):
+    """The crates of a checkout, each with those that it uses."""
+    with open(os.path.join(root, "crates.txt")) as file:
         lines = [line.split("#")[0].split(":") for line in file]
     return {name.split()[0]: uses.split() for name, uses in (line for line in lines if len(line) == 2)}
 
@@ -202,14 +202,14 @@ def with_those_below(names, uses):
     return found
 
 
-def build(folder, source=METER, used=USES):
-    """Builds a program over these crates in a folder, and returns its path."""
+def build(folder, source=METER, used=USES, root=ROOT):
+    """Builds a program over these crates of a checkout in a folder, and returns its path."""
     if not shutil.which("rt"):
         sys.exit("trigrams.py: the command rt of the Rattle kit, which builds the program, is not on the PATH")
-    uses = lines_of_crates()
+    uses = lines_of_crates(root)
     crates = with_those_below(used, uses)
     for name in crates:
-        shutil.copytree(os.path.join(ROOT, "crates", name), os.path.join(folder, "crates", name))
+        shutil.copytree(os.path.join(root, "crates", name), os.path.join(folder, "crates", name))
     with open(os.path.join(folder, "crates.txt"), "w") as file:
         file.writelines("%s: %s\n" % (name, " ".join(uses[name])) for name in crates)
         file.write("meter: %s\n" % " ".join(used))
