@@ -10,7 +10,7 @@ mod positions;
 mod walk;
 mod words;
 
-ghost use Rattle.std.specs.Prelude.{◌≤◌, ◌↔◌, IsTrue, length};
+ghost use Rattle.std.specs.Prelude.{◌≤◌, ◌<◌, ◌↔◌, IsTrue, length};
 ghost use Rattle.ere.specs.Limits.{IsWithinLimits};
 ghost use Rattle.ere.specs.Language.{ContainsMatch};
 ghost use Rattle.ere.specs.Tree.{form};
@@ -22,6 +22,10 @@ use crate::walk::advance;
 use crate::words::BITS;
 pub use crate::words::{WORDS, step};
 use ere::{Ere, MAX_LINE};
+
+/// How many words the positions of a line have that is neither short nor long. Each set of them is filled
+/// with zeros when it is made.
+const FEWER: usize = 65;
 
 /// Whether some part of the line is a match of the tree.
 ///
@@ -40,14 +44,16 @@ pub fn matches(tree: &Ere, line: &[u8]) -> bool
     // The positions of a short line are one word, which has no bounds to keep.
     if line.len() < BITS {
         is_led_on::<OneWord>(tree, line)
+    } else if line.len() < FEWER * BITS {
+        is_led_on::<Positions<FEWER>>(tree, line)
     } else {
-        is_led_on::<Positions>(tree, line)
+        is_led_on::<Positions<WORDS>>(tree, line)
     }
 }
 
 /// Whether a word of the tree leads from a position of the line to another.
 fn is_led_on<S: PositionSet>(tree: &Ere, line: &[u8]) -> bool
-    requires { length line.now ≤ S.longest }
+    requires { length line.now < S.room }
     ensures { IsTrue result ↔ ContainsMatch (form tree.now) line.now }
 {
     let mut at = S::through(line.len());
