@@ -36,6 +36,11 @@ const FEWER: usize = 65;
 /// `((a*a)*a)*` and `((a*|b)*|c)*`: the time was seen to grow as the square of their number. Where it stands
 /// behind a part that cannot be empty, as in `(a(aa*)*)*`, or under a count other than `?`, each level of
 /// them can still double the time.
+///
+/// The stack is bounded: calls nest as deep as the tree is high, which is at most 64, and at each level at most
+/// five sets of positions are kept, of 536 bytes for a line of 64 bytes or more, and of 2,072 for one of 4,160 or
+/// more. The most that was seen is 8.5 KiB for a level and 516 KiB in all, for 62 stars inside one another and a
+/// line of `MAX_LINE` bytes; 912 KiB where Rattle's own compiler makes the program in place of LLVM.
 pub fn matches(tree: &Ere, line: &[u8]) -> bool
     requires within_limits { IsWithinLimits (form tree.now) }
     requires line { length line.now ≤ MAX_LINE }
