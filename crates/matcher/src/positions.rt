@@ -101,6 +101,8 @@ impl<const N: usize> PositionSet for Positions<N> {
         }
         self.first = first;
         self.end = end;
+        // What is left is often far up the line, and the words before it need not be looked at again.
+        fresh.first = first_held(&fresh.words, fresh.first, fresh.end);
         !fresh.is_empty()
     }
 

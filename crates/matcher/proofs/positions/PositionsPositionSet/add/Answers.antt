@@ -1,5 +1,5 @@
 use Rattle.std.proofs.Common.{◌≡◌, ◌∙◌, refl, sym, length, arith}
-use Rattle.matcher.proofs.Joining.{added_first, added_more, added_found, added_fresh, fresh_bounded, found_bounded, added_grows}
+use Rattle.matcher.proofs.Joining.{added_first, added_more, added_found, added_fresh, fresh_bounded, found_bounded, added_grows, trimmed}
 use Rattle.matcher.proofs.positions.PositionsPositionSet.add.Goals as goal
 
 pub joined-first-requires : goal.joined-first-requires
@@ -26,7 +26,7 @@ loop-i-preserved g c = record {
 pub invariant_of-fresh : goal.invariant_of-fresh
 invariant_of-fresh g c =
     let limit : c.loop-i.i ≡ c.fresh.inside.end = omega (arith, c.fresh.invariant.ordered) in
-    rw (c.loop-i.invariant.fresh_first, c.loop-i.invariant.fresh_end) (fresh_bounded c.self.inside.words c.fresh.inside.words c.loop-i.self-inside.words c.loop-i.fresh-inside.words c.fresh.inside.first c.loop-i.i c.fresh.inside.end c.loop-i.invariant.added c.fresh.invariant limit)
+    trimmed _ c.loop-i.fresh-inside.first c.loop-i.fresh-inside.end _ (rw (c.loop-i.invariant.fresh_first, c.loop-i.invariant.fresh_end) (fresh_bounded c.self.inside.words c.fresh.inside.words c.loop-i.self-inside.words c.loop-i.fresh-inside.words c.fresh.inside.first c.loop-i.i c.fresh.inside.end c.loop-i.invariant.added c.fresh.invariant limit)) c.first_held-fresh-inside.ensures.between c.first_held-fresh-inside.ensures.none
 
 pub invariant_of-self : goal.invariant_of-self
 invariant_of-self g c =
