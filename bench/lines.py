@@ -69,7 +69,7 @@ def main():
             print("| `%s` | %.2f | %.0f | %.1f |" % (pattern.replace("|", "\\|"), 1000 * seconds, size / max(seconds, 1e-9) / 1e6, 1000 * grep), flush=True)
         print("\n| line of n bytes `a`, 200 of them | `a.*b` ms | `(a\\|b)*c` ms | `a{1,20}b` ms |")
         print("|---|---|---|---|")
-        for n in (250, 500, 1000, 2000, 4000):
+        for n in (250, 500, 1000, 2000, 4000, 8000, 16000):
             print("| %d | %s |" % (n, " | ".join("%.2f" % (1000 * search_time(target, [b"a" * n] * 200, p)) for p in ("a.*b", "(a|b)*c", "a{1,20}b"))), flush=True)
         print("\n| alternatives of four bytes | ms over the source lines |")
         print("|---|---|")

@@ -63,7 +63,8 @@ fn hits(tree: &Ere, lines: &[&[u8]]) -> u64 {
 """
 
 
-def build(root, folder):
+def build(root, folder, source=METER):
+    """The path of a program of this source over the crates `ere` and `matcher` of a checkout."""
     for name in ("ere", "matcher"):
         shutil.copytree(os.path.join(root, "crates", name), os.path.join(folder, "crates", name))
     with open(os.path.join(folder, "crates.txt"), "w") as file:
@@ -71,7 +72,7 @@ def build(root, folder):
     meter = os.path.join(folder, "crates", "meter")
     os.makedirs(os.path.join(meter, "src"))
     with open(os.path.join(meter, "src", "main.rt"), "w") as file:
-        file.write(METER)
+        file.write(source)
     subprocess.run(["git", "init", "-q", folder], check=True)
     built = subprocess.run(["rt", "run"], cwd=meter, capture_output=True, text=True)
     if built.returncode != 0:
@@ -149,7 +150,7 @@ def main():
         path = os.path.join(folder, "text")
         show_lines(programs, lines.lines_of(sys.argv[1], 20000), path)
         for program in programs:
-            for length in (100, 4000):
+            for length in (100, 1000, 4000):
                 show_nests(program, path, length)
 
 

@@ -29,7 +29,7 @@ A script is a list of lines:
   # REMARK            does nothing, and neither does an empty line
 
 Names and NAMES have no space. An ERE is everything after its space. A text has at
-most 1048576 bytes, in lines of at most 4096 bytes, and no byte 0.
+most 1048576 bytes, in lines of at most 16384 bytes, and no byte 0.
 
 Each search prints `search K version V lines L`, and then each line as NAME:LINE:TEXT.
 What is refused is printed too, with its reason, and the script goes on. Only a put

@@ -87,16 +87,17 @@ fn is_shared(body: Body, bytes: &[u8]) -> Result<bool, Fail> {
 
 const BODIES: &[(&[(&[u8], usize)], Option<BodyErrorKind>)] = &[
     (&[], None),
-    (&[(b"a", 4096)], None),
-    (&[(b"a", 4096), (b"\n", 1), (b"b", 4096)], None),
+    (&[(b"a", 4097)], None),
+    (&[(b"a", 16_384)], None),
+    (&[(b"a", 16_384), (b"\n", 1), (b"b", 16_384)], None),
     (&[(b"a\n", 262_144)], None),
     (&[(b"sixteen bytes..\n", 65_536)], None),
     (&[(b"\n", 1_048_576)], None),
     (&[(b"\n", 1_048_577)], Some(BodyErrorKind::TooLong)),
-    (&[(b"a", 4097)], Some(BodyErrorKind::LineTooLong)),
+    (&[(b"a", 16_385)], Some(BodyErrorKind::LineTooLong)),
     (&[(b"a\0b", 1)], Some(BodyErrorKind::NotText)),
     // the faults in their order
-    (&[(b"a", 4097), (b"\0", 1)], Some(BodyErrorKind::NotText)),
+    (&[(b"a", 16_385), (b"\0", 1)], Some(BodyErrorKind::NotText)),
     (&[(b"\0", 1_048_577)], Some(BodyErrorKind::TooLong)),
 ];
 

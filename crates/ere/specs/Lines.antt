@@ -9,7 +9,7 @@ with_byte_in_front b (line ∷ lines) = (b ∷ line) ∷ lines
 
 -- the greatest length of a line (this program's choice)
 abbrev pub greatest_line : ℕ
-greatest_line = 4096
+greatest_line = 16384
 
 unfoldable pub lines_of : List ℕ → List (List ℕ)
 lines_of [] = []

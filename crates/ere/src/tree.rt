@@ -7,7 +7,7 @@ ghost use Rattle.ere.specs.Tree.{form};
 use crate::byte_set::ByteSet;
 
 /// The greatest length of a line, in bytes.
-pub const MAX_LINE: usize = 4096;
+pub const MAX_LINE: usize = 16384;
 
 /// An extended regular expression as a tree. `docs/DEFINITIONS.md` says which texts each tree matches.
 #[derive(Clone, Debug, PartialEq, Eq, Drop)]

@@ -1,20 +1,28 @@
 -- What the operations on sets of positions have done up to a word.
-use Rattle.std.proofs.Common.{◌≡◌, ◌≢◌, ℕ, zero, suc, ◌+◌, ◌-◌, ◌*◌, ◌/◌, ◌%◌, ◌^◌, ◌≤◌, ◌<◌, Bool, true, false, not, ◌&&◌, ◌||◌, ◌==◌, nat_le, nat_lt, IsTrue, MatchBool, List, length, get_or, set, refl, sym, ap, subst, ◌∙◌, arith, length-set, w64}
+use Rattle.std.proofs.Common.{◌≡◌, ◌≢◌, ℕ, zero, suc, ◌+◌, ◌-◌, ◌*◌, ◌/◌, ◌%◌, ◌^◌, ◌≤◌, ◌<◌, Bool, true, false, not, ◌&&◌, ◌||◌, ◌==◌, nat_le, nat_lt, if◌then◌else◌, IsTrue, MatchBool, List, length, get_or, set, refl, sym, ap, subst, ◌∙◌, arith, length-set, w64}
 use Rattle.std.proofs.lemmas.List.{get_or-set_same, get_or-set_other, get_or_past}
 use Rattle.std.proofs.lemmas.Grind.{same_number_lists}
 use Rattle.std.proofs.lemmas.Bool.Decides.{nat_tests}
 use Rattle.std.specs.Int.{trailing_zeros}
 use Rattle.matcher.specs.declared.words.TheConstants.{WORDS}
-use Rattle.matcher.specs.Private.Bounds.{IsBounded}
+use Rattle.matcher.specs.Private.Bounds.{room_of, IsBounded}
 use Rattle.ere.specs.Bits.{has_bit}
 use Rattle.matcher.specs.PositionSets.{has_position}
 use Rattle.matcher.specs.Private.Moves.{more_unless, absent_below, absent, HasNone, IsEither, IsNew}
 use Rattle.matcher.proofs.Bits.{false≢true, some_bit, position_in, same_word, empty_word, none_held, position_set_same, position_set_other}
 use Rattle.matcher.proofs.Shifting.{none_before, none_after}
 
+-- positions that there is room for
+pub in_room : (position size : ℕ) → position < room_of size → (size ≤ WORDS) × (position < 64 * size)
+in_room position size held = go (nat_le size WORDS) refl held
+  where
+    go : (t : Bool) → nat_le size WORDS ≡ t → position < (if t then 64 * size else 0) → (size ≤ WORDS) × (position < 64 * size)
+    go true e inside = (grind (arith, nat_tests), inside)
+    go false e inside = absurd (omega arith)
+
 -- a set that is found to be empty, or not
-pub none_in_bounds : {words : List ℕ} {first end : ℕ} → IsBounded words first end → (at : ℕ) → end ≤ at → ((i : ℕ) → i < at → get_or words i 0 ≡ 0) → HasNone words
-none_in_bounds {words} bounds at far none = none_held words each
+pub none_in_bounds : {size : ℕ} {words : List ℕ} {first end : ℕ} → IsBounded size words first end → (at : ℕ) → end ≤ at → ((i : ℕ) → i < at → get_or words i 0 ≡ 0) → HasNone words
+none_in_bounds {size} {words} bounds at far none = none_held words each
   where
     each : (i : ℕ) → get_or words i 0 ≡ 0
     each i = go (nat_lt i at) refl
@@ -29,8 +37,8 @@ some_position words i some small =
     (i * 64 + trailing_zeros w64 (get_or words i 0), position_in words i (trailing_zeros w64 (get_or words i 0)) bit.0 ∙ bit.1)
 
 -- without the empty words before the first position
-pub trimmed : (words : List ℕ) (first end at : ℕ) → IsBounded words first end → (first ≤ at) × (at ≤ end) → ((i : ℕ) → first ≤ i → i < at → get_or words i 0 ≡ 0) → IsBounded words at end
-trimmed words first end at bounds between none = record { whole = bounds.whole; ordered = between.1; inside = bounds.inside; low = λ i l. low i l (nat_lt i first) refl; high = bounds.high }
+pub trimmed : {size : ℕ} (words : List ℕ) (first end at : ℕ) → IsBounded size words first end → (first ≤ at) × (at ≤ end) → ((i : ℕ) → first ≤ i → i < at → get_or words i 0 ≡ 0) → IsBounded size words at end
+trimmed words first end at bounds between none = record { whole = bounds.whole; few = bounds.few; ordered = between.1; inside = bounds.inside; low = λ i l. low i l (nat_lt i first) refl; high = bounds.high }
   where
     low : (i : ℕ) → i < at → (t : Bool) → nat_lt i first ≡ t → get_or words i 0 ≡ 0
     low i l true e = bounds.low i (grind (arith, nat_tests))
@@ -43,7 +51,7 @@ none_since words first at none here i low inside = go (i == at) refl
     go true e = let same : i ≡ at = grind (arith, nat_tests) in rw same here
     go false e = let apart : i ≢ at = grind (arith, nat_tests) in none i low (omega arith)
 
-pub none_yet : (words : List ℕ) (first end : ℕ) → IsBounded words first end → (i : ℕ) → i < first → get_or words i 0 ≡ 0
+pub none_yet : {size : ℕ} (words : List ℕ) (first end : ℕ) → IsBounded size words first end → (i : ℕ) → i < first → get_or words i 0 ≡ 0
 none_yet words first end bounds = bounds.low
 
 pub none_still : (words : List ℕ) (at : ℕ) → ((i : ℕ) → i < at → get_or words i 0 ≡ 0) → get_or words at 0 ≡ 0 → (i : ℕ) → i < at + 1 → get_or words i 0 ≡ 0
@@ -54,22 +62,20 @@ none_still words at none here i inside = go (i == at) refl
     go false e = let apart : i ≢ at = grind (arith, nat_tests) in none i (omega arith)
 
 -- words of which none has a position
-pub empty_words : (words : List ℕ) → length words ≡ WORDS → ((i : ℕ) → i < WORDS → get_or words i 0 ≡ 0) → (i : ℕ) → get_or words i 0 ≡ 0
-empty_words words whole none i = go (nat_lt i WORDS) refl
+pub empty_words : {size : ℕ} (words : List ℕ) → length words ≡ size → ((i : ℕ) → i < size → get_or words i 0 ≡ 0) → (i : ℕ) → get_or words i 0 ≡ 0
+empty_words {size} words whole none i = go (nat_lt i size) refl
   where
-    go : (t : Bool) → nat_lt i WORDS ≡ t → get_or words i 0 ≡ 0
+    go : (t : Bool) → nat_lt i size ≡ t → get_or words i 0 ≡ 0
     go true e = none i (grind (arith, nat_tests))
-    go false e = let past : WORDS ≤ i = grind (arith, nat_tests) in get_or_past words i 0 (omega (arith, whole))
+    go false e = let past : size ≤ i = grind (arith, nat_tests) in get_or_past words i 0 (omega (arith, whole))
 
-pub empty_bounded : (words : List ℕ) → length words ≡ WORDS → ((i : ℕ) → get_or words i 0 ≡ 0) → IsBounded words 0 0
-empty_bounded words whole none = record { whole = whole; ordered = omega arith; inside = omega arith; low = λ i l. none i; high = λ i l. none i }
+pub empty_bounded : {size : ℕ} (words : List ℕ) → size ≤ WORDS → length words ≡ size → ((i : ℕ) → get_or words i 0 ≡ 0) → IsBounded size words 0 0
+empty_bounded words few whole none = record { whole = whole; few = few; ordered = omega arith; inside = omega arith; low = λ i l. none i; high = λ i l. none i }
 
-pub whole_bounded : (words : List ℕ) → length words ≡ WORDS → IsBounded words 0 WORDS
-whole_bounded words whole = record { whole = whole; ordered = omega arith; inside = omega arith; low = λ i l. absurd (omega arith); high = λ i l. get_or_past words i 0 (omega (arith, whole)) }
-
-pub cleared_more : (words : List ℕ) (at end : ℕ) → IsBounded words at end → at < end → IsBounded (set words at 0) (at + 1) end
+pub cleared_more : {size : ℕ} (words : List ℕ) (at end : ℕ) → IsBounded size words at end → at < end → IsBounded size (set words at 0) (at + 1) end
 cleared_more words at end bounds inside = record {
   whole = length-set words at 0 ∙ bounds.whole;
+  few = bounds.few;
   ordered = omega arith;
   inside = bounds.inside;
   low = λ i l. low i l (i == at) refl;
@@ -80,7 +86,7 @@ cleared_more words at end bounds inside = record {
     low i l true e = let same : i ≡ at = grind (arith, nat_tests) in rw same (get_or-set_same words at 0 0 (omega (arith, bounds.whole, bounds.inside)))
     low i l false e = let apart : i ≢ at = grind (arith, nat_tests) in get_or-set_other words at i 0 0 apart ∙ bounds.low i (omega arith)
 
-pub cleared_all : (words : List ℕ) (at end : ℕ) → IsBounded words at end → end ≤ at → (i : ℕ) → get_or words i 0 ≡ 0
+pub cleared_all : {size : ℕ} (words : List ℕ) (at end : ℕ) → IsBounded size words at end → end ≤ at → (i : ℕ) → get_or words i 0 ≡ 0
 cleared_all words at end bounds past i = go (nat_lt i at) refl
   where
     go : (t : Bool) → nat_lt i at ≡ t → get_or words i 0 ≡ 0
@@ -88,15 +94,15 @@ cleared_all words at end bounds past i = go (nat_lt i at) refl
     go false e = let far : at ≤ i = grind (arith, nat_tests) in bounds.high i (omega arith)
 
 -- the words of the positions up to one
-pub record IsFilled (words : List ℕ) (at : ℕ) : Type 0 where
-  pub whole : length words ≡ WORDS
+pub record IsFilled (size : ℕ) (words : List ℕ) (at : ℕ) : Type 0 where
+  pub whole : length words ≡ size
   pub below : (k : ℕ) → k < at * 64 → has_position words k ≡ true
   pub above : (i : ℕ) → at ≤ i → get_or words i 0 ≡ 0
 
-pub filled_first : (words : List ℕ) → length words ≡ WORDS → ((i : ℕ) → get_or words i 0 ≡ 0) → IsFilled words 0
+pub filled_first : {size : ℕ} (words : List ℕ) → length words ≡ size → ((i : ℕ) → get_or words i 0 ≡ 0) → IsFilled size words 0
 filled_first words whole none = record { whole = whole; below = λ k l. absurd (omega arith); above = λ i l. none i }
 
-pub filled_more : (words : List ℕ) (at word : ℕ) → IsFilled words at → at < WORDS → ((b : ℕ) → has_bit word b ≡ nat_le b 63) → IsFilled (set words at word) (at + 1)
+pub filled_more : {size : ℕ} (words : List ℕ) (at word : ℕ) → IsFilled size words at → at < size → ((b : ℕ) → has_bit word b ≡ nat_le b 63) → IsFilled size (set words at word) (at + 1)
 filled_more words at word h inside full = record {
   whole = length-set words at word ∙ h.whole;
   below = λ k l. below k l (nat_lt k (at * 64)) refl;
@@ -114,7 +120,7 @@ filled_more words at word h inside full = record {
         let test : nat_le (k - at * 64) 63 ≡ true = grind (arith, nat_tests) in
         subst (λ n. has_position (set words at word) n ≡ true) place (position_set_same words at word (k - at * 64) (omega (arith, h.whole)) bit ∙ full (k - at * 64) ∙ test)
 
-pub filled_all : (words : List ℕ) (last at word : ℕ) → IsFilled words at → at ≡ last / 64 → at < WORDS → ((b : ℕ) → has_bit word b ≡ nat_le b (last % 64)) → (k : ℕ) → has_position (set words at word) k ≡ nat_le k last
+pub filled_all : {size : ℕ} (words : List ℕ) (last at word : ℕ) → IsFilled size words at → at ≡ last / 64 → at < size → ((b : ℕ) → has_bit word b ≡ nat_le b (last % 64)) → (k : ℕ) → has_position (set words at word) k ≡ nat_le k last
 filled_all words last at word h e inside full k = go (nat_lt k (at * 64)) (nat_lt k (at * 64 + 64)) refl refl
   where
     same_test : (b m n : ℕ) → at * 64 + b ≡ m → at * 64 + last % 64 ≡ n → nat_le b (last % 64) ≡ nat_le m n
@@ -141,9 +147,10 @@ filled_all words last at word h e inside full k = go (nat_lt k (at * 64)) (nat_l
         let test : nat_le k last ≡ false = let gt : last < k = omega arith in grind (arith, nat_tests) in
         position_set_other words at word k (omega arith) ∙ empty_word words k (h.above (k / 64) (omega arith)) ∙ sym test
 
-pub filled_bounded : (words : List ℕ) (at word : ℕ) → IsFilled words at → at < WORDS → IsBounded (set words at word) 0 (at + 1)
-filled_bounded words at word h inside = record {
+pub filled_bounded : {size : ℕ} (words : List ℕ) (at word : ℕ) → size ≤ WORDS → IsFilled size words at → at < size → IsBounded size (set words at word) 0 (at + 1)
+filled_bounded words at word few h inside = record {
   whole = length-set words at word ∙ h.whole;
+  few = few;
   ordered = omega arith;
   inside = omega arith;
   low = λ i l. absurd (omega arith);
@@ -186,9 +193,10 @@ kept words old position word none inside only k = go (k / 64 == position / 64) r
         let test : k == position ≡ false = let apart_all : k ≢ position = λ same. apart (ap (λ n. n / 64) same) in grind (arith, nat_tests) in
         position_set_other words (position / 64) word k apart ∙ empty_word words k (none (k / 64)) ∙ sym (other test)
 
-pub kept_bounded : (words : List ℕ) (at word : ℕ) → ((i : ℕ) → get_or words i 0 ≡ 0) → length words ≡ WORDS → at < WORDS → IsBounded (set words at word) at (at + 1)
-kept_bounded words at word none whole inside = record {
+pub kept_bounded : {size : ℕ} (words : List ℕ) (at word : ℕ) → size ≤ WORDS → ((i : ℕ) → get_or words i 0 ≡ 0) → length words ≡ size → at < size → IsBounded size (set words at word) at (at + 1)
+kept_bounded words at word few none whole inside = record {
   whole = length-set words at word ∙ whole;
+  few = few;
   ordered = omega arith;
   inside = omega arith;
   low = λ i l. get_or-set_other words at i word 0 (omega arith) ∙ none i;
@@ -196,15 +204,15 @@ kept_bounded words at word none whole inside = record {
 }
 
 -- The words are copied up to one.
-pub record IsCopied (words other : List ℕ) (at : ℕ) : Type 0 where
-  pub whole : length words ≡ WORDS
+pub record IsCopied (size : ℕ) (words other : List ℕ) (at : ℕ) : Type 0 where
+  pub whole : length words ≡ size
   pub below : (i : ℕ) → i < at → get_or words i 0 ≡ get_or other i 0
   pub above : (i : ℕ) → at ≤ i → get_or words i 0 ≡ 0
 
-pub copied_first : (words other : List ℕ) (first end : ℕ) → length words ≡ WORDS → ((i : ℕ) → get_or words i 0 ≡ 0) → IsBounded other first end → IsCopied words other first
+pub copied_first : {size : ℕ} (words other : List ℕ) (first end : ℕ) → length words ≡ size → ((i : ℕ) → get_or words i 0 ≡ 0) → IsBounded size other first end → IsCopied size words other first
 copied_first words other first end whole none bounds = record { whole = whole; below = λ i l. none i ∙ sym (bounds.low i l); above = λ i l. none i }
 
-pub copied_more : (words other : List ℕ) (at : ℕ) → IsCopied words other at → at < WORDS → IsCopied (set words at (get_or other at 0)) other (at + 1)
+pub copied_more : {size : ℕ} (words other : List ℕ) (at : ℕ) → IsCopied size words other at → at < size → IsCopied size (set words at (get_or other at 0)) other (at + 1)
 copied_more words other at h inside = record {
   whole = length-set words at (get_or other at 0) ∙ h.whole;
   below = λ i l. below i l (i == at) refl;
@@ -215,7 +223,7 @@ copied_more words other at h inside = record {
     below i l true e = let same : i ≡ at = grind (arith, nat_tests) in rw same (get_or-set_same words at (get_or other at 0) 0 (omega (arith, h.whole)))
     below i l false e = let apart : i ≢ at = grind (arith, nat_tests) in get_or-set_other words at i (get_or other at 0) 0 apart ∙ h.below i (omega arith)
 
-pub copied_all : (words other : List ℕ) (at first end : ℕ) → IsCopied words other at → IsBounded other first end → end ≤ at → words ≡ other
+pub copied_all : {size : ℕ} (words other : List ℕ) (at first end : ℕ) → IsCopied size words other at → IsBounded size other first end → end ≤ at → words ≡ other
 copied_all words other at first end h bounds far = same_number_lists words other (h.whole ∙ sym bounds.whole) each
   where
     each : (i : ℕ) → i < length words → get_or words i 0 ≡ get_or other i 0
@@ -226,9 +234,9 @@ copied_all words other at first end h bounds far = same_number_lists words other
         go false e = let past : at ≤ i = grind (arith, nat_tests) in h.above i past ∙ sym (bounds.high i (omega arith))
 
 -- The words of the fresh positions are added up to one.
-pub record IsAddedTo (old_found old_fresh found fresh : List ℕ) (first at : ℕ) : Type 0 where
-  pub found_whole : length found ≡ WORDS
-  pub fresh_whole : length fresh ≡ WORDS
+pub record IsAddedTo (size : ℕ) (old_found old_fresh found fresh : List ℕ) (first at : ℕ) : Type 0 where
+  pub found_whole : length found ≡ size
+  pub fresh_whole : length fresh ≡ size
   pub found_low : (i : ℕ) → i < first → get_or found i 0 ≡ get_or old_found i 0
   pub fresh_low : (i : ℕ) → i < first → get_or fresh i 0 ≡ get_or old_fresh i 0
   pub found_below : (k : ℕ) → k < at * 64 → has_position found k ≡ (has_position old_found k || has_position old_fresh k)
@@ -240,7 +248,7 @@ or_false : (b : Bool) → b ≡ (b || false)
 or_false true = refl
 or_false false = refl
 
-pub added_first : (found fresh : List ℕ) (first end : ℕ) → length found ≡ WORDS → IsBounded fresh first end → IsAddedTo found fresh found fresh first first
+pub added_first : {size : ℕ} (found fresh : List ℕ) (first end : ℕ) → length found ≡ size → IsBounded size fresh first end → IsAddedTo size found fresh found fresh first first
 added_first found fresh first end whole bounds = record {
   found_whole = whole;
   fresh_whole = bounds.whole;
@@ -252,10 +260,10 @@ added_first found fresh first end whole bounds = record {
   fresh_above = λ i l. refl;
 }
 
-pub added_more : (old_found old_fresh found fresh : List ℕ) (first at rest both : ℕ) → IsAddedTo old_found old_fresh found fresh first at → first ≤ at → at < WORDS
+pub added_more : {size : ℕ} (old_found old_fresh found fresh : List ℕ) (first at rest both : ℕ) → IsAddedTo size old_found old_fresh found fresh first at → first ≤ at → at < size
     → ((b : ℕ) → b < 64 → has_bit rest b ≡ (has_bit (get_or fresh at 0) b && not (has_bit (get_or found at 0) b)))
     → ((b : ℕ) → has_bit both b ≡ (has_bit (get_or found at 0) b || has_bit (get_or fresh at 0) b))
-    → IsAddedTo old_found old_fresh (set found at both) (set fresh at rest) first (at + 1)
+    → IsAddedTo size old_found old_fresh (set found at both) (set fresh at rest) first (at + 1)
 added_more old_found old_fresh found fresh first at rest both h begun inside news joins = record {
   found_whole = length-set found at both ∙ h.found_whole;
   fresh_whole = length-set fresh at rest ∙ h.fresh_whole;
@@ -293,7 +301,7 @@ added_more old_found old_fresh found fresh first at rest both h begun inside new
         let bit : k - at * 64 < 64 = omega arith in
         subst (λ n. has_position (set fresh at rest) n ≡ (has_position old_fresh n && not (has_position old_found n))) place (position_set_same fresh at rest (k - at * 64) (omega (arith, h.fresh_whole)) bit ∙ news (k - at * 64) bit ∙ rw (old_found_bit (k - at * 64) bit, old_fresh_bit (k - at * 64) bit) refl)
 
-module _ (old_found old_fresh found fresh : List ℕ) (first at end : ℕ) (h : IsAddedTo old_found old_fresh found fresh first at) (bounds : IsBounded old_fresh first end) (limit : at ≡ end) where
+module _ {size : ℕ} (old_found old_fresh found fresh : List ℕ) (first at end : ℕ) (h : IsAddedTo size old_found old_fresh found fresh first at) (bounds : IsBounded size old_fresh first end) (limit : at ≡ end) where
   pub added_found : IsEither old_found old_fresh found
   added_found = record { each = λ k. go k (nat_lt k (at * 64)) refl }
     where
@@ -314,9 +322,10 @@ module _ (old_found old_fresh found fresh : List ℕ) (first at end : ℕ) (h : 
           let none : has_position old_fresh k ≡ false = none_after bounds k (omega arith) in
           same_word fresh old_fresh k (h.fresh_above (k / 64) (omega arith)) ∙ none ∙ sym (rw none refl)
 
-  pub fresh_bounded : IsBounded fresh first end
+  pub fresh_bounded : IsBounded size fresh first end
   fresh_bounded = record {
     whole = h.fresh_whole;
+    few = bounds.few;
     ordered = bounds.ordered;
     inside = bounds.inside;
     low = λ i l. h.fresh_low i l ∙ bounds.low i l;
@@ -324,9 +333,10 @@ module _ (old_found old_fresh found fresh : List ℕ) (first at end : ℕ) (h : 
   }
 
   -- the joined set lies within the bounds of both
-  pub found_bounded : (old_first old_end low high : ℕ) → IsBounded old_found old_first old_end → low ≤ high → high ≤ WORDS → (first < end → (low ≤ first) × (end ≤ high)) → (old_first < old_end → (low ≤ old_first) × (old_end ≤ high)) → IsBounded found low high
+  pub found_bounded : (old_first old_end low high : ℕ) → IsBounded size old_found old_first old_end → low ≤ high → high ≤ size → (first < end → (low ≤ first) × (end ≤ high)) → (old_first < old_end → (low ≤ old_first) × (old_end ≤ high)) → IsBounded size found low high
   found_bounded old_first old_end low high old ordered inside holds holds_old = record {
     whole = h.found_whole;
+    few = bounds.few;
     ordered = ordered;
     inside = inside;
     low = λ i l. outside i (λ within some. let both = holds some in omega (arith, both.0, within.0)) (λ within some. let both = holds_old some in omega (arith, both.0, within.0));

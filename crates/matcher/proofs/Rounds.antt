@@ -2,7 +2,6 @@
 use Rattle.std.proofs.Common.{◌≡◌, ℕ, zero, suc, ◌+◌, ◌-◌, ◌≤◌, ◌<◌, Bool, true, false, not, ◌&&◌, IsTrue, List, length, get_or, drop, map, Option, Some, None, ◌⊎◌, inl, inr, refl, sym, subst, ◌∙◌, arith}
 use Rattle.ere.specs.declared.tree.Ere.{Ere}
 use Rattle.ere.specs.Tree.{form, trees_of, Tree, empty, cat, alt, repeat, Trees, more}
-use Rattle.matcher.specs.declared.positions.Positions.{Positions}
 use Rattle.matcher.specs.Spans.{Relation, Steps, Spans, SpansEach, SpansSome}
 use Rattle.matcher.specs.PositionSets.{has_position}
 use Rattle.matcher.specs.Private.Moves.{HasNone, IsEither, IsNew, Moves, MovesIf, MovesPast}
@@ -14,29 +13,29 @@ abbrev pub MoreSteps : Relation → Relation
 MoreSteps relation from to = (more : ℕ) × Steps relation (suc more) from to
 
 -- to which positions that are done lead
-abbrev Covered : Relation → Positions → ℕ → Type 0
+abbrev Covered : Relation → List ℕ → ℕ → Type 0
 Covered relation done to = (before : ℕ) × IsTrue (has_position done before) × relation before to
 
-pub past_of_moves : (relation : Relation) (done from to : Positions) → Moves relation from to → MovesPast relation done from to
+pub past_of_moves : (relation : Relation) (done from to : List ℕ) → Moves relation from to → MovesPast relation done from to
 past_of_moves relation done from to h = record { sound = h.sound; complete = λ i k held r. inl (h.complete i k held r) }
 
-pub moves_of_past : (relation : Relation) (done from to : Positions) → HasNone done → MovesPast relation done from to → Moves relation from to
+pub moves_of_past : (relation : Relation) (done from to : List ℕ) → HasNone done → MovesPast relation done from to → Moves relation from to
 moves_of_past relation done from to none_done h = record { sound = h.sound; complete = λ i k held r. found k (h.complete i k held r) }
   where
     found : (k : ℕ) → IsTrue (has_position to k) ⊎ Covered relation done k → IsTrue (has_position to k)
     found k (inl x) = x
     found k (inr w) = absurd (not_held none_done w.0 w.1)
 
-pub past_cat : (line : List ℕ) (members : Trees) (done from to : Positions) → MovesPast (SpansEach line members) done from to → MovesPast (Spans line (cat members)) done from to
+pub past_cat : (line : List ℕ) (members : Trees) (done from to : List ℕ) → MovesPast (SpansEach line members) done from to → MovesPast (Spans line (cat members)) done from to
 unfolding Spans
 past_cat line members done from to h = record { sound = h.sound; complete = h.complete }
 
-pub past_alt : (line : List ℕ) (members : Trees) (done from to : Positions) → MovesPast (SpansSome line members) done from to → MovesPast (Spans line (alt members)) done from to
+pub past_alt : (line : List ℕ) (members : Trees) (done from to : List ℕ) → MovesPast (SpansSome line members) done from to → MovesPast (Spans line (alt members)) done from to
 unfolding Spans
 past_alt line members done from to h = record { sound = h.sound; complete = h.complete }
 
 -- any number of words, and one or more
-pub past_star : (line : List ℕ) (body : Tree) (done from to : Positions) → MovesPast (AnySteps (Spans line body)) done from to → MovesPast (Spans line (repeat body 0 None)) done from to
+pub past_star : (line : List ℕ) (body : Tree) (done from to : List ℕ) → MovesPast (AnySteps (Spans line body)) done from to → MovesPast (Spans line (repeat body 0 None)) done from to
 unfolding Spans
 past_star line body done from to h = record {
   sound = λ k held. let w = h.sound k held in (w.0, w.1, (w.2.0, omega arith, tt, w.2.1));
@@ -47,7 +46,7 @@ past_star line body done from to h = record {
     covered k (inl x) = inl x
     covered k (inr w) = inr (w.0, w.1, (w.2.0, omega arith, tt, w.2.1))
 
-pub past_plus : (line : List ℕ) (body : Tree) (done from to : Positions) → MovesPast (MoreSteps (Spans line body)) done from to → MovesPast (Spans line (repeat body 1 None)) done from to
+pub past_plus : (line : List ℕ) (body : Tree) (done from to : List ℕ) → MovesPast (MoreSteps (Spans line body)) done from to → MovesPast (Spans line (repeat body 1 None)) done from to
 unfolding Spans
 past_plus line body done from to h = record {
   sound = λ k held. let w = h.sound k held in (w.0, w.1, (suc w.2.0, omega arith, tt, w.2.1));
@@ -63,7 +62,7 @@ past_plus line body done from to h = record {
     covered k (inr w) = inr (w.0, w.1, (suc w.2.0, omega arith, tt, w.2.1))
 
 -- a count that is one less, and then one word or more
-pub moves_some_more_words : (line : List ℕ) (body : Tree) (least before : ℕ) (from middle to : Positions) → least ≡ suc before → Moves (Steps (Spans line body) before) from middle → Moves (MoreSteps (Spans line body)) middle to → Moves (Spans line (repeat body least None)) from to
+pub moves_some_more_words : (line : List ℕ) (body : Tree) (least before : ℕ) (from middle to : List ℕ) → least ≡ suc before → Moves (Steps (Spans line body) before) from middle → Moves (MoreSteps (Spans line body)) middle to → Moves (Spans line (repeat body least None)) from to
 unfolding Spans
 moves_some_more_words line body least before from middle to e one two =
     let both = moves_then (Steps (Spans line body) before) (MoreSteps (Spans line body)) from middle to one two in
@@ -79,7 +78,7 @@ moves_some_more_words line body least before from middle to e one two =
     }
 
 -- where the start is added to what one word or more lead to
-pub past_any : (relation : Relation) (done from moved to : Positions) → MovesPast (MoreSteps relation) done from moved → IsEither moved from to → MovesPast (AnySteps relation) done from to
+pub past_any : (relation : Relation) (done from moved to : List ℕ) → MovesPast (MoreSteps relation) done from moved → IsEither moved from to → MovesPast (AnySteps relation) done from to
 unfolding Steps
 past_any relation done from moved to h either = record {
   sound = λ k held. sound k (in_either either k held);
@@ -98,7 +97,7 @@ past_any relation done from moved to h either = record {
     complete i k held zero r = inl (in_right either k (subst (λ n. IsTrue (has_position from n)) r held))
     complete i k held (suc count) r = covered k (h.complete i k held (count, r))
 
-pub past_optional : (line : List ℕ) (body : Tree) (done from moved to : Positions) → MovesPast (Spans line body) done from moved → IsEither moved from to → MovesPast (Spans line (repeat body 0 (Some 1))) done from to
+pub past_optional : (line : List ℕ) (body : Tree) (done from moved to : List ℕ) → MovesPast (Spans line body) done from moved → IsEither moved from to → MovesPast (Spans line (repeat body 0 (Some 1))) done from to
 unfolding Spans Steps
 past_optional line body done from moved to h either = record {
   sound = λ k held. sound k (in_either either k held);
@@ -119,7 +118,7 @@ past_optional line body done from moved to h either = record {
     complete i k held (suc (suc count)) most r = absurd (omega arith)
 
 -- one step of a set, and then any number
-pub moves_more : (relation : Relation) (from middle to : Positions) → Moves relation from middle → Moves (AnySteps relation) middle to → Moves (MoreSteps relation) from to
+pub moves_more : (relation : Relation) (from middle to : List ℕ) → Moves relation from middle → Moves (AnySteps relation) middle to → Moves (MoreSteps relation) from to
 unfolding Steps
 moves_more relation from middle to one two = record {
   sound = λ k held.
@@ -136,7 +135,7 @@ moves_more relation from middle to one two = record {
 }
 
 -- Members one behind the other: the next stands at the front too, where this one can be empty.
-pub past_each_more : (line : List ℕ) (tree : Tree) (trees : Trees) (done from middle to : Positions) (leads next : Bool) → MovesIf leads (Spans line tree) done from middle → (IsTrue next → IsTrue leads × ((place : ℕ) → Spans line tree place place)) → MovesIf next (SpansEach line trees) done middle to → MovesIf leads (SpansEach line (more tree trees)) done from to
+pub past_each_more : (line : List ℕ) (tree : Tree) (trees : Trees) (done from middle to : List ℕ) (leads next : Bool) → MovesIf leads (Spans line tree) done from middle → (IsTrue next → IsTrue leads × ((place : ℕ) → Spans line tree place place)) → MovesIf next (SpansEach line trees) done middle to → MovesIf leads (SpansEach line (more tree trees)) done from to
 unfolding SpansEach
 past_each_more line tree trees done from middle to false true one can two = absurd (false≢true (can refl).0)
 past_each_more line tree trees done from middle to false false one can two = moves_each_more line tree trees from middle to one two
@@ -161,20 +160,20 @@ past_each_more line tree trees done from middle to true next one can two = recor
         go (inl x) = after next two (λ t. (can t).1) r.0 k x r.2
         go (inr w) = inr (w.0, w.1, (r.0, w.2, r.2))
 
-pub past_members : (line : List ℕ) (members : List Ere) (i : ℕ) (member : Ere) (done from middle to : Positions) (leads next : Bool) → i < length members → member ≡ get_or members i member → MovesIf leads (Spans line (form member)) done from middle → (IsTrue next → IsTrue leads × ((place : ℕ) → Spans line (form member) place place)) → MovesIf next (SpansEach line (trees_of (map form (drop (i + 1) members)))) done middle to → MovesIf leads (SpansEach line (trees_of (map form (drop i members)))) done from to
+pub past_members : (line : List ℕ) (members : List Ere) (i : ℕ) (member : Ere) (done from middle to : List ℕ) (leads next : Bool) → i < length members → member ≡ get_or members i member → MovesIf leads (Spans line (form member)) done from middle → (IsTrue next → IsTrue leads × ((place : ℕ) → Spans line (form member) place place)) → MovesIf next (SpansEach line (trees_of (map form (drop (i + 1) members)))) done middle to → MovesIf leads (SpansEach line (trees_of (map form (drop i members)))) done from to
 past_members line members i member done from middle to leads next inside e one can rest =
     subst (λ trees. MovesIf leads (SpansEach line trees) done from to) (sym (trees_from members i member inside e)) (past_each_more line (form member) (trees_of (map form (drop (i + 1) members))) done from middle to leads next one can rest)
 
-pub past_nothing : (leads : Bool) (relation : Relation) (done at : Positions) → HasNone at → MovesIf leads relation done at at
+pub past_nothing : (leads : Bool) (relation : Relation) (done at : List ℕ) → HasNone at → MovesIf leads relation done at at
 past_nothing true relation done at h = past_of_moves relation done at at (moves_none relation at at h h)
 past_nothing false relation done at h = moves_none relation at at h h
 
-pub past_if : (leads : Bool) (relation : Relation) (done from to : Positions) → Moves relation from to → MovesIf leads relation done from to
+pub past_if : (leads : Bool) (relation : Relation) (done from to : List ℕ) → Moves relation from to → MovesIf leads relation done from to
 past_if true relation done from to h = past_of_moves relation done from to h
 past_if false relation done from to h = h
 
 -- one member more of which a word may lead on
-pub past_some_more : (line : List ℕ) (tree : Tree) (trees : Trees) (done from one rest both : Positions) → MovesPast (Spans line tree) done from one → MovesPast (SpansSome line trees) done from rest → IsEither rest one both → MovesPast (SpansSome line (more tree trees)) done from both
+pub past_some_more : (line : List ℕ) (tree : Tree) (trees : Trees) (done from one rest both : List ℕ) → MovesPast (Spans line tree) done from one → MovesPast (SpansSome line trees) done from rest → IsEither rest one both → MovesPast (SpansSome line (more tree trees)) done from both
 unfolding SpansSome
 past_some_more line tree trees done from one rest both first others either = record {
   sound = λ k h. sound k (in_either either k h);
@@ -197,12 +196,12 @@ past_some_more line tree trees done from one rest both first others either = rec
     complete i k h (inl r) = by_first k (first.complete i k h r)
     complete i k h (inr r) = by_others k (others.complete i k h r)
 
-pub past_by_member : (line : List ℕ) (members : List Ere) (i : ℕ) (member : Ere) (done from one rest both : Positions) → i < length members → member ≡ get_or members i member → MovesPast (Spans line (form member)) done from one → MovesPast (SpansSome line (trees_of (map form (drop (i + 1) members)))) done from rest → IsEither rest one both → MovesPast (SpansSome line (trees_of (map form (drop i members)))) done from both
+pub past_by_member : (line : List ℕ) (members : List Ere) (i : ℕ) (member : Ere) (done from one rest both : List ℕ) → i < length members → member ≡ get_or members i member → MovesPast (Spans line (form member)) done from one → MovesPast (SpansSome line (trees_of (map form (drop (i + 1) members)))) done from rest → IsEither rest one both → MovesPast (SpansSome line (trees_of (map form (drop i members)))) done from both
 past_by_member line members i member done from one rest both inside e first others either =
     subst (λ trees. MovesPast (SpansSome line trees) done from both) (sym (trees_from members i member inside e)) (past_some_more line (form member) (trees_of (map form (drop (i + 1) members))) done from one rest both first others either)
 
 -- What rounds have found. From each position that is known all is found or covered, but from the fresh ones; from those that are over, all.
-pub record IsRounded (relation : Relation) (done start found over known fresh : Positions) : Type 0 where
+pub record IsRounded (relation : Relation) (done start found over known fresh : List ℕ) : Type 0 where
   pub sound : (k : ℕ) → IsTrue (has_position found k) → (i : ℕ) × IsTrue (has_position start i) × MoreSteps relation i k
   pub begun : (k : ℕ) → IsTrue (has_position fresh k) → IsTrue (has_position start k) ⊎ IsTrue (has_position found k)
   pub knows_start : (k : ℕ) → IsTrue (has_position start k) → IsTrue (has_position known k)
@@ -210,7 +209,7 @@ pub record IsRounded (relation : Relation) (done start found over known fresh : 
   pub closed : (k to : ℕ) → IsTrue (has_position known k) → relation k to → IsTrue (has_position fresh k) ⊎ (IsTrue (has_position found to) ⊎ Covered (MoreSteps relation) done to)
   pub over_closed : (k to : ℕ) → IsTrue (has_position over k) → relation k to → IsTrue (has_position found to) ⊎ Covered (MoreSteps relation) done to
 
-pub rounded_first : (relation : Relation) (done start found known fresh : Positions) → HasNone found → IsEither done start known → IsNew start done fresh → IsRounded relation done start found done known fresh
+pub rounded_first : (relation : Relation) (done start found known fresh : List ℕ) → HasNone found → IsEither done start known → IsNew start done fresh → IsRounded relation done start found done known fresh
 unfolding Steps
 rounded_first relation done start found known fresh none_found either new = record {
   sound = λ k held. absurd (not_held none_found k held);
@@ -233,7 +232,7 @@ rounded_first relation done start found known fresh none_found either new = reco
     closed k to (inr absent) (inl held) r = absurd (false≢true (sym absent ∙ held))
     closed k to (inr absent) (inr held) r = inl (new.each k ∙ rw (held, absent) refl)
 
-pub rounded_more : (relation : Relation) (done start found over known fresh next found_next unfound known_next fresh_next : Positions) → IsRounded relation done start found over known fresh → MovesPast relation over fresh next → IsEither found next found_next → IsNew next found unfound → IsEither known unfound known_next → IsNew unfound known fresh_next → IsRounded relation done start found_next known known_next fresh_next
+pub rounded_more : (relation : Relation) (done start found over known fresh next found_next unfound known_next fresh_next : List ℕ) → IsRounded relation done start found over known fresh → MovesPast relation over fresh next → IsEither found next found_next → IsNew next found unfound → IsEither known unfound known_next → IsNew unfound known fresh_next → IsRounded relation done start found_next known known_next fresh_next
 unfolding Steps
 rounded_more relation done start found over known fresh next found_next unfound known_next fresh_next h moves either new either_known new_known = record {
   sound = λ k held. sound k (in_either either k held);
@@ -288,7 +287,7 @@ rounded_more relation done start found over known fresh next found_next unfound 
     closed k to (inr absent) (inr held) r = inl (new_known.each k ∙ rw (held, absent) refl)
 
 -- with nothing fresh, everything is found or covered
-pub rounded_all : (relation : Relation) (done start found over known fresh : Positions) → IsRounded relation done start found over known fresh → HasNone fresh → MovesPast (MoreSteps relation) done start found
+pub rounded_all : (relation : Relation) (done start found over known fresh : List ℕ) → IsRounded relation done start found over known fresh → HasNone fresh → MovesPast (MoreSteps relation) done start found
 unfolding Steps
 rounded_all relation done start found over known fresh h none_fresh = record {
   sound = h.sound;

@@ -5,7 +5,6 @@ use Rattle.std.proofs.lemmas.Bool.Decides.{nat_tests}
 use Rattle.std.proofs.lemmas.Nat.Bits.{bit_at_above}
 use Rattle.ere.specs.ByteSet.{has}
 use Rattle.ere.specs.Tree as tree
-use Rattle.matcher.specs.declared.words.TheConstants.{WORDS}
 use Rattle.matcher.specs.Private.Bounds.{IsBounded}
 use Rattle.matcher.specs.Private.Moving.{passes, arrives, comes, flood}
 use Rattle.matcher.specs.Spans.{Spans, Steps}
@@ -24,22 +23,22 @@ pub none_passes : (members : List Bool) (line : List ℕ) (k : ℕ) → length l
 none_passes members line k far = let test : nat_lt k (length line) ≡ false = grind (arith, nat_tests) in rw test refl
 
 -- words from the end on, and before the first, hold no position
-pub none_before : {words : List ℕ} {first end : ℕ} → IsBounded words first end → (k : ℕ) → k < first * 64 → has_position words k ≡ false
-none_before {words} bounds k low = empty_word words k (bounds.low (k / 64) (omega arith))
+pub none_before : {size : ℕ} {words : List ℕ} {first end : ℕ} → IsBounded size words first end → (k : ℕ) → k < first * 64 → has_position words k ≡ false
+none_before {size} {words} bounds k low = empty_word words k (bounds.low (k / 64) (omega arith))
 
-pub none_after : {words : List ℕ} {first end : ℕ} → IsBounded words first end → (k : ℕ) → end * 64 ≤ k → has_position words k ≡ false
-none_after {words} bounds k far = empty_word words k (bounds.high (k / 64) (omega arith))
+pub none_after : {size : ℕ} {words : List ℕ} {first end : ℕ} → IsBounded size words first end → (k : ℕ) → end * 64 ≤ k → has_position words k ≡ false
+none_after {size} {words} bounds k far = empty_word words k (bounds.high (k / 64) (omega arith))
 
 -- The step is made up to the word `i`.
-pub record IsShifted (members : List Bool) (line old new : List ℕ) (first i carried : ℕ) : Type 0 where
-  pub whole : length new ≡ WORDS
+pub record IsShifted (size : ℕ) (members : List Bool) (line old new : List ℕ) (first i carried : ℕ) : Type 0 where
+  pub whole : length new ≡ size
   pub low : (j : ℕ) → j < first → get_or new j 0 ≡ 0
   pub below : (k : ℕ) → k < i * 64 → has_position new k ≡ arrives members line old k
   pub above : (j : ℕ) → i ≤ j → get_or new j 0 ≡ get_or old j 0
   pub is_bit : carried < 2
   pub carry : has_bit carried 0 ≡ arrives members line old (i * 64)
 
-pub shifted_first : (members : List Bool) (line old : List ℕ) (first end : ℕ) → IsBounded old first end → IsShifted members line old old first first 0
+pub shifted_first : {size : ℕ} (members : List Bool) (line old : List ℕ) (first end : ℕ) → IsBounded size old first end → IsShifted size members line old old first first 0
 shifted_first members line old first end bounds = record {
   whole = bounds.whole;
   low = bounds.low;
@@ -53,11 +52,11 @@ shifted_first members line old first end bounds = record {
     none zero l = refl
     none (suc k) l = rw (none_before bounds k (omega arith)) refl
 
-pub shifted_more : (members : List Bool) (line old new : List ℕ) (first i carried passing moved next : ℕ) → IsShifted members line old new first i carried → first ≤ i → i < WORDS
+pub shifted_more : {size : ℕ} (members : List Bool) (line old new : List ℕ) (first i carried passing moved next : ℕ) → IsShifted size members line old new first i carried → first ≤ i → i < size
     → ((b : ℕ) → b < 64 → has_bit passing b ≡ (has_bit (get_or new i 0) b && passes members line (i * 64 + b)))
     → has_bit moved 0 ≡ has_bit carried 0 → ((b : ℕ) → b < 63 → has_bit moved (b + 1) ≡ has_bit passing b)
     → next < 2 → has_bit next 0 ≡ has_bit passing 63
-    → IsShifted members line old (set new i moved) first (i + 1) next
+    → IsShifted size members line old (set new i moved) first (i + 1) next
 shifted_more members line old new first i carried passing moved next h begun inside followed lowest others is_bit highest = record {
   whole = length-set new i moved ∙ h.whole;
   low = λ j l. get_or-set_other new i j moved 0 (omega arith) ∙ h.low j l;
@@ -94,7 +93,7 @@ shifted_more members line old new first i carried passing moved next h begun ins
         subst (λ n. has_position (set new i moved) n ≡ arrives members line old n) place (position_set_same new i moved (k - i * 64) within bit ∙ at (k - i * 64) bit)
 
 -- What is carried out of the last word lies in the next, or there is none.
-module _ (members : List Bool) (line old new : List ℕ) (first end carried : ℕ) (h : IsShifted members line old new first end carried) (bounds : IsBounded old first end) where
+module _ {size : ℕ} (members : List Bool) (line old new : List ℕ) (first end carried : ℕ) (h : IsShifted size members line old new first end carried) (bounds : IsBounded size old first end) where
   arrives_after : (k : ℕ) → end * 64 < k → arrives members line old k ≡ false
   arrives_after zero l = refl
   arrives_after (suc k) l = rw (none_after bounds k (omega arith)) refl
@@ -115,16 +114,17 @@ module _ (members : List Bool) (line old new : List ℕ) (first end carried : �
           none_after_new = same_word new old (end * 64) (h.above (end * 64 / 64) (omega arith)) ∙ none_after bounds (end * 64) (omega arith)
       go false false e f = past k (grind (arith, nat_tests))
 
-  pub shifted_end_bounded : IsBounded new first end
+  pub shifted_end_bounded : IsBounded size new first end
   shifted_end_bounded = record {
     whole = h.whole;
+    few = bounds.few;
     ordered = bounds.ordered;
     inside = bounds.inside;
     low = h.low;
     high = λ j l. h.above j l ∙ bounds.high j l;
   }
 
-  pub shifted_on : end < WORDS → (k : ℕ) → has_position (set new end carried) k ≡ arrives members line old k
+  pub shifted_on : end < size → (k : ℕ) → has_position (set new end carried) k ≡ arrives members line old k
   shifted_on inside k = go (nat_lt k (end * 64)) (nat_lt k (end * 64 + 64)) refl refl
     where
       none_above : (b : ℕ) → 0 < b → has_bit carried b ≡ false
@@ -147,9 +147,10 @@ module _ (members : List Bool) (line old new : List ℕ) (first end carried : �
           let high : end * 64 + 64 ≤ k = grind (arith, nat_tests) in
           position_set_other new end carried k (omega arith) ∙ past k (omega arith)
 
-  pub shifted_on_bounded : end < WORDS → IsBounded (set new end carried) first (end + carried)
+  pub shifted_on_bounded : end < size → IsBounded size (set new end carried) first (end + carried)
   shifted_on_bounded inside = record {
     whole = length-set new end carried ∙ h.whole;
+    few = bounds.few;
     ordered = omega (arith, bounds.ordered);
     inside = omega (arith, h.is_bit);
     low = λ j l. get_or-set_other new end j carried 0 (omega (arith, bounds.ordered)) ∙ h.low j l;
@@ -174,8 +175,8 @@ none_carried members line old end short = go (end * 64) refl
     go (suc k) e = and_false (has_position old k) (passes members line k) (none_passes members line k (omega arith))
 
 -- The sweep is made up to the word `i`.
-pub record IsSwept (members : List Bool) (line old new : List ℕ) (first i carried : ℕ) : Type 0 where
-  pub whole : length new ≡ WORDS
+pub record IsSwept (size : ℕ) (members : List Bool) (line old new : List ℕ) (first i carried : ℕ) : Type 0 where
+  pub whole : length new ≡ size
   pub low : (j : ℕ) → j < first → get_or new j 0 ≡ 0
   pub below : (k : ℕ) → k < i * 64 → has_position new k ≡ flood (has_position old) (passes members line) k
   pub above : (j : ℕ) → i ≤ j → get_or new j 0 ≡ get_or old j 0
@@ -196,7 +197,7 @@ comes_none held pass start (suc k) none empty far =
         let same : start ≡ suc k = let past : k < start = grind (arith, nat_tests) in omega arith in
         subst (λ n. comes held pass n ≡ false) same none
 
-pub swept_first : (members : List Bool) (line old : List ℕ) (first end : ℕ) → IsBounded old first end → IsSwept members line old old first first 0
+pub swept_first : {size : ℕ} (members : List Bool) (line old : List ℕ) (first end : ℕ) → IsBounded size old first end → IsSwept size members line old old first first 0
 swept_first members line old first end bounds = record {
   whole = bounds.whole;
   low = bounds.low;
@@ -227,11 +228,11 @@ comes_word held pass word carried base bits small start b inside = go b inside
         let before : comes (has_bit word) (λ n. pass (base + n)) (suc b) ≡ comes held pass (suc (base + b)) = ap (λ t. t && pass (base + b)) (go b (omega arith)) in
         rw own (ap (λ t. held (base + suc b) || t) (before ∙ ap (λ n. comes held pass n) place))
 
-pub swept_more : (members : List Bool) (line old new : List ℕ) (first i carried joined reached next : ℕ) → IsSwept members line old new first i carried → first ≤ i → i < WORDS
+pub swept_more : {size : ℕ} (members : List Bool) (line old new : List ℕ) (first i carried joined reached next : ℕ) → IsSwept size members line old new first i carried → first ≤ i → i < size
     → ((b : ℕ) → has_bit joined b ≡ (has_bit (get_or new i 0) b || has_bit carried b))
     → ((b : ℕ) → b < 64 → has_bit reached b ≡ flood (has_bit joined) (λ n. passes members line (i * 64 + n)) b)
     → next < 2 → has_bit next 0 ≡ (has_bit reached 63 && passes members line (i * 64 + 63))
-    → IsSwept members line old (set new i reached) first (i + 1) next
+    → IsSwept size members line old (set new i reached) first (i + 1) next
 swept_more members line old new first i carried joined reached next h begun inside joins floods is_bit carry = record {
   whole = length-set new i reached ∙ h.whole;
   low = λ j l. get_or-set_other new i j reached 0 (omega arith) ∙ h.low j l;
@@ -258,7 +259,7 @@ swept_more members line old new first i carried joined reached next h begun insi
         subst (λ n. has_position (set new i reached) n ≡ flood (has_position old) (passes members line) n) place (position_set_same new i reached (k - i * 64) (omega (arith, h.whole)) bit ∙ at (k - i * 64) bit)
 
 -- the whole sweep, where it stops early, and where it has been through all words
-module _ (members : List Bool) (line old new : List ℕ) (first i carried end : ℕ) (h : IsSwept members line old new first i carried) (bounds : IsBounded old first end) (after : end ≤ i) where
+module _ {size : ℕ} (members : List Bool) (line old new : List ℕ) (first i carried end : ℕ) (h : IsSwept size members line old new first i carried) (bounds : IsBounded size old first end) (after : end ≤ i) where
   pub swept_all : has_bit carried 0 ≡ false → (k : ℕ) → has_position new k ≡ flood (has_position old) (passes members line) k
   swept_all none k = go (nat_lt k (i * 64)) refl
     where
@@ -270,9 +271,10 @@ module _ (members : List Bool) (line old new : List ℕ) (first i carried end : 
           let nothing : comes (has_position old) (passes members line) k ≡ false = comes_none (has_position old) (passes members line) (i * 64) k (sym h.carry ∙ none) (λ j low high. none_after bounds j (omega arith)) far in
           same_word new old k (h.above (k / 64) (omega arith)) ∙ empty ∙ sym (rw (empty, nothing) refl)
 
-  pub swept_bounded : i ≤ WORDS → IsBounded new first i
+  pub swept_bounded : i ≤ size → IsBounded size new first i
   swept_bounded inside = record {
     whole = h.whole;
+    few = bounds.few;
     ordered = omega (arith, bounds.ordered);
     inside = inside;
     low = h.low;

@@ -4,7 +4,6 @@ use Rattle.std.proofs.lemmas.Bool.Decides.{nat_tests}
 use Rattle.std.proofs.lemmas.List.{at_drop_more, at_drop_all}
 use Rattle.ere.specs.declared.tree.Ere.{Ere}
 use Rattle.ere.specs.Tree.{form, trees_of, Tree, empty, at_start, at_end, cat, alt, repeat, Trees, none, more}
-use Rattle.matcher.specs.declared.positions.Positions.{Positions}
 use Rattle.matcher.specs.Spans.{Relation, Steps, Spans, SpansEach, SpansSome}
 use Rattle.matcher.specs.PositionSets.{has_position}
 use Rattle.matcher.specs.Private.Moves.{HasNone, IsEither, IsNew, Moves}
@@ -12,32 +11,32 @@ use Rattle.ere.specs.Language.{ContainsMatch}
 use Rattle.matcher.proofs.Bits.{false≢true}
 use Rattle.matcher.proofs.Meaning.{hit_of_spans, spans_of_hit}
 
-pub not_held : {places : Positions} → HasNone places → (k : ℕ) → IsTrue (has_position places k) → ⊥
+pub not_held : {places : List ℕ} → HasNone places → (k : ℕ) → IsTrue (has_position places k) → ⊥
 not_held empties k h = false≢true (sym (empties.none k) ∙ h)
 
 -- nothing leads from nothing to nothing
-pub moves_none : (relation : Relation) (from to : Positions) → HasNone from → HasNone to → Moves relation from to
+pub moves_none : (relation : Relation) (from to : List ℕ) → HasNone from → HasNone to → Moves relation from to
 moves_none relation from to none_from none_to = record {
   sound = λ k h. absurd (not_held none_to k h);
   complete = λ i k h r. absurd (not_held none_from i h);
 }
 
 -- a relation that leads nowhere
-pub moves_nowhere : (relation : Relation) (from to : Positions) → ((i k : ℕ) → relation i k → ⊥) → HasNone to → Moves relation from to
+pub moves_nowhere : (relation : Relation) (from to : List ℕ) → ((i k : ℕ) → relation i k → ⊥) → HasNone to → Moves relation from to
 moves_nowhere relation from to never none_to = record {
   sound = λ k h. absurd (not_held none_to k h);
   complete = λ i k h r. absurd (never i k r);
 }
 
 -- a relation that leads each position to itself
-pub moves_same : (relation : Relation) (places : Positions) → ((i : ℕ) → relation i i) → ((i k : ℕ) → relation i k → i ≡ k) → Moves relation places places
+pub moves_same : (relation : Relation) (places : List ℕ) → ((i : ℕ) → relation i i) → ((i k : ℕ) → relation i k → i ≡ k) → Moves relation places places
 moves_same relation places there only = record {
   sound = λ k h. (k, h, there k);
   complete = λ i k h r. subst (λ n. IsTrue (has_position places n)) (only i k r) h;
 }
 
 -- a relation that leads one position to itself
-moves_kept : (relation : Relation) (at : ℕ) (from to : Positions) → relation at at → ((i k : ℕ) → relation i k → (i ≡ at) × (i ≡ k)) → ((k : ℕ) → has_position to k ≡ (k == at && has_position from k)) → Moves relation from to
+moves_kept : (relation : Relation) (at : ℕ) (from to : List ℕ) → relation at at → ((i k : ℕ) → relation i k → (i ≡ at) × (i ≡ k)) → ((k : ℕ) → has_position to k ≡ (k == at && has_position from k)) → Moves relation from to
 moves_kept relation at from to there only each = record {
   sound = λ k h. sound k (k == at) refl (sym (each k) ∙ h);
   complete = λ i k h r. complete i k h (only i k r);
@@ -54,23 +53,23 @@ moves_kept relation at from to there only each = record {
         let same : k == at ≡ true = let same_at : k ≡ at = sym e.1 ∙ e.0 in grind (arith, nat_tests) in
         each k ∙ rw same (subst (λ n. IsTrue (has_position from n)) e.1 h)
 
-pub moves_empty : (line : List ℕ) (places : Positions) → Moves (Spans line empty) places places
+pub moves_empty : (line : List ℕ) (places : List ℕ) → Moves (Spans line empty) places places
 unfolding Spans
 moves_empty line places = moves_same (Spans line empty) places (λ i. refl) (λ i k r. r)
 
-pub moves_start : (line : List ℕ) (from to : Positions) → ((k : ℕ) → has_position to k ≡ (k == 0 && has_position from k)) → Moves (Spans line at_start) from to
+pub moves_start : (line : List ℕ) (from to : List ℕ) → ((k : ℕ) → has_position to k ≡ (k == 0 && has_position from k)) → Moves (Spans line at_start) from to
 unfolding Spans
 moves_start line from to each = moves_kept (Spans line at_start) 0 from to (refl, refl) (λ i k r. r) each
 
-pub moves_end : (line : List ℕ) (from to : Positions) → ((k : ℕ) → has_position to k ≡ (k == length line && has_position from k)) → Moves (Spans line at_end) from to
+pub moves_end : (line : List ℕ) (from to : List ℕ) → ((k : ℕ) → has_position to k ≡ (k == length line && has_position from k)) → Moves (Spans line at_end) from to
 unfolding Spans
 moves_end line from to each = moves_kept (Spans line at_end) (length line) from to (refl, refl) (λ i k r. r) each
 
-pub moves_cat : (line : List ℕ) (members : Trees) (from to : Positions) → Moves (SpansEach line members) from to → Moves (Spans line (cat members)) from to
+pub moves_cat : (line : List ℕ) (members : Trees) (from to : List ℕ) → Moves (SpansEach line members) from to → Moves (Spans line (cat members)) from to
 unfolding Spans
 moves_cat line members from to h = record { sound = h.sound; complete = h.complete }
 
-pub moves_alt : (line : List ℕ) (members : Trees) (from to : Positions) → Moves (SpansSome line members) from to → Moves (Spans line (alt members)) from to
+pub moves_alt : (line : List ℕ) (members : Trees) (from to : List ℕ) → Moves (SpansSome line members) from to → Moves (Spans line (alt members)) from to
 unfolding Spans
 moves_alt line members from to h = record { sound = h.sound; complete = h.complete }
 
@@ -78,44 +77,44 @@ moves_alt line members from to h = record { sound = h.sound; complete = h.comple
 abbrev pub Then : Relation → Relation → Relation
 Then first second from to = (middle : ℕ) × first from middle × second middle to
 
-pub moves_then : (first second : Relation) (from middle to : Positions) → Moves first from middle → Moves second middle to → Moves (Then first second) from to
+pub moves_then : (first second : Relation) (from middle to : List ℕ) → Moves first from middle → Moves second middle to → Moves (Then first second) from to
 moves_then first second from middle to one two = record {
   sound = λ k h. let b = two.sound k h in let a = one.sound b.0 b.1 in (a.0, a.1, (b.0, a.2, b.2));
   complete = λ i k h r. two.complete r.0 k (one.complete i r.0 h r.1) r.2;
 }
 
-pub moves_each_none : (line : List ℕ) (places : Positions) → Moves (SpansEach line none) places places
+pub moves_each_none : (line : List ℕ) (places : List ℕ) → Moves (SpansEach line none) places places
 unfolding SpansEach
 moves_each_none line places = moves_same (SpansEach line none) places (λ i. refl) (λ i k r. r)
 
-pub moves_each_more : (line : List ℕ) (tree : Tree) (trees : Trees) (from middle to : Positions) → Moves (Spans line tree) from middle → Moves (SpansEach line trees) middle to → Moves (SpansEach line (more tree trees)) from to
+pub moves_each_more : (line : List ℕ) (tree : Tree) (trees : Trees) (from middle to : List ℕ) → Moves (Spans line tree) from middle → Moves (SpansEach line trees) middle to → Moves (SpansEach line (more tree trees)) from to
 unfolding SpansEach
 moves_each_more line tree trees from middle to one two =
     let both = moves_then (Spans line tree) (SpansEach line trees) from middle to one two in
     record { sound = both.sound; complete = both.complete }
 
-pub moves_some_none : (line : List ℕ) (from to : Positions) → HasNone to → Moves (SpansSome line none) from to
+pub moves_some_none : (line : List ℕ) (from to : List ℕ) → HasNone to → Moves (SpansSome line none) from to
 unfolding SpansSome
 moves_some_none line from to none_to = moves_nowhere (SpansSome line none) from to (λ i k r. r) none_to
 
-pub in_left : {left right both : Positions} → IsEither left right both → (k : ℕ) → IsTrue (has_position left k) → IsTrue (has_position both k)
+pub in_left : {left right both : List ℕ} → IsEither left right both → (k : ℕ) → IsTrue (has_position left k) → IsTrue (has_position both k)
 in_left either k h = either.each k ∙ rw h refl
 
-pub in_right : {left right both : Positions} → IsEither left right both → (k : ℕ) → IsTrue (has_position right k) → IsTrue (has_position both k)
+pub in_right : {left right both : List ℕ} → IsEither left right both → (k : ℕ) → IsTrue (has_position right k) → IsTrue (has_position both k)
 in_right {left} {right} either k h = either.each k ∙ or_right (has_position left k) (has_position right k) h
   where
     or_right : (a b : Bool) → IsTrue b → IsTrue (a || b)
     or_right true b h = refl
     or_right false b h = h
 
-pub in_either : {left right both : Positions} → IsEither left right both → (k : ℕ) → IsTrue (has_position both k) → IsTrue (has_position left k) ⊎ IsTrue (has_position right k)
+pub in_either : {left right both : List ℕ} → IsEither left right both → (k : ℕ) → IsTrue (has_position both k) → IsTrue (has_position left k) ⊎ IsTrue (has_position right k)
 in_either {left} {right} either k h = parts (has_position left k) (has_position right k) (sym (either.each k) ∙ h)
   where
     parts : (a b : Bool) → IsTrue (a || b) → IsTrue a ⊎ IsTrue b
     parts true b h = inl refl
     parts false b h = inr h
 
-pub moves_some_more : (line : List ℕ) (tree : Tree) (trees : Trees) (from one rest both : Positions) → Moves (Spans line tree) from one → Moves (SpansSome line trees) from rest → IsEither rest one both → Moves (SpansSome line (more tree trees)) from both
+pub moves_some_more : (line : List ℕ) (tree : Tree) (trees : Trees) (from one rest both : List ℕ) → Moves (Spans line tree) from one → Moves (SpansSome line trees) from rest → IsEither rest one both → Moves (SpansSome line (more tree trees)) from both
 unfolding SpansSome
 moves_some_more line tree trees from one rest both first others either = record {
   sound = λ k h. sound k (in_either either k h);
@@ -131,11 +130,11 @@ moves_some_more line tree trees from one rest both first others either = record 
     complete i k h (inr r) = in_left either k (others.complete i k h r)
 
 -- exact counts
-pub moves_zero_steps : (relation : Relation) (places : Positions) → Moves (Steps relation 0) places places
+pub moves_zero_steps : (relation : Relation) (places : List ℕ) → Moves (Steps relation 0) places places
 unfolding Steps
 moves_zero_steps relation places = moves_same (Steps relation 0) places (λ i. refl) (λ i k r. r)
 
-pub moves_more_steps : (relation : Relation) (count next : ℕ) (from middle to : Positions) → next ≡ count + 1 → Moves (Steps relation count) from middle → Moves relation middle to → Moves (Steps relation next) from to
+pub moves_more_steps : (relation : Relation) (count next : ℕ) (from middle to : List ℕ) → next ≡ count + 1 → Moves (Steps relation count) from middle → Moves relation middle to → Moves (Steps relation next) from to
 unfolding Steps
 moves_more_steps relation count next from middle to e one two =
     let both = moves_then (Steps relation count) relation from middle to one two in
@@ -166,7 +165,7 @@ steps_join relation first (suc rest) i m k a b =
     subst (λ n. Steps relation n i k) more_is moved
 
 -- Once no position is left, no further round brings one back.
-pub moves_no_more : (relation : Relation) (done count : ℕ) (from to : Positions) → done ≤ count → Moves (Steps relation done) from to → HasNone to → Moves (Steps relation count) from to
+pub moves_no_more : (relation : Relation) (done count : ℕ) (from to : List ℕ) → done ≤ count → Moves (Steps relation done) from to → HasNone to → Moves (Steps relation count) from to
 moves_no_more relation done count from to less moves none_to = record {
   sound = λ k h. absurd (not_held none_to k h);
   complete = λ i k h r.
@@ -176,13 +175,13 @@ moves_no_more relation done count from to less moves none_to = record {
 }
 
 -- What rounds have found: what is found comes from the start by an allowed count, and leads only to what is found, but for what is fresh.
-pub record IsWidened (relation : Relation) (allowed : ℕ → Type 0) (start found fresh : Positions) : Type 0 where
+pub record IsWidened (relation : Relation) (allowed : ℕ → Type 0) (start found fresh : List ℕ) : Type 0 where
   pub sound : (k : ℕ) → IsTrue (has_position found k) → (i : ℕ) × (count : ℕ) × IsTrue (has_position start i) × allowed count × Steps relation count i k
   pub begins : (k : ℕ) → IsTrue (has_position start k) → IsTrue (has_position found k)
   pub among : (k : ℕ) → IsTrue (has_position fresh k) → IsTrue (has_position found k)
   pub closed : (k to : ℕ) → IsTrue (has_position found k) → relation k to → IsTrue (has_position fresh k) ⊎ IsTrue (has_position found to)
 
-pub widened_first : (relation : Relation) (allowed : ℕ → Type 0) (start : Positions) → allowed 0 → IsWidened relation allowed start start start
+pub widened_first : (relation : Relation) (allowed : ℕ → Type 0) (start : List ℕ) → allowed 0 → IsWidened relation allowed start start start
 unfolding Steps
 widened_first relation allowed start none_allowed = record {
   sound = λ k h. (k, 0, h, none_allowed, refl);
@@ -195,7 +194,7 @@ pub decide : (b : Bool) → IsTrue b ⊎ (b ≡ false)
 decide true = inl refl
 decide false = inr refl
 
-pub widened_more : (relation : Relation) (allowed allowed_next : ℕ → Type 0) (start found fresh next found_next fresh_next : Positions) → IsWidened relation allowed start found fresh → Moves relation fresh next → IsEither found next found_next → IsNew next found fresh_next → ((count : ℕ) → allowed count → allowed_next count) → ((count : ℕ) → allowed count → allowed_next (suc count)) → IsWidened relation allowed_next start found_next fresh_next
+pub widened_more : (relation : Relation) (allowed allowed_next : ℕ → Type 0) (start found fresh next found_next fresh_next : List ℕ) → IsWidened relation allowed start found fresh → Moves relation fresh next → IsEither found next found_next → IsNew next found fresh_next → ((count : ℕ) → allowed count → allowed_next count) → ((count : ℕ) → allowed count → allowed_next (suc count)) → IsWidened relation allowed_next start found_next fresh_next
 unfolding Steps
 widened_more relation allowed allowed_next start found fresh next found_next fresh_next h moves either new keeps grows = record {
   sound = λ k held. sound k (in_either either k held);
@@ -228,7 +227,7 @@ widened_more relation allowed allowed_next start found fresh next found_next fre
     closed k to (inr absent) (inr held) r = inl (new.each k ∙ rw (held, absent) refl)
 
 -- with nothing fresh, everything is found
-widened_all : (relation : Relation) (allowed : ℕ → Type 0) (start found fresh : Positions) → IsWidened relation allowed start found fresh → HasNone fresh → (count i k : ℕ) → IsTrue (has_position start i) → Steps relation count i k → IsTrue (has_position found k)
+widened_all : (relation : Relation) (allowed : ℕ → Type 0) (start found fresh : List ℕ) → IsWidened relation allowed start found fresh → HasNone fresh → (count i k : ℕ) → IsTrue (has_position start i) → Steps relation count i k → IsTrue (has_position found k)
 unfolding Steps
 widened_all relation allowed start found fresh h none_fresh zero i k held r = subst (λ n. IsTrue (has_position found n)) r (h.begins i held)
 widened_all relation allowed start found fresh h none_fresh (suc count) i k held r =
@@ -242,7 +241,7 @@ widened_all relation allowed start found fresh h none_fresh (suc count) i k held
 abbrev pub AnySteps : Relation → Relation
 AnySteps relation from to = (words : ℕ) × Steps relation words from to
 
-pub moves_any : (relation : Relation) (start found fresh : Positions) → IsWidened relation (λ _. Unit {0}) start found fresh → HasNone fresh → Moves (AnySteps relation) start found
+pub moves_any : (relation : Relation) (start found fresh : List ℕ) → IsWidened relation (λ _. Unit {0}) start found fresh → HasNone fresh → Moves (AnySteps relation) start found
 moves_any relation start found fresh h none_fresh = record {
   sound = λ k held. let w = h.sound k held in (w.0, w.2, (w.1, w.4));
   complete = λ i k held r. widened_all relation (λ _. Unit {0}) start found fresh h none_fresh r.0 i k held r.1;
@@ -253,11 +252,11 @@ abbrev pub FewSteps : Relation → ℕ → Relation
 FewSteps relation most from to = (words : ℕ) × (words ≤ most) × Steps relation words from to
 
 -- after so many rounds all that so few steps lead to is found
-pub record IsWidenedBy (relation : Relation) (rounds : ℕ) (start found fresh : Positions) : Type 0 where
+pub record IsWidenedBy (relation : Relation) (rounds : ℕ) (start found fresh : List ℕ) : Type 0 where
   pub widened : IsWidened relation (λ count. count ≤ rounds) start found fresh
   pub reaches : (count i k : ℕ) → count ≤ rounds → IsTrue (has_position start i) → Steps relation count i k → IsTrue (has_position found k)
 
-pub widened_by_none : (relation : Relation) (start : Positions) → IsWidenedBy relation 0 start start start
+pub widened_by_none : (relation : Relation) (start : List ℕ) → IsWidenedBy relation 0 start start start
 unfolding Steps
 widened_by_none relation start = record {
   widened = widened_first relation (λ count. count ≤ 0) start (omega arith);
@@ -268,7 +267,7 @@ widened_by_none relation start = record {
     reaches zero i k less held r = subst (λ n. IsTrue (has_position start n)) r held
     reaches (suc count) i k less held r = absurd (omega arith)
 
-pub widened_by_more : (relation : Relation) (rounds rounds_next : ℕ) (start found fresh next found_next fresh_next : Positions) → rounds_next ≡ rounds + 1 → IsWidenedBy relation rounds start found fresh → Moves relation fresh next → IsEither found next found_next → IsNew next found fresh_next → IsWidenedBy relation rounds_next start found_next fresh_next
+pub widened_by_more : (relation : Relation) (rounds rounds_next : ℕ) (start found fresh next found_next fresh_next : List ℕ) → rounds_next ≡ rounds + 1 → IsWidenedBy relation rounds start found fresh → Moves relation fresh next → IsEither found next found_next → IsNew next found fresh_next → IsWidenedBy relation rounds_next start found_next fresh_next
 unfolding Steps
 widened_by_more relation rounds rounds_next start found fresh next found_next fresh_next e h moves either new = record {
   widened = widened_more relation (λ count. count ≤ rounds) (λ count. count ≤ rounds_next) start found fresh next found_next fresh_next h.widened moves either new (λ count less. omega arith) (λ count less. omega arith);
@@ -285,14 +284,14 @@ widened_by_more relation rounds rounds_next start found fresh next found_next fr
         let before = h.reaches count i r.0 (omega arith) held r.1 in
         from_old r.0 k r.2 (h.widened.closed r.0 k before r.2)
 
-pub moves_few : (relation : Relation) (rounds : ℕ) (start found fresh : Positions) → IsWidenedBy relation rounds start found fresh → Moves (FewSteps relation rounds) start found
+pub moves_few : (relation : Relation) (rounds : ℕ) (start found fresh : List ℕ) → IsWidenedBy relation rounds start found fresh → Moves (FewSteps relation rounds) start found
 moves_few relation rounds start found fresh h = record {
   sound = λ k held. let w = h.widened.sound k held in (w.0, w.2, (w.1, w.3, w.4));
   complete = λ i k held r. h.reaches r.0 i k r.1 held r.2;
 }
 
 -- with nothing fresh, further rounds find nothing
-pub moves_few_closed : (relation : Relation) (rounds most : ℕ) (start found fresh : Positions) → rounds ≤ most → IsWidenedBy relation rounds start found fresh → HasNone fresh → Moves (FewSteps relation most) start found
+pub moves_few_closed : (relation : Relation) (rounds most : ℕ) (start found fresh : List ℕ) → rounds ≤ most → IsWidenedBy relation rounds start found fresh → HasNone fresh → Moves (FewSteps relation most) start found
 moves_few_closed relation rounds most start found fresh less h none_fresh = record {
   sound = λ k held. let w = h.widened.sound k held in (w.0, w.2, (w.1, omega (arith, w.3), w.4));
   complete = λ i k held r. widened_all relation (λ count. count ≤ rounds) start found fresh h.widened none_fresh r.0 i k held r.2;
@@ -304,7 +303,7 @@ steps_stay relation zero i stays = refl
 steps_stay relation (suc count) i stays = (i, steps_stay relation count i stays, stays i)
 
 -- Where a step can stay, at most so many are as good as exactly so many.
-pub moves_exactly : (relation : Relation) (count : ℕ) (from to : Positions) → ((i : ℕ) → relation i i) → Moves (FewSteps relation count) from to → Moves (Steps relation count) from to
+pub moves_exactly : (relation : Relation) (count : ℕ) (from to : List ℕ) → ((i : ℕ) → relation i i) → Moves (FewSteps relation count) from to → Moves (Steps relation count) from to
 moves_exactly relation count from to stays moves = record {
   sound = λ k h.
       let few = moves.sound k h in
@@ -315,11 +314,11 @@ moves_exactly relation count from to stays moves = record {
 }
 
 -- counted repeats
-pub moves_impossible : (line : List ℕ) (body : Tree) (least most : ℕ) (from to : Positions) → most < least → HasNone to → Moves (Spans line (repeat body least (Some most))) from to
+pub moves_impossible : (line : List ℕ) (body : Tree) (least most : ℕ) (from to : List ℕ) → most < least → HasNone to → Moves (Spans line (repeat body least (Some most))) from to
 unfolding Spans
 moves_impossible line body least most from to less none_to = moves_nowhere (Spans line (repeat body least (Some most))) from to (λ i k r. omega (arith, r.1, r.2)) none_to
 
-pub moves_between : (line : List ℕ) (body : Tree) (least most rest : ℕ) (from middle to : Positions) → least + rest ≡ most → Moves (Steps (Spans line body) least) from middle → Moves (FewSteps (Spans line body) rest) middle to → Moves (Spans line (repeat body least (Some most))) from to
+pub moves_between : (line : List ℕ) (body : Tree) (least most rest : ℕ) (from middle to : List ℕ) → least + rest ≡ most → Moves (Steps (Spans line body) least) from middle → Moves (FewSteps (Spans line body) rest) middle to → Moves (Spans line (repeat body least (Some most))) from to
 unfolding Spans
 moves_between line body least most rest from middle to e one two =
     let both = moves_then (Steps (Spans line body) least) (FewSteps (Spans line body) rest) from middle to one two in
@@ -334,7 +333,7 @@ moves_between line body least most rest from middle to e one two =
           both.complete i k h (parts.0, parts.1, (r.0 - least, omega (arith, r.2), parts.2));
     }
 
-pub moves_at_least : (line : List ℕ) (body : Tree) (least : ℕ) (from middle to : Positions) → Moves (Steps (Spans line body) least) from middle → Moves (AnySteps (Spans line body)) middle to → Moves (Spans line (repeat body least None)) from to
+pub moves_at_least : (line : List ℕ) (body : Tree) (least : ℕ) (from middle to : List ℕ) → Moves (Steps (Spans line body) least) from middle → Moves (AnySteps (Spans line body)) middle to → Moves (Spans line (repeat body least None)) from to
 unfolding Spans
 moves_at_least line body least from middle to one two =
     let both = moves_then (Steps (Spans line body) least) (AnySteps (Spans line body)) from middle to one two in
@@ -360,7 +359,7 @@ one_step relation joins zero i k h = subst (λ n. relation n k) (sym h.1) h.2
 one_step relation joins (suc count) i k h = joins i h.0 k (one_step relation joins count i h.0 h.1) h.2
 
 -- and a step behind others adds nothing
-pub moves_joined : (line : List ℕ) (body : Tree) (least : ℕ) (from to : Positions) → IsTransitive (Spans line body) → 0 < least → Moves (Steps (Spans line body) least) from to → Moves (Spans line (repeat body least None)) from to
+pub moves_joined : (line : List ℕ) (body : Tree) (least : ℕ) (from to : List ℕ) → IsTransitive (Spans line body) → 0 < least → Moves (Steps (Spans line body) least) from to → Moves (Spans line (repeat body least None)) from to
 unfolding Spans Steps
 moves_joined line body zero from to joins some moves = absurd (omega arith)
 moves_joined line body (suc least) from to joins some moves = record {
@@ -371,7 +370,7 @@ moves_joined line body (suc least) from to joins some moves = record {
       moves.complete i k h (parts.0, parts.1, one_step (Spans line body) joins (r.0 - suc least) parts.0 k parts.2);
 }
 
-pub moves_optional : (line : List ℕ) (body : Tree) (from middle to : Positions) → IsTransitive (Spans line body) → Moves (Steps (Spans line body) 0) from middle → Moves (FewSteps (Spans line body) 1) middle to → Moves (Spans line (repeat body 0 None)) from to
+pub moves_optional : (line : List ℕ) (body : Tree) (from middle to : List ℕ) → IsTransitive (Spans line body) → Moves (Steps (Spans line body) 0) from middle → Moves (FewSteps (Spans line body) 1) middle to → Moves (Spans line (repeat body 0 None)) from to
 unfolding Spans Steps
 moves_optional line body from middle to joins one two =
     let both = moves_then (Steps (Spans line body) 0) (FewSteps (Spans line body) 1) from middle to one two in
@@ -403,22 +402,22 @@ trees_from members i member inside e = at_drop_more (λ rest. trees_of (map form
 pub trees_past : (members : List Ere) (i : ℕ) → length members ≤ i → trees_of (map form (drop i members)) ≡ none
 trees_past members i past = at_drop_all (λ rest. trees_of (map form rest)) members i past
 
-pub moves_members : (line : List ℕ) (members : List Ere) (i : ℕ) (member : Ere) (from middle to : Positions) → i < length members → member ≡ get_or members i member → Moves (Spans line (form member)) from middle → Moves (SpansEach line (trees_of (map form (drop (i + 1) members)))) middle to → Moves (SpansEach line (trees_of (map form (drop i members)))) from to
+pub moves_members : (line : List ℕ) (members : List Ere) (i : ℕ) (member : Ere) (from middle to : List ℕ) → i < length members → member ≡ get_or members i member → Moves (Spans line (form member)) from middle → Moves (SpansEach line (trees_of (map form (drop (i + 1) members)))) middle to → Moves (SpansEach line (trees_of (map form (drop i members)))) from to
 moves_members line members i member from middle to inside e one rest =
     subst (λ trees. Moves (SpansEach line trees) from to) (sym (trees_from members i member inside e)) (moves_each_more line (form member) (trees_of (map form (drop (i + 1) members))) from middle to one rest)
 
-pub moves_no_members : (line : List ℕ) (members : List Ere) (i : ℕ) (at : Positions) → length members ≤ i → Moves (SpansEach line (trees_of (map form (drop i members)))) at at
+pub moves_no_members : (line : List ℕ) (members : List Ere) (i : ℕ) (at : List ℕ) → length members ≤ i → Moves (SpansEach line (trees_of (map form (drop i members)))) at at
 moves_no_members line members i at past = subst (λ trees. Moves (SpansEach line trees) at at) (sym (trees_past members i past)) (moves_each_none line at)
 
-pub moves_by_member : (line : List ℕ) (members : List Ere) (i : ℕ) (member : Ere) (from one rest both : Positions) → i < length members → member ≡ get_or members i member → Moves (Spans line (form member)) from one → Moves (SpansSome line (trees_of (map form (drop (i + 1) members)))) from rest → IsEither rest one both → Moves (SpansSome line (trees_of (map form (drop i members)))) from both
+pub moves_by_member : (line : List ℕ) (members : List Ere) (i : ℕ) (member : Ere) (from one rest both : List ℕ) → i < length members → member ≡ get_or members i member → Moves (Spans line (form member)) from one → Moves (SpansSome line (trees_of (map form (drop (i + 1) members)))) from rest → IsEither rest one both → Moves (SpansSome line (trees_of (map form (drop i members)))) from both
 moves_by_member line members i member from one rest both inside e first others either =
     subst (λ trees. Moves (SpansSome line trees) from both) (sym (trees_from members i member inside e)) (moves_some_more line (form member) (trees_of (map form (drop (i + 1) members))) from one rest both first others either)
 
-pub moves_by_no_member : (line : List ℕ) (members : List Ere) (i : ℕ) (from to : Positions) → length members ≤ i → HasNone to → Moves (SpansSome line (trees_of (map form (drop i members)))) from to
+pub moves_by_no_member : (line : List ℕ) (members : List Ere) (i : ℕ) (from to : List ℕ) → length members ≤ i → HasNone to → Moves (SpansSome line (trees_of (map form (drop i members)))) from to
 moves_by_no_member line members i from to past none_to = subst (λ trees. Moves (SpansSome line trees) from to) (sym (trees_past members i past)) (moves_some_none line from to none_to)
 
 -- a walk of all positions of a line, and whether any is left
-module _ (tree : Tree) (line : List ℕ) (all left : Positions) (every : (k : ℕ) → has_position all k ≡ nat_le k (length line)) (moves : Moves (Spans line tree) all left) where
+module _ (tree : Tree) (line : List ℕ) (all left : List ℕ) (every : (k : ℕ) → has_position all k ≡ nat_le k (length line)) (moves : Moves (Spans line tree) all left) where
   pub hit_of_position : (k : ℕ) → IsTrue (has_position left k) → ContainsMatch tree line
   hit_of_position k h =
       let w = moves.sound k h in

@@ -10,7 +10,7 @@ mod positions;
 mod walk;
 mod words;
 
-ghost use Rattle.std.specs.Prelude.{◌≤◌, ◌↔◌, IsTrue, length};
+ghost use Rattle.std.specs.Prelude.{◌≤◌, ◌<◌, ◌↔◌, IsTrue, length};
 ghost use Rattle.ere.specs.Limits.{IsWithinLimits};
 ghost use Rattle.ere.specs.Language.{ContainsMatch};
 ghost use Rattle.ere.specs.Tree.{form};
@@ -23,6 +23,10 @@ use crate::words::BITS;
 pub use crate::words::{WORDS, step};
 use ere::{Ere, MAX_LINE};
 
+/// How many words the positions of a line have that is neither short nor long. Each set of them is filled
+/// with zeros when it is made.
+const FEWER: usize = 65;
+
 /// Whether some part of the line is a match of the tree.
 ///
 /// The tree is within the limits, and the line has at most `MAX_LINE` bytes. No memory is taken.
@@ -32,6 +36,11 @@ use ere::{Ere, MAX_LINE};
 /// `((a*a)*a)*` and `((a*|b)*|c)*`: the time was seen to grow as the square of their number. Where it stands
 /// behind a part that cannot be empty, as in `(a(aa*)*)*`, or under a count other than `?`, each level of
 /// them can still double the time.
+///
+/// The stack is bounded: calls nest as deep as the tree is high, which is at most 64, and at each level at most
+/// five sets of positions are kept, of 536 bytes for a line of 64 bytes or more, and of 2,072 for one of 4,160 or
+/// more. The most that was seen is 8.5 KiB for a level and 516 KiB in all, for 62 stars inside one another and a
+/// line of `MAX_LINE` bytes; 912 KiB where Rattle's own compiler makes the program in place of LLVM.
 pub fn matches(tree: &Ere, line: &[u8]) -> bool
     requires within_limits { IsWithinLimits (form tree.now) }
     requires line { length line.now ≤ MAX_LINE }
@@ -40,14 +49,16 @@ pub fn matches(tree: &Ere, line: &[u8]) -> bool
     // The positions of a short line are one word, which has no bounds to keep.
     if line.len() < BITS {
         is_led_on::<OneWord>(tree, line)
+    } else if line.len() < FEWER * BITS {
+        is_led_on::<Positions<FEWER>>(tree, line)
     } else {
-        is_led_on::<Positions>(tree, line)
+        is_led_on::<Positions<WORDS>>(tree, line)
     }
 }
 
 /// Whether a word of the tree leads from a position of the line to another.
 fn is_led_on<S: PositionSet>(tree: &Ere, line: &[u8]) -> bool
-    requires { length line.now ≤ S.longest }
+    requires { length line.now < S.room }
     ensures { IsTrue result ↔ ContainsMatch (form tree.now) line.now }
 {
     let mut at = S::through(line.len());

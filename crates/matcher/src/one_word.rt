@@ -24,7 +24,7 @@ impl Model for OneWord {
 impl PositionSet for OneWord {
     ghost words = { λ s. s };
 
-    ghost longest = { 63 };
+    ghost room = { 64 };
 
     fn none() -> OneWord {
         OneWord { word: 0 }

@@ -10,20 +10,21 @@ use ere::ByteSet;
 
 /// A set of positions of a line. Position i stands before byte i, and the last one after the last byte.
 ///
-/// There are two: one for lines of every length, and one for short lines, which are most.
+/// There are two types: one for short lines, which are most, and one of as many words as its caller says.
 pub trait PositionSet: Drop {
     ghost words: { Self → List ℕ };
 
-    // The greatest length of a line whose positions the set can hold.
-    ghost longest: { ℕ };
+    // How many positions the set has room for: a line has one more than bytes.
+    ghost room: { ℕ };
 
     /// The set with no position.
     fn none() -> Self
+        requires { 0 < room }
         ensures { HasNone (words result) };
 
     /// The positions from 0 to `last`.
     fn through(last: usize) -> Self
-        requires { last ≤ longest }
+        requires { last < room }
         ensures { (k : ℕ) → has_position (words result) k ≡ nat_le k last };
 
     /// Whether no position is in the set.
@@ -41,7 +42,7 @@ pub trait PositionSet: Drop {
 
     /// Takes every position but one out.
     fn keep(&mut self, position: usize)
-        requires { position ≤ longest }
+        requires { position < room }
         ensures { (k : ℕ) → has_position (words self.new) k ≡ (k == position && has_position (words self.old) k) };
 
     /// Puts the positions of `fresh` in, and takes those out of `fresh` that were in already. Whether
@@ -54,11 +55,11 @@ pub trait PositionSet: Drop {
     /// Moves each position over the byte behind it, where that is in the set; where it is not, and at
     /// the line's end, the position is lost.
     fn step(&mut self, members: &ByteSet, line: &[u8])
-        requires { length line.now ≤ longest }
+        requires { length line.now < room }
         ensures { Moves (Spans line.now (set members.now)) (words self.old) (words self.new) };
 
     /// Moves each position over any number of bytes that are in the set.
     fn sweep(&mut self, members: &ByteSet, line: &[u8])
-        requires { length line.now ≤ longest }
+        requires { length line.now < room }
         ensures { Moves (λ from to. (count : ℕ) × Steps (Spans line.now (set members.now)) count from to) (words self.old) (words self.new) };
 }

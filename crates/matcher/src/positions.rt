@@ -1,24 +1,22 @@
-//! Sets of positions of a line of any length.
+//! Sets of positions of a longer line.
 
 ghost use Rattle.std.specs.Prelude.{◌≤◌, ◌<◌, ℕ};
 
 use crate::position_set::PositionSet;
-use crate::words::{
-    BITS, WORDS, either, every, first_held, only_bit, shift, sweep, through_bit, without,
-};
-use ere::{ByteSet, MAX_LINE};
+use crate::words::{BITS, either, every, first_held, only_bit, shift, sweep, through_bit, without};
+use ere::ByteSet;
 use std::marker::Model;
 
-/// A set of positions of a line. Position i stands before byte i, and the last one after the last byte.
+/// A set of positions of a line, in `N` words. Position i stands before byte i, and the last one after the last byte.
 #[derive(Drop)]
-pub struct Positions {
-    words: [u64; WORDS],
+pub struct Positions<const N: usize> {
+    words: [u64; N],
     // All members are in the words from `first` up to but not at `end`, so that no other is looked at.
     first: usize,
     end: usize,
 }
 
-impl Model for Positions {
+impl<const N: usize> Model for Positions<N> {
     ghost use Rattle.std.specs.Prelude.{List, ℕ};
 
     ghost Value = { List ℕ };
@@ -27,17 +25,17 @@ impl Model for Positions {
 
     ghost view = { λ s. s.words };
 
-    ghost invariant = { λ s. IsBounded s.words s.first s.end };
+    ghost invariant = { λ s. IsBounded N s.words s.first s.end };
 }
 
-impl PositionSet for Positions {
-    ghost use Rattle.ere.specs.declared.tree.TheConstants.{MAX_LINE};
+impl<const N: usize> PositionSet for Positions<N> {
+    ghost use Rattle.matcher.specs.Private.Bounds.{room_of};
 
     ghost words = { λ s. s };
 
-    ghost longest = { MAX_LINE };
+    ghost room = { room_of N };
 
-    fn none() -> Positions {
+    fn none() -> Positions<N> {
         Positions {
             words: every(0),
             first: 0,
@@ -45,7 +43,7 @@ impl PositionSet for Positions {
         }
     }
 
-    fn through(last: usize) -> Positions {
+    fn through(last: usize) -> Positions<N> {
         let mut words = every(0);
         let whole = last / BITS;
         for i in 0..whole {
@@ -76,7 +74,7 @@ impl PositionSet for Positions {
         self.end = 0;
     }
 
-    fn copy(&mut self, other: &Positions) {
+    fn copy(&mut self, other: &Positions<N>) {
         self.clear();
         for i in other.first..other.end {
             self.words[i] = other.words[i];
@@ -94,7 +92,7 @@ impl PositionSet for Positions {
         self.end = i + 1;
     }
 
-    fn add(&mut self, fresh: &mut Positions) -> bool {
+    fn add(&mut self, fresh: &mut Positions<N>) -> bool {
         let (first, end) = joined(self.first, self.end, fresh.first, fresh.end);
         for i in fresh.first..fresh.end {
             let next = fresh.words[i];
@@ -103,6 +101,8 @@ impl PositionSet for Positions {
         }
         self.first = first;
         self.end = end;
+        // What is left is often far up the line, and the words before it need not be looked at again.
+        fresh.first = first_held(&fresh.words, fresh.first, fresh.end);
         !fresh.is_empty()
     }
 

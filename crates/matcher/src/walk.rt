@@ -1,6 +1,6 @@
 //! The walk of a set of positions through a tree.
 
-ghost use Rattle.std.specs.Prelude.{ℕ, suc, Some, ◌≤◌, IsTrue, List, length, map};
+ghost use Rattle.std.specs.Prelude.{ℕ, suc, Some, ◌≤◌, ◌<◌, IsTrue, List, length, map};
 ghost use Rattle.ere.specs.Tree.{form, repeat, trees_of};
 ghost use Rattle.matcher.specs.Spans.{Spans, SpansEach, SpansSome, Steps};
 ghost use Rattle.matcher.specs.Private.Moves.{Moves, MovesIf, MovesPast};
@@ -11,7 +11,7 @@ use ere::Ere;
 /// Moves each position to all those to which a word of the tree leads from it.
 #[cycle(walk)]
 pub fn advance<S: PositionSet>(tree: &Ere, line: &[u8], at: &mut S)
-    requires { length line.now ≤ S.longest }
+    requires { length line.now < S.room }
     ensures { Moves (Spans line.now (form tree.now)) (S.words at.old) (S.words at.new) }
 {
     match tree {
@@ -29,7 +29,7 @@ pub fn advance<S: PositionSet>(tree: &Ere, line: &[u8], at: &mut S)
 #[cycle(walk)]
 #[inline(always)]
 fn advance_over<S: PositionSet>(tree: &Ere, line: &[u8], at: &mut S)
-    requires { length line.now ≤ S.longest }
+    requires { length line.now < S.room }
     ensures { Moves (Spans line.now (form tree.now)) (S.words at.old) (S.words at.new) }
 {
     match tree {
@@ -41,7 +41,7 @@ fn advance_over<S: PositionSet>(tree: &Ere, line: &[u8], at: &mut S)
 /// By a word of each member, one behind the other.
 #[cycle(walk)]
 fn advance_each<S: PositionSet>(members: &[Ere], line: &[u8], at: &mut S)
-    requires { length line.now ≤ S.longest }
+    requires { length line.now < S.room }
     ensures { Moves (SpansEach line.now (trees_of (map form members.now))) (S.words at.old) (S.words at.new) }
 {
     for member in members {
@@ -55,7 +55,7 @@ fn advance_each<S: PositionSet>(members: &[Ere], line: &[u8], at: &mut S)
 /// By a word of one member.
 #[cycle(walk)]
 fn advance_some<S: PositionSet>(members: &[Ere], line: &[u8], at: &mut S)
-    requires { length line.now ≤ S.longest }
+    requires { length line.now < S.room }
     ensures { Moves (SpansSome line.now (trees_of (map form members.now))) (S.words at.old) (S.words at.new) }
 {
     let mut found = S::none();
@@ -77,7 +77,7 @@ fn advance_counted<S: PositionSet>(
     line: &[u8],
     at: &mut S,
 )
-    requires { length line.now ≤ S.longest }
+    requires { length line.now < S.room }
     ensures { Moves (Spans line.now (repeat (form body.now) least greatest)) (S.words at.old) (S.words at.new) }
 {
     match greatest {
@@ -109,7 +109,7 @@ fn advance_counted<S: PositionSet>(
 /// By exactly `count` words of the body, one behind the other.
 #[cycle(walk)]
 fn advance_exactly<S: PositionSet>(body: &Ere, count: u8, line: &[u8], at: &mut S)
-    requires { length line.now ≤ S.longest }
+    requires { length line.now < S.room }
     ensures { Moves (Steps (Spans line.now (form body.now)) count) (S.words at.old) (S.words at.new) }
 {
     // With words that can be empty, fewer are as good.
@@ -128,7 +128,7 @@ fn advance_exactly<S: PositionSet>(body: &Ere, count: u8, line: &[u8], at: &mut 
 /// By at most `count` words of the body, one behind the other.
 #[cycle(walk)]
 fn advance_at_most<S: PositionSet>(body: &Ere, count: u8, line: &[u8], at: &mut S)
-    requires { length line.now ≤ S.longest }
+    requires { length line.now < S.room }
     ensures { Moves (λ from to. (words : ℕ) × (words ≤ count) × Steps (Spans line.now (form body.now)) words from to) (S.words at.old) (S.words at.new) }
 {
     let mut found = S::none();
@@ -146,7 +146,7 @@ fn advance_at_most<S: PositionSet>(body: &Ere, count: u8, line: &[u8], at: &mut 
 /// By any number of words of the body, one behind the other.
 #[cycle(walk)]
 fn advance_any<S: PositionSet>(body: &Ere, line: &[u8], at: &mut S)
-    requires { length line.now ≤ S.longest }
+    requires { length line.now < S.room }
     ensures { Moves (λ from to. (words : ℕ) × Steps (Spans line.now (form body.now)) words from to) (S.words at.old) (S.words at.new) }
 {
     if let Ere::Set(members) = body {
@@ -160,7 +160,7 @@ fn advance_any<S: PositionSet>(body: &Ere, line: &[u8], at: &mut S)
 /// By one word of the body or more, one behind the other.
 #[cycle(walk)]
 fn advance_more<S: PositionSet>(body: &Ere, line: &[u8], at: &mut S)
-    requires { length line.now ≤ S.longest }
+    requires { length line.now < S.room }
     ensures { Moves (λ from to. (more : ℕ) × Steps (Spans line.now (form body.now)) (suc more) from to) (S.words at.old) (S.words at.new) }
 {
     let done = S::none();
@@ -174,7 +174,7 @@ fn advance_more<S: PositionSet>(body: &Ere, line: &[u8], at: &mut S)
 /// the front of its body need not go on from these.
 #[cycle(walk)]
 fn advance_past<S: PositionSet>(tree: &Ere, line: &[u8], at: &mut S, done: &S)
-    requires { length line.now ≤ S.longest }
+    requires { length line.now < S.room }
     ensures { MovesPast (Spans line.now (form tree.now)) (S.words done.now) (S.words at.old) (S.words at.new) }
 {
     match tree {
@@ -191,7 +191,7 @@ fn advance_past<S: PositionSet>(tree: &Ere, line: &[u8], at: &mut S, done: &S)
 /// can be empty.
 #[cycle(walk)]
 fn each_past<S: PositionSet>(members: &[Ere], line: &[u8], at: &mut S, done: &S)
-    requires { length line.now ≤ S.longest }
+    requires { length line.now < S.room }
     ensures { MovesPast (SpansEach line.now (trees_of (map form members.now))) (S.words done.now) (S.words at.old) (S.words at.new) }
 {
     let mut leads = true;
@@ -207,7 +207,7 @@ fn each_past<S: PositionSet>(members: &[Ere], line: &[u8], at: &mut S, done: &S)
 #[cycle(walk)]
 #[inline(always)]
 fn member_past<S: PositionSet>(member: &Ere, leads: bool, line: &[u8], at: &mut S, done: &S) -> bool
-    requires { length line.now ≤ S.longest }
+    requires { length line.now < S.room }
     ensures moved { MovesIf leads (Spans line.now (form member.now)) (S.words done.now) (S.words at.old) (S.words at.new) }
     ensures next { IsTrue result → IsTrue leads × ((place : ℕ) → Spans line.now (form member.now) place place) }
 {
@@ -227,7 +227,7 @@ fn member_past<S: PositionSet>(member: &Ere, leads: bool, line: &[u8], at: &mut 
 /// By a word of one member.
 #[cycle(walk)]
 fn some_past<S: PositionSet>(members: &[Ere], line: &[u8], at: &mut S, done: &S)
-    requires { length line.now ≤ S.longest }
+    requires { length line.now < S.room }
     ensures { MovesPast (SpansSome line.now (trees_of (map form members.now))) (S.words done.now) (S.words at.old) (S.words at.new) }
 {
     let mut found = S::none();
@@ -250,7 +250,7 @@ fn repeat_past<S: PositionSet>(
     at: &mut S,
     done: &S,
 )
-    requires { length line.now ≤ S.longest }
+    requires { length line.now < S.room }
     ensures { MovesPast (Spans line.now (repeat (form body.now) least greatest)) (S.words done.now) (S.words at.old) (S.words at.new) }
 {
     match greatest {
@@ -276,7 +276,7 @@ fn repeat_past<S: PositionSet>(
 /// By a word of the body, or by none.
 #[cycle(walk)]
 fn optional_past<S: PositionSet>(body: &Ere, line: &[u8], at: &mut S, done: &S)
-    requires { length line.now ≤ S.longest }
+    requires { length line.now < S.room }
     ensures { MovesPast (Spans line.now (repeat (form body.now) 0 (Some 1))) (S.words done.now) (S.words at.old) (S.words at.new) }
 {
     let mut start = S::none();
@@ -288,7 +288,7 @@ fn optional_past<S: PositionSet>(body: &Ere, line: &[u8], at: &mut S, done: &S)
 /// By any number of words of the body, one behind the other.
 #[cycle(walk)]
 fn any_past<S: PositionSet>(body: &Ere, line: &[u8], at: &mut S, done: &S)
-    requires { length line.now ≤ S.longest }
+    requires { length line.now < S.room }
     ensures { MovesPast (λ from to. (words : ℕ) × Steps (Spans line.now (form body.now)) words from to) (S.words done.now) (S.words at.old) (S.words at.new) }
 {
     let mut start = S::none();
@@ -300,7 +300,7 @@ fn any_past<S: PositionSet>(body: &Ere, line: &[u8], at: &mut S, done: &S)
 /// By one word of the body or more, one behind the other.
 #[cycle(walk)]
 fn more_past<S: PositionSet>(body: &Ere, line: &[u8], at: &mut S, done: &S)
-    requires { length line.now ≤ S.longest }
+    requires { length line.now < S.room }
     ensures { MovesPast (λ from to. (more : ℕ) × Steps (Spans line.now (form body.now)) (suc more) from to) (S.words done.now) (S.words at.old) (S.words at.new) }
 {
     if let Ere::Set(members) = body {

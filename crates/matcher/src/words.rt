@@ -1,6 +1,6 @@
 //! Sets of positions as words of 64 bits: position k is bit k mod 64 of word k / 64.
 
-ghost use Rattle.std.specs.Prelude.{◌≡◌, ℕ, ◌+◌, ◌-◌, ◌≤◌, ◌<◌, ◌↔◌, ◌&&◌, ◌||◌, ◌==◌, nat_le, nat_lt, false, not, IsTrue, length, slice_index};
+ghost use Rattle.std.specs.Prelude.{◌≡◌, ℕ, ◌+◌, ◌-◌, ◌*◌, ◌≤◌, ◌<◌, ◌↔◌, ◌&&◌, ◌||◌, ◌==◌, nat_le, nat_lt, false, not, IsTrue, length, slice_index};
 ghost use Rattle.ere.specs.ByteSet.{has};
 ghost use Rattle.ere.specs.Bits.{has_bit};
 ghost use Rattle.matcher.specs.PositionSets.{has_position};
@@ -38,16 +38,16 @@ pub fn step(members: &ByteSet, line: &[u8], from: &[u64; WORDS]) -> [u64; WORDS]
 
 /// Moves each position over the byte after it, where that is in the set, and loses the others. All
 /// positions are in the words from `first` up to but not at `end`; the answer is that end afterwards.
-pub(crate) fn shift(
+pub(crate) fn shift<const N: usize>(
     members: &ByteSet,
     line: &[u8],
-    words: &mut [u64; WORDS],
+    words: &mut [u64; N],
     first: usize,
     end: usize,
 ) -> usize
-    requires line { length line.now ≤ MAX_LINE }
-    requires bounds { IsBounded words.old first end }
-    ensures bounded { IsBounded words.new first result }
+    requires line { length line.now < 64 * N }
+    requires bounds { IsBounded N words.old first end }
+    ensures bounded { IsBounded N words.new first result }
     ensures moved { (k : ℕ) → has_position words.new k ≡ arrives members.now line.now words.old k }
 {
     let mut carried = 0;
@@ -56,7 +56,7 @@ pub(crate) fn shift(
         words[i] = moved_up(passing, carried);
         carried = highest(passing);
     }
-    if end < WORDS {
+    if end < N {
         words[end] = carried;
         return end + carried as usize;
     }
@@ -64,9 +64,9 @@ pub(crate) fn shift(
 }
 
 /// The first word of a range that is not empty, or the range's end.
-pub(crate) fn first_held(words: &[u64; WORDS], first: usize, end: usize) -> usize
+pub(crate) fn first_held<const N: usize>(words: &[u64; N], first: usize, end: usize) -> usize
     requires ordered { first ≤ end }
-    requires inside { end ≤ WORDS }
+    requires inside { end ≤ N }
     ensures between { (first ≤ result) × (result ≤ end) }
     ensures none { (i : ℕ) → first ≤ i → i < result → slice_index words.now i ≡ 0 }
 {
@@ -80,20 +80,20 @@ pub(crate) fn first_held(words: &[u64; WORDS], first: usize, end: usize) -> usiz
 
 /// Adds each position to which bytes of the set lead from positions of the set. All positions are in the
 /// words from `first` up to but not at `end`; the answer is that end afterwards.
-pub(crate) fn sweep(
+pub(crate) fn sweep<const N: usize>(
     members: &ByteSet,
     line: &[u8],
-    words: &mut [u64; WORDS],
+    words: &mut [u64; N],
     first: usize,
     end: usize,
 ) -> usize
-    requires line { length line.now ≤ MAX_LINE }
-    requires bounds { IsBounded words.old first end }
-    ensures bounded { IsBounded words.new first result }
+    requires line { length line.now < 64 * N }
+    requires bounds { IsBounded N words.old first end }
+    ensures bounded { IsBounded N words.new first result }
     ensures moved { (k : ℕ) → has_position words.new k ≡ flood (has_position words.old) (passes members.now line.now) k }
 {
     let mut carried = 0;
-    for i in first..WORDS {
+    for i in first..N {
         if i >= end && carried == 0 {
             return i;
         }
@@ -102,7 +102,7 @@ pub(crate) fn sweep(
         let comes = leads_on(word, BITS - 1, i * BITS, members, line);
         carried = bit_if(comes);
     }
-    WORDS
+    N
 }
 
 /// The positions of a word that have a byte of the set after them. `base` is the word's first position.
@@ -331,9 +331,9 @@ fn bit_if(comes: bool) -> u64
 }
 
 /// All words the same.
-pub(crate) fn every(word: u64) -> [u64; WORDS]
-    ensures whole { length result ≡ WORDS }
-    ensures same { (i : ℕ) → i < WORDS → slice_index result i ≡ word }
+pub(crate) fn every<const N: usize>(word: u64) -> [u64; N]
+    ensures whole { length result ≡ N }
+    ensures same { (i : ℕ) → i < N → slice_index result i ≡ word }
 {
-    [word; WORDS]
+    [word; N]
 }

@@ -1,4 +1,4 @@
-use Rattle.std.proofs.Common.{◌≡◌, ◌+◌, ◌-◌, ◌∙◌, arith}
+use Rattle.std.proofs.Common.{◌+◌, ◌-◌, ◌∙◌, arith}
 use Rattle.matcher.proofs.Passing.{passing_none, passing_more, passing_at}
 use Rattle.matcher.proofs.words.few_passing.Goals as goal
 

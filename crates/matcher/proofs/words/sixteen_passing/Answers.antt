@@ -1,4 +1,4 @@
-use Rattle.std.proofs.Common.{◌+◌, ◌≡◌, ◌∙◌, ap, arith}
+use Rattle.std.proofs.Common.{◌∙◌, ap}
 use Rattle.ere.specs.ByteSet.{has}
 use Rattle.matcher.proofs.Passing.{sixteen_more}
 use Rattle.matcher.proofs.words.sixteen_passing.Goals as goal

@@ -3,13 +3,13 @@ use Rattle.matcher.proofs.Joining.{empty_bounded, cleared_more, cleared_all}
 use Rattle.matcher.proofs.positions.PositionsPositionSet.clear.Goals as goal
 
 pub loop-i-preserved : goal.loop-i-preserved
-loop-i-preserved c = cleared_more _ _ _ c.loop-i.invariant c.loop-i-test.true
+loop-i-preserved g c = cleared_more _ _ _ c.loop-i.invariant c.loop-i-test.true
 
 pub invariant_of-self : goal.invariant_of-self
-invariant_of-self c = empty_bounded c.loop-i.self-inside.words c.loop-i.invariant.whole (cleared_all c.loop-i.self-inside.words _ _ c.loop-i.invariant c.loop-i-test.false)
+invariant_of-self g c = empty_bounded c.loop-i.self-inside.words c.loop-i.invariant.few c.loop-i.invariant.whole (cleared_all c.loop-i.self-inside.words _ _ c.loop-i.invariant c.loop-i-test.false)
 
 pub returns-clause-none : goal.returns-clause-none
-returns-clause-none c = none_held c.loop-i.self-inside.words (cleared_all c.loop-i.self-inside.words _ _ c.loop-i.invariant c.loop-i-test.false)
+returns-clause-none g c = none_held c.loop-i.self-inside.words (cleared_all c.loop-i.self-inside.words _ _ c.loop-i.invariant c.loop-i-test.false)
 
 pub returns-clause-empty : goal.returns-clause-empty
-returns-clause-empty c = cleared_all c.loop-i.self-inside.words _ _ c.loop-i.invariant c.loop-i-test.false
+returns-clause-empty g c = cleared_all c.loop-i.self-inside.words _ _ c.loop-i.invariant c.loop-i-test.false

@@ -2,4 +2,4 @@ use Rattle.std.proofs.Common.{◌≡◌, ◌<◌, ℕ, get_or}
 use Rattle.matcher.proofs.positions.PositionsPositionSet.is_empty.Given as goal
 
 abbrev pub invariant-loop-i : goal.invariant-loop-i
-invariant-loop-i l = (i : ℕ) → i < l.i → get_or l.self-inside.words i 0 ≡ 0
+invariant-loop-i g l = (i : ℕ) → i < l.i → get_or l.self-inside.words i 0 ≡ 0
