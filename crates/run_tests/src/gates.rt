@@ -99,6 +99,42 @@ impl Gate for SecondFirst {
     }
 }
 
+/// Holds three searches at their begin, so that each is done before the next one of an order begins.
+#[derive(Drop)]
+pub(crate) struct InOrder {
+    order: (u32, u32, u32),
+    first_done: Flag,
+    second_done: Flag,
+}
+
+impl InOrder {
+    pub(crate) fn of(order: (u32, u32, u32)) -> InOrder {
+        InOrder {
+            order,
+            first_done: Flag::new(),
+            second_done: Flag::new(),
+        }
+    }
+
+    /// Whether a wait was given up.
+    pub(crate) fn is_given_up(&self) -> bool {
+        self.first_done.is_given_up() || self.second_done.is_given_up()
+    }
+}
+
+impl Gate for InOrder {
+    fn turn(&self, search: u32, place: Place) {
+        let (first, second, third) = self.order;
+        match place {
+            Place::Begin if search == second => self.first_done.wait(),
+            Place::Begin if search == third => self.second_done.wait(),
+            Place::Done if search == first => self.first_done.raise(),
+            Place::Done if search == second => self.second_done.raise(),
+            _ => {}
+        }
+    }
+}
+
 /// Tells when search 1 is at a place, and holds it there until it is released.
 #[derive(Drop)]
 pub(crate) struct Held {

@@ -2,7 +2,7 @@
 //! of a publish.
 
 use crate::cases::{Case, expect};
-use crate::gates::{Flag, Held, Late, Open, SecondFirst};
+use crate::gates::{Flag, Held, InOrder, Late, Open, SecondFirst};
 use crate::sources::{Table, Timed};
 use search::Answer;
 use std::alloc::Global;
@@ -51,6 +51,44 @@ fn who(entry: &Entry) -> Option<(u32, u32, u32)> {
         } => Some((*search, *reader, *turn)),
         _ => None,
     }
+}
+
+/// The orders of three searches.
+const ORDERS: [(u32, u32, u32); 6] = [
+    (1, 2, 3),
+    (1, 3, 2),
+    (2, 1, 3),
+    (2, 3, 1),
+    (3, 1, 2),
+    (3, 2, 1),
+];
+
+/// Whatever the order is in which three readers are done, the answers stand in the order of the script, each from its
+/// own reader.
+#[test]
+fn readers_done_in_each_order(rt: HostRuntime) -> Result<(), Fail> {
+    let case = Case {
+        script: b"put f 3\nabc\npublish\nsearch a\nsearch b\nsearch c\n",
+        max_commands: 65_536,
+        stats: false,
+        text: b"search 1 version 1 lines 1\nf:1:abc\nsearch 2 version 1 lines 1\nf:1:abc\nsearch 3 version 1 lines 1\nf:1:abc\n",
+        status: 0,
+    };
+    for order in ORDERS {
+        let gate = InOrder::of(order);
+        let mut source = Table::new(&[], b"", 0);
+        let transcript = expect(&rt, rt.alloc(), &case, 3, &mut source, &gate)?;
+        assert!(rt; !gate.is_given_up(), "{order:?}");
+        assert!(rt;
+            transcript
+                .entries
+                .iter()
+                .filter_map(|entry| who(entry))
+                .eq([(1, 1, 1), (2, 2, 1), (3, 3, 1)]),
+            "{order:?}"
+        );
+    }
+    Ok(())
 }
 
 /// While the one reader is held between taking its documents and matching their lines, the script goes on, with

@@ -1,0 +1,191 @@
+#!/usr/bin/env python3
+"""Judges texts of the built program by the plain conditions of transcripts.py.
+
+First the judge itself: it has to take the texts of tests/cases and examples that are written by hand, and to refuse each text of
+a table, which is wrong by one thing. Then every beginning of a script with a replacement, a put that is pending, and syncs is run
+with several numbers of readers, and so are random scripts, in which few syncs part searches from later publishes; every text has
+to be legal.
+
+Usage: tests/check_transcripts.py   The last line counts: N passed, M failed.
+"""
+
+import pathlib
+import random
+import subprocess
+import sys
+
+import transcripts
+
+TOP = pathlib.Path(__file__).resolve().parent.parent
+PROGRAM = TOP / "crates/program/out/program"
+READERS = [0, 1, 2, 16]
+RANDOM_SCRIPTS = 400
+
+REPLACEMENT = b"put f 3\nold\npublish\nsearch old\nsync\nput f 3\nnew\nsearch old\nsync\npublish\nsearch old\nsearch new\n"
+OLD, OLD_AGAIN = b"search 1 version 1 lines 1\nf:1:old\n", b"search 2 version 1 lines 1\nf:1:old\n"
+NO_OLD, NEW = b"search 3 version 2 lines 0\n", b"search 4 version 2 lines 1\nf:1:new\n"
+
+# Two publishes beside three searches of two readers, so that the first two searches may be answered at two versions.
+BESIDE = b"put a 1\nx\nput b 1\nx\npublish\nsearch x\nsearch x\nsearch x\nput a 1\ny\npublish\n"
+BOTH = b"search %d version 2 lines 2\na:1:x\nb:1:x\n"
+ONE = b"search %d version 3 lines 1\nb:1:x\n"
+
+REFUSALS = b"put  1\nx\nremove a\nput a 1\nx\nput b 3\nx\0y\nput b 1\ny\nremove b\nload c p\nwhat\nsearch \0\npublish\nsearch (x|y)$\nput a 3\nx\n"
+REFUSED = [
+    b"line 1 refused: name empty\n",
+    b"line 3 refused: no such file\n",
+    b"line 6 refused: byte 0 in body\n",
+    b"line 8 refused: full\n",
+    b"line 10 refused: no such file\n",
+    b"line 11 refused: cannot load\n",
+    b"line 12 refused: bad line\n",
+    b"search 1 refused: bad byte at 0\n",
+    b"search 2 version 1 lines 1\na:1:x\n",
+    b"line 16 refused: truncated\n",
+]
+
+# The one file that is there without a case's own folder.
+ENDLESS = {b"/dev/zero": bytes(transcripts.MAX_BODY + 1)}
+
+# Scripts with their options, a text, and its status.
+LEGAL = [
+    (REPLACEMENT, {}, OLD + OLD_AGAIN + NO_OLD + NEW, 0),
+    (REPLACEMENT, {"readers": 0}, OLD + OLD_AGAIN + NO_OLD + NEW, 0),
+    (REPLACEMENT, {"scarce": True}, OLD + b"search 2 refused: out of memory\n" + NO_OLD + NEW, 2),
+    (REPLACEMENT, {"scarce": True}, OLD + b"line 6 refused: out of memory\n" + OLD_AGAIN + b"search 3 version 1 lines 1\nf:1:old\nsearch 4 version 1 lines 0\n", 2),
+    (REPLACEMENT, {"scarce": True}, OLD + OLD_AGAIN + b"line 10 refused: out of memory\nsearch 3 version 1 lines 1\nf:1:old\nsearch 4 version 1 lines 0\n", 2),
+    (BESIDE, {}, BOTH % 1 + BOTH % 2 + BOTH % 3, 0),
+    (BESIDE, {}, BOTH % 1 + ONE % 2 + ONE % 3, 0),
+    (BESIDE, {}, BOTH % 1 + ONE % 2 + BOTH % 3, 0),
+    (BESIDE, {"scarce": True}, ONE % 1 + BOTH % 2 + BOTH % 3, 0),
+    (REFUSALS, {"max_commands": 1}, b"".join(REFUSED), 2),
+]
+
+WRONG = [
+    # an answer is left out, given twice, in another's place, or of no search
+    (REPLACEMENT, {}, OLD + NO_OLD + NEW, 0),
+    (REPLACEMENT, {}, OLD + OLD_AGAIN + NO_OLD, 0),
+    (REPLACEMENT, {}, OLD + OLD + OLD_AGAIN + NO_OLD + NEW, 0),
+    (REPLACEMENT, {}, OLD_AGAIN + OLD + NO_OLD + NEW, 0),
+    (REPLACEMENT, {}, OLD + OLD_AGAIN + NO_OLD + NEW + b"search 5 version 2 lines 0\n", 0),
+    # a text that ends too soon, or goes on
+    (REPLACEMENT, {}, (OLD + OLD_AGAIN + NO_OLD + NEW)[:-1], 0),
+    (REPLACEMENT, {}, (OLD + OLD_AGAIN + NO_OLD + NEW)[:-8], 0),
+    (REPLACEMENT, {}, OLD + OLD_AGAIN + NO_OLD + NEW + b"\n", 0),
+    # a version that is not published, older than what was published before, or from behind a sync
+    (REPLACEMENT, {}, OLD + b"search 2 version 2 lines 0\n" + NO_OLD + NEW, 0),
+    (REPLACEMENT, {}, b"search 1 version 2 lines 0\n" + OLD_AGAIN + NO_OLD + NEW, 0),
+    (REPLACEMENT, {}, b"search 1 version 0 lines 0\n" + OLD_AGAIN + NO_OLD + NEW, 0),
+    (REPLACEMENT, {}, OLD + OLD_AGAIN + b"search 3 version 1 lines 1\nf:1:old\n" + NEW, 0),
+    (REPLACEMENT, {}, OLD + OLD_AGAIN + NO_OLD + b"search 4 version 3 lines 1\nf:1:new\n", 0),
+    (BESIDE, {}, b"search 1 version 1 lines 1\na:1:x\n" + BOTH % 2 + BOTH % 3, 0),
+    # a publish from behind the search, with no readers
+    (BESIDE, {"readers": 0}, BOTH % 1 + BOTH % 2 + ONE % 3, 0),
+    # older than what its reader was answered at
+    (BESIDE, {}, ONE % 1 + BOTH % 2 + BOTH % 3, 0),
+    # the lines of another version, too few, too many, in another order, under another name or number, or of another text
+    (REPLACEMENT, {}, OLD + OLD_AGAIN + NO_OLD + b"search 4 version 2 lines 0\n", 0),
+    (REPLACEMENT, {}, OLD + OLD_AGAIN + b"search 3 version 2 lines 1\nf:1:old\n" + NEW, 0),
+    (BESIDE, {}, b"search 1 version 2 lines 2\nb:1:x\na:1:x\n" + BOTH % 2 + BOTH % 3, 0),
+    (BESIDE, {}, b"search 1 version 2 lines 1\na:1:x\n" + BOTH % 2 + BOTH % 3, 0),
+    (BESIDE, {}, b"search 1 version 2 lines 3\na:1:x\na:1:x\nb:1:x\n" + BOTH % 2 + BOTH % 3, 0),
+    (BESIDE, {}, b"search 1 version 2 lines 2\na:1:x\nb:2:x\n" + BOTH % 2 + BOTH % 3, 0),
+    (BESIDE, {}, b"search 1 version 2 lines 2\na:1:x\nc:1:x\n" + BOTH % 2 + BOTH % 3, 0),
+    (BESIDE, {}, b"search 1 version 2 lines 2\na:1:x\nb:1:xx\n" + BOTH % 2 + BOTH % 3, 0),
+    # want of memory where there is enough, or where it has no place
+    (REPLACEMENT, {}, OLD + b"search 2 refused: out of memory\n" + NO_OLD + NEW, 2),
+    (REPLACEMENT, {}, OLD + b"line 6 refused: out of memory\n" + OLD_AGAIN + b"search 3 version 1 lines 1\nf:1:old\nsearch 4 version 1 lines 0\n", 2),
+    (REPLACEMENT, {"scarce": True}, OLD + b"line 5 refused: out of memory\n" + OLD_AGAIN + NO_OLD + NEW, 2),
+    # what is refused for memory is done all the same, or what is done is called refused
+    (REPLACEMENT, {"scarce": True}, OLD + b"line 6 refused: out of memory\n" + OLD_AGAIN + NO_OLD + NEW, 2),
+    (REPLACEMENT, {"scarce": True}, OLD + OLD_AGAIN + b"line 10 refused: out of memory\n" + NO_OLD + NEW, 2),
+    # a good line, or a good pattern, is refused
+    (REPLACEMENT, {}, OLD + b"line 6 refused: line too long\n" + OLD_AGAIN + NO_OLD + NEW, 2),
+    (REPLACEMENT, {}, OLD + OLD_AGAIN + NO_OLD + b"search 4 refused: bad escape at 0\n", 2),
+    # the counts of documents
+    (REPLACEMENT, {"stats": True}, OLD + OLD_AGAIN + NO_OLD + NEW, 0),
+    # another status
+    (REPLACEMENT, {}, OLD + OLD_AGAIN + NO_OLD + NEW, 1),
+    (REFUSALS, {"max_commands": 1}, b"".join(REFUSED), 0),
+    # a refusal is left out, in another place, with another reason, or all refusals stand before the answers
+    (REFUSALS, {"max_commands": 1}, b"".join(REFUSED[:8] + REFUSED[9:8:-1] + REFUSED[8:9]), 2),
+    (REFUSALS, {"max_commands": 2}, b"".join(REFUSED), 2),
+    (REFUSALS, {"max_commands": 1, "files": {b"p": b"x"}}, b"".join(REFUSED), 2),
+] + [(REFUSALS, {"max_commands": 1}, b"".join(REFUSED[:left_out] + REFUSED[left_out + 1 :]), 2) for left_out in range(len(REFUSED))]
+
+
+def judged_by_hand():
+    """The texts of the tables and of tests/cases that the judge takes where it should not, or does not take; and how many there are."""
+    wrong = ["refuses %r: %s" % (text, fault) for script, options, text, status in LEGAL if (fault := transcripts.fault_of(script, text, status, **options))]
+    wrong += ["takes %r of %r" % (text, script) for script, options, text, status in WRONG if not transcripts.fault_of(script, text, status, **options)]
+    count = len(LEGAL) + len(WRONG)
+    for path in sorted((TOP / "tests/cases").glob("*.script")):
+        words = path.with_suffix(".args").read_text().split() if path.with_suffix(".args").exists() else []
+        if path.with_suffix(".run").exists() or path.with_suffix(".setup").exists() or not set(words) <= {"--stats"}:
+            continue
+        text = path.with_suffix(".stdout").read_bytes() if path.with_suffix(".stdout").exists() else b""
+        status = int(path.with_suffix(".status").read_text()) if path.with_suffix(".status").exists() else 0
+        try:
+            fault = transcripts.fault_of(path.read_bytes(), text, status, stats="--stats" in words, files=ENDLESS)
+        except transcripts.NotPlain:
+            continue
+        count += 1
+        wrong += ["refuses the text of %s: %s" % (path.name, fault)] if fault else []
+    return wrong, count
+
+
+def fault_of_run(script, readers, **options):
+    """What is wrong of a run of the program, or None."""
+    words = [b"--max-commands", b"%d" % options["max_commands"]] if "max_commands" in options else []
+    done = subprocess.run([PROGRAM, "--readers", str(readers)] + words, input=script, capture_output=True, check=False, timeout=60)
+    return repr(done.stderr) if done.stderr else transcripts.fault_of(script, done.stdout, done.returncode, readers=readers, **options)
+
+
+def beginnings():
+    """The beginnings of the script whose texts are not legal, and how many runs there were."""
+    wrong = []
+    for readers in READERS:
+        for length in range(len(REPLACEMENT) + 1):
+            fault = fault_of_run(REPLACEMENT[:length], readers)
+            wrong += ["the first %d bytes with %d readers: %s" % (length, readers, fault)] if fault else []
+    return wrong, len(READERS) * (len(REPLACEMENT) + 1)
+
+
+def random_item(chance):
+    name, text = chance.choice([b"a", b"b", b"c", b"a/b"]), b"\n".join(chance.choices([b"ab", b"b", b"", b"abab"], k=chance.randrange(3)))
+    return chance.choice(
+        [b"put %s %d\n%s" % (name, len(text), text)] * 4
+        + [b"remove " + name] * 2
+        + [b"publish"] * 3
+        + [b"search " + chance.choice([b"ab", b"^b|a$", b"b+$", b"(ab)*", b"zz"])] * 8
+        + [b"searchin %s b" % chance.choice([b"^a", b"b$|c"])]
+        + [b"sync", b"load a /nothing/here", b"pull"]
+    )
+
+
+def random_scripts():
+    """The random scripts whose texts are not legal, and how many runs there were."""
+    chance, wrong = random.Random(1), []
+    for number in range(RANDOM_SCRIPTS):
+        script = b"".join(random_item(chance) + b"\n" for _ in range(chance.randrange(60)))
+        most, readers = chance.choice([5, 1000]), READERS[number % len(READERS)]
+        fault = fault_of_run(script, readers, max_commands=most)
+        wrong += ["%r with %d readers and %d commands: %s" % (script, readers, most, fault)] if fault else []
+    return wrong, RANDOM_SCRIPTS
+
+
+def main():
+    if not PROGRAM.exists():
+        sys.exit("tests/check_transcripts.py: build the program first: ./tsearch --help")
+    passed = failed = 0
+    for part, name in (judged_by_hand, "the judge"), (beginnings, "beginnings"), (random_scripts, "random scripts"):
+        wrong, count = part()
+        for what in wrong:
+            print("FAILED %s: %s" % (name, what))
+        passed, failed = passed + count - len(wrong), failed + len(wrong)
+    print("%d passed, %d failed" % (passed, failed))
+    sys.exit(1 if failed else 0)
+
+
+if __name__ == "__main__":
+    main()

@@ -1,0 +1,126 @@
+#!/usr/bin/env python3
+"""Refuses each request for memory of runs of the built program in turn, and judges what they write.
+
+The script has a replacement, a put that is pending, and syncs; it is run with no readers and with two. With the Nth request
+refused a run ends with the program's word that memory ran out or that a reader has no place, or it writes a text that is legal
+(transcripts.py) where memory may be refused to any item. The requests are counted by the library of refused_memory.py.
+With readers the requests of two threads come in another order each time, so these runs are made several times.
+
+Then a body is searched that is so large that the pattern is compiled, which takes some hundreds of requests in a row. Where one of
+them is refused, the body is searched line by line and the answer stays the same; with stars inside stars the search is refused.
+
+Usage: tests/refused_runs.py   The last line counts: N passed, M failed.
+"""
+
+import collections
+import itertools
+import os
+import pathlib
+import re
+import subprocess
+import sys
+import tempfile
+
+import transcripts
+from check_transcripts import NEW, NO_OLD, OLD, OLD_AGAIN, PROGRAM, REPLACEMENT
+from refused_memory import COUNTING
+
+WANTED = OLD + OLD_AGAIN + NO_OLD + NEW
+WORDS = [b"tsearch: out of memory\n", b"tsearch: no place for a reader\n"]
+TIMES = {0: 1, 2: 5}
+
+# A body that is too large to be looked at line by line, and patterns over it, with what comes of it where no memory is there to
+# compile them.
+LARGE = b"".join(b"line %d of the body, int x = 0x%08x;\n" % (number, number * 7919) for number in range(450))
+PATTERNS = {b"line 44[0-3] .* 0x00": "the same", b"((a*|b)*|c)*0x0034[0-3]": "the search refused"}
+IN_A_ROW = 400
+
+
+def build(folder):
+    """Builds the library that counts and refuses requests, and gives its path."""
+    library = os.path.join(folder, "counting.so")
+    subprocess.run(["cc", "-O2", "-shared", "-fPIC", "-x", "c", "-", "-o", library], input=COUNTING, text=True, check=True)
+    return library
+
+
+def run(library, script, readers, refused):
+    """The status, the output and the messages of the run whose request with this number is refused, and how many there were."""
+    env = dict(os.environ, LD_PRELOAD=library, REFUSED=str(refused))
+    done = subprocess.run([PROGRAM, "--readers", str(readers)], input=script, env=env, capture_output=True, check=False, timeout=60)
+    messages, count = re.fullmatch(rb"(.*)requests (\d+)\n", done.stderr, re.DOTALL).groups()
+    return done.returncode, done.stdout, messages, int(count)
+
+
+def outcome(readers, status, text, messages):
+    """What became of a run of the script with a replacement, and why that may not be, or None."""
+    if messages in WORDS:
+        good = status == 2 and WANTED.startswith(text)
+        return messages.decode().strip(), None if good else "status %d, and %r is written" % (status, text)
+    if messages:
+        return "other words", repr(messages)
+    if (status, text) == (0, WANTED):
+        return "the same", None
+    if text.count(b"out of memory") != 1:
+        return "several items refused", repr(text)
+    return "an item refused", transcripts.fault_of(REPLACEMENT, text, status, readers=readers, scarce=True)
+
+
+def each_request(library, readers):
+    """Refuses each request in turn until a run makes fewer. The outcomes, with what is wrong of them."""
+    refused, seen = 0, []
+    while True:
+        status, text, messages, count = run(library, REPLACEMENT, readers, refused)
+        what, fault = outcome(readers, status, text, messages)
+        if not 0 < refused <= count and what != "the same":
+            fault = "nothing is refused"
+        seen.append((what, "request %d with %d readers: %s" % (refused, readers, fault) if fault else None))
+        if refused > count:
+            return seen
+        refused += 1
+
+
+def each_request_of_a_search(library, pattern):
+    """Refuses each request of a search of the large body in turn. The outcomes, in order."""
+    lines = [b"b:%d:%s\n" % (number, line) for number, line in enumerate(LARGE.split(b"\n"), 1) if re.search(pattern, line)]
+    wanted = b"search 1 version 1 lines %d\n%s" % (len(lines), b"".join(lines))
+    script = b"put b %d\n%s\npublish\nsearch %s\n" % (len(LARGE), LARGE, pattern)
+    seen, count = [], 0
+    while len(seen) <= count:
+        status, text, messages, count = run(library, script, 0, len(seen) + 1)
+        if (status, text, messages) == (0, wanted, b""):
+            seen.append("the same")
+        elif (status, text, messages) == (2, b"search 1 refused: out of memory\n", b""):
+            seen.append("the search refused")
+        elif status == 2 and messages == WORDS[0] and wanted.startswith(text):
+            seen.append("the run refused")
+        else:
+            seen.append("a line refused" if re.match(rb"line \d+ refused: out of memory\nsearch 1 ", text) and status == 2 else "wrong")
+    return seen
+
+
+def main():
+    passed = failed = 0
+    with tempfile.TemporaryDirectory() as folder:
+        library = build(folder)
+        for readers, times in TIMES.items():
+            seen = [it for _ in range(times) for it in each_request(library, readers)]
+            outcomes = collections.Counter(what for what, _ in seen)
+            print("%d readers: %s" % (readers, ", ".join("%s %d" % pair for pair in sorted(outcomes.items()))))
+            wrong = [fault for _, fault in seen if fault]
+            for fault in wrong:
+                print("FAILED %s" % fault)
+            passed, failed = passed + len(seen) - len(wrong), failed + len(wrong)
+        for pattern, wanted in PATTERNS.items():
+            seen = each_request_of_a_search(library, pattern)
+            length, what = max((len(list(group)), what) for what, group in itertools.groupby(seen))
+            print("%s: %s, %d of them in a row" % (pattern.decode(), wanted, length))
+            wrong = seen.count("wrong") + (what != wanted or length < IN_A_ROW)
+            if wrong:
+                print("FAILED %s: %d times %s in a row, %d wrong" % (pattern.decode(), length, what, seen.count("wrong")))
+            passed, failed = passed + len(seen) + 1 - wrong, failed + wrong
+    print("%d passed, %d failed" % (passed, failed))
+    sys.exit(1 if failed else 0)
+
+
+if __name__ == "__main__":
+    main()

@@ -1,0 +1,273 @@
+"""Tells by plain conditions whether a text is what the program may write for a script, for some timing of its readers.
+
+The conditions are those of docs/SCRIPT.md, written by hand and apart from the program's own definitions: every item is accepted,
+or refused with the first reason that fits, in its place; each search has one answer, at a version that was published in the run,
+no older than what its reader knew, and with exactly the lines that match, in order of names and lines.
+
+Lines are matched by Python's `re`, for plain patterns alone: bytes, `.`, sets of letters and digits, `*`, `+`, `?`, groups in which
+no other group is, `|`, `^`, `$`, and a backslash before one of these marks. There `re` and an extended regular expression mean the
+same, since nothing is asked but whether a line has a match: which match is found does not matter, a line holds no line feed, so
+`.` and `[^a]` mean what they mean here and `$` holds at the line's end alone, and both take an anchor in a group as what it is.
+All other patterns are those of a table with what they are to the program, which the caller writes by hand.
+"""
+
+import re
+
+MAX_BODY, MAX_LINE, MAX_PATTERN = 1_048_576, 4_096, 1_024
+
+ATOM = rb"(?:[^\x00\n.\[\\()*+?{|^$]|\.|\[\^?(?:a-z|A-Z|0-9|[0-9A-Za-z_ ])+\]|\\[.\[\\()*+?{|^$])"
+PIECES = rb"(?:%s[*+?]?|[\^$])*" % ATOM
+GROUP = rb"\(%s(?:\|%s)*\)" % (PIECES, PIECES)
+PLAIN = re.compile(rb"(?:(?:%s|%s)[*+?]?|[\^$|])*" % (ATOM, GROUP))
+
+HEAD = re.compile(rb"search (\d+) version (\d+) lines (\d+)( candidates (\d+) of (\d+))?\n")
+REFUSED = re.compile(rb"(search|line) (\d+) refused: ([^\n]*)\n")
+
+
+class NotPlain(Exception):
+    """A pattern that is neither plain nor in the table."""
+
+
+class Illegal(Exception):
+    """Why a text is none that the program may write."""
+
+
+class Item:
+    """A line of a script that asks for something, with its words. A search has its number, all else its line."""
+
+    def __init__(self, kind, number, **words):
+        self.kind, self.number, self.words = kind, number, words
+
+    def is_search(self):
+        return self.kind in ("search", "searchin")
+
+
+def items_of(script):
+    """The items of a script."""
+    items, at, searches = [], 0, 0
+    while at < len(script):
+        line_number = script.count(b"\n", 0, at) + 1
+        line, feed, _ = script[at:].partition(b"\n")
+        at += len(line) + len(feed)
+        word, space, rest = line.partition(b" ")
+        if line == b"" or line.startswith(b"#"):
+            continue
+        if line in (b"publish", b"sync"):
+            items.append(Item(line.decode(), line_number))
+        elif word == b"search" or word == b"searchin" and b" " in rest:
+            searches += 1
+            name, _, pattern = rest.partition(b" ") if word == b"searchin" else (None, None, rest)
+            items.append(Item(word.decode(), searches, name=name, pattern=pattern))
+        elif word == b"load" and re.fullmatch(rb"[^ ]* .+", rest):
+            name, _, path = rest.partition(b" ")
+            items.append(Item("load", line_number, name=name, path=path))
+        elif word == b"remove" and space:
+            items.append(Item("remove", line_number, name=rest))
+        elif word == b"put":
+            form = re.fullmatch(rb"(.*) ([0-9]{1,9})", rest)
+            reason, end = "bad put", at
+            if form:
+                end = at + int(form[2])
+                reason = "truncated" if not feed or end > len(script) else None if script[end : end + 1] in (b"", b"\n") else "body not closed"
+            items.append(Item("bad", line_number, reason=reason) if reason else Item("put", line_number, name=form[1], body=script[at:end]))
+            if reason:
+                break
+            at = end + 1
+        else:
+            items.append(Item("bad", line_number, reason="bad line"))
+    return items
+
+
+def entries_of(text):
+    """The entries of a text in their order, as (of what, its number, the reason or None, the version or None, all its bytes)."""
+    entries, at = [], 0
+    while at < len(text):
+        refused, head = REFUSED.match(text, at), HEAD.match(text, at)
+        if refused:
+            end = refused.end()
+            entries.append((refused[1].decode(), int(refused[2]), refused[3].decode("latin-1"), None, text[at:end]))
+        elif head:
+            end = head.end()
+            for _ in range(int(head[3])):
+                end = text.find(b"\n", end) + 1
+                if end == 0:
+                    raise Illegal("an answer ends before its last line")
+            entries.append(("search", int(head[1]), None, int(head[2]), text[at:end]))
+        else:
+            raise Illegal("no entry begins as %r" % text[at : at + 60])
+        at = end
+    return entries
+
+
+def fault_of_name(name):
+    if not 1 <= len(name) <= 255:
+        return "name too long" if name else "name empty"
+    return None if all(33 <= byte <= 126 or byte >= 128 for byte in name) else "bad byte in name"
+
+
+def fault_of_body(body):
+    if len(body) > MAX_BODY:
+        return "body too long"
+    if 0 in body:
+        return "byte 0 in body"
+    return "line too long" if any(len(line) > MAX_LINE for line in body.split(b"\n")) else None
+
+
+def fault_of_pattern(pattern, table):
+    """The reason that the program has to refuse a pattern with, or None."""
+    if len(pattern) > MAX_PATTERN:
+        return "pattern too long at %d" % MAX_PATTERN
+    if 0 in pattern:
+        return "bad byte at %d" % pattern.index(0)
+    if pattern in table:
+        return None if callable(table[pattern]) else table[pattern]
+    if not PLAIN.fullmatch(pattern):
+        raise NotPlain(pattern)
+    return None
+
+
+def test_of(pattern, table):
+    """The test whether a line has a match of a pattern without a fault."""
+    return table[pattern] if pattern in table else re.compile(pattern).search
+
+
+class Run:
+    """What is known of a run at one of its items: what is accepted so far, and which versions were published where."""
+
+    def __init__(self, files, max_commands, scarce):
+        self.files, self.max_commands, self.scarce = files, max_commands, scarce
+        self.states = [{}]  # the documents after each number of accepted commands
+        self.published = []  # pairs of a place among the items and a version
+
+    def reasons(self, item):
+        """The reasons one of which must be given for this item, none of a search; None is that it is accepted."""
+        kind, words, now = item.kind, item.words, self.states[-1]
+        if kind in ("bad", "sync"):
+            return [words.get("reason")]
+        fault = None if kind == "publish" else fault_of_name(words["name"])
+        scarce = ["out of memory"] if self.scarce and not fault else []
+        if kind == "load":
+            fault = fault or (None if words["path"] in self.files else "cannot load")
+            words["body"] = self.files.get(words["path"])
+        if kind in ("put", "load"):
+            fault = fault or fault_of_body(words["body"])
+        if kind == "remove" and not fault and words["name"] not in now:
+            fault = "no such file"
+        if kind != "publish" and not fault and len(self.states) > self.max_commands:
+            fault = "full"
+        return [fault] + scarce
+
+    def carry_out(self, place, item):
+        """What an accepted item changes."""
+        if item.kind == "publish":
+            self.published.append((place, len(self.states) - 1))
+        elif item.kind in ("put", "load", "remove"):
+            after = dict(self.states[-1])
+            after.pop(item.words["name"], None)
+            if item.kind != "remove":
+                after[item.words["name"]] = item.words["body"]
+            self.states.append(after)
+
+    def last_published(self, place):
+        """The version that the last publish before a place published."""
+        return max((version for at, version in self.published if at < place), default=0)
+
+    def versions(self, place, items, readers):
+        """The versions that a search at this place may be answered at."""
+        syncs = [at for at, item in enumerate(items) if item.kind == "sync" and at > place]
+        end = place if readers == 0 else syncs[0] if syncs else len(items)
+        least, greatest = self.last_published(place), self.last_published(end)
+        return {version for version in [0] + [version for _, version in self.published] if least <= version <= greatest}
+
+
+def answer(item, documents, version, table):
+    """The lines of a search's answer as they are written, and the names of the documents that have them."""
+    lines, names = [], set()
+    test, test_name = test_of(item.words["pattern"], table), item.words["name"]
+    for name in sorted(documents):
+        if test_name is not None and not test_of(test_name, table)(name):
+            continue
+        texts = documents[name].split(b"\n")
+        for number, text in enumerate(texts if texts[-1] else texts[:-1], 1):
+            if test(text):
+                lines.append(b"%s:%d:%s\n" % (name, number, text))
+                names.add(name)
+    return b"search %d version %d lines %d" % (item.number, version, len(lines)), b"".join(lines), names
+
+
+def check_answer(item, entry, documents, stats, table):
+    version, text = entry[3], entry[4]
+    head, lines, names = answer(item, documents, version, table)
+    first, _, rest = text.partition(b"\n")
+    counts = HEAD.match(text)
+    if stats:
+        if not counts[4] or int(counts[6]) != len(documents) or not len(names) <= int(counts[5]) <= len(documents):
+            raise Illegal("search %d counts other documents" % item.number)
+        head += counts[4]
+    if (first, rest) != (head, lines):
+        raise Illegal("search %d is answered by %r, and at version %d should be by %r" % (item.number, text[:300], version, (head + b"\n" + lines)[:300]))
+
+
+def reason_of_search(item, table):
+    """The reason that a search has to be refused with, or None. The name pattern is looked at first."""
+    if item.words["name"] is not None:
+        reason = fault_of_pattern(item.words["name"], table)
+        if reason:
+            return "name pattern: " + reason
+    return fault_of_pattern(item.words["pattern"], table)
+
+
+def pair(items, text):
+    """The entry of each item, or None where it has none."""
+    places = {("search" if item.is_search() else "line", item.number): place for place, item in enumerate(items)}
+    entries, last = [None] * len(items), -1
+    for entry in entries_of(text):
+        place = places.get(entry[:2])
+        if place is None or place <= last:
+            raise Illegal("the entry %r is out of its place" % entry[4][:60])
+        entries[place], last = entry, place
+    return entries
+
+
+def check(script, text, readers=2, max_commands=65_536, stats=False, files=None, table=None, scarce=False):
+    """Comes back where the text is legal, and gives the status that the run then has to end with. `files` are the bytes by
+    their paths, `table` the patterns that are not plain, each with the reason of its refusal or the test of a line. Where memory
+    is scarce, it may be refused to each item, and any reader may answer a search."""
+    items, table = items_of(script), table or {}
+    entries = pair(items, text)
+    run = Run(files or {}, max_commands, scarce)
+    for place, (item, entry) in enumerate(zip(items, entries)):
+        if item.is_search():
+            continue
+        reason = entry[2] if entry else None
+        if reason not in run.reasons(item):
+            raise Illegal("line %d, a %s, is %s, and should be %s" % (item.number, item.kind, reason or "accepted", " or ".join(map(str, run.reasons(item)))))
+        if reason is None:
+            run.carry_out(place, item)
+    answered = {}
+    for place, (item, entry) in enumerate(zip(items, entries)):
+        if not item.is_search():
+            continue
+        if entry is None:
+            raise Illegal("search %d has no answer" % item.number)
+        if entry[2] is not None or reason_of_search(item, table):
+            if entry[2] != reason_of_search(item, table) and not (scarce and entry[2] == "out of memory"):
+                raise Illegal("search %d is refused by %r, and should be by %r" % (item.number, entry[2], reason_of_search(item, table)))
+            continue
+        reader = (item.number - 1) % readers if readers and not scarce else item.number
+        if entry[3] not in run.versions(place, items, readers) or entry[3] < answered.get(reader, 0):
+            raise Illegal("search %d is answered at version %d" % (item.number, entry[3]))
+        answered[reader] = entry[3]
+        check_answer(item, entry, run.states[entry[3]], stats, table)
+    if any(entry and entry[2] for entry in entries):
+        return 2
+    return 0 if any(entry and entry[4].count(b"\n") > 1 for entry in entries) else 1
+
+
+def fault_of(script, text, status, **options):
+    """Why a run may not have written this text and ended with this status, or None."""
+    try:
+        wanted = check(script, text, **options)
+    except Illegal as illegal:
+        return str(illegal)
+    return None if status == wanted else "the status is %d, and should be %d" % (status, wanted)
