@@ -284,6 +284,94 @@ fn held_of(alloc: Global, i: u8) -> Result<Held, Fail> {
     Ok(Held::new(body)?)
 }
 
+fn letter(k: u32) -> u8 {
+    b'a' + (k % 26) as u8
+}
+
+/// A text of five bytes, whose first trigram no other number below 17,576 has.
+fn text_of(i: u32) -> [u8; 5] {
+    [letter(i), letter(i / 26), letter(i / 676), b'x', b'y']
+}
+
+/// Whether the text of this number, put under f, is what its first two trigrams lead to, and the first of the text
+/// before it leads to none.
+fn replaces(rt: &impl Abort, alloc: Global, index: &mut Index, i: u32) -> Result<bool, Fail> {
+    let [a, b, c, x, y] = text_of(i);
+    let [d, e, f, _, _] = text_of(i.wrapping_sub(1));
+    let (name, body) = document(alloc, b"f", &[a, b, c, x, y])?;
+    assert!(rt; index.version() < 2000);
+    index.apply(Command::Put(name, body))?;
+    let number = index.version();
+    Ok(
+        has(alloc, index, [a, b, c], &[number])?
+            && has(alloc, index, [b, c, x], &[number])?
+            && has(alloc, index, [d, e, f], &[])?
+            && index.documents() == 2,
+    )
+}
+
+/// One document is replaced 1,000 times, each time with trigrams that were not there, beside one that stays.
+#[test]
+fn a_document_is_replaced_often(rt: HostRuntime) -> Result<(), Fail> {
+    let alloc = rt.alloc();
+    let mut index = index_of(&rt, alloc, b"g 0axy")?;
+    for i in 0..1001 {
+        assert!(rt; replaces(&rt, alloc, &mut index, i)?, "{i}");
+        let both = [1, index.version()];
+        let with_axy = if i < 676 { 2 } else { 1 };
+        assert!(rt; has(alloc, &index, *b"axy", &both[..with_axy])?, "{i}");
+        assert!(rt; has(alloc, &index, *b"0ax", &[1])?, "{i}");
+    }
+    Ok(())
+}
+
+/// The query that every so many of the texts of `many` meet, each by a member of its own.
+fn one_of(alloc: Global, step: u8) -> Result<Query, Fail> {
+    let mut members = Vec::new(alloc);
+    for i in 0..=255u8 {
+        if i.checked_rem(step) == Some(0) {
+            members.push(Query::Has(Trigram::of([b'x', b'a' + i % 26, b'a' + i / 26])))?;
+        }
+    }
+    Ok(Query::Or(members))
+}
+
+/// Whether the candidates of the query are every so many of 200 documents, from the first on.
+fn are_every(alloc: Global, index: &Index, query: &Query, step: u32) -> Result<bool, Fail> {
+    let found = index.candidates(alloc, query)?;
+    let numbers: Vec<u32> = found.numbers().collect(alloc)?;
+    let mut every = Vec::new(alloc);
+    for i in 0..200u32 {
+        if i.checked_rem(step) == Some(0) {
+            every.push(i + 1)?;
+        }
+    }
+    Ok(numbers.as_slice() == every.as_slice())
+}
+
+/// Whether an Or of every so many trigrams finds its documents: alone, beside all, and where every second one is asked
+/// for too.
+fn finds_every(alloc: Global, index: &Index, step: u8) -> Result<bool, Fail> {
+    let all = Query::Or(vec![in alloc; one_of(alloc, step)?, Query::Any]?);
+    let both = Query::And(vec![in alloc; one_of(alloc, step)?, one_of(alloc, 2)?]?);
+    let even = if step % 2 == 0 { 1 } else { 2 };
+    Ok(
+        are_every(alloc, index, &one_of(alloc, step)?, step as u32)?
+            && are_every(alloc, index, &all, 1)?
+            && are_every(alloc, index, &both, even * step as u32)?,
+    )
+}
+
+#[test]
+fn one_of_many_trigrams(rt: HostRuntime) -> Result<(), Fail> {
+    let alloc = rt.alloc();
+    let index = many(&rt, alloc)?;
+    for step in [1, 2, 3, 7, 100, 255] {
+        assert!(rt; finds_every(alloc, &index, step)?, "{step}");
+    }
+    Ok(())
+}
+
 /// Whether the candidates with the trigram bcd have the first numbers, and those with abc the second ones.
 fn have(alloc: Global, index: &Index, bcd: &[u32], abc: &[u32]) -> Result<bool, Fail> {
     Ok(has(alloc, index, *b"bcd", bcd)? && has(alloc, index, *b"abc", abc)?)

@@ -6,7 +6,8 @@ ghost use Rattle.index.specs.Text.{IsBody};
 
 use crate::body::Body;
 use crate::error::HeldError;
-use query::{Trigram, trigrams_of};
+use posting::Trigrams;
+use query::trigrams_of;
 use std::alloc::AllocError;
 use std::marker::Model;
 use std::sync::Arc;
@@ -15,7 +16,7 @@ use std::sync::Arc;
 #[derive(Drop)]
 struct Analysed {
     body: Body,
-    trigrams: Vec<Trigram>,
+    trigrams: Trigrams,
 }
 
 /// A body with what an index needs of it, shared by all that hold it: the trigrams of its lines are found once.
@@ -44,7 +45,7 @@ impl Held {
         ensures held { IfOk result (λ held. held ≡ body) }
         ensures returned { IfErr result (λ e. e.body ≡ body) }
     {
-        match trigrams_of(body.allocator(), body.as_bytes()) {
+        match trigrams_in(&body) {
             Ok(trigrams) => Held::with(body, trigrams),
             Err(error) => Err(HeldError { body, error }),
         }
@@ -52,8 +53,8 @@ impl Held {
 
     /// The body with these trigrams, which are its own. An `Err` comes only where memory ran out, and hands the
     /// body back.
-    pub(crate) fn with(body: Body, trigrams: Vec<Trigram>) -> Result<Held, HeldError>
-        requires { ListsTrigrams body trigrams.items }
+    pub(crate) fn with(body: Body, trigrams: Trigrams) -> Result<Held, HeldError>
+        requires { ListsTrigrams body trigrams }
         ensures held { IfOk result (λ held. held ≡ body) }
         ensures returned { IfErr result (λ e. e.body ≡ body) }
     {
@@ -82,11 +83,22 @@ impl Held {
     }
 
     /// The trigrams of the body's lines, rising, each once.
-    pub(crate) fn trigrams(&self) -> &[Trigram]
+    pub(crate) fn trigrams(&self) -> &Trigrams
         ensures trigrams { ListsTrigrams self.now result.now }
         ensures body { IsBody self.now }
     {
         let _bytes = self.shared.body.as_bytes();
-        self.shared.trigrams.as_slice()
+        &self.shared.trigrams
     }
+}
+
+/// The trigrams of a body's lines.
+///
+/// The error is that there is no memory for them.
+pub(crate) fn trigrams_in(body: &Body) -> Result<Trigrams, AllocError>
+    ensures trigrams { IfOk result (λ trigrams. ListsTrigrams body.now trigrams) }
+    ensures body { IsBody body.now }
+{
+    let found = trigrams_of(body.allocator(), body.as_bytes())?;
+    Trigrams::new(body.allocator(), &found)
 }

@@ -15,11 +15,11 @@ ghost use Rattle.index.specs.Private.Few.{AreFew, by_bytes};
 use crate::body::Body;
 use crate::command::Command;
 use crate::error::{ApplyError, HeldError};
-use crate::held::Held;
+use crate::held::{Held, trigrams_in};
 use crate::name::Name;
 use crate::slots::{Entry, entry_at};
 use crate::store::Store;
-use query::{Query, trigrams_of};
+use query::Query;
 use std::alloc::{AllocError, Global};
 use std::collections::BTreeMap;
 use std::marker::Model;
@@ -93,7 +93,7 @@ impl Index {
         ensures returned { IfErr result (λ e. e.command ≡ put_command name body) }
     {
         let number = self.version + 1;
-        let trigrams = match trigrams_of(body.allocator(), body.as_bytes()) {
+        let trigrams = match trigrams_in(&body) {
             Ok(trigrams) => trigrams,
             Err(error) => return Err(refused(name, body, error)),
         };

@@ -5,8 +5,7 @@ ghost use Rattle.posting.specs.ListValue.{has, without};
 ghost use Rattle.posting.specs.Postings.{holds, SameSets};
 ghost use Rattle.index.specs.Private.Sets.{HasRoomFor, IsNew};
 
-use posting::{List, Postings};
-use query::Trigram;
+use posting::{List, Postings, Trigrams};
 use std::alloc::{AllocError, Global};
 
 /// The numbers of the documents, and for each trigram those of the documents whose body has it.
@@ -30,7 +29,7 @@ impl Sets {
 
     /// Makes room for a document with this number and these trigrams, so that `put_in` takes no memory. The sets
     /// have the numbers that they had.
-    pub(crate) fn make_room(&mut self, number: u32, trigrams: &[Trigram]) -> Result<(), AllocError>
+    pub(crate) fn make_room(&mut self, number: u32, trigrams: &Trigrams) -> Result<(), AllocError>
         ensures live { self.new.live.members ≡ self.old.live.members }
         ensures postings { SameSets self.old.postings self.new.postings }
         ensures ok { OnOk result (HasRoomFor self.new trigrams.now) }
@@ -40,7 +39,7 @@ impl Sets {
     }
 
     /// Takes the document with this number and these trigrams out.
-    pub(crate) fn take_out(&mut self, number: u32, trigrams: &[Trigram])
+    pub(crate) fn take_out(&mut self, number: u32, trigrams: &Trigrams)
         ensures live { self.new.live.members ≡ without number self.old.live.members }
         ensures postings { (trigram n : ℕ) → holds self.new.postings trigram n
             ≡ (holds self.old.postings trigram n && not (has trigrams.now trigram && n == number)) }
@@ -50,7 +49,7 @@ impl Sets {
     }
 
     /// Puts a document with this number and these trigrams in, for which there is room.
-    pub(crate) fn put_in(&mut self, number: u32, trigrams: &[Trigram])
+    pub(crate) fn put_in(&mut self, number: u32, trigrams: &Trigrams)
         requires room { HasRoomFor self.old trigrams.now }
         requires above { IsNew self.old number trigrams.now }
         ensures live { self.new.live.members ≡ self.old.live.members ++ number ∷ [] }

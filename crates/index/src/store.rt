@@ -9,7 +9,7 @@ ghost use Rattle.index.specs.Private.Store.{stored, IsStore, HasPlaceFor, left_a
 
 use crate::sets::Sets;
 use crate::slots::{Entry, Slot, compact, take};
-use query::Trigram;
+use posting::Trigrams;
 use std::alloc::{AllocError, Global};
 
 /// The documents of an index, with their sets.
@@ -36,7 +36,7 @@ impl Store {
     }
 
     /// Makes room for a document with this number and these trigrams. The documents stay as they are.
-    pub(crate) fn make_room(&mut self, number: u32, trigrams: &[Trigram]) -> Result<(), AllocError>
+    pub(crate) fn make_room(&mut self, number: u32, trigrams: &Trigrams) -> Result<(), AllocError>
         ensures documents { stored self.new ≡ stored self.old }
         ensures store { (last : ℕ) → IsStore last self.old → IsStore last self.new }
         ensures ok { OnOk result ((body : List ℕ) → ListsTrigrams body trigrams.now → HasPlaceFor self.new body) }

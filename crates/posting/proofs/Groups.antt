@@ -15,13 +15,13 @@ use Rattle.posting.specs.Private.Gaps.{numbers_in, numbers_after, last_of, limit
 use Rattle.posting.proofs.Rising.{rising-head, rising-tail}
 
 -- a number below 128 is its one group
-groups-low : (more g : ℕ) → g < 128 → groups more g ≡ g ∷ []
+pub groups-low : (more g : ℕ) → g < 128 → groups more g ≡ g ∷ []
 unfolding groups
 groups-low zero g low = refl
 groups-low (suc more) g low = let e : nat_lt g 128 ≡ true = grind (arith, nat_tests) in rw e refl
 
 -- another one's first group, and those of the rest of it
-groups-high : (more g : ℕ) → 128 ≤ g → groups (suc more) g ≡ (g % 128 + 128) ∷ groups more (g / 128)
+pub groups-high : (more g : ℕ) → 128 ≤ g → groups (suc more) g ≡ (g % 128 + 128) ∷ groups more (g / 128)
 unfolding groups
 groups-high more g high = let e : nat_lt g 128 ≡ false = grind (arith, nat_tests) in rw e refl
 
@@ -147,7 +147,7 @@ pub last_of-append : (before : ℕ) (xs ys : List ℕ) → last_of before (xs ++
 last_of-append before [] ys = ap (λ l. last_of l ys) (sym (last_of-nil before))
 last_of-append before (x ∷ xs) ys = last_of-cons before x (xs ++ ys) ∙ last_of-append x xs ys ∙ ap (λ l. last_of l ys) (sym (last_of-cons before x xs))
 
-groups-one : (g : ℕ) → groups zero g ≡ g ∷ []
+pub groups-one : (g : ℕ) → groups zero g ≡ g ∷ []
 unfolding groups
 groups-one g = refl
 

@@ -3,6 +3,7 @@ pub mod Rising
 pub mod Groups
 pub mod Members
 pub mod Walks
+pub mod Cuts
 pub mod Meeting
 pub mod Merging
 pub mod Slots

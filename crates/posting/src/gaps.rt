@@ -3,7 +3,7 @@
 ghost use Rattle.std.specs.Prelude.{◌≡◌, ℕ, List, ◌+◌, ◌^◌, ◌<◌, ◌≤◌, ◌++◌, All, IfSome, IfNone, length, take, drop};
 ghost use Rattle.smallvec.specs.SmallVec.{HasRoomFor};
 ghost use Rattle.posting.specs.Stored.{groups, bytes_of};
-ghost use Rattle.posting.specs.Private.Gaps.{IsSpelled, IsFirstNumber, IsPassed, IsBlock, numbers_after, limit};
+ghost use Rattle.posting.specs.Private.Gaps.{IsSpelled, IsFirstNumber, IsPassed, IsBlock, IsLastPlace, IsCut, numbers_after, last_of, limit};
 
 use smallvec::SmallVec;
 
@@ -78,6 +78,94 @@ fn step(bytes: &[u8], before: u32, number: u32) -> Option<(&[u8], u32)>
     }
 }
 
+/// The bytes from the first number on that isn't below this one, and the number before it, with the last number of
+/// all. They are looked for from the end that seems nearer.
+pub(crate) fn seek(bytes: &[u8], last: u32, number: u32) -> (&[u8], u32)
+    requires spelled { IsSpelled 0 bytes.now }
+    requires last { last ≡ last_of 0 (numbers_after 0 bytes.now) }
+    ensures passed { IsPassed 0 bytes.now number result.1 result.0.now }
+    ensures next { All (λ n. number ≤ n) (numbers_after result.1 result.0.now) }
+{
+    if number > last / 2 {
+        pass_back(bytes, last, number)
+    } else {
+        pass(bytes, 0, number)
+    }
+}
+
+// The same from the end.
+fn pass_back(bytes: &[u8], last: u32, number: u32) -> (&[u8], u32)
+    requires spelled { IsSpelled 0 bytes.now }
+    requires last { last ≡ last_of 0 (numbers_after 0 bytes.now) }
+    ensures passed { IsPassed 0 bytes.now number result.1 result.0.now }
+    ensures next { All (λ n. number ≤ n) (numbers_after result.1 result.0.now) }
+{
+    let mut front = bytes;
+    let mut at = last;
+    while !front.is_empty() {
+        match step_back(front, at, number) {
+            Some((fewer, before)) => {
+                front = fewer;
+                at = before;
+            }
+            None => return (&bytes[front.len()..], at),
+        }
+    }
+    (bytes, at)
+}
+
+// Leaves out some of the last numbers, if the last one isn't below this one: all of a block at once, where none of
+// them is.
+fn step_back(bytes: &[u8], last: u32, number: u32) -> Option<(&[u8], u32)>
+    requires spelled { IsSpelled 0 bytes.now }
+    requires last { last ≡ last_of 0 (numbers_after 0 bytes.now) }
+    requires some { 0 < length bytes.now }
+    ensures some { IfSome result (λ s. IsCut bytes.now number s.0.now s.1 × (length s.0.now < length bytes.now)) }
+    ensures none { IfNone result (last < number) }
+{
+    if last < number {
+        return None;
+    }
+    if let Some((front, before)) = cut_block(bytes, last) {
+        if number <= before {
+            return Some((front, before));
+        }
+    }
+    let place = last_place(bytes);
+    let (gap, _) = first_gap(&bytes[place..]);
+    Some((&bytes[..place], last - gap))
+}
+
+// Leaves out the last bytes, where each of them is the whole of a number. The byte before them is then the end of one.
+fn cut_block(bytes: &[u8], last: u32) -> Option<(&[u8], u32)>
+    requires spelled { IsSpelled 0 bytes.now }
+    requires last { last ≡ last_of 0 (numbers_after 0 bytes.now) }
+    ensures { IfSome result (λ s. IsCut bytes.now s.1 s.0.now s.1 × (length s.0.now < length bytes.now)) }
+{
+    if bytes.len() < BLOCK {
+        return None;
+    }
+    let block = &bytes[bytes.len() - BLOCK..];
+    let sum = sum_of_block(block)?;
+    let before = last - (sum - block[0] as u32);
+    Some((&bytes[..bytes.len() - BLOCK + 1], before))
+}
+
+// Where the last number begins: after the last byte but one that ends a number.
+fn last_place(bytes: &[u8]) -> usize
+    requires { 0 < length bytes.now }
+    ensures { IsLastPlace bytes.now result }
+{
+    let mut place = bytes.len() - 1;
+    while place > 0 {
+        if bytes[place - 1] < 128 {
+            return place;
+        }
+        place -= 1;
+    }
+    0
+}
+
 // The sum of the first bytes, where each of them is the whole of a number.
 fn sum_of_block(bytes: &[u8]) -> Option<u32>
     ensures { IfSome result (λ total. IsBlock bytes.now total) }
@@ -109,18 +197,20 @@ pub(crate) fn push_gap(bytes: &mut SmallVec<u8, 16>, gap: u32)
     bytes.push_reserved(rest as u8);
 }
 
-/// Writes a number's groups over these bytes, and moves those after them up to it. The result is how many
-/// bytes there are then.
-pub(crate) fn replace(bytes: &mut [u8], from: usize, to: usize, gap: u32) -> usize
+/// Puts a number's groups in the place of these bytes, which are as many or more.
+pub(crate) fn replace(bytes: &mut SmallVec<u8, 16>, from: usize, to: usize, gap: u32)
     requires fits { from + length (bytes_of gap) ≤ to }
-    requires within { to ≤ length bytes.old }
-    ensures len { length bytes.new ≡ length bytes.old }
-    ensures bytes { take result bytes.new ≡ take from bytes.old ++ (bytes_of gap ++ drop to bytes.old) }
+    requires within { to ≤ length bytes.old.items }
+    ensures items { bytes.new.items
+        ≡ take from bytes.old.items ++ (bytes_of gap ++ drop to bytes.old.items) }
+    ensures len { length bytes.new.items ≤ length bytes.old.items }
+    ensures capacity { bytes.new.capacity ≡ bytes.old.capacity }
 {
-    let end = write_gap(bytes, from, gap);
-    let left = bytes.len() - to;
-    bytes.copy_within(to.., end);
-    end + left
+    let end = write_gap(bytes.as_mut_slice(), from, gap);
+    // one by one, since `remove` moves the bytes after it at once, and there is mostly one
+    for _place in end..to {
+        bytes.remove(end);
+    }
 }
 
 fn write_gap(bytes: &mut [u8], from: usize, gap: u32) -> usize

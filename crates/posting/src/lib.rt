@@ -6,6 +6,8 @@ mod gaps;
 pub mod list;
 mod pages;
 pub mod postings;
+pub mod trigrams;
 
 pub use list::{List, Lookup, Numbers};
 pub use postings::Postings;
+pub use trigrams::Trigrams;

@@ -9,6 +9,7 @@ ghost use Rattle.posting.specs.Private.Selection.{Finds};
 use crate::list::{List, union_of};
 use crate::pages;
 use crate::pages::Owned;
+use crate::trigrams::Trigrams;
 use query::{Query, Trigram};
 use std::alloc::{AllocError, Global};
 use std::marker::Model;
@@ -55,37 +56,37 @@ impl Postings {
     ///
     /// The error is that there is no memory for it; empty lists and some of the room may then be new, and stay
     /// until a `withdraw` from these sets.
-    pub fn prepare(&mut self, number: u32, trigrams: &[Trigram]) -> Result<(), AllocError>
+    pub fn prepare(&mut self, number: u32, trigrams: &Trigrams) -> Result<(), AllocError>
         ensures sets { SameSets self.old self.new }
         ensures room { KeepsRoom self.old self.new }
         ensures ok { OnOk result (IsPrepared self.new trigrams.now) }
     {
-        for trigram in trigrams {
-            self.make_room(*trigram, number)?;
+        for trigram in trigrams.iter() {
+            self.make_room(trigram, number)?;
         }
         Ok(())
     }
 
     /// Puts the number into the sets of these trigrams, which were prepared for it. It takes no memory.
-    pub fn add(&mut self, number: u32, trigrams: &[Trigram])
+    pub fn add(&mut self, number: u32, trigrams: &Trigrams)
         requires prepared { IsPrepared self.old trigrams.now }
         requires above { IsAbove self.old trigrams.now number }
         requires once { AllDiffer trigrams.now }
         ensures { AddsNumber self.old self.new trigrams.now number }
     {
-        for trigram in trigrams {
-            self.push(*trigram, number);
+        for trigram in trigrams.iter() {
+            self.push(trigram, number);
         }
     }
 
     /// Takes the number out of the sets of these trigrams; a set that hasn't got it keeps its numbers. A set
     /// without a number gives its memory and its room back. It takes no memory.
-    pub fn withdraw(&mut self, number: u32, trigrams: &[Trigram])
+    pub fn withdraw(&mut self, number: u32, trigrams: &Trigrams)
         ensures sets { WithdrawsNumber self.old self.new trigrams.now number }
         ensures empty { GivesBack self.new trigrams.now }
     {
-        for trigram in trigrams {
-            self.remove(*trigram, number);
+        for trigram in trigrams.iter() {
+            self.remove(trigram, number);
         }
     }
 

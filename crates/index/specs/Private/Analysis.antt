@@ -10,4 +10,4 @@ abbrev pub body_in : Arc Analysed Global → List ℕ
 body_in shared = (arc_value shared).body
 
 abbrev pub IsAnalysed : Arc Analysed Global → Type 0
-IsAnalysed shared = ListsTrigrams (body_in shared) (arc_value shared).trigrams.items
+IsAnalysed shared = ListsTrigrams (body_in shared) (arc_value shared).trigrams

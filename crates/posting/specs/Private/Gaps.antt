@@ -1,5 +1,5 @@
 -- Stored numbers, read back.
-use Rattle.std.specs.Prelude.{◌≡◌, ℕ, zero, suc, ◌+◌, ◌-◌, ◌*◌, ◌^◌, ◌<◌, ◌≤◌, if◌then◌else◌, nat_lt, nat_le, List, [], ◌∷◌, ◌++◌, All, filter, length, true, ◌||◌, take, sum}
+use Rattle.std.specs.Prelude.{◌≡◌, ℕ, zero, suc, ◌+◌, ◌-◌, ◌*◌, ◌^◌, ◌<◌, ◌≤◌, if◌then◌else◌, nat_lt, nat_le, List, [], ◌∷◌, ◌++◌, All, filter, length, true, ◌||◌, take, sum, slice_index}
 use Rattle.std.specs.List.Sorted.{IsStrictlyIncreasing}
 use Rattle.posting.specs.ListValue.{has, without}
 use Rattle.posting.specs.Stored.{bytes_of, bytes_after}
@@ -78,3 +78,18 @@ pub record IsLower (left right : List ℕ) (number : ℕ) (left' right' : List �
   pub right_is : right' ≡ without number right
   pub rising_left : IsStrictlyIncreasing left
   pub rising_right : IsStrictlyIncreasing right
+
+-- The last number of bytes begins here: no byte from here on but the last one ends a number, and the one before does.
+pub record IsLastPlace (bytes : List ℕ) (place : ℕ) : Type 0 where
+  pub inside : place < length bytes
+  pub high : (k : ℕ) → place ≤ k → k + 1 < length bytes → 128 ≤ slice_index bytes k
+  pub low : 0 < place → slice_index bytes (place - 1) < 128
+
+-- Numbers at the end, none below one, were left out.
+pub record IsCut (bytes : List ℕ) (number : ℕ) (front : List ℕ) (last : ℕ) : Type 0 where
+  pub left : List ℕ
+  pub numbers : numbers_after 0 bytes ≡ numbers_after 0 front ++ left
+  pub stored : bytes ≡ front ++ bytes_after last left
+  pub ends : last ≡ last_of 0 (numbers_after 0 front)
+  pub above : All (λ n. number ≤ n) left
+  pub spelled : IsSpelled 0 front

@@ -21,13 +21,12 @@ replace-requires-clause-store c = (c.self.inside.version, c.make_room.ensures.st
 pub replace-requires-clause-room : goal.replace-requires-clause-room
 replace-requires-clause-room c =
     let held = c.in-Ok-with.held in
-    let lists = subst (λ b. ListsTrigrams b c.in-Ok.trigrams.items) (c.as_bytes.ensures.bytes ∙ sym c.in-Ok-with.ensures.held) c.in-Ok.ensures in
-    c.in_default.ensures.ok held (subst (λ xs. ListsTrigrams held xs) (sym c.deref.ensures.value) lists)
+    c.in_default.ensures.ok held (subst (λ b. ListsTrigrams b c.in-Ok.trigrams) (sym c.in-Ok-with.ensures.held) c.in-Ok.ensures.trigrams)
 
 pub replace-requires-clause-bytes : goal.replace-requires-clause-bytes
 replace-requires-clause-bytes c =
     let kept = IsIndex-room c.self.inside.version c.self.inside.numbers c.self.inside.store c.make_room.new.self c.self.invariant c.make_room.ensures.documents (c.make_room.ensures.store c.self.inside.version c.self.invariant.kept) in
-    let is_body = subst IsBody (sym c.in-Ok-with.ensures.held) c.as_bytes.ensures.body in
+    let is_body = subst IsBody (sym c.in-Ok-with.ensures.held) c.trigrams_in.ensures.body in
     room_for_bytes c.self.inside.version (stored c.make_room.new.self) c.in-Ok-with.held kept.is_state is_body c.self.invariant.few
 
 pub invariant_of-self-in-Ok-with : goal.invariant_of-self-in-Ok-with
@@ -35,7 +34,7 @@ invariant_of-self-in-Ok-with c =
     let version = c.self.inside.version in
     let few : version + 1 < 2 ^ 32 = omega (arith, c.requires, ap (λ s. s.version) c.self.view_is) in
     let kept = IsIndex-room version c.self.inside.numbers c.self.inside.store c.make_room.new.self c.self.invariant c.make_room.ensures.documents (c.make_room.ensures.store version c.self.invariant.kept) in
-    let is_body = subst IsBody (sym c.in-Ok-with.ensures.held) c.as_bytes.ensures.body in
+    let is_body = subst IsBody (sym c.in-Ok-with.ensures.held) c.trigrams_in.ensures.body in
     IsIndex-put version c.self.inside.numbers c.enter.new.numbers c.make_room.new.self c.replace.new.self c.in-Ok-shared_name.own c.in-Ok-with.held c.in-Ok-enter.gone kept c.in-Ok-enter.ensures.name is_body few c.in-Ok-enter.ensures.gone c.in-Ok-enter.ensures.ok c.replace.ensures.documents c.replace.ensures.store
 
 pub invariant_of-self-in-Err-with : goal.invariant_of-self-in-Err-with

@@ -1,0 +1,96 @@
+//! The trigrams of a text, in few bytes.
+
+ghost use Rattle.std.specs.Prelude.{◌≡◌, ◌<◌, IfOk};
+ghost use Rattle.std.specs.List.Sorted.{IsStrictlyIncreasing};
+ghost use Rattle.std.specs.Iterator.{YieldsFirst, item_count};
+
+use crate::list::{List, Numbers};
+use query::Trigram;
+use std::alloc::{AllocError, Global};
+use std::marker::Model;
+
+/// Trigrams, each once, in the bytes of a `List` of their numbers: one or two for each trigram of a long text.
+///
+/// Contracts see them as their numbers, rising.
+#[derive(Drop)]
+pub struct Trigrams {
+    numbers: List,
+}
+
+impl Model for Trigrams {
+    ghost use Rattle.std.specs.Prelude.{List, ℕ, ◌<◌, All};
+
+    ghost Value = { List ℕ };
+
+    ghost view = { λ t. t.numbers.members };
+
+    ghost invariant = { λ t. All (λ n. n < 16777216) t.numbers.members };
+}
+
+impl Trigrams {
+    /// These trigrams, in no more bytes than they need.
+    ///
+    /// The error is that there is no memory for them.
+    pub fn new(alloc: Global, rising: &[Trigram]) -> Result<Trigrams, AllocError>
+        requires { IsStrictlyIncreasing rising.now }
+        ensures { IfOk result (λ trigrams. trigrams ≡ rising.now) }
+    {
+        let mut numbers = List::new(alloc);
+        for trigram in rising {
+            let number = trigram.number();
+            numbers.room_for(number)?;
+            numbers.push(number);
+        }
+        // what was pushed may have room to spare, and its copy has none
+        let numbers = numbers.copy()?;
+        Ok(Trigrams { numbers })
+    }
+
+    /// The trigrams, rising.
+    pub fn iter(&self) -> TrigramsIterator<'_>
+        ensures { result ≡ self.now }
+    {
+        TrigramsIterator {
+            numbers: self.numbers.numbers(),
+        }
+    }
+}
+
+/// Trigrams, rising.
+#[derive(Drop)]
+pub struct TrigramsIterator<'a> {
+    numbers: Numbers<'a>,
+}
+
+impl<'a> Model for TrigramsIterator<'a> {
+    ghost use Rattle.std.specs.Prelude.{List, ℕ, ◌<◌, All};
+
+    ghost Value = { List ℕ };
+
+    ghost view = { λ t. t.numbers };
+
+    ghost invariant = { λ t. All (λ n. n < 16777216) t.numbers };
+}
+
+impl<'a> Iterator for TrigramsIterator<'a> {
+    type Item = Trigram;
+
+    ghost next_gives = { YieldsFirst (λ numbers. numbers) };
+
+    ghost remaining = { item_count (λ numbers. numbers) };
+
+    fn next(&mut self) -> Option<Trigram> {
+        match self.numbers.next() {
+            Some(number) => Some(trigram_of_number(number)),
+            None => None,
+        }
+    }
+}
+
+fn trigram_of_number(number: u32) -> Trigram
+    requires { number < 16777216 }
+    ensures { result ≡ number }
+{
+    let high = number / 256;
+    Trigram::of([(high / 256) as u8, (high % 256) as u8, (number % 256) as u8])
+}
