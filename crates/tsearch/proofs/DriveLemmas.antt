@@ -1,5 +1,5 @@
 -- What stays the same from item to item of a run.
-use Rattle.std.proofs.Common.{◌≡◌, ℕ, ◌+◌, ◌≤◌, List, [], ◌∷◌, Option, sym, ap, ◌∙◌, subst, arith, length, length-append}
+use Rattle.std.proofs.Common.{◌≡◌, ◌≢◌, ℕ, ◌+◌, ◌≤◌, List, [], ◌∷◌, Option, sym, ap, ◌∙◌, subst, arith, length, length-append}
 use Rattle.script.specs.Items.{Numbered}
 use Rattle.shared.specs.Desk.{DeskState}
 use Rattle.shared.specs.History.{Known}
@@ -10,7 +10,7 @@ use Rattle.tsearch.specs.Private.Items as items
 use Rattle.search.specs.declared.pattern.Prepared.{Prepared}
 use Rattle.tsearch.specs.declared.session.Step.{Step}
 use Rattle.tsearch.specs.declared.session.Step.TheVariants as step
-use Rattle.tsearch.specs.Private.Sessions.{IsPended, Pends, IsStep, IsSettled}
+use Rattle.tsearch.specs.Private.Sessions.{IsPended, IsStep, IsSettled, IsKept, Advances}
 use Rattle.tsearch.specs.Private.Sessions as sessions
 use Rattle.tsearch.proofs.LoopLemmas.{one_search, settled_few, settled_lasts}
 
@@ -23,36 +23,46 @@ pended_opening Holds desk told failed number item _ desk' told' failed' (session
 pended_opening Holds desk told failed number item _ desk' told' failed' (sessions.refused why is_search refusal left) opening = (ap (λ k. k.opening) left.1 ∙ opening, ap (λ d. d.opening) left.0)
 pended_opening Holds desk told failed number item _ desk' told' failed' (sessions.asked is_search left) opening = (ap (λ k. k.opening) left.1 ∙ opening, ap (λ d. d.opening) left.0)
 
-module _ (Holds : List ℕ → List ℕ → Type 0) (desk : DeskState) (failed : ℕ) (old : Session) (item : Numbered) (desk' : DeskState) (failed' : ℕ) (new : Session) (pends : Pends Holds desk failed old item desk' failed' new) where
-  -- All is of one opening.
-  pub pends_opening : old.reading.opening ≡ old.told.opening → old.told.opening ≡ desk.opening → (new.reading.opening ≡ new.told.opening) × (new.told.opening ≡ desk'.opening) × (desk'.opening ≡ desk.opening)
-  pends_opening reading told =
-      let is = pended_opening Holds desk old.told failed (old.searches + 1) item pends.entry desk' new.told failed' pends.is told in
-      (ap (λ r. r.opening) pends.reading ∙ reading ∙ told ∙ sym is.0, is.0 ∙ sym is.1, is.1)
+-- What stays as it was when an item is taken.
+pub step_keeps : {Holds : List ℕ → List ℕ → Type 0} {desk : DeskState} {failed : ℕ} {old : Session} {item : Numbered} {next : Step} {desk' : DeskState} {failed' : ℕ} {new : Session} → IsStep Holds desk failed old item next desk' failed' new → old.reading.opening ≡ old.told.opening → old.told.opening ≡ desk.opening → IsKept desk old desk' new
+step_keeps {Holds} {desk} {failed} {old} {item} {next} {desk'} {failed'} {new} (sessions.taken no_sync pends) reading told =
+    let is = pended_opening Holds desk old.told failed (old.searches + 1) item pends.entry desk' new.told failed' pends.is told in
+    record {
+      reading = ap (λ r. r.opening) pends.reading ∙ reading ∙ told ∙ sym is.0;
+      told = is.0 ∙ sym is.1;
+      same = is.1;
+      lasts = ap (λ s. length s.lasts.items) pends.settled;
+      searches = omega (arith, pends.searches, one_search item.item);
+      waiting = omega (arith, ap (λ s. s.searches) pends.settled, ap length pends.pending, length-append old.pending.items (pends.entry ∷ []));
+    }
+step_keeps {Holds} {desk} {failed} {old} {item} {next} {desk'} {failed'} {new} (sessions.left is_left is same_desk same_failed same) reading told = record {
+  reading = ap (λ s. s.reading.opening) same ∙ reading ∙ sym (ap (λ s. s.told.opening) same);
+  told = ap (λ s. s.told.opening) same ∙ told ∙ sym (ap (λ d. d.opening) same_desk);
+  same = ap (λ d. d.opening) same_desk;
+  lasts = ap (λ s. length s.settled.lasts.items) same;
+  searches = omega (arith, ap (λ s. s.searches) same);
+  waiting = omega (arith, ap (λ s. s.settled.searches + length s.pending.items) same);
+}
 
-  pub pends_lasts : length new.settled.lasts.items ≡ length old.settled.lasts.items
-  pends_lasts = ap (λ s. length s.lasts.items) pends.settled
+-- And then when all is settled.
+pub settled_keeps : {searches : List (Option Prepared)} {desk : DeskState} {old : Session} {desk' : DeskState} {mid new : Session} → IsKept desk old desk' mid → IsSettled searches mid new → new.reading.opening ≡ new.told.opening → IsKept desk old desk' new
+settled_keeps {searches} {desk} {old} {desk'} {mid} {new} kept is reading = record {
+  reading = reading;
+  told = ap (λ k. k.opening) is.told ∙ kept.told;
+  same = kept.same;
+  lasts = settled_lasts searches mid new is ∙ kept.lasts;
+  searches = omega (arith, is.count, kept.searches);
+  waiting = omega (arith, settled_few searches mid new is, kept.waiting);
+}
 
-  -- There is one more search at most.
-  pub pends_few : (new.searches ≤ old.searches + 1) × (new.settled.searches + length new.pending.items ≤ old.settled.searches + length old.pending.items + 1)
-  pends_few = (omega (arith, pends.searches, one_search item.item), omega (arith, ap (λ s. s.searches) pends.settled, ap length pends.pending, length-append old.pending.items (pends.entry ∷ [])))
+-- A run goes on by an item that was taken, after which all is settled, or nothing.
+pub step_settled : {Holds : List ℕ → List ℕ → Type 0} {searches : List (Option Prepared)} {readers : ℕ} {desk : DeskState} {failed : ℕ} {old : Session} {item : Numbered} {next : Step} {desk' : DeskState} {failed' : ℕ} {mid new : Session} → IsStep Holds desk failed old item next desk' failed' mid → IsSettled searches mid new → Advances Holds searches readers desk failed old item desk' failed' new
+step_settled (sessions.taken no_sync pends) settled = sessions.settled _ pends settled
+step_settled {searches = searches} {new = new} (sessions.left is_left is same_desk same_failed same) settled = sessions.synced is same_desk same_failed (subst (λ s. IsSettled searches s new) same settled)
 
-module _ (Holds : List ℕ → List ℕ → Type 0) (desk : DeskState) (failed : ℕ) (old : Session) (item : Numbered) (next : Step) (desk' : DeskState) (failed' : ℕ) (new : Session) (is : IsStep Holds desk failed old item next desk' failed' new) where
-  pub entry_pends : next ≡ step.Entry → Pends Holds desk failed old item desk' failed' new
-  entry_pends same = subst (λ s. IsStep Holds desk failed old item s desk' failed' new) same is
-
-  pub search_pends : (number : ℕ) → next ≡ step.Search number → Pends Holds desk failed old item desk' failed' new
-  search_pends number same = subst (λ s. IsStep Holds desk failed old item s desk' failed' new) same is
-
-  pub sync_stays : next ≡ step.Sync → new ≡ old
-  sync_stays same = (subst (λ s. IsStep Holds desk failed old item s desk' failed' new) same is).3
-
--- What comes of settling all at a sync.
-pub synced_count : (searches : List (Option Prepared)) (old mid new : Session) (A : Type 0) → mid ≡ old → A → IsSettled searches mid new → (length new.settled.lasts.items ≡ length old.settled.lasts.items) × A
-synced_count searches old mid new A same more is = (settled_lasts searches mid new is ∙ ap (λ s. length s.settled.lasts.items) same, more)
-
-pub synced_few : (searches : List (Option Prepared)) (old mid new : Session) → mid ≡ old → IsSettled searches mid new → (new.searches ≤ old.searches + 1) × (new.settled.searches + length new.pending.items ≤ old.settled.searches + length old.pending.items + 1)
-synced_few searches old mid new same is = (omega (arith, is.count, ap (λ s. s.searches) same), omega (arith, settled_few searches mid new is, ap (λ s. s.settled.searches + length s.pending.items) same))
+pub step_waits : {Holds : List ℕ → List ℕ → Type 0} {searches : List (Option Prepared)} {readers : ℕ} {desk : DeskState} {failed : ℕ} {old : Session} {item : Numbered} {next : Step} {desk' : DeskState} {failed' : ℕ} {new : Session} → IsStep Holds desk failed old item next desk' failed' new → (next ≢ step.Sync) × (readers ≢ 0) → Advances Holds searches readers desk failed old item desk' failed' new
+step_waits (sessions.taken no_sync pends) is = sessions.pended is.1 pends
+step_waits (sessions.left is_left at same_desk same_failed same) is = absurd (is.0 is_left)
 
 pub no_less : {a b c : ℕ} → a ≤ b → b ≤ c → a ≤ c
 no_less few more = omega (arith, few, more)

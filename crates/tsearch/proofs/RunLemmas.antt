@@ -346,11 +346,10 @@ run_goes_on Holds Holds' holds options searches script failed desk old position 
       are = next.1;
       at_once = λ no_readers. absurd (some no_readers);
     }
-run_goes_on Holds Holds' holds options searches script failed desk old position before item position' desk' after new run takes (sessions.settled mid no_readers step settled) =
+run_goes_on Holds Holds' holds options searches script failed desk old position before item position' desk' after new run takes (sessions.settled mid step settled) =
     let next = run_pends Holds options searches script failed Holds' holds position position' item takes run.rows desk old before run.pending run.are desk' after mid step in
-    let none : run.pending ≡ [] = run.at_once no_readers in
-    let all : run.rows ++ run.pending ≡ run.rows = ap (λ l. run.rows ++ l) none ∙ append-nil run.rows in
-    let done = run_settles Holds options searches script failed desk' mid new position' after run.rows (run.pending ++ next.0 ∷ []) next.1 (λ h. alone_one mid.told.commands run.rows run.pending next.0 none (λ is_open. omega (arith, ap length (next.2 is_open), run.are.are_told.latest, ap published_last all))) settled in
+    let all : run.pending ≡ [] → run.rows ++ run.pending ≡ run.rows = λ none. ap (λ l. run.rows ++ l) none ∙ append-nil run.rows in
+    let done = run_settles Holds options searches script failed desk' mid new position' after run.rows (run.pending ++ next.0 ∷ []) next.1 (λ no_readers. alone_one mid.told.commands run.rows run.pending next.0 (run.at_once no_readers) (λ is_open. omega (arith, ap length (next.2 is_open), run.are.are_told.latest, ap published_last (all (run.at_once no_readers))))) settled in
     record {
       rows = done.0;
       pending = [];

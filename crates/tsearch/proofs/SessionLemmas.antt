@@ -1,5 +1,5 @@
 -- Items that are pending once they are taken.
-use Rattle.std.proofs.Common.{◌≡◌, ℕ, ◌+◌, List, [], ◌∷◌, ◌++◌, Option, Some, None, Ok, Err, Result, OnOk, inl, refl, sym, ap, ◌∙◌, subst, arith}
+use Rattle.std.proofs.Common.{◌≡◌, ℕ, ◌+◌, List, [], ◌∷◌, ◌++◌, Option, Some, None, inl, refl, sym, ap, ◌∙◌, subst, arith}
 use Rattle.std.specs.Prelude.{Contains}
 use Rattle.script.specs.Items.{Numbered}
 use Rattle.shared.specs.Desk.{DeskState}
@@ -16,11 +16,11 @@ use Rattle.tsearch.specs.Private.Sessions.{IsPended, IsPendingSearch, AreListed,
 use Rattle.tsearch.specs.Private.Sessions as sessions
 
 module _ (Holds : List ℕ → List ℕ → Type 0) (desk : DeskState) (failed : ℕ) (old : Session) (item : Numbered) (desk' : DeskState) (failed' : ℕ) (new : Session) where
-  pub entered_pends : (entry : Entry) → IsEntered Holds desk old.told failed item entry desk' new.told failed' → new.pending.items ≡ old.pending.items ++ Some entry ∷ [] → AreListed old.versions.items (Some entry) new.versions.items → new.searches ≡ old.searches → new.settled ≡ old.settled → new.reading ≡ old.reading → Pends Holds desk failed old item desk' failed' new
-  entered_pends entry is pending versions searches settled reading = record {
+  pub entered_pends : (entry : Entry) → IsEntered Holds desk old.told failed item entry desk' new.told failed' → (mid : Session) → mid.pending ≡ old.pending → new.pending.items ≡ mid.pending.items ++ Some entry ∷ [] → AreListed old.versions.items (Some entry) new.versions.items → new.searches ≡ old.searches → new.settled ≡ old.settled → new.reading ≡ old.reading → Pends Holds desk failed old item desk' failed' new
+  entered_pends entry is mid same pending versions searches settled reading = record {
     entry = Some entry;
     is = sessions.entered entry is;
-    pending = pending;
+    pending = pending ∙ ap (λ p. p.items ++ Some entry ∷ []) same;
     versions = versions;
     searches = let none = is.no_search in omega arith;
     settled = settled;
@@ -43,11 +43,6 @@ module _ (Holds : List ℕ → List ℕ → Type 0) (desk : DeskState) (failed :
       reading = is.reading ∙ reading;
     }
 
-    pub asked_steps : (next : Step) → mid.searches ≡ old.searches → mid.pending ≡ old.pending → mid.versions ≡ old.versions → mid.settled ≡ old.settled → mid.reading ≡ old.reading → IsAsked mid item.item next new → IsStep Holds desk failed old item next desk' failed' new
-    asked_steps step.Entry searches pending versions settled reading is = asked_pends step.Entry searches pending versions settled reading is
-    asked_steps (step.Search number) searches pending versions settled reading is = asked_pends (step.Search number) searches pending versions settled reading is
-    asked_steps step.Sync searches pending versions settled reading is = absurd (is.no_sync refl)
-
 -- What was pending first is settled.
 same_tally : {searches searches' published published' : ℕ} {lasts lasts' : List Last} → searches ≡ searches' → published ≡ published' → lasts ≡ lasts' → tally searches published lasts ≡ tally searches' published' lasts'
 same_tally a b c = λ i. tally (a i) (b i) (c i)
@@ -57,8 +52,3 @@ settled_ready searches old new settled entries count published lasts = sessions.
 
 pub settled_closed : (searches : List (Option Prepared)) (old new : Session) (settled : Entry) (lasts : List Last) → IsClosed searches old.told.commands old.versions.items (old.settled.searches + 1) old.settled.published old.settled.lasts.items settled lasts → new.settled.entries.items ≡ old.settled.entries.items ++ settled ∷ [] → new.settled.searches ≡ old.settled.searches + searches_in settled → new.settled.published ≡ last_or old.settled.published (version_in (Some settled)) → new.settled.lasts.items ≡ lasts → SettlesNext searches old None new
 settled_closed searches old new settled lasts is entries count published same = sessions.closed settled lasts refl entries is (same_tally count published same)
-
--- What holds of a success, where something follows from it.
-pub on_ok : {T E P Q : Type 0} (result : Result T E) → (P → Q) → OnOk result P → OnOk result Q
-on_ok (Ok done) follows is = follows is
-on_ok (Err error) follows is = is

@@ -1,6 +1,6 @@
 //! A run, from its first item to its last.
 
-ghost use Rattle.std.specs.Prelude.{◌≡◌, ℕ, ◌+◌, ◌<◌, ◌≤◌, ◌^◌, List, [], All, IfOk, OnOk, length};
+ghost use Rattle.std.specs.Prelude.{◌≡◌, ◌≢◌, ℕ, ◌+◌, ◌<◌, ◌≤◌, ◌^◌, List, [], All, IfOk, OnOk, MatchBool, length};
 ghost use Rattle.logbook.specs.Pages.{Book};
 ghost use Rattle.script.specs.Items.{numbered as numbered_item};
 ghost use Rattle.script.specs.Reading.{shown_item};
@@ -9,7 +9,7 @@ ghost use Rattle.shared.specs.History.{known};
 ghost use Rattle.tsearch.specs.Legal.{IsLegal};
 ghost use Rattle.tsearch.specs.Private.Searches.{ArePrepared};
 ghost use Rattle.tsearch.specs.Private.Seats.{IsSeat};
-ghost use Rattle.tsearch.specs.Private.Sessions.{Advances, IsStart};
+ghost use Rattle.tsearch.specs.Private.Sessions.{Advances, IsKept, IsStart};
 
 use crate::run::Options;
 use crate::seats::{Seat, seats};
@@ -89,8 +89,8 @@ fn start<'a, R: Wait, G>(
     Ok((session, seats))
 }
 
-/// Takes an item. A search is sent to its reader. At a sync, and after each item where there are no readers, all that
-/// is pending is settled.
+/// Takes an item. A search is sent to its reader. All that is pending is settled at a sync, and where no reader is
+/// waited for.
 fn advance<'s, 'a: 's, E, R: Threads + Wait + Sync, S: Source, G: Gate>(
     scope: &Scope<'s, E>,
     plan: &Plan<'a, R, G>,
@@ -107,22 +107,28 @@ fn advance<'s, 'a: 's, E, R: Threads + Wait + Sync, S: Source, G: Gate>(
     requires few { session.old.settled.searches + length session.old.pending.items + 1 < 2 ^ 32 }
     ensures ok { OnOk result (Advances (S.holds source.old) plan.now.searches.now plan.now.options.readers desk.old (S.failed source.old) session.old
         (numbered_item item.entry.line (shown_item item.entry.item)) desk.new (S.failed source.new) session.new) }
-    ensures opening { OnOk result ((session.new.reading.opening ≡ session.new.told.opening) × (session.new.told.opening ≡ desk.new.opening) × (desk.new.opening ≡ desk.old.opening)) }
+    ensures kept { OnOk result (IsKept desk.old session.old desk.new session.new) }
     ensures seats { OnOk result (All (IsSeat desk.old.opening plan.now.searches.now) seats.new.items) }
-    ensures count { OnOk result ((length session.new.settled.lasts.items ≡ length session.old.settled.lasts.items) × (length seats.new.items ≡ length seats.old.items)) }
-    ensures few { OnOk result ((session.new.searches ≤ session.old.searches + 1) × (session.new.settled.searches + length session.new.pending.items ≤ session.old.settled.searches + length session.old.pending.items + 1)) }
+    ensures count { OnOk result (length seats.new.items ≡ length seats.old.items) }
     ensures same { (path body : List ℕ) → (S.holds source.new path body → S.holds source.old path body) × (S.holds source.old path body → S.holds source.new path body) }
     ensures counted { S.failed source.old ≤ S.failed source.new }
 {
-    match session.take(plan.rt, plan.alloc, desk, source, plan.searches, item)? {
-        Step::Entry => {}
-        Step::Search(number) => send(scope, plan, seats, number),
-        Step::Sync => return session.settle(plan.rt, plan.alloc, plan.searches, seats),
-    }
-    if plan.options.readers == 0 {
+    let step = session.take(plan.rt, plan.alloc, desk, source, plan.searches, item)?;
+    send(scope, plan, seats, step);
+    if is_to_settle(step, plan.options.readers, session.waits) {
         session.settle(plan.rt, plan.alloc, plan.searches, seats)?;
     }
     Ok(())
+}
+
+/// Whether all that is pending is settled after this step, given whether a search is among it.
+fn is_to_settle(step: Step, readers: u32, waits: bool) -> bool
+    ensures { MatchBool result Unit ((step ≢ Step.Sync) × (readers ≢ 0)) }
+{
+    match step {
+        Step::Sync => true,
+        _ => readers == 0 || !waits,
+    }
 }
 
 /// Sends a search to its reader, where there are readers.
@@ -130,11 +136,14 @@ fn send<'s, 'a: 's, E, R: Wait + Sync, G: Gate>(
     scope: &Scope<'s, E>,
     plan: &Plan<'a, R, G>,
     seats: &mut Vec<Seat<'a>>,
-    number: u32,
+    step: Step,
 )
     ensures seats { (opening : Book) → All (IsSeat opening plan.now.searches.now) seats.old.items → All (IsSeat opening plan.now.searches.now) seats.new.items }
     ensures count { length seats.new.items ≡ length seats.old.items }
 {
+    let Step::Search(number) = step else {
+        return;
+    };
     if seats.is_empty() {
         return;
     }

@@ -1,6 +1,6 @@
 //! Runs of scripts.
 
-ghost use Rattle.std.specs.Prelude.{◌≡◌, ℕ, ◌<◌, ◌≤◌, ◌↔◌, List, IfOk, IsErrOf, length};
+ghost use Rattle.std.specs.Prelude.{◌≡◌, ℕ, ◌<◌, ◌≤◌, ◌↔◌, List, IfOk, IsErrOf, MatchBool, length};
 ghost use Rattle.tsearch.specs.Legal.{IsLegal};
 ghost use Rattle.tsearch.specs.Private.Runs.{IsReady};
 
@@ -74,7 +74,7 @@ pub fn run<R: Threads + Wait + Sync, S: Source + Drop, G: Gate>(
     ensures counted { S.failed source.old ≤ S.failed source.new }
     ensures too_long { IsErrOf result RunError.ScriptTooLong ↔ (MAX_SCRIPT < length script.now) }
 {
-    if script.len() > MAX_SCRIPT {
+    if is_too_long(script) {
         return Err(RunError::ScriptTooLong);
     }
     let searches = match prepare_all(alloc, script) {
@@ -105,6 +105,13 @@ pub fn run<R: Threads + Wait + Sync, S: Source + Drop, G: Gate>(
         Ok(entries) => Ok(Transcript { entries }),
         Err(_) => Err(RunError::OutOfMemory),
     }
+}
+
+/// Whether a script is longer than those that a run takes.
+fn is_too_long(script: &[u8]) -> bool
+    ensures { MatchBool result (MAX_SCRIPT < length script.now) (length script.now ≤ MAX_SCRIPT) }
+{
+    script.len() > MAX_SCRIPT
 }
 
 /// Runs the script with workers in a scope, which have all ended afterwards.

@@ -40,6 +40,8 @@ pub struct Session {
     pub reading: Reading,
     pub settled: Settled,
     pub pending: VecDeque<Option<Entry>>,
+    /// Whether a search is among the pending ones.
+    pub waits: bool,
 }
 
 /// What an item asks of the readers.
@@ -77,6 +79,7 @@ impl Session {
             reading,
             settled: Settled::new(alloc, readers + 1)?,
             pending: VecDeque::new(alloc),
+            waits: false,
         })
     }
 
@@ -138,6 +141,7 @@ impl Session {
         match searches.get(self.searches as usize - 1) {
             Some(Some(_)) => {
                 self.pending.push_back(None)?;
+                self.waits = true;
                 Ok(Step::Search(number))
             }
             _ => {
@@ -173,6 +177,7 @@ impl Session {
         while let Some(entry) = self.pending.pop_front() {
             self.settle_next(rt, alloc, searches, seats, entry)?;
         }
+        self.waits = false;
         Ok(())
     }
 

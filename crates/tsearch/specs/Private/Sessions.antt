@@ -1,5 +1,5 @@
 -- Steps of a run.
-use Rattle.std.specs.Prelude.{◌≡◌, ℕ, ◌+◌, ◌≢◌, List, [], ◌∷◌, ◌++◌, true, Option, Some, None, Contains, ◌⊎◌, replicate}
+use Rattle.std.specs.Prelude.{◌≡◌, ℕ, ◌+◌, ◌≤◌, ◌≢◌, List, [], ◌∷◌, ◌++◌, length, true, Option, Some, None, Contains, ◌⊎◌, replicate}
 use Rattle.script.specs.Items.{Item, Numbered}
 use Rattle.search.specs.declared.pattern.Prepared.{Prepared}
 use Rattle.shared.specs.Desk.{DeskState}
@@ -77,9 +77,9 @@ pub record IsAsked (old : Session) (item : Item) (next : Step) (new : Session) :
   pub reading : new.reading ≡ old.reading
 
 -- The item was taken: a sync leaves all as it is.
-abbrev pub IsStep : (List ℕ → List ℕ → Type 0) → DeskState → ℕ → Session → Numbered → Step → DeskState → ℕ → Session → Type 0
-IsStep Holds desk failed old item step.Sync desk' failed' new = (is_sync item.item ≡ true) × (desk' ≡ desk) × (failed' ≡ failed) × (new ≡ old)
-IsStep Holds desk failed old item _ desk' failed' new = Pends Holds desk failed old item desk' failed' new
+pub data IsStep (Holds : List ℕ → List ℕ → Type 0) (desk : DeskState) (failed : ℕ) (old : Session) (item : Numbered) (next : Step) (desk' : DeskState) (failed' : ℕ) (new : Session) : Type 0 where
+  taken : next ≢ step.Sync → Pends Holds desk failed old item desk' failed' new → IsStep Holds desk failed old item next desk' failed' new
+  left : next ≡ step.Sync → is_sync item.item ≡ true → desk' ≡ desk → failed' ≡ failed → new ≡ old → IsStep Holds desk failed old item next desk' failed' new
 
 -- An entry that was pending first, or the search that was open, is settled.
 pub data SettlesNext (searches : List (Option Prepared)) (old : Session) (entry : Option Entry) (new : Session) : Type 0 where
@@ -99,8 +99,17 @@ pub record IsSettled (searches : List (Option Prepared)) (old new : Session) : T
   pub versions : new.versions ≡ old.versions
   pub count : new.searches ≡ old.searches
 
--- A run went on by one item. Without readers all is settled after each.
+-- A run went on by one item. Without readers all is settled after each; with them, where no search is open.
 pub data Advances (Holds : List ℕ → List ℕ → Type 0) (searches : List (Option Prepared)) (readers : ℕ) (desk : DeskState) (failed : ℕ) (old : Session) (item : Numbered) (desk' : DeskState) (failed' : ℕ) (new : Session) : Type 0 where
   synced : is_sync item.item ≡ true → desk' ≡ desk → failed' ≡ failed → IsSettled searches old new → Advances Holds searches readers desk failed old item desk' failed' new
   pended : readers ≢ 0 → Pends Holds desk failed old item desk' failed' new → Advances Holds searches readers desk failed old item desk' failed' new
-  settled : (mid : Session) → readers ≡ 0 → Pends Holds desk failed old item desk' failed' mid → IsSettled searches mid new → Advances Holds searches readers desk failed old item desk' failed' new
+  settled : (mid : Session) → Pends Holds desk failed old item desk' failed' mid → IsSettled searches mid new → Advances Holds searches readers desk failed old item desk' failed' new
+
+-- What stays as it was from item to item: all is of one opening, and there is one more search at most.
+pub record IsKept (desk : DeskState) (old : Session) (desk' : DeskState) (new : Session) : Type 0 where
+  pub reading : new.reading.opening ≡ new.told.opening
+  pub told : new.told.opening ≡ desk'.opening
+  pub same : desk'.opening ≡ desk.opening
+  pub lasts : length new.settled.lasts.items ≡ length old.settled.lasts.items
+  pub searches : new.searches ≤ old.searches + 1
+  pub waiting : new.settled.searches + length new.pending.items ≤ old.settled.searches + length old.pending.items + 1

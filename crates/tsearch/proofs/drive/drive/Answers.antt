@@ -29,14 +29,20 @@ loop-item-preserved g c =
     let shorter = c.in-Some.ensures.shorter in
     record {
       run = run_goes_on (g.S.Source.holds c.args.source.now) (g.S.Source.holds c.loop-item.source) (λ path body. (old.held path body).0) c.args.plan.now.options c.args.plan.now.searches.now c.args.plan.now.script.now (g.S.Source.failed c.args.source.now) c.loop-item.desk c.loop-item.session c.loop-item.reader (g.S.Source.failed c.loop-item.source) _ c.next_item.new.self c.advance.new.desk (g.S.Source.failed c.advance.new.source) c.advance.new.session old.run c.in-Some.ensures.item step.ok;
-      opening = (step.opening.0, step.opening.1);
-      seats = subst (λ o. All (IsSeat o c.args.plan.now.searches.now) c.advance.new.seats.items) (sym step.opening.2) step.seats;
-      count = (omega (arith, step.count.0, step.count.1, old.count.0), step.count.1 ∙ old.count.1);
-      few = omega (arith, old.few, step.few.0, shorter);
-      waiting = omega (arith, old.waiting, step.few.1, shorter);
+      opening = (step.kept.reading, step.kept.told);
+      seats = subst (λ o. All (IsSeat o c.args.plan.now.searches.now) c.advance.new.seats.items) (sym step.kept.same) step.seats;
+      count = (omega (arith, step.kept.lasts, step.count, old.count.0), step.count ∙ old.count.1);
+      few = omega (arith, old.few, step.kept.searches, shorter);
+      waiting = omega (arith, old.waiting, step.kept.waiting, shorter);
       held = λ path body. (λ h. (old.held path body).0 ((c.advance.ensures.same path body).0 h), λ h. (c.advance.ensures.same path body).1 ((old.held path body).1 h));
       counted = no_less old.counted c.advance.ensures.counted;
     }
 
 pub returns-clause-legal : goal.returns-clause-legal
 returns-clause-legal g c = run_is_legal (g.S.Source.holds c.args.source.now) c.args.plan.now.options c.args.plan.now.searches.now c.args.plan.now.script.now (g.S.Source.failed c.args.source.now) c.loop-item.desk c.loop-item.session c.loop-item.reader (g.S.Source.failed c.loop-item.source) c.settle.new.self c.requires.searches c.loop-item.invariant.run c.in_default.ensures.item c.in_ok-settle.ensures.ok
+
+pub returns-clause-same : goal.returns-clause-same
+returns-clause-same g c = c.loop-item.invariant.held
+
+pub returns-clause-counted : goal.returns-clause-counted
+returns-clause-counted g c = c.loop-item.invariant.counted

@@ -1,3 +1,4 @@
+use Rattle.std.proofs.Common.{refl}
 use Rattle.tsearch.proofs.CarryLemmas.{carried_put, carried_load, carried_remove, carried_publish, carried_bad_line, carried_bad_put, carried_truncated, carried_open_body}
 use Rattle.tsearch.proofs.items.carry_out.Goals as goal
 
@@ -24,3 +25,6 @@ returns-in-Truncated-clause-done g c = rw c.in-Truncated.is (carried_truncated _
 
 pub returns-in-BodyNotClosed-clause-done : goal.returns-in-BodyNotClosed-clause-done
 returns-in-BodyNotClosed-clause-done g c = rw c.in-BodyNotClosed.is (carried_open_body _ c.args.desk.now c.args.told.now _ c.args.item.line _ c.entry_of-in-BodyNotClosed.ensures)
+
+pub returns-in-Sync-clause-done : goal.returns-in-Sync-clause-done
+returns-in-Sync-clause-done g c = rw c.in-Sync.is (refl, (refl, refl, refl))
