@@ -13,6 +13,7 @@ use crate::output::write_text;
 use cli::{HELP, Request, Settings, read_arguments};
 use std::alloc::Global;
 use std::io::{Read, Write};
+use std::mem::forget;
 use std::sync::Wait;
 use std::thread::Threads;
 use tsearch::run::run;
@@ -125,5 +126,9 @@ fn run_script<R: Threads + Wait + Sync, D: Disk, I: Read + Drop, O: Write + Drop
         Err(error) => return Err(ProgramError::Run(error)),
     };
     let written = write_text(alloc, &transcript, settings.stats, out)?;
-    Ok((tsearch::status(&transcript), written))
+    let status = tsearch::status(&transcript);
+    // The process ends next and gives its memory back at once: to free each hit of the answers would take
+    // about as long as to write it.
+    forget(transcript);
+    Ok((status, written))
 }
