@@ -17,7 +17,7 @@ mod told;
 
 pub use desk::Desk;
 pub use error::{OpenError, PutError, PutErrorKind, RemoveError, Returned, SearchError};
-pub use opening::{MAX_COMMANDS, MAX_READINGS, open};
+pub use opening::{MAX_COMMANDS, MAX_READINGS, open, open_with_places};
 pub use reading::Reading;
 pub use search::{
     Answer, Body, BodyError, BodyErrorKind, EreError, EreErrorKind, Held, Hit, Name, NameError,

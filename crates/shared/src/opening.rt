@@ -41,8 +41,9 @@ pub fn open<R: Wait>(
     open_with_places(rt, alloc, max_commands, readers, readers)
 }
 
-// Where there are fewer places than readings, one of these gets none.
-fn open_with_places<R: Wait>(
+/// Opens as `open` does, with so many places for readings. Where there are fewer places than readings, one of
+/// these gets none, and nothing is opened.
+pub fn open_with_places<R: Wait>(
     rt: &R,
     alloc: Global,
     max_commands: u32,
@@ -110,25 +111,4 @@ fn readings(
         readings.push(Reading::of(writer, front)?)?;
     }
     Ok(readings)
-}
-
-#[cfg(test)]
-mod tests {
-    use super::*;
-    use std::test::Fail;
-
-    /// A reading gets no place where each is in use.
-    #[test]
-    fn fewer_places_than_readings(rt: HostRuntime) -> Result<(), Fail> {
-        for (places, readers, fault) in [(2, 2, None), (2, 3, Some(OpenError::NoPlace))] {
-            match open_with_places(&rt, rt.alloc(), 1, places, readers) {
-                Ok((desk, _readings)) => {
-                    desk.close(&rt);
-                    assert!(rt; fault.is_none());
-                }
-                Err(error) => assert_eq!(rt; Some(error), fault),
-            }
-        }
-        Ok(())
-    }
 }

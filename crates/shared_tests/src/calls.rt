@@ -1,11 +1,11 @@
 //! One desk and two readings, call by call.
 
-ghost use Rattle.std.specs.Prelude.{◌≡◌};
+ghost use Rattle.std.specs.Prelude.{◌≡◌, IfOk};
 
 use crate::fixtures::{body, name, put};
 use shared::{
-    Answer, Desk, MAX_READINGS, Prepared, PutError, PutErrorKind, Reading, RemoveError, Returned,
-    SearchError, Told, open,
+    Answer, Desk, MAX_READINGS, OpenError, Prepared, PutError, PutErrorKind, Reading, RemoveError,
+    Returned, SearchError, Told, open, open_with_places,
 };
 use std::alloc::Global;
 use std::process::Abort;
@@ -21,7 +21,10 @@ fn a_desk_for_three_commands(rt: HostRuntime) -> Result<(), Fail> {
         Err(_) => return Err(Fail::from("nothing opened")),
     };
     let outcome = match readings.pop() {
-        Some(mut reading) => three_commands(&rt, alloc, &mut desk, &mut reading),
+        Some(mut reading) => match prepared(alloc, b"x") {
+            Ok(pattern) => three_commands(&rt, alloc, &mut desk, &mut reading, &pattern),
+            Err(error) => Err(error),
+        },
         None => Err(Fail::from("no reading")),
     };
     desk.close(&rt);
@@ -33,25 +36,47 @@ fn three_commands<R: Abort + Wait>(
     alloc: Global,
     desk: &mut Desk,
     reading: &mut Reading,
+    pattern: &Prepared,
 ) -> Result<(), Fail>
     requires { reading.old.opening ≡ desk.old.opening }
 {
-    let pattern = prepared(alloc, b"x")?;
-    assert_eq!(rt; put(alloc, desk, b"a", b"x")?, 1);
-    let first = desk.publish(rt)?;
-    assert_eq!(rt; first.version(), 1);
+    let first = first_publish(rt, alloc, desk)?;
     reading.learn(&first);
     assert_eq!(rt; reading.seen(), 1);
-    assert_eq!(rt; put(alloc, desk, b"b", b"x")?, 2);
-    assert_eq!(rt; searched(alloc, reading, &pattern)?.version(), 1);
-    refuses(rt, alloc, desk)?;
-    let last = desk.publish(rt)?;
-    assert_eq!(rt; last.version(), 3);
+    let last = last_publish(rt, alloc, desk, reading, pattern)?;
     learns_both(rt, reading, &last, &first);
-    let answer = searched(alloc, reading, &pattern)?;
-    assert_eq!(rt; (answer.version(), answer.documents()), (3, 1));
-    assert!(rt; are_named(&answer, &[b"a"]));
+    assert!(rt; finds(alloc, reading, pattern, 3, &[b"a"])?);
     Ok(())
+}
+
+// One document, put and published.
+fn first_publish<R: Abort + Wait>(rt: &R, alloc: Global, desk: &mut Desk) -> Result<Told, Fail>
+    ensures desk { desk.new.opening ≡ desk.old.opening }
+    ensures told { IfOk result (λ told. told.opening ≡ desk.old.opening) }
+{
+    assert_eq!(rt; put(alloc, desk, b"a", b"x")?, 1);
+    let told = desk.publish(rt)?;
+    assert_eq!(rt; told.version(), 1);
+    Ok(told)
+}
+
+// A second document, which is not seen; it is removed again, and that is published.
+fn last_publish<R: Abort + Wait>(
+    rt: &R,
+    alloc: Global,
+    desk: &mut Desk,
+    reading: &mut Reading,
+    pattern: &Prepared,
+) -> Result<Told, Fail>
+    ensures reading { reading.new.opening ≡ reading.old.opening }
+    ensures told { IfOk result (λ told. told.opening ≡ desk.old.opening) }
+{
+    assert_eq!(rt; put(alloc, desk, b"b", b"x")?, 2);
+    assert!(rt; finds(alloc, reading, pattern, 1, &[b"a"])?);
+    refuses(rt, alloc, desk)?;
+    let told = desk.publish(rt)?;
+    assert_eq!(rt; told.version(), 3);
+    Ok(told)
 }
 
 // With one document `b` not yet published and room for one command: what is refused, and a remove.
@@ -108,28 +133,60 @@ fn places_for_all_readings(rt: HostRuntime) -> Result<(), Fail> {
     Ok(())
 }
 
+/// A reading gets no place where each is in use.
+#[test]
+fn fewer_places_than_readings(rt: HostRuntime) {
+    let alloc = rt.alloc();
+    assert_eq!(rt; refusal_with_two_places(&rt, alloc, 2), None);
+    assert_eq!(rt;
+        refusal_with_two_places(&rt, alloc, 3),
+        Some(OpenError::NoPlace)
+    );
+}
+
+fn refusal_with_two_places<R: Wait>(rt: &R, alloc: Global, readers: usize) -> Option<OpenError> {
+    match open_with_places(rt, alloc, 1, 2, readers) {
+        Ok((desk, _readings)) => {
+            desk.close(rt);
+            None
+        }
+        Err(error) => Some(error),
+    }
+}
+
 /// There is no entry once the desk is closed, and not before. What was seen stays.
 #[test]
 fn a_closed_desk_is_not_entered(rt: HostRuntime) -> Result<(), Fail> {
     let alloc = rt.alloc();
     let pattern = prepared(alloc, b"x")?;
-    let (mut desk, mut readings) = match open(&rt, alloc, 1, 1) {
+    closed_after_one(&rt, alloc, &pattern)
+}
+
+fn closed_after_one<R: Abort + Wait>(
+    rt: &R,
+    alloc: Global,
+    pattern: &Prepared,
+) -> Result<(), Fail> {
+    let (mut desk, mut readings) = match open(rt, alloc, 1, 1) {
         Ok(opened) => opened,
         Err(_) => return Err(Fail::from("nothing opened")),
     };
-    let published = publishes_one(&rt, alloc, &mut desk);
-    let mut reading = readings.pop();
-    let entered = match &mut reading {
-        Some(reading) => reading.search(alloc, &pattern).is_ok(),
-        None => false,
-    };
-    desk.close(&rt);
-    published?;
-    assert!(rt; entered);
-    if let Some(reading) = &mut reading {
-        is_not_entered(&rt, alloc, reading, &pattern);
+    let published = publishes_one(rt, alloc, &mut desk);
+    match readings.pop() {
+        Some(mut reading) => {
+            let entered = refusal(alloc, &mut reading, pattern).is_none();
+            desk.close(rt);
+            published?;
+            assert!(rt; entered);
+            is_not_entered(rt, alloc, &mut reading, pattern);
+            Ok(())
+        }
+        None => {
+            desk.close(rt);
+            published?;
+            Err(Fail::from("no reading"))
+        }
     }
-    Ok(())
 }
 
 fn publishes_one<R: Wait>(rt: &R, alloc: Global, desk: &mut Desk) -> Result<(), Fail> {
@@ -140,9 +197,28 @@ fn publishes_one<R: Wait>(rt: &R, alloc: Global, desk: &mut Desk) -> Result<(), 
 
 fn is_not_entered(rt: &impl Abort, alloc: Global, reading: &mut Reading, pattern: &Prepared) {
     let no_entry = Some(SearchError::NoEntry);
-    assert_eq!(rt; reading.take(alloc, pattern).err(), no_entry);
-    assert_eq!(rt; reading.search(alloc, pattern).err(), no_entry);
+    assert_eq!(rt; refusal_of_take(alloc, reading, pattern), no_entry);
+    assert_eq!(rt; refusal(alloc, reading, pattern), no_entry);
     assert_eq!(rt; reading.seen(), 1);
+}
+
+// Why a search is refused, where it is.
+fn refusal(alloc: Global, reading: &mut Reading, pattern: &Prepared) -> Option<SearchError> {
+    match reading.search(alloc, pattern) {
+        Ok(_) => None,
+        Err(error) => Some(error),
+    }
+}
+
+fn refusal_of_take(
+    alloc: Global,
+    reading: &mut Reading,
+    pattern: &Prepared,
+) -> Option<SearchError> {
+    match reading.take(alloc, pattern) {
+        Ok(_) => None,
+        Err(error) => Some(error),
+    }
 }
 
 fn prepared(alloc: Global, pattern: &[u8]) -> Result<Prepared, Fail> {
@@ -152,18 +228,26 @@ fn prepared(alloc: Global, pattern: &[u8]) -> Result<Prepared, Fail> {
     }
 }
 
-fn searched(alloc: Global, reading: &mut Reading, pattern: &Prepared) -> Result<Answer, Fail>
+// Whether a search answers at this version, of as many documents as there are names, and has a line of each.
+fn finds(
+    alloc: Global,
+    reading: &mut Reading,
+    pattern: &Prepared,
+    version: u32,
+    names: &[&[u8]],
+) -> Result<bool, Fail>
     ensures { reading.new.opening ≡ reading.old.opening }
 {
     match reading.search(alloc, pattern) {
-        Ok(answer) => Ok(answer),
+        Ok(answer) => Ok(answer.version() == version && are_named(&answer, names)),
         Err(_) => Err(Fail::from("a search is refused")),
     }
 }
 
 fn are_named(answer: &Answer, names: &[&[u8]]) -> bool {
     let hits = answer.hits();
-    hits.len() == names.len()
+    answer.documents() as usize == names.len()
+        && hits.len() == names.len()
         && hits
             .iter()
             .zip(names.iter())

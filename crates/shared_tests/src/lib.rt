@@ -1,4 +1,4 @@
-//! Tests of the desk and its readings, by call, on one thread and on several.
+//! Tests of the desk and its readings, by call, on one thread.
 //!
 //! They are in a crate of their own, since a crate that has tests is proved twice, with them and without.
 #![tactic(auto)]
@@ -7,7 +7,3 @@
 mod calls;
 #[cfg(test)]
 mod fixtures;
-#[cfg(test)]
-mod service;
-#[cfg(test)]
-mod torn;
