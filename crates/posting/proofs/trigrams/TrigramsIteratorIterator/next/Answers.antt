@@ -5,6 +5,6 @@ use Rattle.posting.proofs.trigrams.TrigramsIteratorIterator.next.Goals.{in-Some,
 
 pub invariant_of-self : goal.invariant_of-self
 invariant_of-self c = elim c.match-next.branch [
-    in-Some w ↦ All-tail (λ n. n < 16777216) w.in-Some.number c.next.new.self (rw w.in-Some.ensures.steps at c.self.invariant)
+  | in-Some w ↦ All-tail (λ n. n < 16777216) w.in-Some.number c.next.new.self (rw w.in-Some.ensures.steps at c.self.invariant)
   | in-None w ↦ rw w.in-None.ensures.steps.1 (All-nil (λ n. n < 16777216))
 ]
