@@ -1,8 +1,8 @@
 //! Sets and selections, worked by hand.
 
-ghost use Rattle.std.specs.Prelude.{◌≡◌, ◌∷◌, [], IfOk};
+ghost use Rattle.std.specs.Prelude.{◌≡◌};
 
-use posting::{List, Postings, Trigrams};
+use posting::{List, Postings};
 use query::{Query, Trigram};
 use std::alloc::{AllocError, Global};
 use std::test::Fail;
@@ -204,27 +204,13 @@ fn bcd() -> Trigram
     Trigram::of([b'b', b'c', b'd'])
 }
 
-fn abc_and_bcd(alloc: Global) -> Result<Trigrams, AllocError>
-    ensures { IfOk result (λ trigrams. trigrams ≡ 6382179 ∷ 6447972 ∷ []) }
-{
-    Trigrams::new(alloc, &[abc(), bcd()])
-}
-
-fn only_abc(alloc: Global) -> Result<Trigrams, AllocError>
-    ensures { IfOk result (λ trigrams. trigrams ≡ 6382179 ∷ []) }
-{
-    Trigrams::new(alloc, &[abc()])
-}
-
 /// Document 1 has the trigrams abc and bcd, document 2 has abc.
 fn two_documents(alloc: Global) -> Result<Postings, AllocError> {
     let mut postings = Postings::new(alloc);
-    let both = abc_and_bcd(alloc)?;
-    postings.prepare(1, &both)?;
-    postings.add(1, &both);
-    let one = only_abc(alloc)?;
-    postings.prepare(2, &one)?;
-    postings.add(2, &one);
+    postings.prepare(1, &[abc(), bcd()])?;
+    postings.add(1, &[abc(), bcd()]);
+    postings.prepare(2, &[abc()])?;
+    postings.add(2, &[abc()]);
     Ok(postings)
 }
 
@@ -280,7 +266,7 @@ fn queries_select_documents(rt: HostRuntime) -> Result<(), Fail> {
 fn withdrawn_documents_are_not_selected(rt: HostRuntime) -> Result<(), Fail> {
     let alloc = rt.alloc();
     let mut postings = two_documents(alloc)?;
-    postings.withdraw(1, &abc_and_bcd(alloc)?);
+    postings.withdraw(1, &[abc(), bcd()]);
     assert!(rt; selects(alloc, &postings, &Query::Has(abc()), &[2], &[2])?);
     assert!(rt; selects(alloc, &postings, &Query::Has(bcd()), &[2], &[])?);
     Ok(())

@@ -35,7 +35,7 @@ impl Sets {
         ensures ok { OnOk result (HasRoomFor self.new trigrams.now) }
     {
         self.live.room_for(number)?;
-        self.postings.prepare(number, trigrams)
+        self.postings.prepare_kept(number, trigrams)
     }
 
     /// Takes the document with this number and these trigrams out.
@@ -45,7 +45,7 @@ impl Sets {
             ≡ (holds self.old.postings trigram n && not (has trigrams.now trigram && n == number)) }
     {
         self.live.remove(number);
-        self.postings.withdraw(number, trigrams);
+        self.postings.withdraw_kept(number, trigrams);
     }
 
     /// Puts a document with this number and these trigrams in, for which there is room.
@@ -57,6 +57,6 @@ impl Sets {
             ≡ (holds self.old.postings trigram n || (has trigrams.now trigram && number == n)) }
     {
         self.live.push(number);
-        self.postings.add(number, trigrams);
+        self.postings.add_kept(number, trigrams);
     }
 }

@@ -10,4 +10,5 @@ pub mod Slots
 pub mod Tables
 pub mod Places
 pub mod Changes
+pub mod Slices
 pub mod Selection

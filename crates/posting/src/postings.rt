@@ -56,36 +56,70 @@ impl Postings {
     ///
     /// The error is that there is no memory for it; empty lists and some of the room may then be new, and stay
     /// until a `withdraw` from these sets.
-    pub fn prepare(&mut self, number: u32, trigrams: &Trigrams) -> Result<(), AllocError>
+    pub fn prepare(&mut self, number: u32, trigrams: &[Trigram]) -> Result<(), AllocError>
         ensures sets { SameSets self.old self.new }
         ensures room { KeepsRoom self.old self.new }
         ensures ok { OnOk result (IsPrepared self.new trigrams.now) }
     {
-        for trigram in trigrams.iter() {
-            self.make_room(trigram, number)?;
+        for trigram in trigrams {
+            self.make_room(*trigram, number)?;
         }
         Ok(())
     }
 
     /// Puts the number into the sets of these trigrams, which were prepared for it. It takes no memory.
-    pub fn add(&mut self, number: u32, trigrams: &Trigrams)
+    pub fn add(&mut self, number: u32, trigrams: &[Trigram])
         requires prepared { IsPrepared self.old trigrams.now }
         requires above { IsAbove self.old trigrams.now number }
         requires once { AllDiffer trigrams.now }
         ensures { AddsNumber self.old self.new trigrams.now number }
     {
-        for trigram in trigrams.iter() {
-            self.push(trigram, number);
+        for trigram in trigrams {
+            self.push(*trigram, number);
         }
     }
 
     /// Takes the number out of the sets of these trigrams; a set that hasn't got it keeps its numbers. A set
     /// without a number gives its memory and its room back. It takes no memory.
-    pub fn withdraw(&mut self, number: u32, trigrams: &Trigrams)
+    pub fn withdraw(&mut self, number: u32, trigrams: &[Trigram])
         ensures sets { WithdrawsNumber self.old self.new trigrams.now number }
         ensures empty { GivesBack self.new trigrams.now }
     {
-        for trigram in trigrams.iter() {
+        for trigram in trigrams {
+            self.remove(*trigram, number);
+        }
+    }
+
+    /// `prepare` for trigrams that are kept as gaps.
+    pub fn prepare_kept(&mut self, number: u32, kept: &Trigrams) -> Result<(), AllocError>
+        ensures sets { SameSets self.old self.new }
+        ensures room { KeepsRoom self.old self.new }
+        ensures ok { OnOk result (IsPrepared self.new kept.now) }
+    {
+        for trigram in kept.iter() {
+            self.make_room(trigram, number)?;
+        }
+        Ok(())
+    }
+
+    /// `add` for trigrams that are kept as gaps.
+    pub fn add_kept(&mut self, number: u32, kept: &Trigrams)
+        requires prepared { IsPrepared self.old kept.now }
+        requires above { IsAbove self.old kept.now number }
+        requires once { AllDiffer kept.now }
+        ensures { AddsNumber self.old self.new kept.now number }
+    {
+        for trigram in kept.iter() {
+            self.push(trigram, number);
+        }
+    }
+
+    /// `withdraw` for trigrams that are kept as gaps.
+    pub fn withdraw_kept(&mut self, number: u32, kept: &Trigrams)
+        ensures sets { WithdrawsNumber self.old self.new kept.now number }
+        ensures empty { GivesBack self.new kept.now }
+    {
+        for trigram in kept.iter() {
             self.remove(trigram, number);
         }
     }

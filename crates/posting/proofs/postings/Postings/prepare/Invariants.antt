@@ -1,9 +1,6 @@
-use Rattle.std.proofs.Common.{◌≡◌, ◌++◌}
+use Rattle.std.proofs.Common.{take}
 use Rattle.posting.proofs.Changes.{Prepared}
 use Rattle.posting.proofs.postings.Postings.prepare.Given as goal
 
 abbrev pub invariant-loop-trigram : goal.invariant-loop-trigram
-invariant-loop-trigram l = record {
-  passed : l.trigrams ≡ l.yielded ++ l.trigram-iterator;
-  changed : Prepared l.initial.self l.self l.yielded;
-}
+invariant-loop-trigram l = Prepared l.initial.self l.self (take l.trigram-index l.trigrams)
