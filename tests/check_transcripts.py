@@ -119,7 +119,7 @@ def judged_by_hand():
     wrong = ["refuses %r: %s" % (text, fault) for script, options, text, status in LEGAL if (fault := transcripts.fault_of(script, text, status, **options))]
     wrong += ["takes %r of %r" % (text, script) for script, options, text, status in WRONG if not transcripts.fault_of(script, text, status, **options)]
     count = len(LEGAL) + len(WRONG)
-    for path in sorted((TOP / "tests/cases").glob("*.script")):
+    for path in sorted((TOP / "tests/cases").glob("*/*.script")):
         words = path.with_suffix(".args").read_text().split() if path.with_suffix(".args").exists() else []
         if path.with_suffix(".run").exists() or path.with_suffix(".setup").exists() or not set(words) <= {"--stats"}:
             continue

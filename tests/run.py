@@ -1,7 +1,8 @@
 #!/usr/bin/env python3
 """Runs the cases of tests/cases and the scripts of examples/ on the built program.
 
-A case NAME of tests/cases has some of these files:
+A case NAME is in one of the folders of tests/cases, which are by subject. No two cases have the same name. A case has
+some of these files:
 
     NAME.script       the script, on standard input, or as FILE where an argument is {script}
     NAME.args         the arguments, one a line
@@ -136,16 +137,27 @@ def run_example(base):
             raise Wrong(f"with {readers} readers {wrong}") from None
 
 
-def main():
-    if not PROGRAM.exists():
-        sys.exit("tests/run.py: build the program first: ./tsearch --help")
-    files = [path for path in CASES.iterdir() if path.is_file()]
-    strange = sorted(path.name for path in files if path.suffix not in SUFFIXES)
+def cases_of_folders():
+    """The cases of all folders, as paths without a suffix."""
+    files = [path for path in CASES.rglob("*") if path.is_file()]
+    strange = sorted(
+        str(path.relative_to(CASES)) for path in files if path.suffix not in SUFFIXES or path.parent.parent != CASES
+    )
     if strange:
         sys.exit(f"tests/run.py: no part of a case: {', '.join(strange)}")
     cases = sorted({path.with_suffix("") for path in files})
+    names = [base.name for base in cases]
+    twice = sorted({name for name in names if names.count(name) > 1})
+    if twice:
+        sys.exit(f"tests/run.py: in two folders: {', '.join(twice)}")
+    return cases
+
+
+def main():
+    if not PROGRAM.exists():
+        sys.exit("tests/run.py: build the program first: ./tsearch --help")
     examples = sorted(path.with_suffix("") for path in EXAMPLES.glob("*.script"))
-    jobs = [(run_case, base) for base in cases] + [(run_example, base) for base in examples]
+    jobs = [(run_case, base) for base in cases_of_folders()] + [(run_example, base) for base in examples]
     wanted = sys.argv[1:]
     missing = sorted(set(wanted) - {base.name for _, base in jobs})
     if missing:
