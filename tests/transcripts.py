@@ -13,7 +13,7 @@ All other patterns are those of a table with what they are to the program, which
 
 import re
 
-MAX_BODY, MAX_LINE, MAX_PATTERN = 1_048_576, 4_096, 1_024
+MAX_BODY, MAX_LINE, MAX_PATTERN = 1_048_576, 16_384, 1_024
 
 ATOM = rb"(?:[^\x00\n.\[\\()*+?{|^$]|\.|\[\^?(?:a-z|A-Z|0-9|[0-9A-Za-z_ ])+\]|\\[.\[\\()*+?{|^$])"
 PIECES = rb"(?:%s[*+?]?|[\^$])*" % ATOM
