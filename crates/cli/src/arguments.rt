@@ -11,10 +11,10 @@ use clap::error::ErrorKind;
 use clap::{Arg, ArgAction, Command, Error, value_parser};
 use std::alloc::{AllocError, Global};
 
-/// The number of readers where the arguments give none.
+/// The number of readers if the arguments give none.
 const DEFAULT_READERS: u32 = 2;
 
-/// The greatest number of accepted commands where the arguments give none.
+/// The greatest number of accepted commands if the arguments give none.
 const DEFAULT_MAX_COMMANDS: u32 = 65536;
 
 /// How the arguments set a run.
@@ -24,9 +24,9 @@ pub struct Settings<'a> {
     pub readers: u32,
     /// `--max-commands`: how many commands are accepted at most, 1 to 1,000,000, by default 65,536.
     pub max_commands: u32,
-    /// `--stats`: whether each answer tells its candidates.
+    /// `--stats`: whether each answer shows its number of candidates.
     pub stats: bool,
-    /// `FILE`: the path of the script, where it is not standard input.
+    /// `FILE`: the path of the script, if it is not standard input.
     pub file: Option<&'a str>,
 }
 
@@ -39,9 +39,9 @@ pub enum Request<'a> {
     Help,
 }
 
-/// Reads the arguments, of which the first is the program's name, as `clap` reads them.
+/// Reads the arguments as `clap` does. The first is the program's name.
 ///
-/// `Refused` comes where `clap` refuses them, and `OutOfMemory` where memory ran out.
+/// `Refused` means that `clap` refuses them, and `OutOfMemory` that memory ran out.
 pub fn read_arguments<'a>(
     alloc: Global,
     arguments: &'a [String],
@@ -59,7 +59,7 @@ pub fn read_arguments<'a>(
     }
 }
 
-/// The error that refuses arguments that are no text.
+/// The error that refuses arguments that are not UTF-8.
 pub fn not_text(alloc: Global) -> ArgumentError {
     let message = "invalid UTF-8 was detected in one or more arguments";
     let refused = match command(alloc) {
@@ -72,7 +72,7 @@ pub fn not_text(alloc: Global) -> ArgumentError {
     }
 }
 
-/// Reads the arguments by the command line, and takes the defaults for those that are not there.
+/// Reads the arguments by the command line, with the defaults for those that are missing.
 fn parse<'a>(alloc: Global, arguments: &'a [String]) -> Result<Settings<'a>, Error>
     ensures settings { IfOk result (SpellSettings (map string_bytes arguments.entry.now)) }
     ensures kinds { FailsBy (faults_of (map string_bytes arguments.entry.now)) result }
@@ -89,7 +89,7 @@ fn parse<'a>(alloc: Global, arguments: &'a [String]) -> Result<Settings<'a>, Err
     })
 }
 
-/// The command line: what `clap` reads the arguments by.
+/// The command line, by which `clap` reads the arguments.
 fn command<'a>(alloc: Global) -> Result<Command<'a>, AllocError>
     ensures command_line { IfOk result (λ command. app_of command ≡ command_line) }
 {

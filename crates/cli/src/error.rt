@@ -1,9 +1,9 @@
-//! Why arguments are not taken.
+//! Why arguments cannot be read.
 
 use std::error::Error;
 use std::fmt::{self, Display};
 
-/// Why arguments are not taken.
+/// Why arguments cannot be read.
 #[derive(Debug, Drop)]
 pub enum ArgumentError {
     /// They are refused. The text says why, in lines that each end with a line feed.

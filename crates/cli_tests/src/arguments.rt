@@ -6,7 +6,7 @@ use std::alloc::Global;
 use std::process::Abort;
 use std::test::Fail;
 
-/// The program's arguments, its name before them.
+/// The program's arguments, the first being its name.
 fn arguments(alloc: Global, texts: &[&str]) -> Result<Vec<String>, Fail> {
     let mut arguments = vec![in alloc; String::from_str(alloc, "tsearch")?]?;
     for text in texts {
@@ -67,7 +67,7 @@ fn least_numbers_are_read(rt: HostRuntime) -> Result<(), Fail> {
     assert_gives(&rt, rt.alloc(), &texts, wanted)
 }
 
-/// Arguments are refused, with a text for standard error that begins so.
+/// Arguments are refused, with a text for standard error that begins like this.
 fn assert_refused(rt: &impl Abort, alloc: Global, texts: &[&str], begin: &str) -> Result<(), Fail> {
     let arguments = arguments(alloc, texts)?;
     match read_arguments(alloc, &arguments) {

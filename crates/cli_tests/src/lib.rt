@@ -1,7 +1,7 @@
-//! Tests of the command line, by call: each public function does its work where memory is ample, and what no
-//! contract says is so.
+//! Tests of the command line, by call: each public function does its work if memory is ample. They also test
+//! what no contract says.
 //!
-//! They are in a crate of their own, since a crate that has tests is proved twice, with them and without.
+//! They are a separate crate because a crate with tests is proved twice: with its tests and without.
 #![tactic(auto)]
 
 #[cfg(test)]

@@ -62,8 +62,8 @@ fn names_rise_by_their_bytes(rt: HostRuntime) -> Result<(), Fail> {
     Ok(())
 }
 
-/// Whether a body of these pieces is refused for this fault and its bytes come back, or, with no fault, is made
-/// and shared.
+/// Whether a body of these pieces is refused for this fault and its bytes come back, or, with no fault, is made and
+/// shared.
 fn is_made(
     alloc: Global,
     pieces: &[(&[u8], usize)],
@@ -112,7 +112,7 @@ fn bodies(rt: HostRuntime) -> Result<(), Fail> {
 /// Commands, their number, the number of documents that they leave, and the number and text of a document.
 type State<'a> = (&'a [u8], u32, u32, u32, Option<&'a [u8]>);
 
-/// Whether the commands lead there.
+/// Whether the commands lead to this state.
 fn leads_to(rt: &impl Abort, alloc: Global, state: &State<'_>) -> Result<bool, Fail> {
     let index = index_of(rt, alloc, state.0)?;
     Ok(
@@ -186,7 +186,7 @@ fn holds_none(rt: &impl Abort, index: &mut Index, name: &Name) -> Result<bool, F
     Ok(index.number(name).is_none() && index.held(1).is_none() && index.held_bytes() == 0)
 }
 
-/// Whether a document that is in two indexes stays in one of them when it goes from the other.
+/// Whether a document that is in two indexes stays in one of them when it is removed from the other.
 fn stays_in_one(
     rt: &impl Abort,
     alloc: Global,
@@ -233,7 +233,7 @@ fn many(rt: &impl Abort, alloc: Global) -> Result<Index, Fail> {
     Ok(index)
 }
 
-/// Whether the removal of this document leaves so many.
+/// Whether the removal of this document leaves `left` documents.
 fn leaves(
     rt: &impl Abort,
     alloc: Global,
@@ -253,8 +253,8 @@ fn is_found(alloc: Global, index: &Index, i: u8, there: bool) -> Result<bool, Fa
     Ok(index.document(number).is_some() == there && found == there.then_some(number))
 }
 
-/// Each of many documents is found by its number and its name while others go, first every second one and then
-/// those that are left.
+/// Each of many documents is found by its number and its name while others are removed, first every second
+/// one and then the rest.
 #[test]
 fn many_documents_go(rt: HostRuntime) -> Result<(), Fail> {
     let mut index = many(&rt, rt.alloc())?;
@@ -293,7 +293,7 @@ fn text_of(i: u32) -> [u8; 5] {
     [letter(i), letter(i / 26), letter(i / 676), b'x', b'y']
 }
 
-/// Whether the text of this number, put under f, is what its first two trigrams lead to, and the first of the text
+/// Whether the first two trigrams of the text of this number, put under f, lead to it, and the first one of the text
 /// before it leads to none.
 fn replaces(rt: &impl Abort, alloc: Global, index: &mut Index, i: u32) -> Result<bool, Fail> {
     let [a, b, c, x, y] = text_of(i);
@@ -310,7 +310,7 @@ fn replaces(rt: &impl Abort, alloc: Global, index: &mut Index, i: u32) -> Result
     )
 }
 
-/// One document is replaced 1,000 times, each time with trigrams that were not there, beside one that stays.
+/// One document is replaced 1,000 times, each time with trigrams that were not there, while another stays.
 #[test]
 fn a_document_is_replaced_often(rt: HostRuntime) -> Result<(), Fail> {
     let alloc = rt.alloc();
@@ -325,7 +325,7 @@ fn a_document_is_replaced_often(rt: HostRuntime) -> Result<(), Fail> {
     Ok(())
 }
 
-/// The query that every so many of the texts of `many` meet, each by a member of its own.
+/// The query that every `step`-th text of `many` meets, each by a member of its own.
 fn one_of(alloc: Global, step: u8) -> Result<Query, Fail> {
     let mut members = Vec::new(alloc);
     for i in 0..=255u8 {
@@ -336,7 +336,7 @@ fn one_of(alloc: Global, step: u8) -> Result<Query, Fail> {
     Ok(Query::Or(members))
 }
 
-/// Whether the candidates of the query are every so many of 200 documents, from the first on.
+/// Whether the candidates of the query are every `step`-th of 200 documents, from the first on.
 fn are_every(alloc: Global, index: &Index, query: &Query, step: u32) -> Result<bool, Fail> {
     let found = index.candidates(alloc, query)?;
     let numbers: Vec<u32> = found.numbers().collect(alloc)?;
@@ -349,8 +349,8 @@ fn are_every(alloc: Global, index: &Index, query: &Query, step: u32) -> Result<b
     Ok(numbers.as_slice() == every.as_slice())
 }
 
-/// Whether an Or of every so many trigrams finds its documents: alone, beside all, and where every second one is asked
-/// for too.
+/// Whether an Or of every `step`-th trigram finds its documents: by itself, with all documents added, and with every
+/// second one asked for too.
 fn finds_every(alloc: Global, index: &Index, step: u8) -> Result<bool, Fail> {
     let all = Query::Or(vec![in alloc; one_of(alloc, step)?, Query::Any]?);
     let both = Query::And(vec![in alloc; one_of(alloc, step)?, one_of(alloc, 2)?]?);
@@ -387,12 +387,12 @@ fn puts_bcd(command: &Command) -> bool {
     }
 }
 
-/// Whether two commands were applied, of which the first put abc, and seven bytes are held.
+/// Whether two commands were applied, the first of which put abc, and seven bytes are held.
 fn is_as_before(index: &Index) -> bool {
     index.version() == 2 && index.held_bytes() == 7 && text_at(index, 1) == Some(b"abc".as_slice())
 }
 
-/// Puts the text bcd under f, and tells whether that is done. Where it is refused, the command comes back.
+/// Puts the text bcd under f. Returns whether that is done. If it is refused, the command comes back.
 fn put_bcd(rt: &impl Abort, alloc: Global, index: &mut Index) -> Result<bool, Fail> {
     let (name, body) = document(alloc, b"f", b"bcd")?;
     assert!(rt; index.version() < 1000);
@@ -405,7 +405,7 @@ fn put_bcd(rt: &impl Abort, alloc: Global, index: &mut Index) -> Result<bool, Fa
     }
 }
 
-/// Where memory runs out, the command comes back and the index is as it was.
+/// If memory runs out, the command comes back and the index is as it was.
 #[test]
 fn a_refused_command_changes_nothing(rt: HostRuntime) -> Result<(), Fail> {
     let mut index = index_of(&rt, rt.alloc(), b"f abc|g abcd")?;
@@ -426,7 +426,7 @@ fn text_at(index: &Index, number: u32) -> Option<&[u8]> {
     }
 }
 
-/// Commands, the numbers of their live documents, each of which has the trigram abc, and of those with bcd.
+/// Commands, the numbers of their live documents, which all have the trigram abc, and the numbers of those with bcd.
 const LIVE: &[(&[u8], &[u32], &[u32])] = &[
     (b"", &[], &[]),
     (b"f abc|g abcd", &[1, 2], &[2]),
@@ -443,7 +443,7 @@ fn live_numbers_and_candidates(rt: HostRuntime) -> Result<(), Fail> {
     Ok(())
 }
 
-/// Whether the commands leave these live documents, all with the trigram abc, and those with bcd.
+/// Whether the commands leave these live documents, which all have the trigram abc, and these ones with bcd.
 fn are_numbers(
     rt: &impl Abort,
     alloc: Global,

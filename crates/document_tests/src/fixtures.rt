@@ -48,7 +48,7 @@ pub(crate) fn index_of(rt: &impl Abort, alloc: Global, commands: &[u8]) -> Resul
     Ok(index)
 }
 
-/// Appends the piece so many times.
+/// Appends the piece `times` times.
 fn append_times(text: &mut Vec<u8>, piece: &[u8], times: usize) -> Result<(), AllocError> {
     for _ in 0..times {
         text.extend_from_slice(piece)?;
@@ -56,7 +56,7 @@ fn append_times(text: &mut Vec<u8>, piece: &[u8], times: usize) -> Result<(), Al
     Ok(())
 }
 
-/// The text of these pieces, each so many times.
+/// The text of these pieces, each repeated by its number.
 pub(crate) fn built(alloc: Global, pieces: &[(&[u8], usize)]) -> Result<Vec<u8>, Fail> {
     let mut text = Vec::new(alloc);
     for piece in pieces {

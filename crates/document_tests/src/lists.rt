@@ -7,7 +7,7 @@ use query::{Query, Trigram};
 use std::alloc::{AllocError, Global};
 use std::test::Fail;
 
-/// Puts those of the numbers into the set that are above all that are in it.
+/// Puts into the set those of the numbers that are above all that are in it.
 fn put_all(set: &mut List, numbers: &[u32]) -> Result<(), AllocError> {
     for number in numbers {
         if set.numbers().all(|held| held < *number) {
@@ -18,7 +18,7 @@ fn put_all(set: &mut List, numbers: &[u32]) -> Result<(), AllocError> {
     Ok(())
 }
 
-/// The set of the first of these numbers, from which the second go before the third come.
+/// The set of the first numbers, from which the second are taken out before the third are put in.
 fn set_of(alloc: Global, steps: &[&[u32]; 3]) -> Result<List, AllocError> {
     let [first, gone, later] = steps;
     let mut set = List::new(alloc);
@@ -100,7 +100,7 @@ fn numbers_are_looked_up(rt: HostRuntime) -> Result<(), Fail> {
     Ok(())
 }
 
-/// The set of a text: each small letter puts its number in, and a capital takes the small letter's number out.
+/// The set of a text: each small letter puts in its number, and a capital takes out the number of its small letter.
 fn set_of_text(alloc: Global, text: &[u8]) -> Result<List, AllocError> {
     let mut set = List::new(alloc);
     for byte in text {
@@ -156,7 +156,7 @@ fn numbers_below_300(alloc: Global) -> Result<Vec<u32>, AllocError> {
     Ok(numbers)
 }
 
-/// Takes the number out of the set and of the numbers in it, and tells whether the others stay.
+/// Takes the number out of the set and of the numbers in it. Returns whether the others stay.
 fn goes(
     alloc: Global,
     set: &mut List,
@@ -168,8 +168,8 @@ fn goes(
     lists(alloc, set, held)
 }
 
-/// Takes the numbers below 300 out of a set, in the order of the multiples of a factor, from a first one on,
-/// and tells whether the others always stayed.
+/// Takes the numbers below 300 out of a set, in the order of the multiples of a factor, from a first one on.
+/// Returns whether the others always stayed.
 fn go_in_order(alloc: Global, factor: u32, first: u32) -> Result<bool, AllocError> {
     let mut held = numbers_below_300(alloc)?;
     let mut set = set_of(alloc, &[&held, &[], &[]])?;

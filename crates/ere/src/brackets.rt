@@ -104,7 +104,7 @@ fn last_dash_at(text: &[u8], at: usize, opening: usize) -> Result<(ByteSet, usiz
     Err(EreError::new(EreErrorKind::BadRange, at))
 }
 
-/// Whether a `-` is at `at` and is not last, so that it makes a range of what is before it.
+/// Whether a `-` is at `at` and is not last. Such a `-` makes a range of what is before it.
 fn is_range_ahead(text: &[u8], at: usize) -> bool
     ensures { result ≡ range_ahead (drop at text.now) }
 {
@@ -129,7 +129,7 @@ fn range_at(text: &[u8], low: u8, dash: usize, opening: usize) -> Result<(ByteSe
     Ok((ByteSet::between(low, high), after))
 }
 
-/// The byte at `at`, or the one of the collating symbol `[.x.]` there.
+/// The byte at `at`, or that of the collating symbol `[.x.]` there.
 fn byte_or_symbol_at(text: &[u8], at: usize, opening: usize) -> Result<(u8, usize), EreError>
     requires { at < length text.now }
     ensures ok { IfOk result (λ r. IsByteOrSymbol (drop at text.now) r.0 (drop r.1 text.now)) }
@@ -142,7 +142,7 @@ fn byte_or_symbol_at(text: &[u8], at: usize, opening: usize) -> Result<(u8, usiz
     Ok((text[at], at + 1))
 }
 
-/// The one byte of the collating symbol or equivalence class at `at`, which `mark` tells.
+/// The one byte of the collating symbol or equivalence class at `at`; `mark` says which of the two it is.
 fn symbol_at(text: &[u8], at: usize, mark: u8, opening: usize) -> Result<(u8, usize), EreError>
     requires mark { (mark ≢ 0) × (mark ≢ 93) }
     requires opens { IsTrue (opens_with mark (drop at text.now)) }
@@ -173,7 +173,7 @@ fn class_at(text: &[u8], at: usize, opening: usize) -> Result<(ByteSet, usize), 
     }
 }
 
-/// Where the first `mark` and `]` from `start` on are.
+/// The offset of the first `mark` and `]` at or after `start`.
 fn symbol_end(text: &[u8], start: usize, mark: u8) -> Option<usize>
     requires { mark ≢ 0 }
     ensures found { IfSome result (λ p. (start ≤ p) × (p + 1 < length text.now) × IsSymbolEnd mark text.now p) }

@@ -9,7 +9,7 @@ use crate::sixteen::{bits_of, bytes_of, halves, held, looked_up, places};
 use std::marker::Model;
 use std::simd::prelude::*;
 
-/// How many words a set is.
+/// The number of words of a set.
 const WORDS: usize = 4;
 
 /// A set of line bytes. A line byte is any byte but 0 and the line feed (10).
@@ -52,7 +52,7 @@ impl ByteSet {
         ByteSet::empty().complement()
     }
 
-    /// The set of this byte alone; of none, where it is no line byte.
+    /// The set of this byte only; empty if it is not a line byte.
     pub fn single(byte: u8) -> ByteSet
         ensures { result ≡ single byte }
     {
@@ -63,7 +63,7 @@ impl ByteSet {
         set
     }
 
-    /// The line bytes from `low` to `high`, both among them.
+    /// The line bytes from `low` to `high`, both included.
     pub fn between(low: u8, high: u8) -> ByteSet
         ensures { result ≡ bytes_between low high }
     {
@@ -111,7 +111,7 @@ impl ByteSet {
         holds(&self.words, byte)
     }
 
-    /// Which of sixteen bytes are in the set: bit i says it of byte i.
+    /// Which of sixteen bytes are in the set: bit i is set if byte i is.
     #[inline(always)]
     pub fn which_of(&self, bytes: u8x16) -> u64
         ensures small { result < 2 ^ 16 }
@@ -123,7 +123,7 @@ impl ByteSet {
         held(halves(bytes, low, high), bits_of(bytes))
     }
 
-    /// Puts the byte into the set.
+    /// Adds the byte to the set.
     pub fn insert(&mut self, byte: u8)
         requires { IsTrue (is_line_byte byte) }
         ensures { self.new ≡ with_byte self.old byte }
@@ -198,7 +198,7 @@ fn of_either(left: &[u64; WORDS], right: &[u64; WORDS]) -> [u64; WORDS]
     words
 }
 
-/// The bytes that the words do not have, 0 and the line feed among them.
+/// The bytes that the words do not have, including 0 and the line feed.
 fn all_but(others: &[u64; WORDS]) -> [u64; WORDS]
     ensures whole { length result ≡ WORDS }
     ensures each { (b : ℕ) → b < 256 → has_byte result b ≡ not (has_byte others.now b) }
@@ -210,7 +210,7 @@ fn all_but(others: &[u64; WORDS]) -> [u64; WORDS]
     words
 }
 
-/// Each bit turned over.
+/// The word with each bit flipped.
 fn flipped(word: u64) -> u64
     ensures { (bit : ℕ) → bit < 64 → has_bit result bit ≡ not (has_bit word bit) }
 {

@@ -5,7 +5,7 @@ ghost use Rattle.ere.specs.Classes.{class_named, is_alnum, is_alpha, is_blank, i
 
 use crate::byte_set::ByteSet;
 
-/// The set of the class of this name, such as `digit`, or `None` where no class has the name.
+/// The set of the class of this name, such as `digit`, or `None` if no class has the name.
 pub fn class_named(name: &[u8]) -> Option<ByteSet>
     ensures { result ≡ class_named name.now }
 {

@@ -43,8 +43,8 @@ pub enum EreErrorKind {
 }
 
 impl EreError {
-    /// A fault at an offset; offsets past the greatest `u32`, which no pattern within the limits has, are
-    /// reported as that.
+    /// A fault at an offset. An offset above the greatest `u32`, which no pattern within the limits has, is
+    /// reported as the greatest.
     pub fn new(kind: EreErrorKind, at: usize) -> EreError
         ensures kind { result.kind ≡ kind }
         ensures at { at < 2 ^ 32 → result.at ≡ at }

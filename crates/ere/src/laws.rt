@@ -11,7 +11,7 @@ ghost use Rattle.ere.specs.Tree.{at_end, at_start, cat, empty, more, none, repea
 
 use crate::tree::MAX_LINE;
 
-/// The greatest length of a line is the one of the definitions.
+/// The greatest length of a line is that of the definitions.
 pub fn line_limit()
     ensures { MAX_LINE ≡ greatest_line }
 {}
@@ -26,12 +26,12 @@ pub fn tree_within_limits()
     ensures { (pattern : List ℕ) (tree : Tree) → IsTreeOf pattern tree → IsWithinLimits tree }
 {}
 
-/// The language of the empty tree is the empty word alone, in any surroundings.
+/// The language of the empty tree is only the empty word, in any surroundings.
 pub fn only_the_empty_word()
     ensures { (before word after : List ℕ) → InLanguage empty before word after ↔ (word ≡ []) }
 {}
 
-/// Any number of copies are none, or any number and one more after them.
+/// Any number of copies is none, or any number with one more after them.
 pub fn star_unrolls()
     ensures { (body : Tree) (before word after : List ℕ) → InLanguage (repeat body 0 None) before word after
         ↔ ((word ≡ []) ⊎ ((front back : List ℕ) × (word ≡ front ++ back) × InLanguage (repeat body 0 None) before front (back ++ after) × InLanguage body (before ++ front) back after)) }

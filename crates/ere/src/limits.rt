@@ -58,7 +58,7 @@ fn is_ordered(least: u8, greatest: Option<u8>) -> bool
     }
 }
 
-/// The tree's height, or 65 where it is more.
+/// The tree's height, or 65 if it is more.
 #[cycle(height)]
 pub fn capped_height(tree: &Ere) -> u8
     ensures { result ≡ min (height (form tree.now)) 65 }
@@ -85,7 +85,7 @@ fn capped_highest(members: &[Ere]) -> u8
     most
 }
 
-/// The tree's leaves, or 4,097 where there are more.
+/// The tree's leaves, or 4,097 if there are more.
 #[cycle(leaves)]
 pub fn capped_leaves(tree: &Ere) -> u32
     ensures { result ≡ min (leaves (form tree.now)) 4097 }

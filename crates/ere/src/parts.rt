@@ -25,7 +25,7 @@ pub struct Part {
 pub struct Members {
     /// The trees.
     pub trees: Vec<Ere>,
-    /// The greatest of their heights; 0 where there is none.
+    /// The greatest of their heights; 0 if there are none.
     pub highest: u8,
 }
 
@@ -39,7 +39,7 @@ pub fn no_members(alloc: Global) -> Option<Members>
     })
 }
 
-/// The members and one more, or none where one is higher than the limit.
+/// The members and one more, or `None` if one is higher than the limit.
 pub fn with_member(
     members: Option<Members>,
     part: Option<Part>,
@@ -58,7 +58,7 @@ pub fn with_member(
     Ok(Some(members))
 }
 
-/// The tree of a branch of these pieces, or none where it is higher than the limit.
+/// The tree of a branch of these pieces, or `None` if it is higher than the limit.
 pub fn branch_of(pieces: Option<Members>) -> Option<Part>
     ensures { (trees : Trees) → AreBuilt pieces trees → IsBuilt result (branch_of trees) }
 {
@@ -72,7 +72,7 @@ pub fn branch_of(pieces: Option<Members>) -> Option<Part>
     }
 }
 
-/// The tree of alternatives of these branches, or none where it is higher than the limit.
+/// The tree of alternatives of these branches, or `None` if it is higher than the limit.
 pub fn alternatives_of(branches: Option<Members>) -> Option<Part>
     ensures { (trees : Trees) → AreBuilt branches trees → IsBuilt result (alternatives_of trees) }
 {
@@ -85,7 +85,7 @@ pub fn alternatives_of(branches: Option<Members>) -> Option<Part>
     }
 }
 
-/// The tree of a duplication, or none where it is higher than the limit.
+/// The tree of a duplication, or `None` if it is higher than the limit.
 pub fn repeat_of(
     alloc: Global,
     part: Option<Part>,

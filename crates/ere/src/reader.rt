@@ -25,7 +25,7 @@ pub const MAX_OPEN: u8 = 64;
 /// Reads a pattern.
 ///
 /// An `Ok` holds the one tree of the pattern, which is within the limits. An `Err` says which fault a
-/// reading from left to right meets first, and where (`EreErrorKind`). Length and bytes are looked at
+/// reading from left to right meets first, and where (`EreErrorKind`). Length and bytes are checked
 /// first, and height and leaves last. (POSIX.1-2017 XBD 9.4 and 9.3.5; the limits are this program's.)
 pub fn parse(alloc: Global, pattern: &[u8]) -> Result<Ere, EreError>
     ensures tree { IfOk result (λ e. IsTreeOf pattern.now (form e)) }
@@ -43,7 +43,7 @@ pub fn parse(alloc: Global, pattern: &[u8]) -> Result<Ere, EreError>
     Ok(part.tree)
 }
 
-/// Whether the pattern is short enough and made of line bytes.
+/// Checks that the pattern is short enough and made of line bytes.
 fn check_bytes(pattern: &[u8]) -> Result<(), EreError>
     ensures short { OnOk result (length pattern.now ≤ greatest_pattern) }
     ensures allowed { OnOk result (AllByRecursion (λ b. (b ≢ 0) × (b ≢ 10)) pattern.now) }
@@ -189,7 +189,7 @@ fn anchor(text: &[u8], after: usize, tree: Ere) -> Result<(Option<Part>, usize),
     }
 }
 
-/// The duplications from `start` on, which are those of the part before them.
+/// The duplications from `start` on, which apply to the part before them.
 fn repeated(
     alloc: Global,
     text: &[u8],

@@ -14,7 +14,7 @@ pub fn bytes_of(low: u64, high: u64) -> u8x16
     u64x2::from_array([low, high]).to_le_bytes()
 }
 
-/// Where each byte's bit is among the bytes of two words: at the number of its bits 3 to 6.
+/// The place of each byte's bit among the bytes of two words: the number that its bits 3 to 6 make.
 #[inline(always)]
 pub fn places(bytes: u8x16) -> u8x16
     ensures { HasLanes result (λ k. slice_index bytes k / 8 % 16) }
@@ -31,7 +31,7 @@ pub fn looked_up(table: u8x16, places: u8x16) -> u8x16
     table.swizzle_dyn(places)
 }
 
-/// Each byte's bit in the byte that has it: that of its three lowest bits.
+/// Each byte's bit within the byte that holds it, given by its three lowest bits.
 #[inline(always)]
 pub fn bits_of(bytes: u8x16) -> u8x16
     ensures { HasLanes result (λ k. 2 ^ (slice_index bytes k % 8)) }
@@ -40,7 +40,7 @@ pub fn bits_of(bytes: u8x16) -> u8x16
     table.swizzle_dyn(bytes & u8x16::splat(7))
 }
 
-/// From the first where a byte is below 128, and from the second where it is not.
+/// For each byte, from `low` if it is below 128, and otherwise from `high`.
 #[inline(always)]
 pub fn halves(bytes: u8x16, low: u8x16, high: u8x16) -> u8x16
     ensures { HasLanes result (λ k. if nat_lt (slice_index bytes k) 128 then slice_index low k else slice_index high k) }

@@ -52,7 +52,7 @@ pub fn token_at(text: &[u8], at: usize) -> Result<(Token, usize), EreError>
     Ok((token_of_byte(byte), at + 1))
 }
 
-/// The duplication at `at`, where there is one, and the offset after it.
+/// The duplication at `at`, if there is one, and the offset after it.
 pub fn duplication_at(text: &[u8], at: usize) -> Result<Option<(u8, Option<u8>, usize)>, EreError>
     requires { at ≤ length text.now }
     ensures ok { IfOk result (λ found. IfSome found (λ d. SpellsToken (drop at text.now) (drop d.2 text.now) (times d.0 d.1))) }
@@ -79,7 +79,7 @@ fn begins_duplication(text: &[u8], at: usize) -> bool
     at < text.len() && b"*+?{".contains(&text[at])
 }
 
-/// The token of a byte that is one by itself.
+/// The token of a byte that is a token by itself.
 fn token_of_byte(byte: u8) -> Token
     ensures { (rest : List ℕ) → IsFalse (begins_longer byte rest) → token_of_byte byte rest ≡ Some (meaning result) }
 {
@@ -155,8 +155,8 @@ fn interval_at(text: &[u8], at: usize) -> Result<(u8, Option<u8>, usize), EreErr
     Ok((least, Some(most), end + 1))
 }
 
-/// The count that the decimal digits from `start` on spell, where there are some and it is at most 255,
-/// and the offset after them.
+/// The count that the decimal digits from `start` on spell, if there are any and it is at most 255, and
+/// the offset after them.
 fn count_at(text: &[u8], start: usize) -> (Option<u8>, usize)
     requires { start ≤ length text.now }
     ensures count { ReadsCount (drop start text.now) (drop result.1 text.now) result.0 }

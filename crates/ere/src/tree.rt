@@ -24,6 +24,7 @@ pub enum Ere {
     Cat(Vec<Ere>),
     /// A word of one of the members.
     Alt(Vec<Ere>),
-    /// Words of the body, one after the other: at least the first number of them, and at most the second, where there is one.
+    /// Words of the body, one after the other: at least the first number of them, and at most the second, if there is
+    /// one.
     Repeat(Box<Ere>, u8, Option<u8>),
 }

@@ -10,14 +10,14 @@ use regex_compile::Error;
 use regex_meta::Program;
 use std::alloc::{AllocError, Global};
 
-/// How many bytes the tables of a compiled pattern take at most.
+/// The greatest size of the tables of a compiled pattern, in bytes.
 ///
-/// The engine's time for a text is bounded by the text's length times this size, and comes near it where the
-/// engine's own tables of states give up.
+/// The engine's time for a text is bounded by the text's length times this size, and comes close to that if
+/// the engine's own tables of states give up.
 const MOST_TABLES: usize = 8192;
 
-/// The same for a tree in which repeats without a greatest count are one inside another: more than the tables
-/// of any tree within the limits take.
+/// The same for a tree with nested repeats without a greatest count. It is more than the tables of any tree
+/// within the limits take.
 const MOST_TABLES_OF_NESTED: usize = 1 << 30;
 
 /// A pattern compiled for the engine.
@@ -25,7 +25,7 @@ pub struct Compiled {
     pub(crate) program: Program,
 }
 
-// Written out, so that a caller's proof sees one call.
+// Written out, so a caller's proof sees one call.
 impl Drop for Compiled {
     fn drop(self) {
         let Compiled { program: _program } = self;
@@ -37,9 +37,8 @@ impl Compiled {
     ghost use Rattle.ere.specs.Tree.{form};
     ghost use Rattle.finder.specs.Patterns.{IsCompiledFrom};
 
-    /// Compiles the pattern of a tree. There is none where its tables would be too large for a search by it
-    /// to be quick. A tree of star height 2 or more is compiled whatever its size. An `Err` comes only where
-    /// memory ran out.
+    /// Compiles the pattern of a tree. `None` if its tables would make a search slow. A tree of star height 2
+    /// or more is compiled whatever its size. An `Err` means that memory ran out.
     pub fn new(alloc: Global, tree: &Ere) -> Result<Option<Compiled>, AllocError>
         ensures { IfOk result (λ o. IfSome o (IsCompiledFrom (form tree.now))) }
     {

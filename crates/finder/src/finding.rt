@@ -20,13 +20,13 @@ pub struct FirstLine {
     pub end: usize,
 }
 
-/// What looks for the matches of a compiled pattern. It takes memory while it works, and does without where it
-/// gets none, so that a search is never refused.
+/// Looks for the matches of a compiled pattern. It takes memory while it works. If it gets none it works
+/// without, so a search is never refused.
 pub struct Finder<'p> {
     pub(crate) searcher: Searcher<'p>,
 }
 
-// Written out, so that a caller's proof sees one call.
+// Written out, so a caller's proof sees one call.
 impl Drop for Finder<'_> {
     fn drop(self) {
         let Finder {
@@ -42,7 +42,7 @@ impl<'p> Finder<'p> {
     ghost use Rattle.finder.specs.FirstLine.{IsFirstLine, IsInside, HasNoMatch};
     ghost use Rattle.finder.specs.Patterns.{IsCompiledFrom, IsFinderOf};
 
-    /// A finder for the pattern. An `Err` comes only where memory ran out.
+    /// A finder for the pattern. An `Err` means that memory ran out.
     pub fn new(alloc: Global, compiled: &'p Compiled) -> Result<Finder<'p>, AllocError>
         ensures { IfOk result (λ finder. (tree : Tree) → IsCompiledFrom tree compiled.now → IsFinderOf tree finder) }
     {

@@ -6,7 +6,7 @@ ghost use Rattle.finder.specs.FirstLine.{IsLineStart, IsLineEnd, IsWholeLines, l
 
 use memchr::{memchr, memrchr};
 
-/// How many bytes are counted together. Their count fits into a byte, so that the processor counts many at a time.
+/// How many bytes are counted together. Their count fits into a byte, so the processor counts many at a time.
 const BLOCK: usize = 192;
 
 /// Where the line of the position `from` starts.

@@ -6,8 +6,8 @@ ghost use Rattle.finder.specs.StarHeight.{star_height, greatest_height, is_set};
 
 use ere::Ere;
 
-/// Whether the tree's star height is at least this: whether so many repeats without a greatest count are one
-/// inside another, where one of a single set does not count.
+/// Whether the tree's star height is at least `least`: whether `least` repeats without a greatest count are
+/// one inside another; a repeat of a single set does not count.
 #[cycle(heights)]
 pub fn has_star_height(tree: &Ere, least: u32) -> bool
     ensures { result ≡ nat_le least (star_height (form tree.now)) }

@@ -12,7 +12,7 @@ use regex_class::Class;
 use regex_hir::{Hir, Look};
 use std::alloc::{AllocError, Global};
 
-/// The pattern that stands for a tree. An `Err` comes only where memory ran out.
+/// The engine's pattern for a tree. An `Err` means that memory ran out.
 #[cycle(translate)]
 pub fn pattern_for(alloc: Global, tree: &Ere) -> Result<Hir, AllocError>
     ensures { IfOk result (λ hir. StandsFor (form tree.now) (meaning hir)) }
@@ -43,8 +43,8 @@ fn patterns_for(alloc: Global, members: &[Ere]) -> Result<Vec<Hir>, AllocError>
     Ok(hirs)
 }
 
-// The pattern for `least` copies of the body or more. A star of a star is one star: each more would make the
-// pattern larger, and its searches slower.
+// The pattern for `least` copies of the body or more. A star of a star is one star: each further one would
+// make the pattern larger, and its searches slower.
 #[cycle(translate)]
 fn starred(alloc: Global, body: &Ere, least: u8) -> Result<Hir, AllocError>
     ensures { IfOk result (λ hir. StandsFor (repeat (form body.now) least None) (meaning hir)) }
@@ -65,7 +65,7 @@ fn bounded(alloc: Global, body: &Ere, least: u8, most: u8) -> Result<Hir, AllocE
     ensures { IfOk result (λ hir. StandsFor (repeat (form body.now) least (Some most)) (meaning hir)) }
 {
     if most < least {
-        // No word has so many copies. No pattern's tree asks for it.
+        // No word is such a number of copies. No pattern's tree asks for it.
         return Ok(Hir::Alternation(Vec::new(alloc)));
     }
     copies(alloc, body, least, Some(most as u32))

@@ -34,7 +34,7 @@ impl Model for Body {
 }
 
 impl Body {
-    /// The body of these bytes. It takes no memory. A refusal says the first cause, in the order of
+    /// The body of these bytes. It takes no memory. A refusal gives the first cause, in the order of
     /// `BodyErrorKind`, and hands the bytes back.
     pub fn new(bytes: Vec<u8>) -> Result<Body, BodyError>
         ensures body { IfOk result (λ body. (body ≡ bytes.items) × IsBody bytes.items) }
@@ -61,7 +61,7 @@ impl Body {
     }
 }
 
-// Why the bytes are no body.
+// Why the bytes are not a body.
 #[tactic(auto, unfolding(crate::specs::Text::IsBodyFault))]
 fn fault_of(bytes: &[u8]) -> Option<BodyErrorKind>
     ensures none { IfNone result (IsBody bytes.now) }

@@ -6,8 +6,8 @@ use crate::name::Name;
 /// A command on the documents.
 #[derive(Debug, Drop)]
 pub enum Command {
-    /// The document of this name gets this body. It replaces a document that is there.
+    /// The document of this name gets this body. A document that already has the name is replaced.
     Put(Name, Body),
-    /// There is no document of this name any more. Without one it changes no document.
+    /// The document of this name is removed. If there is none, no document changes.
     Remove(Name),
 }

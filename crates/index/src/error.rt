@@ -4,7 +4,7 @@ use crate::body::Body;
 use crate::command::Command;
 use std::alloc::AllocError;
 
-/// Why a text is no name, in the order in which the causes are looked for.
+/// Why bytes are not a name. The causes are checked in this order.
 #[derive(Clone, Copy, Debug, PartialEq, Eq)]
 pub enum NameError {
     /// It has no bytes.
@@ -17,7 +17,7 @@ pub enum NameError {
     OutOfMemory,
 }
 
-/// Why a text is no body, in the order in which the causes are looked for.
+/// Why bytes are not a body. The causes are checked in this order.
 #[derive(Clone, Copy, Debug, PartialEq, Eq)]
 pub enum BodyErrorKind {
     /// It has over 1,048,576 bytes.
@@ -28,10 +28,10 @@ pub enum BodyErrorKind {
     LineTooLong,
 }
 
-/// A text that is no body, handed back.
+/// Bytes that are not a body, handed back.
 #[derive(Debug, Drop)]
 pub struct BodyError {
-    /// Why it is none.
+    /// Why the bytes are not a body.
     pub kind: BodyErrorKind,
     /// The bytes that were handed in.
     pub bytes: Vec<u8>,
@@ -42,7 +42,7 @@ pub struct BodyError {
 pub struct ApplyError {
     /// The command that was handed in.
     pub command: Command,
-    /// The want of memory.
+    /// Memory ran out.
     pub error: AllocError,
 }
 
@@ -51,6 +51,6 @@ pub struct ApplyError {
 pub struct HeldError {
     /// The body that was handed in.
     pub body: Body,
-    /// The want of memory.
+    /// Memory ran out.
     pub error: AllocError,
 }

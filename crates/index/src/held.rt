@@ -19,7 +19,7 @@ struct Analysed {
     trigrams: Trigrams,
 }
 
-/// A body with what an index needs of it, shared by all that hold it: the trigrams of its lines are found once.
+/// A body with what an index needs of it, shared by all that hold it. The trigrams of its lines are found only once.
 ///
 /// Contracts see it as the bytes of the body.
 #[derive(Drop)]
@@ -40,7 +40,7 @@ impl Model for Held {
 }
 
 impl Held {
-    /// The body, with its trigrams. An `Err` comes only where memory ran out, and hands the body back.
+    /// The body, with its trigrams. An `Err` means that memory ran out, and hands the body back.
     pub fn new(body: Body) -> Result<Held, HeldError>
         ensures held { IfOk result (λ held. held ≡ body) }
         ensures returned { IfErr result (λ e. e.body ≡ body) }
@@ -51,8 +51,7 @@ impl Held {
         }
     }
 
-    /// The body with these trigrams, which are its own. An `Err` comes only where memory ran out, and hands the
-    /// body back.
+    /// The body with these trigrams, which are its own. An `Err` means that memory ran out, and hands the body back.
     pub(crate) fn with(body: Body, trigrams: Trigrams) -> Result<Held, HeldError>
         requires { ListsTrigrams body trigrams }
         ensures held { IfOk result (λ held. held ≡ body) }
@@ -67,7 +66,7 @@ impl Held {
         }
     }
 
-    /// The same body once more, in no memory of its own. An `Err` comes only where it cannot be shared more often.
+    /// Another handle to the same body, with no memory of its own. An `Err` means that the body has too many handles.
     pub fn share(&self) -> Result<Held, AllocError>
         ensures { IfOk result (λ held. held ≡ self.now) }
     {
@@ -94,7 +93,7 @@ impl Held {
 
 /// The trigrams of a body's lines.
 ///
-/// The error is that there is no memory for them.
+/// An `Err` means that memory ran out.
 pub(crate) fn trigrams_in(body: &Body) -> Result<Trigrams, AllocError>
     ensures trigrams { IfOk result (λ trigrams. ListsTrigrams body.now trigrams) }
     ensures body { IsBody body.now }

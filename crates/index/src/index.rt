@@ -24,15 +24,15 @@ use std::alloc::{AllocError, Global};
 use std::collections::BTreeMap;
 use std::marker::Model;
 
-/// A list of fewer numbers than this part of all documents is sorted by name; from there on the names of all
+/// A list with fewer numbers than this part of all documents is sorted by name. For a longer list the names of all
 /// documents are gone through.
 const FEW: usize = 8;
 
 /// The documents that commands leave.
 ///
-/// A document is there where some `Put` named it and no later command names it. Its number is the place of that
-/// `Put` among the commands, counted from 1. Contracts see an index as its state: how many commands were applied,
-/// and the documents.
+/// A document is there if some `Put` named it and no later command names it. Its number is the place of that
+/// `Put` among the commands, counted from 1. Contracts see an index as its state: how many commands were
+/// applied, and the documents.
 #[derive(Drop)]
 pub struct Index {
     // the number of commands
@@ -65,8 +65,7 @@ impl Index {
         }
     }
 
-    /// Applies a command. An `Err` comes only where memory ran out; it hands the command back, and the index is
-    /// as it was.
+    /// Applies a command. An `Err` means that memory ran out; it hands the command back, and the index is as it was.
     pub fn apply(&mut self, command: Command) -> Result<(), ApplyError>
         requires { self.old.version + 1 < 2 ^ 32 }
         ensures ok { OnOk result (self.new ≡ applied command self.old) }
@@ -85,7 +84,7 @@ impl Index {
         }
     }
 
-    // Applies the `Put` of this name and body. Where memory runs out they come back.
+    // Applies the `Put` of this name and body. If memory runs out they come back.
     fn put(&mut self, name: Name, body: Body) -> Result<(), ApplyError>
         requires { self.old.version + 1 < 2 ^ 32 }
         ensures ok { OnOk result (self.new ≡ applied (put_command name body) self.old) }
@@ -121,7 +120,7 @@ impl Index {
         }
     }
 
-    /// Applies the `Put` of this name and body, which are shared. An `Err` comes only where memory ran out, and
+    /// Applies the `Put` of this name and body, which are shared. An `Err` means that memory ran out, and
     /// the index is as it was.
     pub fn apply_put(&mut self, name: &Name, held: &Held) -> Result<(), AllocError>
         requires { self.old.version + 1 < 2 ^ 32 }
@@ -140,7 +139,7 @@ impl Index {
         Ok(())
     }
 
-    /// Applies the `Remove` of this name. It takes no memory, and never answers an `Err`: the type leaves room for
+    /// Applies the `Remove` of this name. It takes no memory, and never gives an `Err`. The type leaves room for
     /// one, after which the index would be as it was.
     pub fn remove(&mut self, name: &Name) -> Result<(), AllocError>
         requires { self.old.version + 1 < 2 ^ 32 }
@@ -176,7 +175,7 @@ impl Index {
         self.store.held_bytes
     }
 
-    /// Name and body of the document with this number, where there is one.
+    /// Name and body of the document with this number, if there is one.
     pub fn document(&self, number: u32) -> Option<(&Name, &Body)>
         ensures { option_map (λ d. (d.0.now, d.1.now)) result ≡ document_at number self.now.documents }
     {
@@ -186,7 +185,7 @@ impl Index {
         }
     }
 
-    /// The shared body of the document with this number, where there is one.
+    /// The shared body of the document with this number, if there is one.
     pub fn held(&self, number: u32) -> Option<&Held>
         ensures { option_map (λ h. h.now) result ≡ option_map (λ d. d.1) (document_at number self.now.documents) }
     {
@@ -196,7 +195,7 @@ impl Index {
         }
     }
 
-    /// The number of the document with this name, where there is one.
+    /// The number of the document with this name, if there is one.
     pub fn number(&self, name: &Name) -> Option<u32>
         ensures { result ≡ number_of name.now self.now.documents }
     {
@@ -210,8 +209,7 @@ impl Index {
         &self.store.sets.live
     }
 
-    /// The numbers of the documents whose trigrams satisfy the query, rising. An `Err` comes only where memory ran
-    /// out.
+    /// The numbers of the documents whose trigrams satisfy the query, rising. An `Err` means that memory ran out.
     pub fn candidates(&self, alloc: Global, query: &Query) -> Result<posting::List, AllocError>
         ensures { IfOk result (λ chosen. chosen.members
             ≡ map (λ d. d.number) (filter (meets (formula_of query.now)) self.now.documents)) }
@@ -220,9 +218,8 @@ impl Index {
         sets.postings.select(alloc, query, &sets.live)
     }
 
-    /// The numbers of those documents that the list has, in the order of the documents' names. Where the list has
-    /// few numbers its cost grows with them, and not with the number of documents. An `Err` comes only where memory
-    /// ran out.
+    /// The numbers of the documents that are in the list, in the order of the documents' names. For a list of few
+    /// numbers the cost grows with them, and not with the number of documents. An `Err` means that memory ran out.
     pub fn chosen_by_name(
         &self,
         alloc: Global,
@@ -240,7 +237,7 @@ impl Index {
         }
     }
 
-    // The numbers of those documents that the list has, under their names.
+    // The numbers of the documents that are in the list, by their names.
     fn few(&self, alloc: Global, chosen: &posting::List) -> Result<BTreeMap<&Name, u32>, AllocError>
         ensures { IfOk result (λ few. AreFew chosen.now.members self.now.documents few) }
     {
@@ -254,7 +251,7 @@ impl Index {
     }
 }
 
-// The command that is refused for want of memory.
+// The command that is refused because memory ran out.
 fn refused(name: Name, body: Body, error: AllocError) -> ApplyError
     ensures { result.command ≡ put_command name body }
 {
@@ -264,7 +261,7 @@ fn refused(name: Name, body: Body, error: AllocError) -> ApplyError
     }
 }
 
-// The name once more: the one that the numbers have, where they have it, so that it is in memory once.
+// A copy of the name. If `numbers` has the name, its memory is shared.
 fn shared_name(numbers: &BTreeMap<Name, u32>, name: &Name) -> Result<Name, AllocError>
     ensures { IfOk result (λ shared. shared ≡ name.now) }
 {
@@ -274,7 +271,7 @@ fn shared_name(numbers: &BTreeMap<Name, u32>, name: &Name) -> Result<Name, Alloc
     }
 }
 
-// Notes the number of a name. The result is the number that it had.
+// Enters the number of a name. Returns the number that it had.
 fn enter(
     numbers: &mut BTreeMap<Name, u32>,
     name: &Name,
@@ -291,7 +288,7 @@ fn enter(
     Ok(numbers.insert(key, number)?)
 }
 
-// Takes back what `enter` did, whose result this was.
+// Undoes an `enter` that returned `gone`.
 fn leave(numbers: &mut BTreeMap<Name, u32>, name: &Name, gone: Option<u32>)
     requires { IsSome (get (slice_cmp nat_cmp) numbers.old name.now) }
     ensures { (q : List ℕ) → get (slice_cmp nat_cmp) numbers.new q
@@ -309,7 +306,7 @@ fn leave(numbers: &mut BTreeMap<Name, u32>, name: &Name, gone: Option<u32>)
     }
 }
 
-// The numbers that stand under the names, in the order of the names.
+// The numbers of the names, in the order of the names.
 fn numbers_of(few: &BTreeMap<&Name, u32>, alloc: Global) -> Result<Vec<u32>, AllocError>
     ensures numbers { IfOk result (λ v. v.items ≡ values few.now) }
     ensures ordered { IsOrdered by_bytes few.now }
@@ -317,7 +314,7 @@ fn numbers_of(few: &BTreeMap<&Name, u32>, alloc: Global) -> Result<Vec<u32>, All
     few.values().copied().collect(alloc)
 }
 
-// Those of these numbers that the list has.
+// The numbers that are also in the list.
 fn numbers_among(
     numbers: &BTreeMap<Name, u32>,
     alloc: Global,

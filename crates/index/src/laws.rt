@@ -13,7 +13,7 @@ pub fn documents_are_puts()
     ensures once { (commands : List CommandValue) → IsStrictlyIncreasing (map (λ d. d.number) (documents_of commands)) }
 {}
 
-/// The state after one more command is that command applied to the state before.
+/// The state after one more command is the state before, with that command applied.
 pub fn state_follows_commands()
     ensures { (commands : List CommandValue) (command : CommandValue) →
         state_of (commands ++ command ∷ []) ≡ applied command (state_of commands) }

@@ -1,7 +1,7 @@
 //! The documents that commands leave: names, bodies, commands, and the index that keeps them.
 //!
-//! An index is seen by contracts as its state: how many commands were applied, and the documents that they
-//! leave. `docs/DEFINITIONS.md` says which documents these are.
+//! Contracts see an index as its state: how many commands were applied, and the documents that they leave.
+//! `docs/DEFINITIONS.md` says which documents these are.
 #![tactic(auto)]
 
 mod body;

@@ -18,7 +18,7 @@ pub const MAX_NAME: usize = 255;
 /// Contracts see it as its bytes. Names are compared byte by byte, as unsigned numbers.
 #[derive(Debug, Drop)]
 pub struct Name {
-    // shared, so that a name is in memory once wherever it is needed
+    // shared, so a name is in memory only once, wherever it is needed
     bytes: ArcSlice<u8>,
 }
 
@@ -87,7 +87,7 @@ impl Ord for Name {
 }
 
 impl Name {
-    /// The name of these bytes, copied. A refusal says the first cause, in the order of `NameError`.
+    /// The name of these bytes, copied. A refusal gives the first cause, in the order of `NameError`.
     #[tactic(auto, unfolding(crate::specs::Text::IsNameFault))]
     pub fn new(alloc: Global, bytes: &[u8]) -> Result<Name, NameError>
         ensures name { IfOk result (λ name. (name ≡ bytes.now) × IsName bytes.now) }
@@ -110,7 +110,7 @@ impl Name {
         self.bytes.as_slice()
     }
 
-    /// The same name once more, in no memory of its own. An `Err` comes only where it cannot be shared more often.
+    /// Another handle to the same name, with no memory of its own. An `Err` means that the name has too many handles.
     pub fn copy(&self) -> Result<Name, AllocError>
         ensures { IfOk result (λ name. name ≡ self.now) }
     {
@@ -119,7 +119,7 @@ impl Name {
     }
 }
 
-// Why the bytes are no name.
+// Why the bytes are not a name.
 #[tactic(auto, unfolding(crate::specs::Text::IsNameFault))]
 fn fault_of(bytes: &[u8]) -> Option<NameError>
     ensures none { IfNone result (IsName bytes.now) }

@@ -27,8 +27,8 @@ impl Sets {
         }
     }
 
-    /// Makes room for a document with this number and these trigrams, so that `put_in` takes no memory. The sets
-    /// have the numbers that they had.
+    /// Makes room for a document with this number and these trigrams. `put_in` then takes no memory. The numbers
+    /// in the sets stay the same.
     pub(crate) fn make_room(&mut self, number: u32, trigrams: &Trigrams) -> Result<(), AllocError>
         ensures live { self.new.live.members ≡ self.old.live.members }
         ensures postings { SameSets self.old.postings self.new.postings }
@@ -38,7 +38,7 @@ impl Sets {
         self.postings.prepare_kept(number, trigrams)
     }
 
-    /// Takes the document with this number and these trigrams out.
+    /// Takes out the document with this number and these trigrams.
     pub(crate) fn take_out(&mut self, number: u32, trigrams: &Trigrams)
         ensures live { self.new.live.members ≡ without number self.old.live.members }
         ensures postings { (trigram n : ℕ) → holds self.new.postings trigram n
@@ -48,7 +48,7 @@ impl Sets {
         self.postings.withdraw_kept(number, trigrams);
     }
 
-    /// Puts a document with this number and these trigrams in, for which there is room.
+    /// Puts in a document with this number and these trigrams, for which there is room.
     pub(crate) fn put_in(&mut self, number: u32, trigrams: &Trigrams)
         requires room { HasRoomFor self.old trigrams.now }
         requires above { IsNew self.old number trigrams.now }

@@ -1,4 +1,4 @@
-//! The slots in which the documents of an index lie, rising by their numbers.
+//! The slots that hold the documents of an index, rising by their numbers.
 
 ghost use Rattle.std.specs.Prelude.{◌≡◌, ◌≢◌, ℕ, ◌<◌, ◌≤◌, length, option_map, All, IfSome, IfNone, slice_index_or};
 ghost use Rattle.std.specs.Vec.{vec_len, vec_capacity};
@@ -16,14 +16,14 @@ pub(crate) struct Entry {
     pub(crate) held: Held,
 }
 
-/// A document, or the empty place of one that went: so that the others need not move each time.
+/// A document, or the empty slot of a removed one. So a removal need not move the others.
 #[derive(Drop)]
 pub(crate) struct Slot {
     pub(crate) number: u32,
     pub(crate) entry: Option<Entry>,
 }
 
-/// The name and the body of the document with this number, where there is one.
+/// The name and the body of the document with this number, if there is one.
 pub(crate) fn entry_at(slots: &[Slot], number: u32) -> Option<&Entry>
     requires { (last : ℕ) × RiseTo last slots.now }
     ensures { option_map (λ e. texts_of e.now) result ≡ document_at number (documents_in slots.now) }
@@ -34,7 +34,7 @@ pub(crate) fn entry_at(slots: &[Slot], number: u32) -> Option<&Entry>
     }
 }
 
-/// Takes the document with this number out of its slot, which stays as an empty one.
+/// Takes the document with this number out of its slot, which stays, but empty.
 pub(crate) fn take(slots: &mut Vec<Slot>, number: u32) -> Option<Entry>
     requires { (last : ℕ) × RiseTo last slots.old.items }
     ensures entry { option_map texts_of result ≡ document_at number (documents_in slots.old.items) }
@@ -52,7 +52,7 @@ pub(crate) fn take(slots: &mut Vec<Slot>, number: u32) -> Option<Entry>
     }
 }
 
-/// Leaves out the empty slots, where they have become more than so many documents.
+/// Drops the empty slots if half the number of slots is more than `documents`.
 pub(crate) fn compact(slots: &mut Vec<Slot>, documents: usize)
     ensures documents { documents_in slots.new.items ≡ documents_in slots.old.items }
     ensures numbers { (last : ℕ) → RiseTo last slots.old.items → RiseTo last slots.new.items }
@@ -64,7 +64,7 @@ pub(crate) fn compact(slots: &mut Vec<Slot>, documents: usize)
     }
 }
 
-// The place of the slot with this number, where there is one.
+// The place of the slot with this number, if there is one.
 fn place_of(slots: &[Slot], number: u32) -> Option<usize>
     requires { (last : ℕ) × RiseTo last slots.now }
     ensures some { IfSome result (λ place. (place < length slots.now)

@@ -74,7 +74,7 @@ impl Store {
         });
     }
 
-    /// Puts in a document with this number, for which there is room, in place of the one that goes.
+    /// Puts in a document with this number, for which there is room, and takes out the one that it replaces, `gone`.
     pub(crate) fn replace(&mut self, gone: Option<u32>, number: u32, entry: Entry)
         requires store { (last : ℕ) × IsStore last self.old × (last < number) }
         requires room { HasPlaceFor self.old entry.held }
@@ -83,10 +83,10 @@ impl Store {
             ≡ left_after gone (stored self.old) ++ document number entry.name entry.held ∷ [] }
         ensures store { IsStore number self.new }
     {
-        // first, since the one that goes may give room back
+        // the new document goes in first: taking the old one out may give room back
         self.put_in(number, entry);
         if let Some(old) = gone {
-            // none of those that were there has the new number
+            // no document that was there has the new number
             if old != number {
                 self.take_out(old);
             }

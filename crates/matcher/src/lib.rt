@@ -23,24 +23,23 @@ use crate::words::BITS;
 pub use crate::words::{WORDS, step};
 use ere::{Ere, MAX_LINE};
 
-/// How many words the positions of a line have that is neither short nor long. Each set of them is filled
-/// with zeros when it is made.
+/// How many words the positions of a line take if it is neither short nor long. Each set of them is filled with
+/// zeros when it is made.
 const FEWER: usize = 65;
 
 /// Whether some part of the line is a match of the tree.
 ///
 /// The tree is within the limits, and the line has at most `MAX_LINE` bytes. No memory is taken.
 ///
-/// The time is mostly that of the line's length times the tree's leaves. Repeats without a greatest count that
-/// stand inside one another add little where each stands at the front of the next one's body, as in
-/// `((a*a)*a)*` and `((a*|b)*|c)*`: the time was seen to grow as the square of their number. Where it stands
-/// behind a part that cannot be empty, as in `(a(aa*)*)*`, or under a count other than `?`, each level of
-/// them can still double the time.
+/// The time is mostly proportional to the length of the line times the leaves of the tree. Nested repeats without
+/// a greatest count add little if each is at the front of the next one's body, as in `((a*a)*a)*` and
+/// `((a*|b)*|c)*`: the time was measured to grow with the square of their number. After a part that cannot be
+/// empty, as in `(a(aa*)*)*`, or under a count other than `?`, each level can still double the time.
 ///
-/// The stack is bounded: calls nest as deep as the tree is high, which is at most 64, and at each level at most
-/// five sets of positions are kept, of 536 bytes for a line of 64 bytes or more, and of 2,072 for one of 4,160 or
-/// more. The most that was seen is 8.5 KiB for a level and 516 KiB in all, for 62 stars inside one another and a
-/// line of `MAX_LINE` bytes; 912 KiB where Rattle's own compiler makes the program in place of LLVM.
+/// The stack is bounded: calls nest as deep as the tree is high, which is at most 64, and each level keeps at
+/// most five sets of positions, of 536 bytes for a line of 64 bytes or more, and of 2,072 for one of 4,160 or
+/// more. The most that was measured is 8.5 KiB for a level and 516 KiB in all, for 62 stars inside one another
+/// and a line of `MAX_LINE` bytes; 912 KiB if Rattle's own compiler makes the program in place of LLVM.
 pub fn matches(tree: &Ere, line: &[u8]) -> bool
     requires within_limits { IsWithinLimits (form tree.now) }
     requires line { length line.now ≤ MAX_LINE }

@@ -8,13 +8,13 @@ ghost use Rattle.matcher.specs.Private.Moves.{absent, HasNone, IsEither, IsNew, 
 
 use ere::ByteSet;
 
-/// A set of positions of a line. Position i stands before byte i, and the last one after the last byte.
+/// A set of positions of a line. Position i is before byte i; the last position is after the last byte.
 ///
-/// There are two types: one for short lines, which are most, and one of as many words as its caller says.
+/// There are two types: one for short lines, which most lines are, and one with as many words as its caller says.
 pub trait PositionSet: Drop {
     ghost words: { Self → List ℕ };
 
-    // How many positions the set has room for: a line has one more than bytes.
+    // How many positions the set has room for: a line has one more position than bytes.
     ghost room: { ℕ };
 
     /// The set with no position.
@@ -31,29 +31,29 @@ pub trait PositionSet: Drop {
     fn is_empty(&self) -> bool
         ensures { MatchBool result (HasNone (words self.now)) ((k : ℕ) × IsTrue (has_position (words self.now) k)) };
 
-    /// Takes every position out.
+    /// Takes out every position.
     fn clear(&mut self)
         ensures none { HasNone (words self.new) }
         ensures empty { (i : ℕ) → slice_index (words self.new) i ≡ 0 };
 
-    /// Makes the set the same as another.
+    /// Makes the set equal to another.
     fn copy(&mut self, other: &Self)
         ensures { self.new ≡ other.now };
 
-    /// Takes every position but one out.
+    /// Takes out every position but one.
     fn keep(&mut self, position: usize)
         requires { position < room }
         ensures { (k : ℕ) → has_position (words self.new) k ≡ (k == position && has_position (words self.old) k) };
 
-    /// Puts the positions of `fresh` in, and takes those out of `fresh` that were in already. Whether
-    /// any was not.
+    /// Adds the positions of `fresh`, and removes from `fresh` those that were already in the set.
+    /// Returns whether any was new.
     fn add(&mut self, fresh: &mut Self) -> bool
         ensures both { IsEither (words self.old) (words fresh.old) (words self.new) }
         ensures new { IsNew (words fresh.old) (words self.old) (words fresh.new) }
         ensures grown { MatchBool result (absent (words self.new) < absent (words self.old)) (HasNone (words fresh.new)) };
 
-    /// Moves each position over the byte behind it, where that is in the set; where it is not, and at
-    /// the line's end, the position is lost.
+    /// Moves each position over the byte after it if that byte is in the set. Otherwise, and at the end
+    /// of the line, the position is lost.
     fn step(&mut self, members: &ByteSet, line: &[u8])
         requires { length line.now < room }
         ensures { Moves (Spans line.now (set members.now)) (words self.old) (words self.new) };

@@ -7,11 +7,11 @@ use crate::words::{BITS, either, every, first_held, only_bit, shift, sweep, thro
 use ere::ByteSet;
 use std::marker::Model;
 
-/// A set of positions of a line, in `N` words. Position i stands before byte i, and the last one after the last byte.
+/// A set of positions of a line, in `N` words. Position i is before byte i; the last position is after the last byte.
 #[derive(Drop)]
 pub struct Positions<const N: usize> {
     words: [u64; N],
-    // All members are in the words from `first` up to but not at `end`, so that no other is looked at.
+    // All members are in the words from `first` up to but not at `end`. So no other word is looked at.
     first: usize,
     end: usize,
 }
@@ -116,7 +116,7 @@ impl<const N: usize> PositionSet for Positions<N> {
     }
 }
 
-/// The least range that holds two ranges, of which one that is empty counts for nothing.
+/// The smallest range that contains both ranges; an empty range is ignored.
 fn joined(first: usize, end: usize, other_first: usize, other_end: usize) -> (usize, usize)
     requires ordered { (first ≤ end) × (other_first ≤ other_end) }
     ensures ordered { result.0 ≤ result.1 }

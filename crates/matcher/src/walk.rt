@@ -8,7 +8,7 @@ ghost use Rattle.matcher.specs.Private.Moves.{Moves, MovesIf, MovesPast};
 use crate::position_set::PositionSet;
 use ere::Ere;
 
-/// Moves each position to all those to which a word of the tree leads from it.
+/// Moves each position to all positions to which a word of the tree leads from it.
 #[cycle(walk)]
 pub fn advance<S: PositionSet>(tree: &Ere, line: &[u8], at: &mut S)
     requires { length line.now < S.room }
@@ -25,7 +25,7 @@ pub fn advance<S: PositionSet>(tree: &Ere, line: &[u8], at: &mut S)
     }
 }
 
-/// The same, where a set, which most members are, costs no call.
+/// The same, but a set, which most members are, costs no call.
 #[cycle(walk)]
 #[inline(always)]
 fn advance_over<S: PositionSet>(tree: &Ere, line: &[u8], at: &mut S)
@@ -38,7 +38,7 @@ fn advance_over<S: PositionSet>(tree: &Ere, line: &[u8], at: &mut S)
     }
 }
 
-/// By a word of each member, one behind the other.
+/// Over a word of each member, one after the other.
 #[cycle(walk)]
 fn advance_each<S: PositionSet>(members: &[Ere], line: &[u8], at: &mut S)
     requires { length line.now < S.room }
@@ -52,7 +52,7 @@ fn advance_each<S: PositionSet>(members: &[Ere], line: &[u8], at: &mut S)
     }
 }
 
-/// By a word of one member.
+/// Over a word of one member.
 #[cycle(walk)]
 fn advance_some<S: PositionSet>(members: &[Ere], line: &[u8], at: &mut S)
     requires { length line.now < S.room }
@@ -68,7 +68,7 @@ fn advance_some<S: PositionSet>(members: &[Ere], line: &[u8], at: &mut S)
     at.copy(&found);
 }
 
-/// By `least` words of the body or more, and at most `greatest`, one behind the other.
+/// Over `least` words of the body or more, and at most `greatest`, one after the other.
 #[cycle(walk)]
 fn advance_counted<S: PositionSet>(
     body: &Ere,
@@ -90,7 +90,7 @@ fn advance_counted<S: PositionSet>(
             advance_at_most(body, most - least, line, at);
         }
         None => {
-            // Where two words of the body are one, a single round more finds everything.
+            // If two words of the body are together one, a single further round finds everything.
             if joins_words(body) {
                 advance_exactly(body, least, line, at);
                 if least == 0 {
@@ -106,13 +106,13 @@ fn advance_counted<S: PositionSet>(
     }
 }
 
-/// By exactly `count` words of the body, one behind the other.
+/// Over exactly `count` words of the body, one after the other.
 #[cycle(walk)]
 fn advance_exactly<S: PositionSet>(body: &Ere, count: u8, line: &[u8], at: &mut S)
     requires { length line.now < S.room }
     ensures { Moves (Steps (Spans line.now (form body.now)) count) (S.words at.old) (S.words at.new) }
 {
-    // With words that can be empty, fewer are as good.
+    // If a word can be empty, any smaller number of words is as good.
     if can_be_empty(body) {
         advance_at_most(body, count, line, at);
         return;
@@ -125,7 +125,7 @@ fn advance_exactly<S: PositionSet>(body: &Ere, count: u8, line: &[u8], at: &mut 
     }
 }
 
-/// By at most `count` words of the body, one behind the other.
+/// Over at most `count` words of the body, one after the other.
 #[cycle(walk)]
 fn advance_at_most<S: PositionSet>(body: &Ere, count: u8, line: &[u8], at: &mut S)
     requires { length line.now < S.room }
@@ -143,7 +143,7 @@ fn advance_at_most<S: PositionSet>(body: &Ere, count: u8, line: &[u8], at: &mut 
     at.copy(&found);
 }
 
-/// By any number of words of the body, one behind the other.
+/// Over any number of words of the body, one after the other.
 #[cycle(walk)]
 fn advance_any<S: PositionSet>(body: &Ere, line: &[u8], at: &mut S)
     requires { length line.now < S.room }
@@ -157,7 +157,7 @@ fn advance_any<S: PositionSet>(body: &Ere, line: &[u8], at: &mut S)
     any_past(body, line, at, &done);
 }
 
-/// By one word of the body or more, one behind the other.
+/// Over one word of the body or more, one after the other.
 #[cycle(walk)]
 fn advance_more<S: PositionSet>(body: &Ere, line: &[u8], at: &mut S)
     requires { length line.now < S.room }
@@ -167,10 +167,9 @@ fn advance_more<S: PositionSet>(body: &Ere, line: &[u8], at: &mut S)
     more_past(body, line, at, &done);
 }
 
-/// By a word of the tree, but for places to which a word of it leads from a position of `done`: these need
-/// not be found.
+/// Over a word of the tree. Positions that a word of it reaches from a position of `done` need not be found.
 ///
-/// A repeat has been through its body from all positions that its earlier rounds began at. So a repeat at
+/// A repeat has been through its body from all positions at which its earlier rounds began. So a repeat at
 /// the front of its body need not go on from these.
 #[cycle(walk)]
 fn advance_past<S: PositionSet>(tree: &Ere, line: &[u8], at: &mut S, done: &S)
@@ -187,8 +186,8 @@ fn advance_past<S: PositionSet>(tree: &Ere, line: &[u8], at: &mut S, done: &S)
     }
 }
 
-/// By a word of each member, one behind the other. Members stand at the front as long as all before them
-/// can be empty.
+/// Over a word of each member, one after the other. Members are at the front as long as all
+/// before them can be empty.
 #[cycle(walk)]
 fn each_past<S: PositionSet>(members: &[Ere], line: &[u8], at: &mut S, done: &S)
     requires { length line.now < S.room }
@@ -203,7 +202,8 @@ fn each_past<S: PositionSet>(members: &[Ere], line: &[u8], at: &mut S, done: &S)
     }
 }
 
-/// By a word of a member that stands at the front, or that does not. Whether the next one stands there too.
+/// Over a word of a member, which is at the front if `leads`. Returns whether the next member
+/// is at the front too.
 #[cycle(walk)]
 #[inline(always)]
 fn member_past<S: PositionSet>(member: &Ere, leads: bool, line: &[u8], at: &mut S, done: &S) -> bool
@@ -224,7 +224,7 @@ fn member_past<S: PositionSet>(member: &Ere, leads: bool, line: &[u8], at: &mut 
     }
 }
 
-/// By a word of one member.
+/// Over a word of one member.
 #[cycle(walk)]
 fn some_past<S: PositionSet>(members: &[Ere], line: &[u8], at: &mut S, done: &S)
     requires { length line.now < S.room }
@@ -240,7 +240,7 @@ fn some_past<S: PositionSet>(members: &[Ere], line: &[u8], at: &mut S, done: &S)
     at.copy(&found);
 }
 
-/// By `least` words of the body or more, and at most `greatest`, one behind the other.
+/// Over `least` words of the body or more, and at most `greatest`, one after the other.
 #[cycle(walk)]
 fn repeat_past<S: PositionSet>(
     body: &Ere,
@@ -273,7 +273,7 @@ fn repeat_past<S: PositionSet>(
     }
 }
 
-/// By a word of the body, or by none.
+/// Over a word of the body, or over none.
 #[cycle(walk)]
 fn optional_past<S: PositionSet>(body: &Ere, line: &[u8], at: &mut S, done: &S)
     requires { length line.now < S.room }
@@ -285,7 +285,7 @@ fn optional_past<S: PositionSet>(body: &Ere, line: &[u8], at: &mut S, done: &S)
     at.add(&mut start);
 }
 
-/// By any number of words of the body, one behind the other.
+/// Over any number of words of the body, one after the other.
 #[cycle(walk)]
 fn any_past<S: PositionSet>(body: &Ere, line: &[u8], at: &mut S, done: &S)
     requires { length line.now < S.room }
@@ -297,7 +297,7 @@ fn any_past<S: PositionSet>(body: &Ere, line: &[u8], at: &mut S, done: &S)
     at.add(&mut start);
 }
 
-/// By one word of the body or more, one behind the other.
+/// Over one word of the body or more, one after the other.
 #[cycle(walk)]
 fn more_past<S: PositionSet>(body: &Ere, line: &[u8], at: &mut S, done: &S)
     requires { length line.now < S.room }
@@ -309,7 +309,7 @@ fn more_past<S: PositionSet>(body: &Ere, line: &[u8], at: &mut S, done: &S)
         return;
     }
     let mut found = S::none();
-    // From the positions that are over all is found; those that are known are over, or are next.
+    // Everything that a word reaches from `over` is found; each position of `known` is in `over` or is next.
     let mut over = S::none();
     over.copy(done);
     let mut known = S::none();
@@ -327,7 +327,7 @@ fn more_past<S: PositionSet>(body: &Ere, line: &[u8], at: &mut S, done: &S)
     at.copy(&found);
 }
 
-/// Whether the empty word is plainly a word of the tree.
+/// Whether it is plain that the empty word is a word of the tree.
 fn can_be_empty(tree: &Ere) -> bool
     ensures { IsTrue result → (line : List ℕ) (place : ℕ) → Spans line (form tree.now) place place }
 {
@@ -338,7 +338,7 @@ fn can_be_empty(tree: &Ere) -> bool
     }
 }
 
-/// Whether two words of the tree, one behind the other, are always a word of it: true of a repeat
+/// Whether two words of the tree, one after the other, are always a word of it: true of a repeat
 /// without a greatest count.
 fn joins_words(tree: &Ere) -> bool
     ensures { IsTrue result → (line : List ℕ) (start middle end : ℕ) → Spans line (form tree.now) start middle → Spans line (form tree.now) middle end → Spans line (form tree.now) start end }

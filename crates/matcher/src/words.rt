@@ -13,7 +13,7 @@ use std::simd::prelude::*;
 /// How many positions a word has.
 pub(crate) const BITS: usize = 64;
 
-/// From how many positions on a word's are looked at all together.
+/// A word with at least this many positions is looked at as a whole.
 const FEW: u32 = 9;
 
 /// How many bytes are looked at together.
@@ -24,9 +24,9 @@ pub const WORDS: usize = MAX_LINE / BITS + 1;
 
 /// The positions to which one byte of the set leads from the positions given.
 ///
-/// Position k stands before the line's byte k, counted from 0, and is bit k mod 64 of word k / 64. It is
-/// in the answer exactly where position k - 1 is among those given and the byte between the two is in
-/// the set. The line has at most `MAX_LINE` bytes.
+/// Position k is before the line's byte k, counted from 0, and is bit k mod 64 of word k / 64. It is in the
+/// answer exactly when position k - 1 is among those given and the byte between the two is in the set. The line
+/// has at most `MAX_LINE` bytes.
 pub fn step(members: &ByteSet, line: &[u8], from: &[u64; WORDS]) -> [u64; WORDS]
     requires { length line.now ≤ MAX_LINE }
     ensures { (k : ℕ) → IsTrue (has_position result k) ↔ ((1 ≤ k) × (k ≤ length line.now) × IsTrue (has_position from.now (k - 1)) × IsTrue (has members.now (slice_index line.now (k - 1)))) }
@@ -36,8 +36,8 @@ pub fn step(members: &ByteSet, line: &[u8], from: &[u64; WORDS]) -> [u64; WORDS]
     to
 }
 
-/// Moves each position over the byte after it, where that is in the set, and loses the others. All
-/// positions are in the words from `first` up to but not at `end`; the answer is that end afterwards.
+/// Moves each position over the byte after it if that byte is in the set, and loses the others. All positions are
+/// in the words from `first` up to but not at `end`; the answer is that end afterwards.
 pub(crate) fn shift<const N: usize>(
     members: &ByteSet,
     line: &[u8],
@@ -117,7 +117,7 @@ pub(crate) fn followed(word: u64, base: usize, members: &ByteSet, line: &[u8]) -
     }
 }
 
-/// The same, where each position is looked at by itself: quicker where there are few.
+/// The same, position by position, which is faster for few positions.
 fn followed_each(word: u64, base: usize, members: &ByteSet, line: &[u8]) -> u64
     requires { base ≤ MAX_LINE }
     ensures { (bit : ℕ) → bit < 64 → has_bit result bit ≡ (has_bit word bit && passes members.now line.now (base + bit)) }
@@ -157,7 +157,7 @@ fn passing(base: usize, members: &ByteSet, line: &[u8]) -> u64
     let mut passing = 0;
     let mut from = end;
     while from > 0 {
-        // The first sixteen may have some among them that were looked at.
+        // The first sixteen may include some that were looked at already.
         let at = from.saturating_sub(SIXTEEN);
         passing = sixteen_passing(passing, at, base, members, line);
         from = at;
@@ -165,7 +165,7 @@ fn passing(base: usize, members: &ByteSet, line: &[u8]) -> u64
     passing
 }
 
-/// The same, where none passes from `end` on.
+/// The same, if none passes from `end` on.
 fn few_passing(base: usize, end: usize, members: &ByteSet, line: &[u8]) -> u64
     requires inside { end ≤ 64 }
     requires in_line { 0 < end → base + end ≤ length line.now }
@@ -179,7 +179,7 @@ fn few_passing(base: usize, end: usize, members: &ByteSet, line: &[u8]) -> u64
     passing
 }
 
-/// The positions of a word that were found, which are those that pass from one on, with the sixteen from `at` on.
+/// The passing positions of a word that were found so far, with those among the sixteen from `at` on added.
 #[inline(always)]
 fn sixteen_passing(found: u64, at: usize, base: usize, members: &ByteSet, line: &[u8]) -> u64
     requires inside { at + 16 ≤ 64 }
@@ -199,7 +199,7 @@ fn sixteen_at(line: &[u8], at: usize) -> u8x16
     u8x16::from_slice(&line[at..])
 }
 
-/// Whether the word has the position and a byte of the set stands after it.
+/// Whether the word has the position and a byte of the set is after it.
 fn leads_on(word: u64, bit: usize, base: usize, members: &ByteSet, line: &[u8]) -> bool
     requires base { base ≤ MAX_LINE }
     requires bit { bit < 64 }
@@ -208,7 +208,7 @@ fn leads_on(word: u64, bit: usize, base: usize, members: &ByteSet, line: &[u8]) 
     has_at(word, bit) && is_followed(base + bit, members, line)
 }
 
-/// Whether a byte of the set stands after the position.
+/// Whether a byte of the set is after the position.
 fn is_followed(at: usize, members: &ByteSet, line: &[u8]) -> bool
     ensures { result ≡ passes members.now line.now at }
 {
@@ -233,7 +233,7 @@ fn lowest(word: u64) -> usize
     word.trailing_zeros() as usize
 }
 
-/// The word with the bit, where it comes.
+/// The word, with the bit set if `comes`.
 fn with_bit_if(word: u64, bit: usize, comes: bool) -> u64
     requires { bit < 64 }
     ensures { (b : ℕ) → has_bit result b ≡ (has_bit word b || (comes && b == bit)) }
@@ -250,7 +250,7 @@ fn without_bit(word: u64, bit: usize) -> u64
     word & !(1u64 << bit)
 }
 
-/// The word with no bit but this one, where it has it.
+/// The word with no bit but this one, if it has this one.
 pub(crate) fn only_bit(word: u64, bit: usize) -> u64
     requires { bit < 64 }
     ensures { (b : ℕ) → has_bit result b ≡ (b == bit && has_bit word b) }
@@ -266,7 +266,7 @@ pub(crate) fn through_bit(last: usize) -> u64
     u64::MAX >> 63 - last
 }
 
-/// The bits of the word that the other one has not.
+/// The bits of the word that the other word lacks.
 pub(crate) fn without(word: u64, other: u64) -> u64
     ensures { (b : ℕ) → b < 64 → has_bit result b ≡ (has_bit word b && not (has_bit other b)) }
 {
@@ -289,15 +289,15 @@ pub(crate) fn either(left: u64, right: u64) -> u64
 
 /// The bits of a word, and those to which they lead over bits that pass: each that passes leads to the next.
 ///
-/// In the sum of the bits that pass and of those among them that the word has, a bit is carried into exactly
-/// those places to which the word's bits lead.
+/// The sum of the bits that pass and of those among them that the word has carries a bit into exactly those
+/// places to which the word's bits lead.
 fn flooded(word: u64, passing: u64) -> u64
     ensures { (b : ℕ) → b < 64 → has_bit result b ≡ flood (has_bit word) (has_bit passing) b }
 {
     word | (word & passing).wrapping_add(passing) ^ passing
 }
 
-/// Each bit of the word moved up to begin at a bit.
+/// Each bit of the word, moved up by `at`.
 fn moved_to(word: u64, at: usize) -> u64
     requires { at < 64 }
     ensures { (b : ℕ) → b < 64 → has_bit result b ≡ (nat_le at b && has_bit word (b - at)) }

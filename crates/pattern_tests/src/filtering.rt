@@ -114,8 +114,8 @@ fn no_demand(rt: HostRuntime) -> Result<(), Fail> {
     Ok(())
 }
 
-/// The rows are `PATTERN~SETS~SETS`: the sets of trigrams that meet the pattern's query, and those that do not,
-/// parted by bars.
+/// The rows are `PATTERN~SETS~SETS`: the sets of trigrams that meet the pattern's query, and those that do
+/// not, separated by bars.
 const DEMANDS: &[u8] =
     b"Google.*Search~Goo oog ogl gle Sea ear arc rch~oog ogl gle Sea ear arc rch|Goo ogl gle Sea ear arc rch|Goo oog gle Sea ear arc rch|Goo oog ogl Sea ear arc rch|Goo oog ogl gle ear arc rch|Goo oog ogl gle Sea arc rch|Goo oog ogl gle Sea ear rch|Goo oog ogl gle Sea ear arc
 ab+cd+~bcd~abc cdd|
@@ -148,8 +148,7 @@ fn demands(rt: HostRuntime) -> Result<(), Fail> {
     Ok(())
 }
 
-/// 31 groups, each of which joins 16 known texts of 55 bytes with 16 others: the hardest kind of pattern that
-/// is known.
+/// 31 groups, each of which joins 16 known texts of 55 bytes with 16 others: the hardest known kind of pattern.
 fn hardest(alloc: Global) -> Result<Vec<u8>, Fail> {
     let bytes = b"ABCDEFGHIJKLMNOPQRSTUVWXYZabcdefghijklmnopqrstuvwxyz0123456789";
     let mut pattern = Vec::new(alloc);
@@ -164,7 +163,7 @@ fn hardest(alloc: Global) -> Result<Vec<u8>, Fail> {
 }
 
 /// The query of a pattern asks each thing once: for a join of known texts at most the 108 trigrams of 256
-/// texts, where it meets them in the words, in their fronts and in their backs.
+/// texts, if it meets them in the words, in their fronts and in their backs.
 #[test]
 fn sizes_of_queries(rt: HostRuntime) -> Result<(), Fail> {
     let alloc = rt.alloc();

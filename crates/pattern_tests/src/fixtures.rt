@@ -3,7 +3,7 @@
 use std::alloc::Global;
 use std::test::Fail;
 
-/// The text of pieces, each so many times: `ab;2;c;1` is `ababc`.
+/// The text of pieces, each repeated by its number: `ab;2;c;1` is `ababc`.
 pub(crate) fn built(alloc: Global, pieces: &[u8]) -> Result<Vec<u8>, Fail> {
     let mut text = Vec::new(alloc);
     let mut piece = b"".as_slice();

@@ -22,8 +22,8 @@ fn expect(
     Ok(())
 }
 
-/// Each line of a table contains a match of its pattern, or none. The rows are `PATTERN~LINES~LINES`: those with
-/// a match, and those without, parted by bars.
+/// Each line of a table contains a match of its pattern, or none. The rows are `PATTERN~LINES~LINES`: those with a
+/// match, and those without, separated by bars.
 const SHORT_LINES: &[u8] = b"(a|b$){2}~ab|aab~ba|aba
 (^a)+b~ab~aab
 (^)*ab~xab~xa
@@ -58,9 +58,9 @@ fn short_lines(rt: HostRuntime) -> Result<(), Fail> {
     expect(&rt, alloc, b"[^\x01-\xff]", b"", false)
 }
 
-/// The rows are `+PATTERN~LINE` where the line contains a match, and `-PATTERN~LINE` where it contains none. Patterns
-/// and lines are of pieces. Each star doubles the work of the star inside it, unless a star of a star takes one
-/// round.
+/// The rows are `+PATTERN~LINE` if the line contains a match, and `-PATTERN~LINE` if it contains none.
+/// Patterns and lines consist of pieces. Each star doubles the work of the star inside it, unless a star of a
+/// star takes one round.
 const LONG_LINES: &[u8] = b"+^a*b$;1~a;63;b;1
 +^a*b$;1~a;64;b;1
 +^a*b$;1~a;4095;b;1
@@ -113,7 +113,7 @@ fn long_lines(rt: HostRuntime) -> Result<(), Fail> {
     Ok(())
 }
 
-/// From the last position of a word alone, one step leads to the first position of the next word alone.
+/// From the last position of one word, a single step leads to the first position of the next word.
 #[test]
 fn step_into_the_next_word(rt: HostRuntime) -> Result<(), Fail> {
     let mut members = ByteSet::empty();

@@ -1,5 +1,5 @@
-//! Patterns as they are read: their trees, and the fault that a pattern is refused for and where. No contract
-//! says the fault.
+//! Patterns as they are read: their trees, and the fault that a pattern is refused for, with its offset. No
+//! contract says the fault.
 
 use crate::fixtures::{built, halves};
 use ere::{ByteSet, Ere, EreErrorKind, parse};
@@ -8,7 +8,8 @@ use std::process::Abort;
 use std::simd::prelude::*;
 use std::test::Fail;
 
-/// Appends a tree in one line: a set as its bytes in brackets, all else as in `(cat [a] (repeat 2 - [01]))`.
+/// Appends a tree in one line: a set as its bytes in brackets, and the rest as in
+/// `(cat [a] (repeat 2 - [01]))`.
 #[cycle(trees)]
 fn append_tree(alloc: Global, out: &mut Vec<u8>, tree: &Ere) -> Result<(), Fail> {
     match tree {
@@ -188,7 +189,7 @@ fn readings(rt: HostRuntime) -> Result<(), Fail> {
     Ok(())
 }
 
-/// Bytes that no line has are looked for before all else but the length.
+/// Bytes that no line has are looked for before anything except the length.
 #[test]
 fn bytes_of_no_line(rt: HostRuntime) -> Result<(), Fail> {
     for (pattern, want) in [
@@ -228,8 +229,8 @@ fn complements(rt: HostRuntime) -> Result<(), Fail> {
     Ok(())
 }
 
-/// The bytes of each class as POSIX has them: how many there are, and the ends of their ranges. No byte from
-/// 128 on is in a class.
+/// The bytes of each class as POSIX has them: how many there are, and the ends of their ranges. No byte of
+/// 128 or above is in a class.
 #[test]
 fn classes(rt: HostRuntime) -> Result<(), Fail> {
     let alloc = rt.alloc();
@@ -267,7 +268,7 @@ fn classes(rt: HostRuntime) -> Result<(), Fail> {
     Ok(())
 }
 
-/// A backslash may be before ASCII punctuation but `<`, `>`, the grave accent and the apostrophe.
+/// A backslash may be before ASCII punctuation except for `<`, `>`, the grave accent and the apostrophe.
 #[test]
 fn bytes_after_a_backslash(rt: HostRuntime) -> Result<(), Fail> {
     let alloc = rt.alloc();
@@ -312,7 +313,7 @@ fn beginnings_of_a_pattern(rt: HostRuntime) -> Result<(), Fail> {
     Ok(())
 }
 
-/// The rows are `PIECES~FAULT`, with no fault where the pattern is read.
+/// The rows are `PIECES~FAULT`, with no fault if the pattern is read.
 const LIMITS: &[u8] = b"a;1024~
 a;1025~pattern too long at 1024
 (;1025~pattern too long at 1024
@@ -402,7 +403,7 @@ fn operations_of_byte_sets(rt: HostRuntime) {
 fn byte_sets_where_words_meet(rt: HostRuntime) {
     let lasts = ByteSet::of(|b| b % 64 == 63);
     let set = lasts.union(&ByteSet::of(|b| b % 64 == 0));
-    // 63, 64, 127, 128, 191, 192 and 255, for 0 is no line byte
+    // 63, 64, 127, 128, 191, 192 and 255, since 0 is not a line byte
     assert_eq!(rt; set.len(), 7);
     let rest = set.complement();
     assert_eq!(rt; rest.len(), 247);

@@ -10,7 +10,7 @@ use smallvec::SmallVec;
 /// How many bytes are looked at together.
 const BLOCK: usize = 16;
 
-/// The first number of bytes that follow one, and the bytes after it.
+/// The first number of bytes that follow the number `before`, and the bytes after it.
 pub(crate) fn first_number(bytes: &[u8], before: u32) -> (u32, &[u8])
     requires spelled { IsSpelled before bytes.now }
     requires some { 0 < length bytes.now }
@@ -38,7 +38,7 @@ fn first_gap(bytes: &[u8]) -> (u32, &[u8])
     }
 }
 
-/// The bytes from the first number on that isn't below this one, and the number before it.
+/// The bytes that start at the first number not below this one, and the number before it.
 pub(crate) fn pass(bytes: &[u8], before: u32, number: u32) -> (&[u8], u32)
     requires { IsSpelled before bytes.now }
     ensures passed { IsPassed before bytes.now number result.1 result.0.now }
@@ -58,7 +58,7 @@ pub(crate) fn pass(bytes: &[u8], before: u32, number: u32) -> (&[u8], u32)
     (rest, at)
 }
 
-// Passes some of the numbers, if the first one is below this one: all of a block at once, where they are.
+// Passes some of the numbers if the first one is below this one: a whole block at once if all of it is below.
 fn step(bytes: &[u8], before: u32, number: u32) -> Option<(&[u8], u32)>
     requires spelled { IsSpelled before bytes.now }
     requires some { 0 < length bytes.now }
@@ -78,7 +78,7 @@ fn step(bytes: &[u8], before: u32, number: u32) -> Option<(&[u8], u32)>
     }
 }
 
-/// The bytes from the first number on that isn't below this one, and the number before it, with the last number of
+/// The bytes that start at the first number not below this one, and the number before it, given the last number of
 /// all. They are looked for from the end that seems nearer.
 pub(crate) fn seek(bytes: &[u8], last: u32, number: u32) -> (&[u8], u32)
     requires spelled { IsSpelled 0 bytes.now }
@@ -93,7 +93,7 @@ pub(crate) fn seek(bytes: &[u8], last: u32, number: u32) -> (&[u8], u32)
     }
 }
 
-// The same from the end.
+// The same, looked for from the end.
 fn pass_back(bytes: &[u8], last: u32, number: u32) -> (&[u8], u32)
     requires spelled { IsSpelled 0 bytes.now }
     requires last { last ≡ last_of 0 (numbers_after 0 bytes.now) }
@@ -114,8 +114,8 @@ fn pass_back(bytes: &[u8], last: u32, number: u32) -> (&[u8], u32)
     (bytes, at)
 }
 
-// Leaves out some of the last numbers, if the last one isn't below this one: all of a block at once, where none of
-// them is.
+// Leaves out some of the last numbers if the last one is not below this one: a whole block at once if none of it is
+// below.
 fn step_back(bytes: &[u8], last: u32, number: u32) -> Option<(&[u8], u32)>
     requires spelled { IsSpelled 0 bytes.now }
     requires last { last ≡ last_of 0 (numbers_after 0 bytes.now) }
@@ -136,7 +136,7 @@ fn step_back(bytes: &[u8], last: u32, number: u32) -> Option<(&[u8], u32)>
     Some((&bytes[..place], last - gap))
 }
 
-// Leaves out the last bytes, where each of them is the whole of a number. The byte before them is then the end of one.
+// Leaves out the last bytes if each of them is a whole number. The byte before them then ends a number.
 fn cut_block(bytes: &[u8], last: u32) -> Option<(&[u8], u32)>
     requires spelled { IsSpelled 0 bytes.now }
     requires last { last ≡ last_of 0 (numbers_after 0 bytes.now) }
@@ -151,7 +151,7 @@ fn cut_block(bytes: &[u8], last: u32) -> Option<(&[u8], u32)>
     Some((&bytes[..bytes.len() - BLOCK + 1], before))
 }
 
-// Where the last number begins: after the last byte but one that ends a number.
+// Where the last number begins: after the second-to-last byte that ends a number.
 fn last_place(bytes: &[u8]) -> usize
     requires { 0 < length bytes.now }
     ensures { IsLastPlace bytes.now result }
@@ -166,7 +166,7 @@ fn last_place(bytes: &[u8]) -> usize
     0
 }
 
-// The sum of the first bytes, where each of them is the whole of a number.
+// The sum of the first bytes, if each of them ends a number.
 fn sum_of_block(bytes: &[u8]) -> Option<u32>
     ensures { IfSome result (λ total. IsBlock bytes.now total) }
 {
@@ -183,7 +183,7 @@ fn sum_of_block(bytes: &[u8]) -> Option<u32>
     if most < 128 { Some(total) } else { None }
 }
 
-/// Puts a number's groups after the bytes, where there is room for five.
+/// Appends a number's groups to the bytes, which have room for five.
 pub(crate) fn push_gap(bytes: &mut SmallVec<u8, 16>, gap: u32)
     requires { HasRoomFor bytes.old 5 }
     ensures items { bytes.new.items ≡ bytes.old.items ++ bytes_of gap }
@@ -197,7 +197,7 @@ pub(crate) fn push_gap(bytes: &mut SmallVec<u8, 16>, gap: u32)
     bytes.push_reserved(rest as u8);
 }
 
-/// Puts a number's groups in the place of these bytes, which are as many or more.
+/// Puts a number's groups in place of these bytes, which are at least as many.
 pub(crate) fn replace(bytes: &mut SmallVec<u8, 16>, from: usize, to: usize, gap: u32)
     requires fits { from + length (bytes_of gap) ≤ to }
     requires within { to ≤ length bytes.old.items }
@@ -207,7 +207,7 @@ pub(crate) fn replace(bytes: &mut SmallVec<u8, 16>, from: usize, to: usize, gap:
     ensures capacity { bytes.new.capacity ≡ bytes.old.capacity }
 {
     let end = write_gap(bytes.as_mut_slice(), from, gap);
-    // one by one, since `remove` moves the bytes after it at once, and there is mostly one
+    // one by one, since `remove` moves all bytes after it at once, and there is mostly only one
     for _place in end..to {
         bytes.remove(end);
     }

@@ -34,7 +34,7 @@ pub(crate) fn slot(pages: &[Vec<u32>], trigram: Trigram) -> usize
     }
 }
 
-// Makes the page of a trigram, where it isn't there, with no list for its trigrams.
+// Makes the page of a trigram, if there is none, with no list for its trigrams.
 fn make_page(pages: &mut Vec<Vec<u32>>, trigram: Trigram) -> Result<(), AllocError>
     ensures slots { (t : ℕ) → slot_of pages.new.items t ≡ slot_of pages.old.items t }
     ensures ok { OnOk result (HasSlot pages.new.items trigram) }
@@ -61,9 +61,9 @@ fn set_slot(pages: &mut Vec<Vec<u32>>, trigram: Trigram, slot: u32)
     slots[number % PAGE] = slot;
 }
 
-/// The place of the trigram's list, which is made where there is none. All sets stay as they are.
+/// The place of the trigram's list, which is made if there is none. All sets stay as they are.
 ///
-/// The error is that there is no memory for it.
+/// An `Err` means that memory ran out.
 pub(crate) fn make_list(
     pages: &mut Vec<Vec<u32>>,
     lists: &mut Vec<Owned>,
@@ -90,7 +90,7 @@ pub(crate) fn make_list(
     Ok(place)
 }
 
-/// Takes the trigram's list away. The last list comes to its place, so that the others need not move.
+/// Takes the trigram's list away. The last list takes its place, so no other list moves.
 pub(crate) fn drop_list(pages: &mut Vec<Vec<u32>>, lists: &mut Vec<Owned>, trigram: Trigram)
     requires sound { IsSound pages.old.items lists.old.items }
     requires listed { 0 < slot_of pages.old.items trigram }

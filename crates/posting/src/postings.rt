@@ -16,12 +16,11 @@ use std::marker::Model;
 
 /// A set of numbers for each trigram.
 ///
-/// A set takes memory only while it has a number or was prepared for one. Where the sets of trigrams are is
-/// noted on a page for each 1,024 trigrams, which stays once it was made, for the later sets of these trigrams:
-/// at most 64 MiB in all.
+/// A set takes memory only while it has a number or was prepared for one. A page for each 1,024 trigrams says
+/// where their sets are. A page stays once it is made; all pages together take at most 64 MiB.
 ///
-/// Contracts see it as a table of sets by the trigrams' numbers. A set has its numbers, and room for some
-/// more: `prepare` makes it, and `add` takes it.
+/// Contracts see it as a table of sets by the trigrams' numbers. A set has its numbers, and room for some more:
+/// `prepare` makes the room, and `add` takes it.
 #[derive(Drop)]
 pub struct Postings {
     pages: Vec<Vec<u32>>,
@@ -51,10 +50,10 @@ impl Postings {
         }
     }
 
-    /// Makes room for the number in the sets of these trigrams, so that `add` of it takes no memory. The
+    /// Makes room for the number in the sets of these trigrams. `add` of it then takes no memory. The
     /// sets stay as they are.
     ///
-    /// The error is that there is no memory for it; empty lists and some of the room may then be new, and stay
+    /// An `Err` means that memory ran out. Some empty lists and some room may then have been made, which stay
     /// until a `withdraw` from these sets.
     pub fn prepare(&mut self, number: u32, trigrams: &[Trigram]) -> Result<(), AllocError>
         ensures sets { SameSets self.old self.new }
@@ -79,8 +78,8 @@ impl Postings {
         }
     }
 
-    /// Takes the number out of the sets of these trigrams; a set that hasn't got it keeps its numbers. A set
-    /// without a number gives its memory and its room back. It takes no memory.
+    /// Takes the number out of the sets of these trigrams. A set that does not have it keeps its numbers. A set
+    /// that is then without a number gives back its memory and its room. It takes no memory.
     pub fn withdraw(&mut self, number: u32, trigrams: &[Trigram])
         ensures sets { WithdrawsNumber self.old self.new trigrams.now number }
         ensures empty { GivesBack self.new trigrams.now }
@@ -124,9 +123,9 @@ impl Postings {
         }
     }
 
-    /// The numbers of `live` for which the set of the trigrams that have them meets the query.
+    /// The numbers of `live` whose trigrams meet the query. The trigrams of a number are those whose sets have it.
     ///
-    /// The error is that there is no memory for them.
+    /// An `Err` means that memory ran out.
     pub fn select(&self, alloc: Global, query: &Query, live: &List) -> Result<List, AllocError>
         ensures { IfOk result (λ chosen. chosen.members
             ≡ selected self.now (formula_of query.now) live.now.members) }
@@ -173,7 +172,7 @@ impl Postings {
         }
     }
 
-    // The list of a trigram, where it has one.
+    // The list of a trigram, if it has one.
     fn list(&self, trigram: Trigram) -> Option<&List>
         ensures some { IfSome result (λ list. list.now ≡ set_of self.now trigram) }
         ensures none { IfNone result ((set_of self.now trigram).members ≡ []) }
@@ -200,8 +199,8 @@ impl Postings {
         }
     }
 
-    // The numbers of `within` that meet the query, and maybe others. So what is found for many members is met with
-    // `within` once.
+    // The numbers of `within` that meet the query, and perhaps others. So the result for many members is
+    // intersected with `within` only once.
     #[cycle(narrow)]
     fn collect(&self, alloc: Global, query: &Query, within: &List) -> Result<List, AllocError>
         ensures { IfOk result (λ found. Finds self.now (formula_of query.now) within.now.members found.members) }
@@ -218,7 +217,7 @@ impl Postings {
         }
     }
 
-    // By the member with the fewest numbers first, so that the longer lists are looked at in few places.
+    // The member with the fewest numbers comes first. So the longer lists are looked at in few places.
     #[cycle(narrow)]
     fn collect_all(
         &self,
@@ -262,7 +261,7 @@ impl Postings {
         union_of(alloc, &lists)
     }
 
-    // No more numbers than this meet the query.
+    // At most this many numbers meet the query.
     #[cycle(most)]
     fn most(&self, query: &Query) -> usize {
         match query {
@@ -280,7 +279,7 @@ impl Postings {
         }
     }
 
-    // The first of the members that the fewest numbers meet, and at most how many.
+    // The first of the members that the fewest numbers meet, and at most how many meet it.
     #[cycle(most)]
     fn fewest(&self, members: &[Query]) -> (usize, usize) {
         let mut first = 0;

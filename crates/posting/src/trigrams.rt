@@ -9,7 +9,8 @@ use query::Trigram;
 use std::alloc::{AllocError, Global};
 use std::marker::Model;
 
-/// Trigrams, each once, in the bytes of a `List` of their numbers: one or two for each trigram of a long text.
+/// Trigrams, each once, in the bytes of a `List` of their numbers: one or two bytes for each
+/// trigram of a long text.
 ///
 /// Contracts see them as their numbers, rising.
 #[derive(Drop)]
@@ -30,7 +31,7 @@ impl Model for Trigrams {
 impl Trigrams {
     /// These trigrams, in no more bytes than they need.
     ///
-    /// The error is that there is no memory for them.
+    /// An `Err` means that memory ran out.
     pub fn new(alloc: Global, rising: &[Trigram]) -> Result<Trigrams, AllocError>
         requires { IsStrictlyIncreasing rising.now }
         ensures { IfOk result (λ trigrams. trigrams ≡ rising.now) }

@@ -1,4 +1,4 @@
-//! The way from the arguments to the bytes that are written and the status.
+//! From the arguments to the bytes that are written and the status.
 
 ghost use Rattle.std.specs.Prelude.{◌≡◌, ◌⊎◌, IfOk, IfErr, map, string_bytes};
 ghost use Rattle.std.specs.Io.KnownBytes.{Appends};
@@ -19,14 +19,15 @@ use std::thread::Threads;
 use tsearch::run::run;
 use tsearch::{Gate, Options, Place};
 
-/// The status where an argument is refused, or the program has no answer or cannot write it.
+/// The status if an argument is refused, or the program has no answer or cannot write it.
 const REFUSED: u8 = 2;
 
-/// Does what the arguments ask for, of which the first is the program's name, and gives the status.
+/// Does what the arguments ask for and returns the status. The first argument is the program's name.
 ///
-/// A run reads its script from the file that the arguments name, or from `input`, and its loads from the
-/// files of the source. Its transcript is written to `out`, or the help where they ask for that. What keeps
-/// the program from it is said on standard error; where that takes nothing either, the status alone says it.
+/// A run reads its script from the file that the arguments name, or from `input`, and its loads from
+/// the files of the source. Its transcript is written to `out`, or the help if the arguments ask for
+/// that. If the program cannot do this, it says why on standard error. If standard error fails too,
+/// only the status tells.
 #[tactic(auto, using(crate::proofs::AnswerLemmas::refused_have_none))]
 pub fn respond<R: Eprint + Threads + Wait + Sync, D: Disk, I: Read + Drop, O: Write + Drop>(
     rt: &R,
@@ -46,11 +47,11 @@ pub fn respond<R: Eprint + Threads + Wait + Sync, D: Disk, I: Read + Drop, O: Wr
     }
 }
 
-/// Says on standard error why there is no answer, and gives the status of that.
+/// Says on standard error why there is no answer, and returns the status for that.
 pub fn report<R: Eprint>(rt: &R, error: &ProgramError) -> u8
     ensures { result ≡ 2 }
 {
-    // Where standard error takes nothing, the status alone says it.
+    // If standard error fails too, only the status tells.
     let _ = match error {
         ProgramError::Arguments(refused) => rt.eprint(refused),
         other => rt.eprintln(other),
@@ -58,7 +59,7 @@ pub fn report<R: Eprint>(rt: &R, error: &ProgramError) -> u8
     REFUSED
 }
 
-/// Does what the arguments ask for, and gives the status and the writer with what was written.
+/// Does what the arguments ask for. Returns the status, and the writer with what was written.
 #[tactic(auto, using(crate::proofs::AnswerLemmas::run_answers, crate::proofs::AnswerLemmas::run_fails, crate::proofs::AnswerLemmas::help_answers, crate::proofs::AnswerLemmas::help_fails))]
 fn answer<R: Threads + Wait + Sync, D: Disk, I: Read + Drop, O: Write + Drop>(
     rt: &R,
@@ -95,14 +96,14 @@ fn show_help<O: Write + Drop>(mut out: O) -> Result<(u8, O), ProgramError>
     }
 }
 
-/// A gate that is always open: the readers of the program wait for nobody.
+/// A gate that is always open: the readers of the program never wait.
 struct Open;
 
 impl Gate for Open {
     fn turn(&self, _search: u32, _place: Place) {}
 }
 
-/// Reads the script, runs it and writes its transcript, and gives the status of the run.
+/// Reads the script, runs it and writes its transcript, and returns the status of the run.
 fn run_script<R: Threads + Wait + Sync, D: Disk, I: Read + Drop, O: Write + Drop>(
     rt: &R,
     alloc: Global,
@@ -127,8 +128,8 @@ fn run_script<R: Threads + Wait + Sync, D: Disk, I: Read + Drop, O: Write + Drop
     };
     let written = write_text(alloc, &transcript, settings.stats, out)?;
     let status = tsearch::status(&transcript);
-    // The process ends next and gives its memory back at once: to free each hit of the answers would take
-    // about as long as to write it.
+    // The process ends next and gives its memory back at once: freeing each hit of the answers would take
+    // about as long as writing it.
     forget(transcript);
     Ok((status, written))
 }

@@ -8,19 +8,19 @@ use std::fs;
 use std::io::{self, Read};
 use std::rt::Files;
 
-/// What gives the bytes of files by their paths.
+/// Gives the bytes of files by their paths.
 pub trait Disk {
-    /// The bytes are those of the file at the path, up to the first so many of them.
+    /// The bytes are those of the file at the path, at most this many from its start.
     ghost has: { Self → List ℕ → ℕ → List ℕ → Type 0 };
 
-    /// Reads the file at the path to its end, or its first `most` bytes where it has more.
+    /// Reads the file at the path to its end, or its first `most` bytes if it has more.
     fn read_at_most(&self, alloc: Global, path: &str, most: u64) -> io::Result<Vec<u8>>
         ensures { IfOk result (λ bytes. has self.now path.now most bytes.items) };
 }
 
-/// The files of the machine that the program runs on.
+/// The files of the machine on which the program runs.
 ///
-/// The bytes are read from a file that was opened. Which file is at a path is not known to contracts.
+/// The bytes are read from a file that was opened. Contracts do not know which file is at a path.
 #[derive(Drop)]
 pub struct HostDisk<'a, R> {
     files: &'a R,
@@ -46,7 +46,7 @@ impl<R: Files> Disk for HostDisk<'_, R> {
     }
 }
 
-/// Reads the bytes of a reader to its end, or the first `most` of them where there are more.
+/// Reads the bytes of a reader to its end, or the first `most` of them if there are more.
 pub fn read_at_most<R: Read + Drop>(alloc: Global, reader: R, most: u64) -> io::Result<Vec<u8>>
     ensures { IfSome (R.remaining reader) (λ all. IfOk result (λ bytes. bytes.items ≡ take most all)) }
 {

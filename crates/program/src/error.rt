@@ -7,7 +7,7 @@ use tsearch::{RunError, WriteError};
 /// Why the program ends before its answer is written whole. Its text is for standard error.
 #[derive(Debug, Drop, Error)]
 pub enum ProgramError {
-    /// The arguments are not taken. The text ends with a line feed, and that of each other error does not.
+    /// The arguments cannot be read. This text ends with a line feed; the others do not.
     #[error(transparent)]
     Arguments(ArgumentError),
     /// The file or standard input could not be read.

@@ -28,10 +28,10 @@ impl<'a, D: Disk> FileSource<'a, D> {
         FileSource { disk, failures: 0 }
     }
 
-    /// Reads a file. Of one that is longer than a body may be it reads one byte more than that.
+    /// Reads a file. If it is longer than a body may be, only one byte more than the limit is read.
     ///
-    /// `OutOfMemory` comes where memory ran out for the bytes, and `Failed` where the path is not UTF-8, or the
-    /// file cannot be opened or the reading fails.
+    /// `OutOfMemory` means that memory ran out for the bytes, and `Failed` that the path is not UTF-8, or that
+    /// the file cannot be opened, or that the reading fails.
     fn read_file(&self, alloc: Global, path: &[u8]) -> Result<Vec<u8>, Fault>
         ensures bytes { IfOk result (λ bytes. IsLoadFrom (D.has self.now.disk.now) path.now bytes.items) }
         ensures no_text { ¬ IsUtf8 path.now → IsErrOf result Fault.Failed }
@@ -47,7 +47,7 @@ impl<'a, D: Disk> FileSource<'a, D> {
     }
 }
 
-/// What a run is told of an error that met a load.
+/// What a run is told of an error that a load met.
 fn fault_of_load(error: &io::Error) -> Fault
     ensures memory { error_kind error.now ≡ ErrorKind.OutOfMemory → result ≡ Fault.OutOfMemory }
     ensures other { error_kind error.now ≢ ErrorKind.OutOfMemory → result ≡ Fault.Failed }

@@ -10,11 +10,11 @@ use script::MAX_SCRIPT;
 use std::alloc::Global;
 use std::io::{self, ErrorKind, Read};
 
-/// Reads the script from a file, or from `input` where none is named. Of a script that is too long it reads
-/// one byte more than a script may have.
+/// Reads the script from a file, or from `input` if none is named. If the script is too long, only one byte
+/// more than the limit is read.
 ///
-/// `OutOfMemory` comes where memory ran out for the bytes, and `CannotRead` where the file cannot be opened or
-/// the reading fails.
+/// `OutOfMemory` means that memory ran out for the bytes, and `CannotRead` that the file cannot be opened or
+/// that the reading fails.
 pub fn read_script<D: Disk, I: Read + Drop>(
     alloc: Global,
     disk: &D,
@@ -35,7 +35,7 @@ pub fn read_script<D: Disk, I: Read + Drop>(
     }
 }
 
-/// What the program says of an error that met it while it read the script.
+/// What the program says of an error that it met while it read the script.
 fn fault_of_script(error: &io::Error) -> ProgramError
     ensures memory { error_kind error.now ≡ ErrorKind.OutOfMemory → result ≡ ProgramError.OutOfMemory }
     ensures other { error_kind error.now ≢ ErrorKind.OutOfMemory → result ≡ ProgramError.CannotRead }

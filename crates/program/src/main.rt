@@ -1,4 +1,4 @@
-//! `tsearch`: searches named texts by extended regular expressions, as a script tells it.
+//! `tsearch`: searches named texts by extended regular expressions, as a script says.
 //!
 //! The program fetches its arguments, does what they ask for, and ends with the status of that.
 #![tactic(auto)]
@@ -32,9 +32,9 @@ fn main(rt: HostRuntime) -> ExitCode {
     ExitCode::from(status)
 }
 
-/// The arguments of the program, its name before them.
+/// The arguments of the program, the first being its name.
 ///
-/// `Arguments` comes where one is no text, and `OutOfMemory` where memory ran out.
+/// `Arguments` means that an argument is not UTF-8, and `OutOfMemory` that memory ran out.
 fn fetch_arguments<R: Env + AllocGlobal>(rt: &R) -> Result<Vec<String>, ProgramError> {
     let arguments = match env::args(rt) {
         Ok(arguments) => arguments,

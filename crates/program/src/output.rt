@@ -15,8 +15,8 @@ const OUTPUT_BUFFER: usize = 65536;
 
 /// Writes the text of a transcript to a writer, and gives the writer back once it has the whole text.
 ///
-/// `OutOfMemory` comes where there was no memory for the buffer, `Write` where the text was not written whole,
-/// and `CannotWrite` where its last part was not.
+/// `OutOfMemory` means that there was no memory for the buffer, `Write` that the text was not written whole,
+/// and `CannotWrite` that its last part was not.
 pub fn write_text<W: Write + Drop>(
     alloc: Global,
     transcript: &Transcript,

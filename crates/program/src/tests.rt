@@ -94,7 +94,7 @@ fn no_more_than_the_limit_is_read(rt: HostRuntime) -> Result<(), Fail> {
     Ok(())
 }
 
-/// A reader of the letter `x`, one a call, which fails at one of its calls, counted from 1.
+/// A reader of the letter `x`, one per call, which fails at one of its calls, counted from 1.
 #[derive(Drop)]
 struct FailingReader {
     calls: u32,
@@ -132,7 +132,7 @@ fn reads_that_fail_give_nothing(rt: HostRuntime) -> Result<(), Fail> {
     Ok(())
 }
 
-/// A writer that takes one byte a call, and fails at one of its calls, counted from 1.
+/// A writer that takes one byte per call, and fails at one of its calls, counted from 1.
 #[derive(Drop)]
 struct FailingWriter {
     bytes: Vec<u8>,

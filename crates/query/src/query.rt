@@ -31,12 +31,12 @@ pub enum Connective {
     Or,
 }
 
-/// How many members before it a further conjunct is compared with.
+/// How many earlier members a new conjunct is compared with.
 const NEIGHBOURS: usize = 64;
 
 /// An equal query.
 ///
-/// An `Err` comes where memory runs out.
+/// An `Err` means that memory ran out.
 #[cycle(copied)]
 pub fn copied(alloc: Global, query: &Query) -> Result<Query, AllocError>
     ensures { IfOk result (λ copy. formula_of copy ≡ formula_of query.now) }
@@ -90,11 +90,11 @@ fn are_same(ones: &[Query], others: &[Query]) -> bool
     true
 }
 
-/// A plain query with the same truth at every set of trigrams. Plain means: it is `Any` or `None`, or it has
-/// neither in it, each `And` and `Or` in it has at least two members, and no `And` is directly in an
+/// A plain query with the same truth at every set of trigrams. A query is plain if it is `Any` or `None`, or
+/// if it has neither in it, each `And` and `Or` in it has at least two members, and no `And` is directly in an
 /// `And`, no `Or` directly in an `Or`.
 ///
-/// An `Err` comes where memory runs out; the query is then dropped.
+/// An `Err` means that memory ran out; the query is then dropped.
 pub fn simplify(alloc: Global, query: Query) -> Result<Query, AllocError>
     ensures { IfOk result (λ plain. IsSimplification (formula_of query) (formula_of plain)) }
 {
@@ -129,10 +129,10 @@ fn all_simplified(
     Ok(whole)
 }
 
-/// Two plain queries (`simplify` says what that is) joined to a plain one. A conjunct that is there already is
-/// left out where it is found soon.
+/// Two plain queries (see `simplify`) joined to a plain one. A conjunct that repeats one of the `NEIGHBOURS`
+/// before it is left out.
 ///
-/// An `Err` comes where memory runs out; the queries are then dropped.
+/// An `Err` means that memory ran out; the queries are then dropped.
 pub fn join(
     alloc: Global,
     connective: Connective,

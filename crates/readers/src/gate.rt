@@ -1,6 +1,6 @@
 //! Where workers are in their searches.
 
-/// A place in a worker's search.
+/// A point in a worker's search.
 #[derive(Clone, Copy, Debug, PartialEq, Eq)]
 pub enum Place {
     /// The search begins: nothing is looked at yet.
@@ -11,9 +11,9 @@ pub enum Place {
     Done,
 }
 
-/// What workers call at each place of a search. A call returns before the worker goes on, so it can hold the
+/// What workers call at each point of a search. A call returns before the worker goes on, so it can hold the
 /// worker there. Several workers may call at once.
 pub trait Gate: Sync {
-    /// The search of this number is at this place.
+    /// The search of this number is at this point.
     fn turn(&self, search: u32, place: Place);
 }

@@ -1,7 +1,7 @@
 //! The worker threads of a run.
 //!
 //! A `Worker` is a thread that has a reading of its own. It is sent the numbers of searches, answers them one after
-//! the other, and gives its reading and its answers back when it is joined.
+//! the other, and returns its reading and its answers when it is joined.
 #![tactic(auto)]
 
 mod gate;

@@ -1,4 +1,4 @@
-//! What workers give back.
+//! What workers return.
 
 use search::Answer;
 use shared::Reading;
@@ -8,18 +8,18 @@ use shared::Reading;
 pub struct Given {
     /// The number of the search, from 1.
     pub search: u32,
-    /// How many searches the reader has answered with this one, those of earlier workers included.
+    /// How many searches the reader has answered, this one and those of earlier workers included.
     pub turn: u32,
     /// The answer.
     pub answer: Answer,
 }
 
-/// What a worker gives back when it ends.
+/// What a worker returns when it ends.
 #[derive(Drop)]
 pub struct Report {
     /// The reading that it was given. It has seen what it had seen before, and all that its searches met.
     pub reading: Reading,
-    /// The turn of the last answer, or the one that the worker began with where it gives none.
+    /// The turn of the last answer, or the turn that the worker began with if it gives no answer.
     pub turns: u32,
     /// The answers, in the order in which they were made.
     pub given: Vec<Given>,

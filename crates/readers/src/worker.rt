@@ -16,7 +16,7 @@ use std::snapshot::Snapshot;
 use std::sync::Wait;
 use std::thread::{Promise, PromisedHandle, Scope, Threads};
 
-// What the thread's report is: the searches that it answers, and what its reading knew at the start.
+// What the thread's report is about: the searches that it answers, and what its reading knew at the start.
 #[derive(Drop)]
 struct Kept<'a> {
     searches: &'a [Option<Prepared>],
@@ -54,7 +54,7 @@ impl<'a> Model for Worker<'a> {
 
 impl<'a> Worker<'a> {
     /// Starts a thread that answers searches of this list with this reading. Its first answer is the turn after
-    /// `turns`. An `Err` comes where there is no thread, or no memory for its channel: the reading comes back in a
+    /// `turns`. An `Err` means that there is no thread, or no memory for its channel: the reading comes back in a
     /// report with no answers.
     pub fn start<'s, E, R: Wait + Sync, G: Gate>(
         scope: &Scope<'s, E>,
@@ -94,12 +94,12 @@ impl<'a> Worker<'a> {
         }
     }
 
-    /// Sends the number of a search. `false` says that it could not be sent.
+    /// Sends the number of a search. `false` means that it could not be sent.
     pub fn send<R: Wait>(&self, rt: &R, search: u32) -> bool {
         self.numbers.send(rt, search).is_ok()
     }
 
-    /// Waits until the thread has gone through all numbers that it was sent, and gives its report.
+    /// Waits until the thread has gone through all numbers that it was sent, and returns its report.
     pub fn join<R: Threads>(self, rt: &R) -> Report
         ensures { IsReport self.entry.searches self.entry.before result }
     {

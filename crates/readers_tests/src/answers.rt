@@ -12,7 +12,7 @@ use std::test::Fail;
 use std::thread;
 use std::thread::Threads;
 
-/// What a worker reports that is sent these numbers.
+/// The report of a worker that is sent these numbers.
 fn report<R: Threads + Wait + Sync, G: Gate>(
     rt: &R,
     alloc: Global,
@@ -94,7 +94,7 @@ fn two_reports<R: Threads + Wait + Sync, G: Gate>(
     })
 }
 
-/// A reading goes from worker to worker. Numbers that stand for no search are passed over, and the turns go on.
+/// A reading goes from worker to worker. Numbers without a search are skipped, and the turns go on.
 #[test]
 fn one_reading_two_workers(rt: HostRuntime) -> Result<(), Fail> {
     let alloc = rt.alloc();
@@ -141,7 +141,7 @@ fn answers_twice<R: Threads + Wait + Abort + Sync>(
     Ok(())
 }
 
-/// A worker is at the gate three times for each search, and never for a number that stands for none.
+/// A worker is at the gate three times for each search, and never for a number without a search.
 #[test]
 fn places_in_order(rt: HostRuntime) -> Result<(), Fail> {
     let alloc = rt.alloc();

@@ -25,7 +25,7 @@ impl Flag {
         self.raised.store(true, Ordering::SeqCst);
     }
 
-    /// Comes back once the flag is raised, or after so many looks at it.
+    /// Returns once the flag is raised, or after `LOOKS` looks at it.
     pub(crate) fn wait(&self) {
         for _ in 0..LOOKS {
             if self.raised.load(Ordering::SeqCst) {
@@ -41,7 +41,7 @@ impl Flag {
     }
 }
 
-/// Holds nobody.
+/// Holds no one.
 #[derive(Drop)]
 pub(crate) struct Open;
 
@@ -49,7 +49,7 @@ impl Gate for Open {
     fn turn(&self, _search: u32, _place: Place) {}
 }
 
-/// Holds search 1 at its begin until search 2 is done.
+/// Holds search 1 at its beginning until search 2 is done.
 #[derive(Drop)]
 pub(crate) struct SecondFirst {
     pub(crate) second_done: Flag,
@@ -92,7 +92,7 @@ impl Gate for HeldMatching {
 }
 
 /// Remembers the calls of one worker in decimal digits: for each call the number of the search, below 10, and
-/// then the place, 1 to 3.
+/// then the point, 1 to 3.
 #[derive(Drop)]
 pub(crate) struct Digits {
     pub(crate) word: AtomicU64,

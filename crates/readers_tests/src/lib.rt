@@ -1,6 +1,6 @@
 //! Tests of workers, in threads of their own.
 //!
-//! They are in a crate of their own, since a crate that has tests is proved twice, with them and without.
+//! They are a separate crate because a crate with tests is proved twice: with its tests and without.
 #![tactic(auto)]
 
 #[cfg(test)]

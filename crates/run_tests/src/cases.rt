@@ -1,4 +1,4 @@
-//! Scripts with what comes of them, and their runs.
+//! Scripts and their outcomes, and their runs.
 
 use crate::gates::{Late, Open};
 use crate::sources::Table;
@@ -10,7 +10,7 @@ use std::thread::Threads;
 use tsearch::run::run;
 use tsearch::{Gate, Options, Source, Transcript, status, write_transcript};
 
-/// A script, how it is run, and what comes of it.
+/// A script, how it is run, and its outcome.
 #[derive(Clone, Copy, Debug)]
 pub(crate) struct Case<'a> {
     pub(crate) script: &'a [u8],
@@ -20,7 +20,7 @@ pub(crate) struct Case<'a> {
     pub(crate) status: u8,
 }
 
-/// The case has its text and its status with so many readers.
+/// The case has its text and its status with `readers` readers.
 pub(crate) fn expect<S: Source + Drop, G: Gate, R: Threads + Wait + Abort + Sync>(
     rt: &R,
     alloc: Global,

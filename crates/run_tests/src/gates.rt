@@ -6,7 +6,7 @@ use tsearch::{Gate, Place};
 /// How often a flag is looked at before a wait for it is given up.
 const LOOKS: u64 = 2_000_000_000;
 
-/// How often a reader that is late looks up before it goes on.
+/// How often a late reader looks before it goes on.
 const LATE_LOOKS: u64 = 100_000;
 
 /// A flag that one thread raises and another waits for.
@@ -28,7 +28,7 @@ impl Flag {
         self.raised.store(true, Ordering::SeqCst);
     }
 
-    /// Comes back once the flag is raised, or after so many looks at it.
+    /// Returns once the flag is raised, or after `LOOKS` looks at it.
     pub(crate) fn wait(&self) {
         if !is_seen(&self.raised, LOOKS) {
             self.given_up.store(true, Ordering::SeqCst);
@@ -41,7 +41,7 @@ impl Flag {
     }
 }
 
-// Whether one of so many looks finds the word true.
+// Whether one of `looks` looks finds the word true.
 fn is_seen(word: &AtomicBool, looks: u64) -> bool {
     for _ in 0..looks {
         if word.load(Ordering::SeqCst) {
@@ -51,7 +51,7 @@ fn is_seen(word: &AtomicBool, looks: u64) -> bool {
     false
 }
 
-/// Holds nobody.
+/// Holds no one.
 #[derive(Drop)]
 pub(crate) struct Open;
 
@@ -59,8 +59,8 @@ impl Gate for Open {
     fn turn(&self, _search: u32, _place: Place) {}
 }
 
-/// Holds each search for a while at its begin, so that the script goes on before it is answered, and one with an odd
-/// number again before it matches, so that the next one comes to its end first.
+/// Holds each search for a while at its beginning, so the script goes on before it is answered. A search with an odd
+/// number is also held before it matches, so the next one ends first.
 #[derive(Drop)]
 pub(crate) struct Late {
     never: AtomicBool,
@@ -82,7 +82,7 @@ impl Gate for Late {
     }
 }
 
-/// Holds search 1 at its begin until search 2 is done.
+/// Holds search 1 at its beginning until search 2 is done.
 #[derive(Drop)]
 pub(crate) struct SecondFirst {
     pub(crate) second_done: Flag,
@@ -99,7 +99,7 @@ impl Gate for SecondFirst {
     }
 }
 
-/// Holds three searches at their begin, so that each is done before the next one of an order begins.
+/// Holds three searches at their beginning. So each is done before the next one of an order begins.
 #[derive(Drop)]
 pub(crate) struct InOrder {
     order: (u32, u32, u32),
@@ -135,7 +135,7 @@ impl Gate for InOrder {
     }
 }
 
-/// Tells when search 1 is at a place, and holds it there until it is released.
+/// Tells when search 1 is at a point, and holds it there until it is released.
 #[derive(Drop)]
 pub(crate) struct Held {
     place: Place,

@@ -1,8 +1,8 @@
-//! Tests of the libraries that read and run scripts, by call: each public function does its work where memory
-//! is ample, and what no contract says is so: that threads do the work, and that what is written does not hang on
-//! when they do it.
+//! Tests of the libraries that read and run scripts, by call: each public function does its work if
+//! memory is ample. They also test what no contract says: that threads do the work, and that the output
+//! does not depend on when they do it.
 //!
-//! They are in a crate of their own, since a crate that has tests is proved twice, with them and without.
+//! They are a separate crate because a crate with tests is proved twice: with its tests and without.
 #![tactic(auto)]
 
 #[cfg(test)]

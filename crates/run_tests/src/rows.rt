@@ -1,5 +1,5 @@
-//! Scripts of puts, publishes and searches: the same comes of them whatever the number of readers is, and however
-//! late they answer.
+//! Scripts of puts, publishes and searches: their outcome is the same whatever the number of readers is, and
+//! however late they answer.
 
 use crate::cases::{Case, expect_always};
 use crate::sources::Table;
@@ -157,7 +157,7 @@ fn rows(rt: HostRuntime) -> Result<(), Fail> {
     Ok(())
 }
 
-/// Faults of a load, of a pattern and of a put, behind a search that is answered.
+/// Faults of a load, of a pattern and of a put, after a search that is answered.
 #[test]
 fn a_hostile_script(rt: HostRuntime) -> Result<(), Fail> {
     let alloc = rt.alloc();

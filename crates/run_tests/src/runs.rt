@@ -10,7 +10,7 @@ use std::test::Fail;
 use tsearch::run::run;
 use tsearch::{Options, RunError, Source, WriteError, write_transcript};
 
-/// Loads of what the source has, of a body too long, and of what it has not.
+/// Loads of what the source has, of a body too long, and of what the source does not have.
 #[test]
 fn loads(rt: HostRuntime) -> Result<(), Fail> {
     let alloc = rt.alloc();
@@ -35,7 +35,7 @@ fn loads(rt: HostRuntime) -> Result<(), Fail> {
     expect_always(&rt, alloc, &case, &mut Table::new(&files, b"", 0))
 }
 
-/// A hundred loads and more that succeed, of bodies over 500,000 bytes, after which the source has not failed.
+/// More than a hundred loads that succeed, of bodies over 500,000 bytes. Afterwards the source has not failed.
 #[test]
 fn many_loads(rt: HostRuntime) -> Result<(), Fail> {
     let alloc = rt.alloc();
@@ -69,7 +69,7 @@ fn many_loads(rt: HostRuntime) -> Result<(), Fail> {
     Ok(())
 }
 
-/// The read that fails, or the path that finds no memory, and what is told of it.
+/// The read that fails, or the path for whose bytes there is no memory, and what is written of it.
 const FAULTS: &[(u32, &[u8], &[u8])] = &[
     (
         1,
@@ -113,7 +113,7 @@ fn faults_of_loads(rt: HostRuntime) -> Result<(), Fail> {
     Ok(())
 }
 
-/// A writer that takes at most three bytes a call. One call of it, from 1, takes none or fails.
+/// A writer that takes at most three bytes per call. One call, counted from 1, takes none or fails.
 #[derive(Drop)]
 struct Narrow {
     bytes: Vec<u8>,
@@ -163,7 +163,7 @@ fn writers(rt: HostRuntime) -> Result<(), Fail> {
     for (stopping, failing, kind) in [
         (1u32, 0u32, io::ErrorKind::BrokenPipe),
         (0, 1, io::ErrorKind::BrokenPipe),
-        // a writer that has no memory is one that failed
+        // a writer that has no memory counts as one that failed
         (0, 1, io::ErrorKind::OutOfMemory),
         (0, 1, io::ErrorKind::WriteZero),
     ] {

@@ -65,7 +65,7 @@ fn expect_items(rt: &impl Abort, alloc: Global, script: &[u8], want: &[u8]) -> R
     Ok(())
 }
 
-/// Lines that are no puts.
+/// Lines that are not puts.
 #[test]
 fn lines(rt: HostRuntime) -> Result<(), Fail> {
     let cases = [

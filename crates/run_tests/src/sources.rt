@@ -11,13 +11,13 @@ pub(crate) struct File<'a> {
     pub(crate) bytes: &'a [u8],
 }
 
-/// A table of files. It fails for each path that is not in it, and at one read besides.
+/// A table of files. It fails for each path that is not in it, and at one more read.
 #[derive(Drop)]
 pub(crate) struct Table<'a> {
     files: &'a [File<'a>],
-    /// The path whose bytes find no memory.
+    /// The path for whose bytes there is no memory.
     large: &'a [u8],
-    /// The read that fails, from 1.
+    /// The read that fails, counted from 1.
     failing: u32,
     /// The reads so far.
     pub(crate) reads: u32,

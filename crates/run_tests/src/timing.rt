@@ -1,5 +1,4 @@
-//! Runs with readers: that threads do the work, that a publish does not wait for matching, and that no answer has half
-//! of a publish.
+//! Runs with readers: threads do the work, a publish does not wait for matching, and no answer shows half of a publish.
 
 use crate::cases::{Case, expect};
 use crate::gates::{Flag, Held, InOrder, Late, Open, SecondFirst};
@@ -13,8 +12,8 @@ use std::thread::Threads;
 use tsearch::run::run;
 use tsearch::{Entry, Gate, Options, Place};
 
-/// Two readers are at work at once: search 1 begins when search 2 is done. A run that answers one search after
-/// the other does not come to that.
+/// Two readers are at work at once: search 1 begins when search 2 is done. A run that answers one search after the
+/// other never gets that far.
 #[test]
 fn two_readers_at_once(rt: HostRuntime) -> Result<(), Fail> {
     let gate = SecondFirst {
@@ -63,8 +62,8 @@ const ORDERS: [(u32, u32, u32); 6] = [
     (3, 2, 1),
 ];
 
-/// Whatever the order is in which three readers are done, the answers stand in the order of the script, each from its
-/// own reader.
+/// Whatever the order in which three readers are done, the answers are in the order of the script, each
+/// from its own reader.
 #[test]
 fn readers_done_in_each_order(rt: HostRuntime) -> Result<(), Fail> {
     let case = Case {
@@ -119,7 +118,7 @@ fn publish_before_a_search_begins(rt: HostRuntime) -> Result<(), Fail> {
     expect_held(&rt, rt.alloc(), &case, Place::Begin)
 }
 
-// The case has its text with one reader, which answers both searches, the first of them while it is held at a place.
+// The case has its text with one reader, which answers both searches, the first of them while it is held at a point.
 fn expect_held<R: Threads + Wait + Abort + Sync>(
     rt: &R,
     alloc: Global,
@@ -140,8 +139,8 @@ fn expect_held<R: Threads + Wait + Abort + Sync>(
     Ok(())
 }
 
-/// Two documents at a time are put and published, for 200 numbers, with a search behind each publish: no answer has
-/// half of a publish, and all that is promised of the versions holds.
+/// Two documents at a time are put and published, for 200 numbers, with a search after each publish. No answer shows
+/// half of a publish, and the versions are as promised.
 #[test]
 fn torn(rt: HostRuntime) -> Result<(), Fail> {
     let alloc = rt.alloc();
@@ -215,7 +214,7 @@ impl Course {
         }
     }
 
-    /// Takes the next entry. Whether it may be that.
+    /// Takes the next entry. Returns whether it may be next.
     fn goes_on(&mut self, entry: &Entry) -> bool {
         match entry {
             Entry::Accepted { .. } => true,
@@ -233,7 +232,7 @@ impl Course {
         }
     }
 
-    // An answer stands as the next search's, from its reader, and goes back behind nothing that was seen before.
+    // The answer is for the next search and from its reader, and is no older than what was seen before.
     fn is_answered(&mut self, search: u32, reader: u32, turn: u32, answer: &Answer) -> bool {
         let Some(last) = self.lasts.get_mut(reader as usize) else {
             return false;

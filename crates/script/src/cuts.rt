@@ -22,12 +22,12 @@ pub fn cut_at_last(byte: u8, text: &[u8]) -> Option<(&[u8], &[u8])>
     Some((&text[..at], &text[at + 1..]))
 }
 
-/// The first line of a text that isn't empty.
+/// The first line of a text that is not empty.
 #[derive(Clone, Copy, Debug)]
 pub struct FirstLine<'a> {
     /// The line, without its line feed.
     pub line: &'a [u8],
-    /// What follows the line's line feed, where it has one.
+    /// What follows the line's line feed, if it has one.
     pub rest: Option<&'a [u8]>,
 }
 

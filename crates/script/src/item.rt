@@ -4,13 +4,13 @@
 /// An item of a script, with its texts and bodies as they are in the script.
 #[derive(Clone, Copy, Debug)]
 pub enum Item<'a> {
-    /// `put NAME N` and the N bytes after its line. Nothing is said yet of the name and the body: they may be
-    /// empty, or none that documents may have.
+    /// `put NAME N` and the N bytes after its line. The name and the body are not checked yet: they
+    /// may be empty or invalid.
     Put {
         name: &'a [u8],
         body: &'a [u8],
     },
-    /// `load NAME PATH`. The path isn't empty.
+    /// `load NAME PATH`. The path is not empty.
     Load {
         name: &'a [u8],
         path: &'a [u8],
@@ -21,7 +21,7 @@ pub enum Item<'a> {
     },
     /// `publish`.
     Publish,
-    /// `search ERE`. A line `search` alone has the empty pattern.
+    /// `search ERE`. A line with only `search` has the empty pattern.
     Search {
         pattern: &'a [u8],
     },
@@ -34,9 +34,9 @@ pub enum Item<'a> {
     Sync,
     /// Any other line.
     BadLine,
-    /// A put without its form. Nothing is read after it.
+    /// A malformed put. Nothing is read after it.
     BadPut,
-    /// A put without its bytes. Nothing is read after it.
+    /// A put that the script's end cuts short. Nothing is read after it.
     Truncated,
     /// A put with a byte other than a line feed after its bytes. Nothing is read after it.
     BodyNotClosed,

@@ -1,4 +1,4 @@
-//! Laws of scripts. Each is a function with nothing in it, whose clause is the law.
+//! Laws of scripts. Each is a function that does nothing: its clause is the law.
 
 ghost use Rattle.std.specs.Prelude.{◌≡◌, ℕ, List};
 ghost use Rattle.script.specs.Items.{Numbered as NumberedItem, ItemsFrom};

@@ -1,4 +1,4 @@
-//! The script of `tsearch`, read item by item. `docs/SCRIPT.md` has the language.
+//! The script of `tsearch`, read item by item. `docs/SCRIPT.md` describes the language.
 #![tactic(auto)]
 
 mod cuts;

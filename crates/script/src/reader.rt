@@ -14,7 +14,7 @@ use std::marker::Model;
 /// The greatest length of a script, in bytes.
 pub const MAX_SCRIPT: usize = 67_108_864;
 
-/// What is left of a script, from the first line that is not read yet.
+/// What is left of a script, from the first line that has not been read yet.
 #[derive(Drop)]
 pub struct ScriptReader<'a> {
     rest: &'a [u8],
@@ -48,10 +48,10 @@ impl<'a> ScriptReader<'a> {
         }
     }
 
-    /// Takes the next item, with the number of its line. `None`: what was left is empty lines and comments, and
-    /// nothing is left after it. Empty lines and comments are passed over, and a fault that ends the reading
-    /// leaves nothing. It takes no memory and never fails: a line
-    /// that is no item is an item of its own, such as `Item::BadLine`.
+    /// Takes the next item, with the number of its line. `None` means that only empty lines and comments
+    /// were left, and that nothing is left after it. Empty lines and comments are skipped, and a fault that
+    /// ends the reading leaves nothing. It takes no memory and never fails: a line of no known form is an
+    /// item too, such as `Item::BadLine`.
     pub fn next_item(&mut self) -> Option<Numbered<'a>>
         ensures item { MatchOption result
             (ItemsFrom self.old.line self.old.rest [])
@@ -89,7 +89,7 @@ struct Taken<'a> {
     after: Start<'a>,
 }
 
-/// Passes over the empty lines and comments at the front.
+/// Skips the empty lines and comments at the front.
 fn skip_blank(text: &[u8], line: u32) -> Start<'_>
     requires { line + length text.now ≤ 67108865 }
     ensures same { (items : List NumberedItem) → ItemsFrom result.line result.text.now items → ItemsFrom line text.now items }
@@ -149,7 +149,7 @@ fn take_item(start: Start<'_>) -> Taken<'_>
     }
 }
 
-/// The item of a line that is no put, by its keyword and what follows the space after it.
+/// The item of a line that is not a put, by its keyword and what follows the space after it.
 fn item_of<'a>(keyword: &'a [u8], others: Option<&'a [u8]>) -> Item<'a>
     ensures { shown_item result ≡ item_of keyword.now (option_map (λ rest. rest.now) others.entry) }
 {
@@ -276,7 +276,7 @@ fn take_put<'a>(start: Start<'a>, first: FirstLine<'a>, others: Option<&'a [u8]>
     }
 }
 
-/// Takes the body of a put, whose bytes are there.
+/// Takes the body of a put whose bytes are all there.
 fn take_body<'a>(start: Start<'a>, header: Header<'a>, left: &'a [u8]) -> Taken<'a>
     requires room { start.line + length start.text.now ≤ 67108865 }
     requires line { (line : List ℕ) × (start.text.now ≡ line ++ 10 ∷ left.now) × IsPutLine line header.name.now header.size }

@@ -46,7 +46,7 @@ impl Answer {
     ghost use Rattle.search.specs.Hits.{hits_of};
     ghost use Rattle.search.specs.Text.{text_of_answer, text_of_head, text_of_stats, Begins};
 
-    /// The number of commands that the answer rests on.
+    /// The number of commands whose documents were searched.
     pub fn version(&self) -> u32
         ensures { result ≡ self.now.version }
     {
@@ -67,17 +67,17 @@ impl Answer {
         self.documents
     }
 
-    /// The number of documents that the trigrams of the pattern left to look at. A name pattern has no
-    /// part in it.
+    /// The number of documents that the trigrams of the pattern left to look at. A name pattern
+    /// has no effect on it.
     pub fn candidates(&self) -> u32
         ensures { result ≡ self.now.candidates }
     {
         self.candidates
     }
 
-    /// Appends the text of the answer of the search with this number: a line
-    /// `search K version V lines L`, with `stats` followed by ` candidates C of D`, and then a line
-    /// `NAME:LINE:TEXT` for each hit. An `Err` comes only where memory ran out, and `out` stays as it was.
+    /// Appends the text of the answer of the search with this number: a line `search K version V lines L`,
+    /// with `stats` followed by ` candidates C of D`, and then a line `NAME:LINE:TEXT` for each hit. An `Err`
+    /// means that memory ran out, and `out` stays as it was.
     pub fn write_to(&self, search: u32, stats: bool, out: &mut Vec<u8>) -> Result<(), AllocError>
         ensures ok { OnOk result (out.new.items ≡ out.old.items ++ text_of_answer search stats self.now) }
         ensures err { OnErr result (out.new.items ≡ out.old.items) }
@@ -175,7 +175,7 @@ fn append_hit(out: &mut Vec<u8>, hit: &Hit) -> Result<(), AllocError>
     )
 }
 
-/// Appends the parts, one after another. An `Err` comes only where memory ran out, and `out` stays as it was.
+/// Appends the parts, one after another. An `Err` means that memory ran out, and `out` stays as it was.
 pub fn append_all(out: &mut Vec<u8>, parts: &[&[u8]]) -> Result<(), AllocError>
     ensures ok { OnOk result (out.new.items ≡ out.old.items ++ flat_map (λ part. part.now) parts.now) }
     ensures err { OnErr result (out.new.items ≡ out.old.items) }

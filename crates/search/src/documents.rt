@@ -15,7 +15,7 @@ pub struct TakenDocument {
     pub held: Held,
 }
 
-/// The documents with these numbers, in their order. An `Err` comes only where memory ran out.
+/// The documents with these numbers, in their order. An `Err` means that memory ran out.
 pub fn documents_with(
     alloc: Global,
     index: &Index,
@@ -32,7 +32,7 @@ pub fn documents_with(
     Ok(documents)
 }
 
-// The document with this number, where there is one.
+// The document with this number, if there is one.
 fn document_with(index: &Index, number: u32) -> Result<Option<TakenDocument>, AllocError>
     ensures { IfOk result (λ document. shown_some document ≡ shown_at index.now.documents number) }
 {

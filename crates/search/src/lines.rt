@@ -21,13 +21,13 @@ use matcher::matches;
 use memchr::memchr;
 use std::alloc::{AllocError, Global};
 
-/// How many bytes of bodies are looked at line by line before a pattern is compiled. To compile one takes
-/// about as long as the matcher takes for so many bytes: measured, for 4 to 7 KB with a literal, for 7 to 25 KB
-/// with most other patterns, and for between 20 and 50 KB with `[0-9]+`.
+/// How many bytes of bodies are looked at line by line before a pattern is compiled. Compiling one takes about
+/// as long as the matcher takes for this many bytes: it was measured to be 4 to 7 KB with a literal, 7 to 25 KB
+/// with most other patterns, and between 20 and 50 KB with `[0-9]+`.
 const FEW_BYTES: usize = 8192;
 
 /// The lines with a match in these documents, document after document. The watch is told of each document. An
-/// `Err` comes only where memory ran out.
+/// `Err` means that memory ran out.
 pub fn scan_documents<W: Watch>(
     alloc: Global,
     tree: &Ere,
@@ -69,8 +69,8 @@ fn body_size(document: &TakenDocument) -> usize {
     document.held.body().as_bytes().len()
 }
 
-// Adds the lines with a match in these documents, by the compiled pattern. Where there are none, no pattern is
-// compiled.
+// Adds the lines with a match in these documents, by the compiled pattern. With no documents, no
+// pattern is compiled.
 fn scan_compiled<W: Watch>(
     tree: &Ere,
     documents: &[TakenDocument],
@@ -187,7 +187,7 @@ fn scan_lines(
     scan_line(alloc, tree, name, line, rest, hits)
 }
 
-// Adds a line where it contains a match.
+// Adds a line if it contains a match.
 fn scan_line(
     alloc: Global,
     tree: &Ere,

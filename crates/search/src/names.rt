@@ -15,8 +15,8 @@ use index::{Index, Name};
 use matcher::matches;
 use std::alloc::{AllocError, Global};
 
-/// Those of the numbers whose documents' names, taken as lines, contain a match of the name pattern, in their
-/// order; all of them where there is no name pattern. An `Err` comes only where memory ran out.
+/// The numbers whose documents' names, taken as lines, contain a match of the name pattern, in their order;
+/// all of the numbers if there is no name pattern. An `Err` means that memory ran out.
 pub fn named(
     alloc: Global,
     index: &Index,
@@ -42,7 +42,7 @@ fn with_names(
     ensures { IfOk result (λ kept. Selects (IsNamed index.now.documents (form tree.now)) numbers.now kept.items) }
 {
     if numbers.is_empty() || !nests_stars(tree) {
-        // Names are short, and a compiled pattern does not pay.
+        // Names are short, so a compiled pattern does not pay.
         let mut way = Way::LineByLine;
         return with_names_by(alloc, index, tree, &mut way, numbers);
     }

@@ -14,9 +14,9 @@ use ere::{Ere, EreError, EreErrorKind, parse};
 use std::alloc::Global;
 use trigram::{Query, analyse};
 
-/// A pattern, and where there is one a pattern for names, read and ready to search.
+/// A pattern, and a pattern for names if there is one, read and ready to search.
 ///
-/// It is never changed by a search, so one value serves many searches at a time.
+/// A search never changes it, so one value serves many searches at a time.
 #[derive(Debug, Drop)]
 pub struct Prepared {
     pub(crate) tree: Ere,
@@ -43,7 +43,7 @@ impl Prepared {
     ghost use Rattle.search.specs.Pattern.{IsPatternOf, IsPatternWithin, HasTree};
     ghost use Rattle.search.specs.Prepared.{pattern_of};
 
-    /// Reads the pattern of a search. An `Err` says its fault, or that memory ran out.
+    /// Reads the pattern of a search. An `Err` gives its fault, or says that memory ran out.
     pub fn new(alloc: Global, pattern: &[u8]) -> Result<Prepared, EreError>
         ensures pattern { IfOk result (λ p. IsPatternOf pattern.now (pattern_of p)) }
         ensures refused { IfErr result (λ e. e.kind ≢ EreErrorKind.OutOfMemory → HasNoTree pattern.now) }
@@ -57,7 +57,7 @@ impl Prepared {
     }
 
     /// Reads the patterns of a search in the documents whose names, each taken as a line, match the name
-    /// pattern. An `Err` says the fault of the first pattern that has one, or that memory ran out.
+    /// pattern. An `Err` gives the fault of the first pattern that has one, or says that memory ran out.
     pub fn within(
         alloc: Global,
         name_pattern: &[u8],

@@ -11,9 +11,8 @@ use crate::watch::Watch;
 use index::Index;
 use std::alloc::{AllocError, Global};
 
-/// The lines of the index's documents in which the pattern matches. It changes nothing, and looks at the
-/// documents alone whose trigrams satisfy the condition of the pattern. An `Err` comes only where memory
-/// ran out.
+/// The lines of the index's documents in which the pattern matches. It changes nothing, and looks only
+/// at documents whose trigrams satisfy the condition of the pattern. An `Err` means that memory ran out.
 pub fn find(alloc: Global, index: &Index, prepared: &Prepared) -> Result<Answer, AllocError>
     ensures { IfOk result (λ answer. IsAnswerOf index.now (pattern_of prepared.now) answer) }
 {

@@ -1,4 +1,4 @@
-//! What a search takes out of an index, to be matched when the index has been left.
+//! What a search takes out of an index, to be matched after the index has been left.
 
 ghost use Rattle.std.specs.Prelude.{IfOk};
 ghost use Rattle.search.specs.Prepared.{pattern_of};
@@ -28,9 +28,9 @@ pub struct Taken<'p> {
     pub(crate) wanted: Vec<TakenDocument>,
 }
 
-/// Takes out of the index what a search needs: the documents whose trigrams satisfy the condition of the pattern,
-/// and whose names match the name pattern, where there is one. No line is looked at. An `Err` comes only where
-/// memory ran out.
+/// Takes out of the index what a search needs: the documents whose trigrams satisfy the condition of the
+/// pattern, and whose names match the name pattern, if there is one. No line is looked at. An `Err` means
+/// that memory ran out.
 pub fn take<'p>(
     alloc: Global,
     index: &Index,
@@ -58,8 +58,8 @@ impl Taken<'_> {
     ghost use Rattle.search.specs.Scan.{IsAnswerOf};
     ghost use Rattle.search.specs.Taken.{IsTakenOf};
 
-    /// Matches the lines: the answer is that of the state of the index, and of the pattern, at the taking. An
-    /// `Err` comes only where memory ran out, and what was taken is dropped.
+    /// Matches the lines. The answer is that of the pattern, and of the state of the index when the documents
+    /// were taken. An `Err` means that memory ran out, and what was taken is dropped.
     pub fn answer(self, alloc: Global) -> Result<Answer, AllocError>
         ensures { IfOk result (λ answer. (state : State) (pattern : Pattern) → IsTakenOf state pattern self.entry → IsAnswerOf state pattern answer) }
     {

@@ -20,17 +20,17 @@ pub enum Way<'p> {
 }
 
 /// Whether the tree has stars inside stars. The matcher's time for a line can then double with each of them, so
-/// that such a tree is the engine's alone, whose time is linear in the text. For every other tree the matcher's
-/// time is at most about the tree's leaves times the third power of the line's length: it goes through a star at
-/// most once for each position of the line, and through a star of a single set inside it likewise.
+/// only the engine searches such a tree; its time is linear in the text. For every other tree the matcher's time
+/// is at most about the tree's leaves times the third power of the line's length: it goes through a star at most
+/// once for each position of the line, and likewise through a star of a single set inside it.
 pub fn nests_stars(tree: &Ere) -> bool
     ensures { result ≡ nat_le 2 (star_height (form tree.now)) }
 {
     has_star_height(tree, 2)
 }
 
-/// The pattern of the tree, compiled. There is none where it would be too large, or memory ran out: the tree is
-/// then searched for line by line. For a tree with stars inside stars the `Err` says that memory ran out.
+/// The pattern of the tree, compiled. `None` if it would be too large, or if memory ran out: the tree is then
+/// searched for line by line. For a tree with stars inside stars an `Err` means that memory ran out.
 pub fn compile(alloc: Global, tree: &Ere) -> Result<Option<Compiled>, AllocError>
     ensures { IfOk result (λ o. IfSome o (IsCompiledFrom (form tree.now))) }
 {
@@ -45,7 +45,8 @@ pub fn compile(alloc: Global, tree: &Ere) -> Result<Option<Compiled>, AllocError
     }
 }
 
-/// The way by the compiled pattern of the tree, where there is one. An `Err` is as for `compile`.
+/// The way by the compiled pattern of the tree, if there is one, and otherwise line by line. An
+/// `Err` is as for `compile`.
 pub fn way_by<'p>(
     alloc: Global,
     tree: &Ere,

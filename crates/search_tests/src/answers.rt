@@ -119,8 +119,8 @@ fn name_of(i: u32) -> [u8; 2] {
     [b'a' + (i % 16) as u8, b'a' + (i / 16 % 26) as u8]
 }
 
-/// Of each five texts one has a match of `Google.*Search`, one has its trigrams without a match, and three have few
-/// of them.
+/// Of every five bodies, one has a match of `Google.*Search`, one has its trigrams but no match, and
+/// three have few of them.
 fn text_of(i: u32) -> &'static [u8] {
     match i % 5 {
         0 => b" Google Code Search",
@@ -129,7 +129,7 @@ fn text_of(i: u32) -> &'static [u8] {
     }
 }
 
-/// Commands that put documents, so many.
+/// Commands that put `count` documents.
 fn puts_of(alloc: Global, count: u32) -> Result<Vec<u8>, Fail> {
     let mut commands = Vec::new(alloc);
     for i in 0..count {

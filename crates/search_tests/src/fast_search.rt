@@ -8,8 +8,7 @@ use std::alloc::Global;
 use std::process::Abort;
 use std::test::Fail;
 
-/// Behind a pattern it leaves what the pattern matches, and puts stars inside stars, so that the engine alone is
-/// asked.
+/// Appended to a pattern, it leaves the matches as they are and adds stars inside stars, so only the engine searches.
 const FOR_THE_ENGINE: &[u8] = b"(((zz)*y)*){0}";
 
 /// More bytes of candidates than are looked at line by line.
@@ -21,7 +20,7 @@ fn text_of(alloc: Global, index: &Index, pattern: &[u8]) -> Result<Vec<u8>, Fail
     answer_text(alloc, index, pattern, false, &mut kept)
 }
 
-/// The lines of the answer's text that tell of hits in the document f.
+/// The lines of the answer's text that show hits in the document f.
 fn hits_in_f(alloc: Global, index: &Index, pattern: &[u8]) -> Result<Vec<u8>, Fail> {
     let text = text_of(alloc, index, pattern)?;
     let mut hits = Vec::new(alloc);
@@ -41,7 +40,7 @@ fn index_with(rt: &impl Abort, alloc: Global, body: &[u8]) -> Result<Index, Fail
     Ok(index)
 }
 
-/// Whether the pattern's hits in the document f are those that are wanted.
+/// Whether the pattern's hits in the document f are the expected ones.
 fn are_hits(alloc: Global, index: &Index, pattern: &[u8], want: &[u8]) -> Result<bool, Fail> {
     Ok(hits_in_f(alloc, index, pattern)?.as_slice() == want)
 }
@@ -52,20 +51,20 @@ fn finds(rt: &impl Abort, alloc: Global, row: &[&[u8]; 3]) -> Result<bool, Fail>
     are_hits(alloc, &index, row[1], row[2])
 }
 
-/// The same with a pattern that is the engine's alone.
+/// The same with a pattern that only the engine searches for.
 fn finds_by_the_engine(rt: &impl Abort, alloc: Global, row: &[&[u8]; 3]) -> Result<bool, Fail> {
     let nested = built(alloc, &[(row[1], 1), (FOR_THE_ENGINE, 1)])?;
     finds(rt, alloc, &[row[0], nested.as_slice(), row[2]])
 }
 
-/// Many copies of a body, more bytes of them than are looked at line by line.
+/// Many copies of a body, together more bytes than are looked at line by line.
 fn copies_of(alloc: Global, body: &[u8]) -> Result<Vec<u8>, Fail> {
     let line = built(alloc, &[(body, 1), (b"\n", 1)])?;
     let count = MANY_BYTES / line.len().max(1) + 1;
     built(alloc, &[(line.as_slice(), count)])
 }
 
-/// The index of the document f behind one with many copies of its body.
+/// The index of the document f and of one with many copies of its body, which is before it by name.
 fn index_behind_many(rt: &impl Abort, alloc: Global, body: &[u8]) -> Result<Index, Fail> {
     let copies = copies_of(alloc, body)?;
     let mut index = index_with(rt, alloc, body)?;
@@ -73,13 +72,13 @@ fn index_behind_many(rt: &impl Abort, alloc: Global, body: &[u8]) -> Result<Inde
     Ok(index)
 }
 
-/// The same by the engine, behind a document with many copies of the body.
+/// The same by the engine, after a document with many copies of the body.
 fn finds_behind_many(rt: &impl Abort, alloc: Global, row: &[&[u8]; 3]) -> Result<bool, Fail> {
     let index = index_behind_many(rt, alloc, row[0])?;
     are_hits(alloc, &index, row[1], row[2])
 }
 
-/// Fails where a pattern's hits in a body aren't those that are wanted. A row is a body, a pattern, and the hits.
+/// Fails if a pattern's hits in a body are not the expected ones. A row is a body, a pattern, and the hits.
 fn expect_hits(rt: &impl Abort, alloc: Global, rows: &[[&[u8]; 3]]) -> Result<(), Fail> {
     for row in rows {
         assert!(rt; finds(rt, alloc, row)?, "{row:?} line by line");
@@ -95,7 +94,7 @@ fn expect_hits(rt: &impl Abort, alloc: Global, rows: &[[&[u8]; 3]]) -> Result<()
     Ok(())
 }
 
-/// The empty pattern and the anchors alone, in bodies with and without a last line feed, empty, and of line feeds.
+/// The empty pattern and single anchors, in bodies with and without a last line feed, empty, and of line feeds.
 const LONE_ANCHORS: &[[&[u8]; 3]] = &[
     [b"", b"", b""],
     [b"", b"^$", b""],
@@ -115,7 +114,7 @@ fn empty_patterns_and_lone_anchors(rt: HostRuntime) -> Result<(), Fail> {
     expect_hits(&rt, rt.alloc(), LONE_ANCHORS)
 }
 
-/// Anchors hold at a line's ends alone, wherever they stand in the pattern.
+/// Anchors hold only at a line's ends, wherever they are in the pattern.
 const ANCHORS_IN_THE_MIDDLE: &[[&[u8]; 3]] = &[
     [b"ab\na\nb\na^b\na$b\n", b"a$b", b""],
     [b"ab\na\nb\na^b\na$b\n", b"a^b", b""],
@@ -143,7 +142,7 @@ fn anchors_in_the_middle(rt: HostRuntime) -> Result<(), Fail> {
     expect_hits(&rt, rt.alloc(), ANCHORS_IN_THE_MIDDLE)
 }
 
-/// A set holds bytes, also those from 128 on.
+/// A set holds bytes, including those from 128 on.
 const HIGH_BYTES: &[[&[u8]; 3]] = &[
     [
         b"caf\xe9\nplain\n\xff\n\x80x",
@@ -252,7 +251,7 @@ fn patterns_of_each_kind(rt: HostRuntime) -> Result<(), Fail> {
     expect_hits(&rt, rt.alloc(), KINDS)
 }
 
-/// Lines of the letter a and then c: for each number from `first` to 649 one with so many a.
+/// Lines of the letter a and then c: for each number from `first` to 649, one line with this number of a.
 fn letters_and_c(alloc: Global, first: usize) -> Result<Vec<u8>, Fail> {
     let mut lines = Vec::new(alloc);
     for count in first..650 {
@@ -261,7 +260,7 @@ fn letters_and_c(alloc: Global, first: usize) -> Result<Vec<u8>, Fail> {
     Ok(lines)
 }
 
-/// The hits in lines from 610 a on, where those with `least` of them and more are found.
+/// The hits in lines from 610 a on, if those with `least` of them or more are found.
 fn hits_from(alloc: Global, least: usize) -> Result<Vec<u8>, Fail> {
     let mut hits = Vec::new(alloc);
     for count in least..650 {
@@ -272,7 +271,7 @@ fn hits_from(alloc: Global, least: usize) -> Result<Vec<u8>, Fail> {
     Ok(hits)
 }
 
-/// Whether the pattern finds the lines of the body with `least` letters and more.
+/// Whether the pattern finds the lines of the body with `least` letters or more.
 fn finds_from(
     rt: &impl Abort,
     alloc: Global,
@@ -284,8 +283,8 @@ fn finds_from(
     finds(rt, alloc, &[body, pattern, want.as_slice()])
 }
 
-/// The largest pattern of its kind that is compiled has 627 sets and its c. One with a set less, one with a set more and
-/// one with two more find their lines too, with a last line feed and without.
+/// The largest pattern of its kind that is compiled has 627 sets and its c. One with a set less, one with a set more
+/// and one with two more find their lines too, with a last line feed and without.
 #[test]
 fn patterns_about_the_greatest_size(rt: HostRuntime) -> Result<(), Fail> {
     let body = letters_and_c(rt.alloc(), 610)?;
@@ -376,7 +375,7 @@ fn a_megabyte_of_line_feeds(rt: HostRuntime) -> Result<(), Fail> {
     Ok(())
 }
 
-/// 1 MiB of which the first line and the last one may be hits. The last one has no line feed.
+/// 1 MiB whose first line and last line may be hits. The last one has no line feed.
 fn megabyte(alloc: Global) -> Result<Vec<u8>, Fail> {
     built(
         alloc,

@@ -13,8 +13,8 @@ use std::alloc::Global;
 use std::process::Abort;
 use std::test::Fail;
 
-/// A search that has left the index: two documents are put and a search of them is taken; then one of the names is
-/// removed and the index dropped, and only then the lines are matched.
+/// A search that has left the index: two documents are put and a search of them is taken. Then one of the names is
+/// removed and the index dropped, and only then are the lines matched.
 fn search_left(
     alloc: Global,
     first: (Name, Body),
@@ -71,7 +71,7 @@ fn taken_before<'p>(
     Ok((taken, index))
 }
 
-/// The answer is that of the documents at the taking, whatever becomes of the index behind it.
+/// The answer is that of the documents at the taking, whatever happens to the index afterwards.
 #[test]
 fn an_answer_is_of_the_taking(rt: HostRuntime) -> Result<(), Fail> {
     let prepared = Prepared::within(rt.alloc(), b"^[ab]", b"x")?;

@@ -21,14 +21,15 @@ use std::alloc::AllocError;
 use std::marker::Model;
 use std::sync::Wait;
 
-/// The one writer. It accepts commands, which nobody sees until it publishes them.
+/// The one writer. It accepts commands, which no one sees until it publishes them.
 ///
 /// Contracts see it as its opening, the greatest number of commands, and the lists of the published and of
 /// the accepted commands. End it by `close`.
 pub struct Desk {
     writer: ShelfWriter,
     head: Head,
-    // As far as the history is known to go. It can be ahead of what is published where a publish was refused.
+    // The end of the history, as far as the desk knows it. After a refused publish it can be
+    // ahead of what is published.
     front: Front,
     // The names of the documents after all accepted commands.
     names: Names,
@@ -67,7 +68,7 @@ impl Plain<Unwritten<'_>, Batch, u64> for Lacks {
     ghost state = { λ u. None };
 }
 
-// Adds an operation to those that are to be carried out at the next publish.
+// Adds an operation to those that the next publish carries out.
 fn append(writer: &mut ShelfWriter, operation: Operation) -> Result<(), AllocError>
     ensures desk { writer.new.desk ≡ writer.old.desk }
     ensures ok { OnOk result (drop writer.new.behind writer.new.log.items ≡ drop writer.old.behind writer.old.log.items ++ operation ∷ []) }
@@ -105,15 +106,15 @@ impl Desk {
         }
     }
 
-    // Whether as many commands are accepted as there may be.
+    // Whether the greatest number of commands is accepted already.
     fn is_full(&self) -> bool
         ensures { MatchBool result (IsFull self.now) (HasRoom self.now) }
     {
         self.accepted == self.limit
     }
 
-    /// Accepts the put of this name and body, and answers the number of accepted commands. A refusal says the
-    /// first cause, in the order of `PutErrorKind`, hands name and body back, and changes nothing.
+    /// Accepts the put of this name and body, and returns the number of accepted commands. A refusal gives
+    /// the first cause, in the order of `PutErrorKind`, hands name and body back, and changes nothing.
     pub fn put(&mut self, name: Name, body: Body) -> Result<u32, PutError>
         ensures ok { OnOk result ((self.new ≡ with_command (put_command name body) self.old) × HasRoom self.old) }
         ensures count { IfOk result (λ n. n ≡ length self.new.accepted) }
@@ -167,8 +168,8 @@ impl Desk {
         }
     }
 
-    /// Accepts the remove of this name, and answers the number of accepted commands. A refusal says the first
-    /// cause, in the order of `RemoveError`, and changes nothing.
+    /// Accepts the remove of this name, and returns the number of accepted commands. A refusal gives the
+    /// first cause, in the order of `RemoveError`, and changes nothing.
     pub fn remove(&mut self, name: &Name) -> Result<u32, RemoveError>
         ensures ok { OnOk result ((self.new ≡ with_command (remove_command name.now) self.old) × HasRoom self.old) }
         ensures there { OnOk result (has_document self.old.accepted name.now ≡ true) }
@@ -198,8 +199,8 @@ impl Desk {
         Ok(())
     }
 
-    /// Publishes all accepted commands; with nothing new it publishes the same once more. It may wait for
-    /// readings that are inside. An `Err` comes only where memory ran out, and changes nothing.
+    /// Publishes all accepted commands; with nothing new it publishes the same again. It may wait for
+    /// readings that are inside. An `Err` means that memory ran out, and changes nothing.
     pub fn publish<R: Wait>(&mut self, rt: &R) -> Result<Told, AllocError>
         ensures ok { IfOk result (λ told. (self.new ≡ all_published self.old) × (told ≡ known self.old.opening self.old.accepted)) }
         ensures err { OnErr result (self.new ≡ self.old) }
@@ -222,8 +223,8 @@ impl Desk {
         }
     }
 
-    // The front once all accepted commands are in the history. There is none where the history goes on behind
-    // the desk's front, which nobody but the desk can do.
+    // The front after all accepted commands are added to the history. `None` if the history continues after
+    // the desk's front; only the desk can cause that.
     fn written(&self) -> Option<Front>
         ensures { IfSome result (λ front. front ≡ known self.now.opening self.now.accepted) }
     {

@@ -34,10 +34,10 @@ impl<T: Drop> From<AllocFailed<T>> for OpenError {
     }
 }
 
-/// Why a put is refused, in the order in which the causes are looked for.
+/// Why a put is refused. The causes are checked in this order.
 #[derive(Clone, Copy, Debug, PartialEq, Eq)]
 pub enum PutErrorKind {
-    /// As many commands are accepted as there may be.
+    /// The greatest number of commands is accepted already.
     Full,
     /// Memory ran out.
     OutOfMemory,
@@ -63,12 +63,12 @@ pub struct PutError {
     pub body: Returned,
 }
 
-/// Why a remove is refused, in the order in which the causes are looked for.
+/// Why a remove is refused. The causes are checked in this order.
 #[derive(Clone, Copy, Debug, PartialEq, Eq)]
 pub enum RemoveError {
     /// There is no document of this name after all accepted commands.
     NoSuchFile,
-    /// As many commands are accepted as there may be.
+    /// The greatest number of commands is accepted already.
     Full,
     /// Memory ran out.
     OutOfMemory,

@@ -1,7 +1,7 @@
 //! The history of an opening: the commands that were published under it, from the first one on.
 //!
-//! The history is in no memory. What is kept of it is how long it is, and evidence for the proofs, without
-//! bytes, of how far it was known to go.
+//! The history itself takes no memory. What is kept of it is how long it is, and evidence for the proofs,
+//! without bytes, of how far it was known to go.
 
 ghost use Rattle.std.specs.Prelude.{◌≡◌, ◌⊎◌, List, [], ◌++◌, length, IfSome, MatchBool};
 ghost use mathlib.Core.List.{IsPrefix};
@@ -16,8 +16,7 @@ use std::marker::Model;
 /// made.
 pub type Batch = [Command; 0];
 
-/// The rule of a history: its first word is the number of batches. It has two words, of which the second
-/// stays 0.
+/// The rule of a history: its first word is the number of batches. It has two words; the second one stays 0.
 pub struct Counted;
 
 impl Rule<Batch, u64> for Counted {
@@ -118,7 +117,7 @@ impl Front {
         }
     }
 
-    /// Of two fronts of one opening one begins the other: whether it is this one.
+    /// Of two fronts of one opening, one is a beginning of the other. Returns whether it is this one.
     pub(crate) fn begins(&self, other: &Front) -> bool
         requires { other.now.opening ≡ self.now.opening }
         ensures { MatchBool result (IsPrefix self.now.commands other.now.commands) (IsPrefix other.now.commands self.now.commands) }
@@ -128,7 +127,7 @@ impl Front {
         self.version <= other.version
     }
 
-    /// The longer of two fronts of one opening, which the other begins.
+    /// The longer of two fronts of one opening. The other one is a beginning of it.
     pub(crate) fn longer(&self, other: &Front) -> Front
         requires { other.now.opening ≡ self.now.opening }
         ensures one { (result ≡ self.now) ⊎ (result ≡ other.now) }
@@ -142,8 +141,8 @@ impl Front {
         }
     }
 
-    /// The front after one more batch, which what is passed asks for. There is none where the history goes
-    /// on behind this front; the writer, who alone has the head, never finds that.
+    /// The front after one more batch, the one that `about` asks for. `None` if the history continues
+    /// after this front. The writer never finds that, since only it has the head.
     pub(crate) fn with<X, M: Plain<X, Batch, u64>>(
         &self,
         head: &Head,

@@ -1,7 +1,7 @@
 //! One writer and many readings over two copies of an index.
 //!
-//! A `Desk` accepts commands, which nobody sees until it publishes them. A `Reading` searches what is
-//! published, in a thread of its own, and waits for nobody. What a reading has seen only grows: each search
+//! A `Desk` accepts commands, which no one sees until it publishes them. A `Reading` searches what is
+//! published, in a thread of its own, and never waits. What a reading has seen only grows: each search
 //! answers from at least all that the reading has met or learnt of.
 #![tactic(auto)]
 

@@ -23,9 +23,9 @@ pub const MAX_COMMANDS: u32 = 1000000;
 /// The greatest number of readings that can be opened.
 pub const MAX_READINGS: usize = 17;
 
-/// Opens a desk for at most so many commands, and so many readings. Nothing is accepted or published, and no
-/// reading has seen anything. The desk and the readings belong to one opening. It waits for nobody where it
-/// succeeds.
+/// Opens a desk for at most `max_commands` commands, and `readers` readings. Nothing is accepted or
+/// published, and no reading has seen anything. The desk and the readings belong to one opening. It never
+/// waits if it succeeds.
 pub fn open<R: Wait>(
     rt: &R,
     alloc: Global,
@@ -41,8 +41,8 @@ pub fn open<R: Wait>(
     open_with_places(rt, alloc, max_commands, readers, readers)
 }
 
-/// Opens as `open` does, with so many places for readings. Where there are fewer places than readings, one of
-/// these gets none, and nothing is opened.
+/// Opens as `open` does, with this number of places for readings. With fewer places than readings, one
+/// reading gets no place, and nothing is opened.
 pub fn open_with_places<R: Wait>(
     rt: &R,
     alloc: Global,
@@ -75,7 +75,7 @@ pub fn open_with_places<R: Wait>(
     }
 }
 
-// Two copies of an index with no commands, with so many places for readings.
+// Two copies of an index with no commands, with this number of places for readings.
 fn shelves(alloc: Global, front: &Front, places: usize) -> Result<ShelfWriter, AllocError>
     requires front { front.now.commands ≡ [] }
     requires places { (0 < places) × (places ≤ 17) }
@@ -93,7 +93,7 @@ fn shelves(alloc: Global, front: &Front, places: usize) -> Result<ShelfWriter, A
     ShelfWriter::new(alloc, first, second, places)
 }
 
-// So many readings that have seen as much as the writer has met.
+// `readers` readings that have seen as much as the writer has met.
 fn readings(
     alloc: Global,
     writer: &mut ShelfWriter,

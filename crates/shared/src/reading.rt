@@ -1,4 +1,4 @@
-//! Readings: they see what is published, and never wait.
+//! Readings see what is published, and never wait.
 
 ghost use Rattle.std.specs.Prelude.{◌≡◌, ◌⊎◌, Some, length, IfOk, IfSome};
 ghost use mathlib.Core.List.{IsPrefix};
@@ -60,7 +60,7 @@ impl Reading {
         })
     }
 
-    /// Takes note of a publish. It takes no memory and waits for nobody.
+    /// Takes note of a publish. It takes no memory and never waits.
     pub fn learn(&mut self, told: &Told)
         requires { told.now.opening ≡ self.old.opening }
         ensures opening { self.new.opening ≡ self.old.opening }
@@ -78,8 +78,8 @@ impl Reading {
         self.front.version()
     }
 
-    /// Enters what is published once, takes what a search needs, and leaves. No line is looked at. It waits for
-    /// nobody. An `Err` says that memory ran out, or that there was no entry.
+    /// Enters what is published once, takes what a search needs, and leaves. No line is looked at. It never
+    /// waits. An `Err` says that memory ran out, or that there was no entry.
     pub fn take<'p>(
         &mut self,
         alloc: Global,
@@ -100,7 +100,7 @@ impl Reading {
         Ok(taken?)
     }
 
-    /// Searches what is published: it takes, and then matches the lines. It waits for nobody. An `Err` says that
+    /// Searches what is published: it takes, and then matches the lines. It never waits. An `Err` says that
     /// memory ran out, or that there was no entry.
     pub fn search(&mut self, alloc: Global, prepared: &Prepared) -> Result<Answer, SearchError>
         ensures opening { self.new.opening ≡ self.old.opening }
@@ -120,8 +120,7 @@ struct Asked<'p> {
     prepared: &'p Prepared,
 }
 
-// Enters, takes and leaves. There is nothing where there was no entry, and else the front that was met, and what
-// was taken.
+// Enters, takes and leaves. `None` if there was no entry; otherwise the front that was met and what was taken.
 fn look<'p>(
     reader: ShelfReader,
     asked: Asked<'p>,

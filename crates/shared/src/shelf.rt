@@ -1,5 +1,5 @@
-//! What the writer and the readings share: an index, beside the history that it stands for. There are two
-//! copies of it, and each operation is carried out on both.
+//! The writer and the readings share an index and the history that it represents. There are two copies, and
+//! each operation is carried out on both.
 
 ghost use Rattle.std.specs.Prelude.{◌≡◌, OnOk, OnErr};
 ghost use Rattle.index.specs.State.{applied};
@@ -22,11 +22,11 @@ pub enum Edit {
 pub enum Operation {
     /// The documents change.
     Change(Edit),
-    /// The history is as long as this. It says so of the changes before it.
+    /// The history is this long after the changes before this one.
     Stamp(Front),
 }
 
-/// An index and the front of the history that it stands for.
+/// An index and the front of the history that it represents.
 #[derive(Drop)]
 pub struct Shelf {
     pub index: Index,
@@ -51,8 +51,8 @@ impl Absorb<Operation> for Shelf {
     }
 }
 
-// Carries out the command. It is refused where memory ran out, or where no more commands can be counted, to
-// which no writer comes.
+// Carries out the command. It is refused if memory ran out, or if no more commands can be counted; no
+// writer reaches that.
 fn change(index: &mut Index, edit: &Edit) -> Result<(), AllocError>
     ensures ok { OnOk result (index.new ≡ applied (command_of edit.now) index.old) }
     ensures err { OnErr result (index.new ≡ index.old) }

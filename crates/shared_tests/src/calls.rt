@@ -95,7 +95,7 @@ fn refuses(rt: &impl Abort, alloc: Global, desk: &mut Desk) -> Result<(), Fail>
     Ok(())
 }
 
-// The put of the body `x` under the name `c` is refused where it is full, and comes back as it was.
+// The put of the body `x` under the name `c` is refused because the desk is full, and comes back as it was.
 fn comes_back(rt: &impl Abort, refused: PutError) {
     let PutError {
         kind,
@@ -133,7 +133,7 @@ fn places_for_all_readings(rt: HostRuntime) -> Result<(), Fail> {
     Ok(())
 }
 
-/// A reading gets no place where each is in use.
+/// A reading gets no place if each is in use.
 #[test]
 fn fewer_places_than_readings(rt: HostRuntime) {
     let alloc = rt.alloc();
@@ -202,7 +202,7 @@ fn is_not_entered(rt: &impl Abort, alloc: Global, reading: &mut Reading, pattern
     assert_eq!(rt; reading.seen(), 1);
 }
 
-// Why a search is refused, where it is.
+// Why a search is refused, if it is.
 fn refusal(alloc: Global, reading: &mut Reading, pattern: &Prepared) -> Option<SearchError> {
     match reading.search(alloc, pattern) {
         Ok(_) => None,

@@ -16,7 +16,7 @@ pub(crate) fn body(alloc: Global, bytes: &[u8]) -> Result<Body, Fail> {
     Ok(Body::new(Vec::from_slice(alloc, bytes)?)?)
 }
 
-/// Puts a document, and answers the number of accepted commands.
+/// Puts a document, and returns the number of accepted commands.
 pub(crate) fn put(alloc: Global, desk: &mut Desk, name: &[u8], body: &[u8]) -> Result<u32, Fail>
     ensures { desk.new.opening ≡ desk.old.opening }
 {

@@ -1,6 +1,6 @@
 //! Tests of the desk and its readings on several threads.
 //!
-//! They are in a crate of their own, so that they are proved beside those on one thread.
+//! They are a separate crate, so they are proved beside those on one thread.
 #![tactic(auto)]
 
 #[cfg(test)]

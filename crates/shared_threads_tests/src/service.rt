@@ -1,4 +1,4 @@
-//! A service in small: one thread writes, two others search.
+//! A small service: one thread writes, two others search.
 
 ghost use Rattle.std.specs.Prelude.{◌≡◌, List, [], ◌∷◌, ◌++◌, IfSome};
 ghost use mathlib.Core.List.{IsPrefix};
@@ -17,8 +17,7 @@ use std::sync::Wait;
 use std::test::Fail;
 use std::thread::{Threads, join};
 
-/// Two threads search while a third puts a document and publishes it. Then both learn of that and search once
-/// more.
+/// Two threads search while a third puts a document and publishes it. Then both learn of that and search again.
 fn search_beside_a_put<R: Threads + Wait + Sync>(
     rt: &R,
     alloc: Global,
@@ -29,7 +28,7 @@ fn search_beside_a_put<R: Threads + Wait + Sync>(
 ) -> Option<(Answer, Answer)>
     requires one { readings.0.opening ≡ desk.old.opening }
     requires two { readings.1.opening ≡ desk.old.opening }
-    // Each answer is that of commands which begin with all that were accepted, and then the put.
+    // Each answer is that of commands that begin with all that were accepted, and then the put.
     ensures first { IfSome result (λ answers. (commands : List CommandValue)
         × IsPrefix (desk.old.accepted ++ Put document.0 document.1 ∷ []) commands
         × IsAnswerOf (state_of commands) (pattern_of pattern.now) answers.0) }
@@ -69,7 +68,7 @@ fn search(alloc: Global, mut reading: Reading, pattern: &Prepared) -> Reading
     reading
 }
 
-// Searches no earlier than what was told.
+// Searches what was told, or something newer.
 fn search_after(
     alloc: Global,
     mut reading: Reading,

@@ -1,4 +1,4 @@
-//! Searches in threads of their own, while a desk puts and publishes: no answer has half of a publish.
+//! Searches in threads of their own, while a desk puts and publishes: no answer shows half of a publish.
 
 use crate::fixtures::put;
 use shared::{Answer, Desk, Prepared, Reading, open};
@@ -71,7 +71,7 @@ fn write<R: Wait>(rt: &R, alloc: Global, desk: &mut Desk) -> Result<(), Fail> {
     Ok(())
 }
 
-// Searches until the desk is done, and once more. Whether each answer is whole and none goes back.
+// Searches until the desk is done, and once again. Returns whether each answer is whole and none goes back.
 fn watch(alloc: Global, mut reading: Reading, pattern: &Prepared, done: &AtomicBool) -> bool {
     let mut least = 0;
     for _ in 0..u64::MAX {
@@ -89,7 +89,7 @@ fn watch(alloc: Global, mut reading: Reading, pattern: &Prepared, done: &AtomicB
     false
 }
 
-// An even version 2k; where k is not 0, two lines with the text of k.
+// An even version 2k; if k is not 0, two lines with the text of k.
 fn is_whole(answer: &Answer) -> bool {
     let number = answer.version() / 2;
     let hits = if number == 0 { 0 } else { 2 };

@@ -1,4 +1,4 @@
-//! The analysis of a pattern into the condition that the document of every matching line meets.
+//! The analysis of a pattern into the condition that every document with a matching line meets.
 
 ghost use Rattle.std.specs.Prelude.{◌≡◌, IfOk, map, ◌∷◌, [], None, Some, if◌then◌else◌};
 ghost use Rattle.ere.specs.Limits.{IsWithinLimits};
@@ -33,19 +33,19 @@ pub(crate) enum Analysis {
 pub(crate) struct Ends {
     /// Whether a word can be empty.
     nullable: bool,
-    /// Texts of which each word has one at its front.
+    /// Texts; each word has one of them at its front.
     fronts: Vec<Vec<u8>>,
-    /// Texts of which each word has one at its back.
+    /// Texts; each word has one of them at its back.
     backs: Vec<Vec<u8>>,
-    /// What every set with all trigrams of a word meets.
+    /// A condition that every set with all trigrams of a word meets.
     condition: Query,
 }
 
 /// The query that holds at exactly those sets of trigrams that meet the condition of the pattern, and is
-/// plain (`simplify` says what that is). The document of every line that contains a match meets it.
-/// (Russ Cox, "Regular Expression Matching with a Trigram Index", 2012; `docs/DEFINITIONS.md` has the table.)
+/// plain (see `simplify`). Every document with a line that contains a match meets it. (Russ Cox, "Regular
+/// Expression Matching with a Trigram Index", 2012; `docs/DEFINITIONS.md` has the table.)
 ///
-/// An `Err` comes where memory runs out.
+/// An `Err` means that memory ran out.
 pub fn analyse(alloc: Global, tree: &Ere) -> Result<Query, AllocError>
     requires { IsWithinLimits (form tree.now) }
     ensures { IfOk result (λ query. IsPlainFor (condition (form tree.now)) (formula_of query)) }
@@ -284,7 +284,7 @@ fn both_loose(alloc: Global, left: Ends, right: Ends) -> Result<Ends, AllocError
     )
 }
 
-/// The ends of one neighbour, with those of the other where the one can be empty.
+/// The ends of one neighbour, and those of the other too if the first can be empty.
 fn widened(
     alloc: Global,
     nullable: bool,
@@ -314,7 +314,7 @@ fn copied_analysis(alloc: Global, analysis: &Analysis) -> Result<Analysis, Alloc
     }
 }
 
-/// One copy, and so many others, one after the other.
+/// One copy, and `others` more, one after the other.
 fn copies_of(alloc: Global, one: &Analysis, others: u8) -> Result<Analysis, AllocError>
     requires { ArePlain one.now }
     ensures { IfOk result (StandFor (copies_of (shown_analysis one.now) others)) }
@@ -338,7 +338,7 @@ fn anything(alloc: Global) -> Result<Analysis, AllocError>
     }))
 }
 
-/// No copy, or up to the most.
+/// No copy, or up to `most` copies.
 fn optional(alloc: Global, one: Analysis, most: u8) -> Result<Analysis, AllocError>
     requires { ArePlain one }
     ensures { IfOk result (StandFor (optional (shown_analysis one) most)) }

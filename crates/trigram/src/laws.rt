@@ -2,7 +2,7 @@
 
 ghost use Rattle.trigram.specs.Laws.{KnownTextsAreTheWords, MatchingLineMeetsCondition, SetsHaveEachTextOnce, TrigramsAreHeld};
 
-/// Where the texts of a tree are known, they are exactly the words of the tree with the empty text for each anchor.
+/// If the texts of a tree are known, they are exactly the words of the tree with the empty text for each anchor.
 pub fn known_texts_are_the_words()
     ensures { KnownTextsAreTheWords }
 {}
@@ -12,7 +12,7 @@ pub fn matching_line_meets_condition()
     ensures { MatchingLineMeetsCondition }
 {}
 
-/// A set has all trigrams of a text exactly where it has each of them.
+/// A set has all trigrams of a text exactly when it has each of them.
 pub fn trigrams_are_held()
     ensures { TrigramsAreHeld }
 {}

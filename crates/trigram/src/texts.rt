@@ -10,7 +10,7 @@ ghost use Rattle.trigram.specs.Private.Values.{texts_of, cut_at, AreDistinct};
 use query::{Connective, Query, Trigram, join};
 use std::alloc::{AllocError, Global};
 
-/// The most texts that are kept.
+/// The greatest number of texts that are kept.
 pub(crate) const MOST_TEXTS: usize = 16;
 
 /// One end of a text.
@@ -46,7 +46,7 @@ fn is_same(one: &[u8], other: &[u8]) -> bool
     one[length - 1] == other[length - 1] && one == other
 }
 
-/// Puts the text into the set.
+/// Adds the text to the set.
 fn add(texts: &mut Vec<Vec<u8>>, text: Vec<u8>) -> Result<(), AllocError>
     ensures { OnOk result (texts_of texts.new.items ≡ with_text (texts_of texts.old.items) text.items) }
 {
@@ -57,7 +57,7 @@ fn add(texts: &mut Vec<Vec<u8>>, text: Vec<u8>) -> Result<(), AllocError>
     Ok(())
 }
 
-/// Puts a copy of the text into the set.
+/// Adds a copy of the text to the set.
 fn add_copy(alloc: Global, texts: &mut Vec<Vec<u8>>, text: &[u8]) -> Result<(), AllocError>
     ensures { OnOk result (texts_of texts.new.items ≡ with_text (texts_of texts.old.items) text.now) }
 {
@@ -68,7 +68,7 @@ fn add_copy(alloc: Global, texts: &mut Vec<Vec<u8>>, text: &[u8]) -> Result<(), 
     Ok(())
 }
 
-/// Puts the other texts into the set.
+/// Adds the other texts to the set.
 #[tactic(auto, unfolding(crate::specs::Texts::with_texts))]
 fn add_all(texts: &mut Vec<Vec<u8>>, others: Vec<Vec<u8>>) -> Result<(), AllocError>
     ensures { OnOk result (texts_of texts.new.items ≡ with_texts (texts_of texts.old.items) (texts_of others.items)) }
@@ -124,8 +124,8 @@ pub(crate) fn joins(
     Ok(whole)
 }
 
-/// Whether no two joinings of the texts are equal, as where the texts of each set are of one length. It may say
-/// no where none are.
+/// Whether it is plain that no two joins are equal: the texts of each set differ and have one length. It may
+/// answer `false` although none are equal.
 #[tactic(auto, using(crate::proofs::DistinctLemmas::joins_of_distinct))]
 fn are_all_different(left: &[Vec<u8>], right: &[Vec<u8>]) -> bool
     ensures { IsTrue result → joins (texts_of left.now) (texts_of right.now) ≡ flat_map (λ front. map (λ back. front ++ back) (texts_of right.now)) (texts_of left.now) }
@@ -152,7 +152,7 @@ fn are_distinct(texts: &[Vec<u8>], size: usize) -> bool
     }
 }
 
-/// The joinings, none of which is looked for among the others.
+/// The joins, each added without a look at the others.
 fn all_joins(alloc: Global, left: &[Vec<u8>], right: &[Vec<u8>]) -> Result<Vec<Vec<u8>>, AllocError>
     ensures { IfOk result (λ whole. texts_of whole.items ≡ flat_map (λ front. map (λ back. front ++ back) (texts_of right.now)) (texts_of left.now)) }
 {
@@ -202,7 +202,7 @@ fn joined(alloc: Global, front: &[u8], back: &[u8]) -> Result<Vec<u8>, AllocErro
 }
 
 /// The ends that are kept of the texts at one side: as many bytes of each, up to two, as leave at most 16
-/// texts, and of these only texts that have no shorter one as their own end.
+/// texts, and of these only the texts that have no shorter one as their own end.
 pub(crate) fn kept_ends(
     alloc: Global,
     side: Side,
@@ -220,7 +220,7 @@ pub(crate) fn kept_ends(
     shortest(alloc, side, none.as_slice())
 }
 
-/// The ends of so many bytes, where there are at most 16 of them.
+/// The ends of `count` bytes, if there are at most 16 of them.
 #[tactic(auto, unfolding(crate::specs::Texts::with_texts))]
 fn few_cuts(
     alloc: Global,
@@ -292,7 +292,7 @@ fn has_shorter_end(side: Side, text: &[u8], texts: &[Vec<u8>]) -> bool
     false
 }
 
-/// The query that a set of trigrams meets where it has all trigrams of one of the texts.
+/// The query that a set of trigrams meets if it has all trigrams of one of the texts.
 pub(crate) fn query_of_texts(alloc: Global, texts: &[Vec<u8>]) -> Result<Query, AllocError>
     ensures { IfOk result (λ query. IsPlainFor (has_all_of_one (texts_of texts.now)) (formula_of query)) }
 {

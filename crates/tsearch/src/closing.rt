@@ -1,4 +1,4 @@
-//! Open searches: whose answer each one gets.
+//! Open searches: which answer each one gets.
 
 ghost use Rattle.std.specs.Prelude.{◌≡◌, ℕ, ◌+◌, ◌-◌, ◌<◌, ◌≤◌, ◌^◌, List, Some, All, IfSome, IfNone, Contains, MatchBool, length, slice_get, slice_set};
 ghost use Rattle.index.specs.State.{state_of};
@@ -17,13 +17,13 @@ use std::alloc::Global;
 use std::sync::Wait;
 use std::thread::Threads;
 
-/// A search that is open, after all that was to be answered with it was read.
+/// An open search, once everything to be answered with it has been read.
 #[derive(Clone, Copy)]
 pub struct Open<'a> {
     pub searches: &'a [Option<Prepared>],
     /// What was published last.
     pub told: &'a Told,
-    /// The versions that were published, rising, after 0.
+    /// 0, and then the versions that were published, rising.
     pub versions: &'a [u32],
     /// Its number.
     pub number: u32,
@@ -31,8 +31,8 @@ pub struct Open<'a> {
     pub least: u32,
 }
 
-/// Closes an open search: with the answer of its reader, where that may stand, or else with one of reader 0. It is
-/// refused where memory ran out for that.
+/// Closes an open search with the answer of its reader, if that is accepted, or otherwise with an answer of
+/// reader 0. The search is refused if reader 0 runs out of memory.
 pub fn close<R: Threads + Wait>(
     rt: &R,
     alloc: Global,
@@ -62,7 +62,7 @@ pub fn close<R: Threads + Wait>(
     }
 }
 
-/// The answer of the reader that the search was sent to, where it gave one that may stand.
+/// The answer of the reader that the search was sent to, if it gave one that is accepted.
 fn answer_of_reader<R: Threads>(
     rt: &R,
     asked: Open<'_>,
@@ -100,8 +100,8 @@ fn answer_of_reader<R: Threads>(
     })
 }
 
-/// Whether an answer may stand: its version was published, after what the search and its reader had seen, and its
-/// turn comes after the reader's last one.
+/// Whether an answer is accepted: its version was published and is no older than what the search and its reader
+/// had seen, and its turn is after the reader's last one.
 fn can_stand(asked: Open<'_>, last: Last, given: &Given) -> bool
     ensures { MatchBool result (CanStand asked.entry.told.now.commands asked.entry.versions.now asked.entry.least last given.now) Unit }
 {
@@ -170,7 +170,7 @@ fn search_at(searches: &[Option<Prepared>], number: u32) -> Option<&Prepared>
     searches.get(number as usize - 1)?.as_ref()
 }
 
-/// Searches until the answer is of what was published last. There is none where memory ran out.
+/// Searches until the answer is of what was published last. `None` if memory ran out.
 fn answer_last<R: Wait>(
     rt: &R,
     alloc: Global,

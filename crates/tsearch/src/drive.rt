@@ -36,7 +36,7 @@ pub struct Plan<'a, R, G> {
     pub gate: &'a G,
 }
 
-/// Carries out the items of a script. Workers are started in the scope. An `Err` comes only where memory ran out.
+/// Carries out the items of a script. Workers are started in the scope. An `Err` means that memory ran out.
 pub fn drive<'s, 'a: 's, E, R: Threads + Wait + Sync, S: Source, G: Gate>(
     scope: &Scope<'s, E>,
     plan: &Plan<'a, R, G>,
@@ -89,8 +89,8 @@ fn start<'a, R: Wait, G>(
     Ok((session, seats))
 }
 
-/// Takes an item. A search is sent to its reader. All that is pending is settled at a sync, and where no reader is
-/// waited for.
+/// Takes an item. A search is sent to its reader. All that is pending is settled at a sync, and whenever no
+/// reader is waited for.
 fn advance<'s, 'a: 's, E, R: Threads + Wait + Sync, S: Source, G: Gate>(
     scope: &Scope<'s, E>,
     plan: &Plan<'a, R, G>,
@@ -121,7 +121,7 @@ fn advance<'s, 'a: 's, E, R: Threads + Wait + Sync, S: Source, G: Gate>(
     Ok(())
 }
 
-/// Whether all that is pending is settled after this step, given whether a search is among it.
+/// Whether all that is pending is settled after this step. `waits` says whether a search is pending.
 fn is_to_settle(step: Step, readers: u32, waits: bool) -> bool
     ensures { MatchBool result Unit ((step ≢ Step.Sync) × (readers ≢ 0)) }
 {
@@ -131,7 +131,7 @@ fn is_to_settle(step: Step, readers: u32, waits: bool) -> bool
     }
 }
 
-/// Sends a search to its reader, where there are readers.
+/// Sends a search to its reader, if there are readers.
 fn send<'s, 'a: 's, E, R: Wait + Sync, G: Gate>(
     scope: &Scope<'s, E>,
     plan: &Plan<'a, R, G>,

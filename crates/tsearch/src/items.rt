@@ -19,7 +19,7 @@ use shared::{Desk, PutErrorKind, RemoveError, Told};
 use std::alloc::Global;
 use std::sync::Wait;
 
-/// Why a line is refused whose name is none, or for which memory ran out.
+/// Why a line with this name is refused: the name is invalid, or memory ran out.
 fn reason_of_name(error: NameError) -> Reason
     ensures { result ≡ reason_of_name error }
 {
@@ -63,7 +63,7 @@ fn put(alloc: Global, desk: &mut Desk, name: &[u8], body: &[u8]) -> Result<u32, 
     }
 }
 
-/// Asks the source once, where the name is a name, and says `CannotLoad` exactly where the source failed then.
+/// Asks the source once if the name is valid, and gives `CannotLoad` exactly when the source then failed.
 fn load<S: Source>(
     alloc: Global,
     desk: &mut Desk,
@@ -112,7 +112,7 @@ fn entry_of(line: u32, done: Result<u32, Reason>) -> Entry
     }
 }
 
-/// Publishes all that is accepted, and keeps what that tells.
+/// Publishes all that is accepted, and keeps what the publish tells.
 fn publish<R: Wait>(rt: &R, desk: &mut Desk, told: &mut Told) -> Result<u32, Reason>
     ensures ok { IfOk result (λ version. (version ≡ length desk.old.accepted) × (told.new ≡ known desk.old.opening desk.old.accepted)) }
     ensures err { IfErr result (λ reason. (reason ≡ Reason.OutOfMemory) × (told.new ≡ told.old)) }
@@ -149,7 +149,7 @@ pub enum Outcome {
     Sync,
 }
 
-/// Carries out an item at the desk, and keeps what a publish tells. Searches and syncs are none of its business.
+/// Carries out an item at the desk, and keeps what a publish tells. Searches and syncs are left to the caller.
 pub fn carry_out<R: Wait, S: Source>(
     rt: &R,
     alloc: Global,

@@ -26,9 +26,9 @@ pub enum WriteError {
 }
 
 /// Writes the text of a transcript, entry by entry: the lines of searches and of refusals (this program's
-/// choice; `NAME:LINE:TEXT` is grep's form). With `stats` each answer tells its candidates too.
+/// choice; `NAME:LINE:TEXT` is grep's form). With `stats` each answer shows its number of candidates too.
 ///
-/// `Failed` comes where the writer failed, `Stopped` where it took no byte, and `OutOfMemory` where memory ran
+/// `Failed` means that the writer failed, `Stopped` that it took no byte, and `OutOfMemory` that memory ran
 /// out for an entry's text. After an `Err` what was written is a beginning of the text.
 pub fn write_transcript<W: Write>(
     alloc: Global,

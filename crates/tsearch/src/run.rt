@@ -20,7 +20,7 @@ use thiserror::Error;
 /// How a script is run.
 #[derive(Clone, Copy, Debug, PartialEq, Eq)]
 pub struct Options {
-    /// How many readers there are besides reader 0, each with a thread of its own, 0 to 16.
+    /// How many readers there are in addition to reader 0, each with a thread of its own, 0 to 16.
     pub readers: u32,
     /// How many commands are accepted at most, 1 to 1,000,000.
     pub max_commands: u32,
@@ -35,7 +35,7 @@ pub enum RunError {
     /// A reader got no place.
     #[error("tsearch: no place for a reader")]
     NoPlace,
-    /// The script has over 67,108,864 bytes. This is looked at first.
+    /// The script has over 67,108,864 bytes. This is checked first.
     #[error("tsearch: script too long")]
     ScriptTooLong,
 }
@@ -43,20 +43,20 @@ pub enum RunError {
 /// Runs a script, and says what became of each of its items.
 ///
 /// The script is read on the calling thread, which is the one writer. A search is sent to one of the readers, each of
-/// which answers its searches in a thread of its own; without readers, and where a reader gives no answer that may
-/// stand, the calling thread answers it, as reader 0. A sync waits for the answers of all searches before it. A reader
-/// calls the gate at each place of a search; reader 0 does not.
+/// which answers its searches in a thread of its own. Without readers, or if a reader gives no answer that is accepted,
+/// the calling thread answers it, as reader 0. A sync waits for the answers of all searches before it. A reader calls
+/// the gate at each point of a search; reader 0 does not.
 ///
 /// The transcript is legal for the script (`docs/DEFINITIONS.md`), whatever the number of readers and however their
 /// steps fall: each search is answered for the documents after some published list of commands, and lists exactly the
 /// lines with a match. An item that is refused is an entry of the transcript, and the run goes on with the next item,
-/// except after the three faults that end the reading of a script: a put without its form, without its bytes, or with
-/// a byte other than a line feed after them.
+/// except after the three faults that end the reading of a script: a malformed put, a put that the script's end cuts
+/// short, or one with a byte other than a line feed after its bytes.
 ///
-/// Whatever the answer, the source holds afterwards what it held before, and its count of failures did not fall.
+/// Whatever the result, the source holds afterwards what it held before, and its count of failures has not fallen.
 ///
-/// `ScriptTooLong` is answered exactly where the script has over 67,108,864 bytes, `NoPlace` where a reader got no
-/// place, and `OutOfMemory` where memory ran out for the run itself. After an `Err` there is no transcript. All workers
+/// `ScriptTooLong` is returned exactly when the script has over 67,108,864 bytes. `NoPlace` means that a reader got no
+/// place, and `OutOfMemory` that memory ran out for the run itself. After an `Err` there is no transcript. All workers
 /// have ended when `run` returns.
 pub fn run<R: Threads + Wait + Sync, S: Source + Drop, G: Gate>(
     rt: &R,

@@ -14,8 +14,8 @@ use script::{Item, MAX_SCRIPT, ScriptReader};
 use search::Prepared;
 use std::alloc::{AllocError, Global};
 
-/// The searches of a script by their numbers, the first one's being 1. There is none where it is refused. An `Err`
-/// comes only where memory ran out.
+/// The searches of a script by their numbers, which begin at 1. A refused search is `None`. An `Err` means
+/// that memory ran out.
 pub fn prepare_all(alloc: Global, script: &[u8]) -> Result<Vec<Option<Prepared>>, AllocError>
     requires { length script.now ≤ MAX_SCRIPT }
     ensures { IfOk result (λ searches. ArePrepared script.now searches.items) }
@@ -28,7 +28,7 @@ pub fn prepare_all(alloc: Global, script: &[u8]) -> Result<Vec<Option<Prepared>>
     Ok(searches)
 }
 
-/// Adds the item to the searches, where it is one.
+/// Adds the item to the searches, if it is one.
 fn list(
     alloc: Global,
     item: Item<'_>,

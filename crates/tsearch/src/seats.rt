@@ -23,7 +23,7 @@ pub struct Seat<'a> {
     /// At work.
     worker: Option<Worker<'a>>,
     turns: u32,
-    /// The answers of the last worker that were not taken yet, the first one last.
+    /// The answers of the last worker that have not been taken yet, the first one last.
     given: Vec<Given>,
 }
 
@@ -45,7 +45,7 @@ pub fn seats<'a>(alloc: Global, readings: Vec<Reading>) -> Result<Vec<Seat<'a>>,
 }
 
 impl<'a> Seat<'a> {
-    /// Sends the number of a search to the reader's worker, which is started where there is none. Where it cannot be
+    /// Sends the number of a search to the reader's worker, which is started if there is none. If it cannot be
     /// started, or the number cannot be sent, the search stays open.
     pub fn send<'s, E, R: Wait + Sync, G: Gate>(
         &mut self,
@@ -66,7 +66,7 @@ impl<'a> Seat<'a> {
         }
     }
 
-    // Starts a worker with the reading, where that is at rest.
+    // Starts a worker with the reading, if that is at rest.
     fn start<'s, E, R: Wait + Sync, G: Gate>(
         &mut self,
         scope: &Scope<'s, E>,
@@ -96,7 +96,7 @@ impl<'a> Seat<'a> {
         self.worker = Some(worker);
     }
 
-    /// Waits until the reader's worker has gone through its searches, where it has one. The reading then learns what
+    /// Waits until the reader's worker, if it has one, has gone through its searches. The reading then learns what
     /// was published last. The next answer is taken, if it is one for the search of this number.
     pub fn next_answer<R: Threads>(&mut self, rt: &R, told: &Told, number: u32) -> Option<Given>
         requires { IsOf told.now.opening self.old }
@@ -108,7 +108,7 @@ impl<'a> Seat<'a> {
         self.next_given(told, number)
     }
 
-    // Waits until the reader's worker has ended, where it has one.
+    // Waits until the reader's worker has ended, if it has one.
     fn rest<R: Threads>(&mut self, rt: &R)
         ensures opening { (opening : Book) → IsOf opening self.old → IsOf opening self.new }
         ensures seat { (opening : Book) (searches : List (Option PreparedValue)) → IsSeat opening searches self.old → IsSeat opening searches self.new }

@@ -26,13 +26,13 @@ use std::thread::Threads;
 
 /// A run between two items.
 ///
-/// Entries stand in the order of their items. Those that come after a search that is still open are pending, and so
-/// is that search, with no entry, until it is settled.
+/// Entries are in the order of their items. An open search has no entry yet; it and the entries after it are pending
+/// until it is settled.
 #[derive(Drop)]
 pub struct Session {
     /// What was published last.
     pub told: Told,
-    /// The versions that were published, rising, after 0.
+    /// 0, and then the versions that were published, rising.
     pub versions: Vec<u32>,
     /// How many searches there were.
     pub searches: u32,
@@ -59,8 +59,7 @@ impl Session {
     ghost use Rattle.tsearch.specs.Private.Sessions.{IsFresh, IsStep, IsSettled, IsAsked, AreListed, SettlesNext};
     ghost use Rattle.tsearch.specs.Private.Seats.{IsSeat};
 
-    /// A run before its first item, with as many readers besides reader 0 as are given. An `Err` comes only where memory
-    /// ran out.
+    /// A run before its first item, with `readers` readers in addition to reader 0. An `Err` means that memory ran out.
     pub fn new(
         alloc: Global,
         told: Told,
@@ -84,7 +83,7 @@ impl Session {
     }
 
     /// Takes the next item: it is carried out, or it is a search, and open unless its pattern is refused. An `Err`
-    /// comes only where memory ran out, and ends the run.
+    /// means that memory ran out, and ends the run.
     pub fn take<R: Wait, S: Source>(
         &mut self,
         rt: &R,
@@ -157,7 +156,7 @@ impl Session {
     }
 
     /// Settles all that is pending: the open searches get the answers of their readers, or of reader 0. It waits for
-    /// the workers. An `Err` comes only where memory ran out, and ends the run.
+    /// the workers. An `Err` means that memory ran out, and ends the run.
     pub fn settle<R: Threads + Wait>(
         &mut self,
         rt: &R,

@@ -1,4 +1,4 @@
-//! Entries that stand, and the turns of the readers.
+//! Settled entries, and the turns of the readers.
 
 ghost use Rattle.std.specs.Prelude.{◌≡◌, ℕ, ◌+◌, ◌<◌, ◌≤◌, ◌^◌, ◌++◌, ◌∷◌, [], OnOk, IfOk, Some};
 ghost use Rattle.tsearch.specs.Rows.{last_or, version_in};
@@ -30,7 +30,7 @@ pub struct Settled {
 impl Settled {
     ghost use Rattle.tsearch.specs.Private.Sessions.{IsFresh};
 
-    /// No entries, and so many readers that have answered nothing.
+    /// No entries, and `readers` readers that have answered nothing.
     pub fn new(alloc: Global, readers: u32) -> Result<Settled, AllocError>
         requires { readers ≤ 17 }
         ensures { IfOk result (IsFresh readers) }
@@ -47,7 +47,7 @@ impl Settled {
         })
     }
 
-    /// Adds an entry. An `Err` comes only where memory ran out.
+    /// Adds an entry. An `Err` means that memory ran out.
     pub fn push(&mut self, entry: Entry) -> Result<(), AllocError>
         requires { self.old.searches + 1 < 2 ^ 32 }
         ensures entries { OnOk result (self.new.entries.items ≡ self.old.entries.items ++ entry ∷ []) }

@@ -23,8 +23,8 @@ pub trait Source {
 
     /// Reads what the source holds under the path, whose bytes it takes as they are in the script.
     ///
-    /// `Failed` comes only where `failures` rises in this call, or is the greatest `u64` after it, and
-    /// `OutOfMemory` where memory ran out for the bytes. `failures` rises by at most one, and only for `Failed`.
+    /// `Failed` is returned only if `failures` rises in this call or is the greatest `u64` after it, and
+    /// `OutOfMemory` only if memory ran out for the bytes. `failures` rises by at most one, and only for `Failed`.
     fn read(&mut self, alloc: Global, path: &[u8]) -> Result<Vec<u8>, Fault>
         ensures read { IfOk result (λ bytes. holds self.old path.now bytes.items) }
         ensures same { (path body : List ℕ) → (holds self.new path body → holds self.old path body) × (holds self.old path body → holds self.new path body) }

@@ -12,23 +12,23 @@ use std::alloc::AllocError;
 /// Why a line of a script is refused.
 #[derive(Clone, Copy, Debug, PartialEq, Eq)]
 pub enum Reason {
-    /// The line is no item.
+    /// The line is not an item.
     BadLine,
-    /// A put without its form.
+    /// A malformed put.
     BadPut,
-    /// A put without its bytes.
+    /// A put that the script's end cuts short.
     Truncated,
     /// A byte other than a line feed after the bytes of a put.
     BodyNotClosed,
-    /// The name is none.
+    /// The name is not valid.
     Name(NameError),
-    /// The body is none.
+    /// The body is not valid.
     Body(BodyErrorKind),
     /// The source failed.
     CannotLoad,
-    /// No document of that name is there after all accepted commands.
+    /// No document has this name after all accepted commands.
     NoSuchFile,
-    /// As many commands as the run takes are accepted.
+    /// The run has accepted its greatest number of commands.
     Full,
     /// Memory ran out.
     OutOfMemory,
@@ -84,8 +84,8 @@ pub struct Transcript {
     pub entries: Vec<Entry>,
 }
 
-/// The status of a run: 2 where anything was refused, a line or a search, else 0 where some search has a hit,
-/// else 1. So do grep's statuses, by POSIX.1-2017, XCU, grep, EXIT STATUS.
+/// The status of a run: 2 if anything was refused, a line or a search, otherwise 0 if some search has a hit,
+/// and otherwise 1. These are grep's statuses, by POSIX.1-2017, XCU, grep, EXIT STATUS.
 pub fn status(transcript: &Transcript) -> u8
     ensures { result ≡ status_of transcript.now.entries.items }
 {
