@@ -52,8 +52,8 @@ NAMED = [
 ]
 
 
-def script_with(target, searches):
-    path = os.path.join(target, "script")
+def script_with(target, searches, name="script"):
+    path = os.path.join(target, name)
     with open(path, "wb") as script:
         with open(os.path.join(target, "puts"), "rb") as puts:
             shutil.copyfileobj(puts, script)
@@ -68,19 +68,34 @@ def spent(words, env=None):
     return [timed.run(words, env=env)["seconds"] for _ in range(RUNS)]
 
 
+def words_of(path):
+    return [timed.PROGRAM, "--stats", "--readers", "0", "--max-commands", "1000000", path]
+
+
+def runs_of(target, search, count):
+    """The least and the median seconds of so many copies of a search, and what the first one printed. Each run is beside one
+    without the search, since the machine's speed changes."""
+    plain, whole = script_with(target, [], "plain"), script_with(target, [search] * count)
+    pairs = [(timed.run(words_of(plain))["seconds"], timed.run(words_of(whole))) for _ in range(RUNS)]
+    least = min(run["seconds"] for _, run in pairs) - min(without for without, _ in pairs)
+    median = statistics.median(run["seconds"] - without for without, run in pairs)
+    return least, median, pairs[0][1]["output"]
+
+
 def search_times(target, search, base):
-    """The seconds of one search in each of some runs, of so many copies of it that they are above the noise."""
+    """The least and the median seconds of one search, of so many copies of it that they are above the noise."""
     count, most, wanted = 1, 4096, max(0.3, base / 2)
     while True:
-        words = [timed.PROGRAM, "--stats", "--readers", "0", "--max-commands", "1000000", script_with(target, [search] * count)]
-        found = timed.run(words)
-        spent_so_far = found["seconds"] - base
-        if spent_so_far > wanted or count == most:
+        once = timed.run(words_of(script_with(target, [search] * count)))["seconds"] - base
+        if once < wanted and count < most:
+            count = min(most, max(2 * count, int(1.5 * count * wanted / max(once, wanted / 40))))
+            continue
+        least, median, output = runs_of(target, search, count)
+        if least > wanted / 4 or count == most:
             break
-        needed = 1.5 * count * wanted / spent_so_far if spent_so_far > 0.1 * wanted else 64 * count
-        count = min(most, max(2 * count, int(needed)))
-    head = re.match(rb"search 1 version \d+ lines (\d+) candidates (\d+) of (\d+)", found["output"])
-    return [max(seconds - base, 0) / count for seconds in spent(words)], head
+        count = min(most, 4 * count)
+    head = re.match(rb"search 1 version \d+ lines (\d+) candidates (\d+) of (\d+)", output)
+    return [max(seconds, 0) / count for seconds in (least, median)], head
 
 
 def shown(seconds):
@@ -111,7 +126,8 @@ def others(files, env, pattern, name=None, glob=None):
 def row(target, files, env, base, what, search, pattern, name=None, glob=None):
     seconds, head = search_times(target, search, base)
     lines, candidates = (head[1].decode(), head[2].decode()) if head else ("?", "?")
-    cells = [what, "`%s`" % (pattern if name is None else name + " " + pattern).replace("|", "\\|"), lines, candidates, shown(seconds)]
+    ours = "%.2f / %.2f" % tuple(1000 * second for second in seconds)
+    cells = [what, "`%s`" % (pattern if name is None else name + " " + pattern).replace("|", "\\|"), lines, candidates, ours]
     print("| " + " | ".join(cells + others(files, env, pattern, name, glob)) + " |", flush=True)
 
 
@@ -121,7 +137,7 @@ def main():
     with tempfile.TemporaryDirectory() as target:
         taken = corpus.make(folder, target)
         print("files %(files)d, bytes %(bytes)d, refused %(refused)d, by load lines: %(loaded)s" % taken)
-        words = [timed.PROGRAM, "--readers", "0", "--max-commands", "1000000", script_with(target, [])]
+        words = words_of(script_with(target, []))
         empty = [timed.run(words) for _ in range(RUNS)]
         base = statistics.median(run["seconds"] for run in empty)
         print("to the first publish %s ms, %.1f MB/s, resident %.2f bytes a byte" % (shown([run["seconds"] for run in empty]), taken["bytes"] / base / 1e6, timed.memory(words) / taken["bytes"]))
