@@ -17,9 +17,12 @@ one_range : (i b : ℕ) → in_range (i, i) b ≡ (b == i)
 unfolding in_range
 one_range i b = grind (arith, nat_tests)
 
-pub ranges_more : (set : List Bool) (ranges : List (ℕ × ℕ)) (i : ℕ) → has set i ≡ true → ((b : ℕ) → in_ranges ranges b ≡ (nat_lt b i && has set b)) → (b : ℕ) → in_ranges (ranges ++ (i, i) ∷ []) b ≡ (nat_lt b (i + 1) && has set b)
+pub ranges_more : (set : List Bool) (ranges : List (ℕ × ℕ)) (i : ℕ) → has set i ≡ true
+    → ((b : ℕ) → in_ranges ranges b ≡ (nat_lt b i && has set b)) → (b : ℕ)
+    → in_ranges (ranges ++ (i, i) ∷ []) b ≡ (nat_lt b (i + 1) && has set b)
 ranges_more set ranges i held so_far b =
-    in_ranges-push ranges (i, i) b ∙ (ap (λ t. t || in_range (i, i) b) (so_far b) ∙ (ap (λ t. (nat_lt b i && has set b) || t) (one_range i b) ∙ go (b == i) refl))
+    in_ranges-push ranges (i, i) b
+    ∙ (ap (λ t. t || in_range (i, i) b) (so_far b) ∙ (ap (λ t. (nat_lt b i && has set b) || t) (one_range i b) ∙ go (b == i) refl))
   where
     go : (t : Bool) → (b == i) ≡ t → ((nat_lt b i && has set b) || t) ≡ (nat_lt b (i + 1) && has set b)
     go true e =
@@ -31,7 +34,8 @@ ranges_more set ranges i held so_far b =
         let less : nat_lt b (i + 1) ≡ nat_lt b i = grind (arith, nat_tests) in
         rw less (or-false (nat_lt b i && has set b))
 
-pub ranges_same : (set : List Bool) (ranges : List (ℕ × ℕ)) (i : ℕ) → has set i ≡ false → ((b : ℕ) → in_ranges ranges b ≡ (nat_lt b i && has set b)) → (b : ℕ) → in_ranges ranges b ≡ (nat_lt b (i + 1) && has set b)
+pub ranges_same : (set : List Bool) (ranges : List (ℕ × ℕ)) (i : ℕ) → has set i ≡ false
+    → ((b : ℕ) → in_ranges ranges b ≡ (nat_lt b i && has set b)) → (b : ℕ) → in_ranges ranges b ≡ (nat_lt b (i + 1) && has set b)
 ranges_same set ranges i none so_far b = so_far b ∙ go (b == i) refl
   where
     go : (t : Bool) → (b == i) ≡ t → (nat_lt b i && has set b) ≡ (nat_lt b (i + 1) && has set b)
@@ -44,7 +48,9 @@ ranges_same set ranges i none so_far b = so_far b ∙ go (b == i) refl
         rw less refl
 
 -- no byte is above 255
-pub ranges_all : (set : List Bool) (ranges class : List (ℕ × ℕ)) (i : ℕ) → 256 ≤ i → ((b : ℕ) → in_ranges ranges b ≡ (nat_lt b i && has set b)) → IsCanonical class → HasExactly class (in_ranges ranges) → (b : ℕ) → in_ranges class b ≡ has set b
+pub ranges_all : (set : List Bool) (ranges class : List (ℕ × ℕ)) (i : ℕ) → 256 ≤ i
+    → ((b : ℕ) → in_ranges ranges b ≡ (nat_lt b i && has set b)) → IsCanonical class → HasExactly class (in_ranges ranges) → (b : ℕ)
+    → in_ranges class b ≡ has set b
 ranges_all set ranges class i all so_far canonical same b = elim (cases_lt 0x10_FFFF b) [
   | inl above ↦ in_ranges-above_max class b canonical above ∙ sym (no_byte b (omega arith))
   | inr within ↦ same b within ∙ (so_far b ∙ low b (cases_lt b 256))

@@ -1,5 +1,7 @@
 -- A text, cut at the line of a position.
-use Rattle.std.proofs.Common.{◌≡◌, ◌≢◌, ℕ, suc, ◌+◌, ◌-◌, ◌≤◌, ◌<◌, Bool, true, false, cond, inl, inr, refl, sym, ap, subst, ◌∙◌, arith, List, [], ◌∷◌, ◌++◌, length, take, drop, Option, Some, None, slice_index, append_assoc, length-append, length-drop, length-take, eqb-true, eq-eqb, ◌==◌, is_some, IsTrue}
+use Rattle.std.proofs.Common.{◌≡◌, ◌≢◌, ℕ, suc, ◌+◌, ◌-◌, ◌≤◌, ◌<◌, Bool, true, false, cond, inl, inr, refl, sym, ap, subst, ◌∙◌, arith}
+use Rattle.std.proofs.Common.{List, [], ◌∷◌, ◌++◌, length, take, drop, Option, Some, None, slice_index, append_assoc, length-append}
+use Rattle.std.proofs.Common.{length-drop, length-take, eqb-true, eq-eqb, ◌==◌, is_some, IsTrue}
 use Rattle.std.specs.Prelude.{option_map}
 use Rattle.std.proofs.lemmas.List.{append-nil, take-append-drop, take_all, get_or-take, get_or-drop, length-take-le, drop-drop, drop_all}
 use Rattle.std.proofs.Math.Seq.{drop-cons, take-length}
@@ -42,7 +44,9 @@ no_feed_after text from n none k low high feed =
     let place : from + (k - from) ≡ k = omega arith in
     none (k - from) (omega arith) (omega arith) (eq-eqb _ 10 (at_rest text from (k - from) ∙ ap (slice_index text) place ∙ feed))
 
-pub end_some : (text : List ℕ) (from at : ℕ) → from ≤ length text → NoneBefore (Passes (is_byte 10) (take (length text - from) (drop from text))) 0 (length (take (length text - from) (drop from text))) at × Passes (is_byte 10) (take (length text - from) (drop from text)) at → IsLineEnd text from (from + at)
+pub end_some : (text : List ℕ) (from at : ℕ) → from ≤ length text
+    → NoneBefore (Passes (is_byte 10) (take (length text - from) (drop from text))) 0 (length (take (length text - from) (drop from text)))
+    at × Passes (is_byte 10) (take (length text - from) (drop from text)) at → IsLineEnd text from (from + at)
 end_some text from at low h =
     let inside : from + at < length text = omega (arith, h.0.high, ap length (rest_is text from), length-drop from text) in
     let feed : slice_index text (from + at) ≡ 10 = sym (at_rest text from at) ∙ eqb-true _ 10 h.1 in
@@ -53,7 +57,9 @@ end_some text from at low h =
       no_feed = no_feed_after text from at h.0.before;
     }
 
-pub end_none : (text : List ℕ) (from : ℕ) → from ≤ length text → Nowhere (Passes (is_byte 10) (take (length text - from) (drop from text))) 0 (length (take (length text - from) (drop from text))) → IsLineEnd text from (length text)
+pub end_none : (text : List ℕ) (from : ℕ) → from ≤ length text
+    → Nowhere (Passes (is_byte 10) (take (length text - from) (drop from text))) 0 (length (take (length text - from) (drop from text)))
+    → IsLineEnd text from (length text)
 end_none text from low none =
     let size : from + length (take (length text - from) (drop from text)) ≡ length text = omega (arith, ap length (rest_is text from), length-drop from text) in
     record {
@@ -65,10 +71,13 @@ end_none text from low none =
 
 -- ---- how many line feeds
 
-lines_count_next : (text part : List ℕ) (b : ℕ) (t : Bool) → (b == 10) ≡ t → NoFeed part → (b ≡ 10 → line_feeds text ≡ length (lines_of text)) → (b ≢ 10 → line_feeds text ≡ length (lines_of ((part ++ b ∷ []) ++ text))) → cond t (suc (line_feeds text)) (line_feeds text) ≡ length (lines_of (part ++ b ∷ text))
+lines_count_next : (text part : List ℕ) (b : ℕ) (t : Bool) → (b == 10) ≡ t → NoFeed part
+    → (b ≡ 10 → line_feeds text ≡ length (lines_of text)) → (b ≢ 10 → line_feeds text ≡ length (lines_of ((part ++ b ∷ []) ++ text)))
+    → cond t (suc (line_feeds text)) (line_feeds text) ≡ length (lines_of (part ++ b ∷ text))
 lines_count_next text part b true e none feed_next other_next =
     let feed : b ≡ 10 = grind (arith, nat_tests) in
-    subst (λ x. suc (line_feeds text) ≡ length (lines_of (part ++ x ∷ text))) (sym feed) (ap suc (feed_next feed) ∙ ap length (sym (lines-first part text none)))
+    subst (λ x. suc (line_feeds text) ≡ length (lines_of (part ++ x ∷ text))) (sym feed)
+    (ap suc (feed_next feed) ∙ ap length (sym (lines-first part text none)))
 lines_count_next text part b false e none feed_next other_next =
     other_next (λ feed. true≢false (sym (eq-eqb b 10 feed) ∙ e)) ∙ ap (λ w. length (lines_of w)) (append_assoc part (b ∷ []) text)
 
@@ -93,7 +102,9 @@ unfolding line_feeds
 line_feeds_append [] back = omega arith
 line_feeds_append (b ∷ front) back = go (b == 10) (line_feeds_append front back)
   where
-    go : (t : Bool) → line_feeds (front ++ back) ≡ line_feeds front + line_feeds back → cond t (suc (line_feeds (front ++ back))) (line_feeds (front ++ back)) ≡ cond t (suc (line_feeds front)) (line_feeds front) + line_feeds back
+    go : (t : Bool) → line_feeds (front ++ back) ≡ line_feeds front + line_feeds back
+        → cond t (suc (line_feeds (front ++ back))) (line_feeds (front ++ back))
+        ≡ cond t (suc (line_feeds front)) (line_feeds front) + line_feeds back
     go true h = omega (arith, h)
     go false h = h
 
@@ -126,14 +137,18 @@ both_feedless : (text : List ℕ) (start from end : ℕ) → HasNoFeed text star
 both_feedless text start from end one two k low high = elim (cases_lt k from) [ inl before ↦ one k low before | inr after ↦ two k after high ]
 
 -- a line of a text, and the lines before and after it
-lines_split : (front line after : List ℕ) → IsWholeLines front → NoFeed line → EndsLine after → 0 < length (line ++ after) → lines_of (front ++ (line ++ after)) ≡ lines_of front ++ line ∷ lines_of (drop 1 after)
+lines_split : (front line after : List ℕ) → IsWholeLines front → NoFeed line → EndsLine after → 0 < length (line ++ after)
+    → lines_of (front ++ (line ++ after)) ≡ lines_of front ++ line ∷ lines_of (drop 1 after)
 unfolding lines_of
-lines_split front line after whole_lines none line_ends some = lines-append (line ++ after) front [] tt whole_lines ∙ ap (λ ls. lines_of front ++ ls) (one line after none line_ends some)
+lines_split front line after whole_lines none line_ends some =
+    lines-append (line ++ after) front [] tt whole_lines ∙ ap (λ ls. lines_of front ++ ls) (one line after none line_ends some)
   where
     one : (line after : List ℕ) → NoFeed line → EndsLine after → 0 < length (line ++ after) → lines_of (line ++ after) ≡ line ∷ lines_of (drop 1 after)
     one line after none (inr (text, e)) some = ap (λ t. lines_of (line ++ t)) e ∙ (lines-first line text none ∙ ap (λ t. line ∷ lines_of (drop 1 t)) (sym e))
     one [] after none (inl e) some = absurd (omega (arith, ap length e, some))
-    one (b ∷ line) after none (inl e) some = ap (λ t. lines_of ((b ∷ line) ++ t)) e ∙ (ap lines_of (append-nil (b ∷ line)) ∙ (lines-last b line none ∙ ap (λ t. (b ∷ line) ∷ lines_of (drop 1 t)) (sym e)))
+    one (b ∷ line) after none (inl e) some =
+        ap (λ t. lines_of ((b ∷ line) ++ t)) e
+        ∙ (ap lines_of (append-nil (b ∷ line)) ∙ (lines-last b line none ∙ ap (λ t. (b ∷ line) ∷ lines_of (drop 1 t)) (sym e)))
 
 front_few : (b : ℕ) (lines : List (List ℕ)) → length (with_byte_in_front b lines) ≤ suc (length lines)
 front_few b [] = omega arith
@@ -148,7 +163,8 @@ lines_few (b ∷ text) = next (b == 10) (lines_few text)
     next true h = omega arith
     next false h = omega (arith, front_few b (lines_of text))
 
-pub inside_text : (text : List ℕ) (from start end lines : ℕ) → IsLineStart text from start → IsLineEnd text from end → lines ≡ length (lines_of (take start text)) → IsInside text (record { before = lines; start = start; end = end })
+pub inside_text : (text : List ℕ) (from start end lines : ℕ) → IsLineStart text from start → IsLineEnd text from end
+    → lines ≡ length (lines_of (take start text)) → IsInside text (record { before = lines; start = start; end = end })
 inside_text text from start end lines is ends count = record {
   few = omega (arith, count, lines_few (take start text), length-take-le start text (omega (arith, is.low, ends.high, ends.inside)));
   ordered = omega (arith, is.low, ends.high);
@@ -161,14 +177,19 @@ module _ (tree : Tree) (re : Re) (stands : StandsFor tree re) (text : List ℕ) 
       let whole_lines : IsWholeLines text = subst IsWholeLines (ap (λ n. take n text) e ∙ take-length text) is.whole_lines in
       no_match_before tree re stands text [] m whole_lines (omega (arith, is.low)) (ap (λ t. find re t 0) (append-nil text) ∙ found)
 
-  pub first_of_line : (start end lines : ℕ) → start < length text → IsLineStart text m.start start → IsLineEnd text m.start end → lines ≡ length (lines_of (take start text)) → IsFirstLine tree text (record { before = lines; start = start; end = end })
+  pub first_of_line : (start end lines : ℕ) → start < length text → IsLineStart text m.start start → IsLineEnd text m.start end
+      → lines ≡ length (lines_of (take start text)) → IsFirstLine tree text (record { before = lines; start = start; end = end })
   first_of_line start end lines some is ends count =
-      let whole : text ≡ take start text ++ (take (end - start) (drop start text) ++ drop (end - start) (drop start text)) = sym (take-append-drop start text) ∙ ap (λ t. take start text ++ t) (sym (take-append-drop (end - start) (drop start text))) in
+      let whole : text ≡ take start text ++ (take (end - start) (drop start text) ++ drop (end - start) (drop start text)) =
+      sym (take-append-drop start text) ∙ ap (λ t. take start text ++ t) (sym (take-append-drop (end - start) (drop start text))) in
       let front_size : length (take start text) ≡ start = length-take-le start text (omega (arith, is.low, ends.high, ends.inside)) in
-      let line_size : length (take (end - start) (drop start text)) ≡ end - start = length-take-le (end - start) (drop start text) (omega (arith, length-drop start text, ends.inside)) in
+      let line_size : length (take (end - start) (drop start text)) ≡ end - start =
+      length-take-le (end - start) (drop start text) (omega (arith, length-drop start text, ends.inside)) in
       let place : start + (end - start) ≡ end = omega (arith, is.low, ends.high) in
-      let line_ends : EndsLine (drop (end - start) (drop start text)) = subst EndsLine (ap (λ n. drop n text) (sym place) ∙ sym (drop-drop (end - start) start text)) ends.line_ends in
-      let no_feed : NoFeed (take (end - start) (drop start text)) = no_feed_part text start end (both_feedless text start m.start end is.no_feed ends.no_feed) in
+      let line_ends : EndsLine (drop (end - start) (drop start text)) =
+      subst EndsLine (ap (λ n. drop n text) (sym place) ∙ sym (drop-drop (end - start) start text)) ends.line_ends in
+      let no_feed : NoFeed (take (end - start) (drop start text)) =
+      no_feed_part text start end (both_feedless text start m.start end is.no_feed ends.no_feed) in
       let past : start + (end - start + 1) ≡ end + 1 = omega (arith, place) in
       record {
         front = take start text;
@@ -178,18 +199,35 @@ module _ (tree : Tree) (re : Re) (stands : StandsFor tree re) (text : List ℕ) 
         starts = sym front_size;
         ends = omega (arith, front_size, line_size, place);
         counted = count;
-        lines = ap lines_of whole ∙ lines_split (take start text) (take (end - start) (drop start text)) (drop (end - start) (drop start text)) is.whole_lines no_feed line_ends (omega (arith, ap length (take-append-drop (end - start) (drop start text)), length-append (take (end - start) (drop start text)) (drop (end - start) (drop start text)), length-drop start text, some))
-            ∙ ap (λ rest. lines_of (take start text) ++ take (end - start) (drop start text) ∷ lines_of rest) (drop-drop 1 (end - start) (drop start text) ∙ drop-drop (end - start + 1) start text ∙ ap (λ n. drop n text) past);
+        lines =
+            ap lines_of whole
+            ∙ lines_split (take start text) (take (end - start) (drop start text)) (drop (end - start) (drop start text)) is.whole_lines
+            no_feed line_ends
+            (omega (
+              arith,
+              ap length (take-append-drop (end - start) (drop start text)),
+              length-append (take (end - start) (drop start text)) (drop (end - start) (drop start text)),
+              length-drop start text,
+              some,
+            ))
+            ∙ ap (λ rest. lines_of (take start text) ++ take (end - start) (drop start text) ∷ lines_of rest)
+            (drop-drop 1 (end - start) (drop start text) ∙ drop-drop (end - start + 1) start text ∙ ap (λ n. drop n text) past);
         at = refl;
-        none_before = no_match_before tree re stands (take start text) (drop start text) m is.whole_lines (omega (arith, front_size, is.low)) (ap (λ t. find re t 0) (take-append-drop start text) ∙ found);
-        match = match_here tree re stands (take start text) (take (end - start) (drop start text)) (drop (end - start) (drop start text)) m is.whole_lines no_feed line_ends (omega (arith, front_size, is.low)) (omega (arith, front_size, line_size, place, ends.high)) (ap (λ t. find re t 0) (sym whole) ∙ found);
+        none_before =
+            no_match_before tree re stands (take start text) (drop start text) m is.whole_lines (omega (arith, front_size, is.low))
+            (ap (λ t. find re t 0) (take-append-drop start text) ∙ found);
+        match =
+            match_here tree re stands (take start text) (take (end - start) (drop start text)) (drop (end - start) (drop start text)) m
+            is.whole_lines no_feed line_ends (omega (arith, front_size, is.low))
+            (omega (arith, front_size, line_size, place, ends.high)) (ap (λ t. find re t 0) (sym whole) ∙ found);
       }
 
 module _ (tree : Tree) (re : Re) (stands : StandsFor tree re) (line : List ℕ) (none : (k : ℕ) → k < length line → slice_index line k ≢ 10) where
   found_here : (o : Option Match) → find re line 0 ≡ o → is_some o ≡ true → ContainsMatch tree line
   found_here None e t = absurd (false≢true t)
   found_here (Some m) e t =
-      match_here tree re stands [] line [] m (inl refl) (from_places line none) (inl refl) (omega arith) (omega (arith, start_within re line m e)) (ap (λ t. find re t 0) (append-nil line) ∙ e)
+      match_here tree re stands [] line [] m (inl refl) (from_places line none) (inl refl) (omega arith)
+      (omega (arith, start_within re line m e)) (ap (λ t. find re t 0) (append-nil line) ∙ e)
 
   -- the engine matches in a line by itself exactly where the tree does
   pub line_matches : (found : Bool) → found ≡ is_some (find re line 0) → (IsTrue found → ContainsMatch tree line) × (ContainsMatch tree line → IsTrue found)

@@ -1,5 +1,6 @@
 -- Star heights.
-use Rattle.std.proofs.Common.{◌≡◌, ℕ, suc, ◌+◌, ◌-◌, ◌<◌, ◌≤◌, Bool, true, false, List, map, drop, length, get_or, max, nat_le, Some, None, refl, sym, ap, ◌∙◌, arith}
+use Rattle.std.proofs.Common.{◌≡◌, ℕ, suc, ◌+◌, ◌-◌, ◌<◌, ◌≤◌, Bool, true, false, List, map, drop, length, get_or, max, nat_le, Some, None}
+use Rattle.std.proofs.Common.{refl, sym, ap, ◌∙◌, arith}
 use Rattle.std.proofs.lemmas.Bool.Decides.{nat_tests}
 use Rattle.ere.specs.declared.tree.Ere.{Ere}
 use Rattle.ere.specs.Tree.{form, trees_of, Tree, empty, set, at_start, at_end, cat, alt, repeat, Trees}
@@ -71,17 +72,22 @@ le_max least a b lower = go (nat_le least b) refl
     go true e = let second : least ≤ b = grind (arith, nat_tests) in let either : least ≤ max a b = omega arith in grind (arith, nat_tests)
     go false e = let second : b < least = grind (arith, nat_tests) in let neither : max a b < least = omega (arith, low, second) in grind (arith, nat_tests)
 
-next_height : (members : List Ere) (k : ℕ) (member : Ere) → k < length members → member ≡ get_or members k member → height_from members k ≡ max (star_height (form member)) (height_from members (k + 1))
+next_height : (members : List Ere) (k : ℕ) (member : Ere) → k < length members → member ≡ get_or members k member
+    → height_from members k ≡ max (star_height (form member)) (height_from members (k + 1))
 unfolding greatest_height
 next_height members k member low e = ap greatest_height (trees_at members k member low e)
 
 -- a member that is too low
-pub member_passed : (least : ℕ) (members : List Ere) (k : ℕ) (member : Ere) (found : Bool) → k < length members → member ≡ get_or members k member → found ≡ nat_le least (star_height (form member)) → found ≡ false → nat_le least (height_from members k) ≡ nat_le least (height_from members (k + 1))
+pub member_passed : (least : ℕ) (members : List Ere) (k : ℕ) (member : Ere) (found : Bool) → k < length members
+    → member ≡ get_or members k member → found ≡ nat_le least (star_height (form member)) → found ≡ false
+    → nat_le least (height_from members k) ≡ nat_le least (height_from members (k + 1))
 member_passed least members k member found low e is lower =
     ap (nat_le least) (next_height members k member low e) ∙ le_max least (star_height (form member)) (height_from members (k + 1)) (sym is ∙ lower)
 
 -- a member that is high enough
-pub member_found : (least : ℕ) (members : List Ere) (k : ℕ) (member : Ere) (found : Bool) → k < length members → member ≡ get_or members k member → found ≡ nat_le least (star_height (form member)) → found ≡ true → true ≡ nat_le least (height_from members k)
+pub member_found : (least : ℕ) (members : List Ere) (k : ℕ) (member : Ere) (found : Bool) → k < length members
+    → member ≡ get_or members k member → found ≡ nat_le least (star_height (form member)) → found ≡ true
+    → true ≡ nat_le least (height_from members k)
 member_found least members k member found low e is some =
     let held : nat_le least (star_height (form member)) ≡ true = sym is ∙ some in
     let first : least ≤ star_height (form member) = grind (arith, nat_tests) in

@@ -1,5 +1,7 @@
 -- Where the lines of a text stand in it.
-use Rattle.std.proofs.Common.{◌≡◌, ◌≢◌, ℕ, zero, suc, ◌+◌, ◌≤◌, ◌<◌, ◌⊎◌, Bool, true, false, cond, inl, inr, refl, sym, ap, subst, ◌∙◌, arith, List, [], ◌∷◌, ◌++◌, length, Some, None, slice_get, slice_index, append_assoc, length-append, ◌==◌, eq-eqb}
+use Rattle.std.proofs.Common.{◌≡◌, ◌≢◌, ℕ, zero, suc, ◌+◌, ◌≤◌, ◌<◌, ◌⊎◌, Bool, true, false, cond, inl, inr, refl, sym, ap, subst, ◌∙◌}
+use Rattle.std.proofs.Common.{arith, List, [], ◌∷◌, ◌++◌, length, Some, None, slice_get, slice_index, append_assoc, length-append, ◌==◌}
+use Rattle.std.proofs.Common.{eq-eqb}
 use Rattle.std.specs.List.{AllByRecursion}
 use Rattle.std.proofs.lemmas.List.{append-nil}
 use Rattle.std.proofs.lemmas.Bool.{true≢false}
@@ -47,7 +49,8 @@ unfolding holds holds_between
 end_holds_before hay i e = rw e refl
 
 -- a line in its place
-pub line_at : (hay before line after : List ℕ) → hay ≡ before ++ (line ++ after) → IsWholeLines before → NoFeed line → EndsLine after → IsLineAt hay (length before) line
+pub line_at : (hay before line after : List ℕ) → hay ≡ before ++ (line ++ after) → IsWholeLines before → NoFeed line → EndsLine after
+    → IsLineAt hay (length before) line
 line_at hay before line after is whole_lines none line_ends = record {
   same = λ k low. ap (λ h. slice_get h (length before + k)) is ∙ (get_after before (line ++ after) k ∙ get_inside line after k low);
   no_feed = λ k low. no_feed_at line k none low;
@@ -60,7 +63,9 @@ line_at hay before line after is whole_lines none line_ends = record {
     begins (inr (text, e)) =
         let whole : hay ≡ text ++ 10 ∷ (line ++ after) = is ∙ ap (λ b. b ++ (line ++ after)) e ∙ append_assoc text (10 ∷ []) (line ++ after) in
         let zero_more : length text + 0 ≡ length text = omega arith in
-        let feed : slice_get hay (length text) ≡ Some 10 = ap (λ h. slice_get h (length text)) whole ∙ ap (slice_get (text ++ 10 ∷ (line ++ after))) (sym zero_more) ∙ get_after text (10 ∷ (line ++ after)) 0 in
+        let feed : slice_get hay (length text) ≡ Some 10 =
+        ap (λ h. slice_get h (length text)) whole ∙ ap (slice_get (text ++ 10 ∷ (line ++ after))) (sym zero_more)
+        ∙ get_after text (10 ∷ (line ++ after)) 0 in
         let size : length text + 1 ≡ length before = omega (arith, ap length e, length-append text (10 ∷ [])) in
         subst (λ i. holds StartLf hay i ≡ true) size (start_holds_after hay (length text) feed)
 
@@ -137,7 +142,10 @@ whole_with_feed before part = inr (before ++ part, sym (append_assoc before part
 module _ (hay : List ℕ) (tail : List ℕ) (most : ℕ) where
   -- what there is to show of the lines of a whole part of the text
   abbrev pub Shown : List ℕ → List ℕ → Type 0
-  Shown before whole = hay ≡ before ++ (whole ++ tail) → length before + length whole ≤ most → IsWholeLines whole ⊎ ((tail ≡ []) × (length before + length whole < most)) → AllByRecursion (IsLocated hay most) (lines_of whole)
+  Shown before whole =
+      hay ≡ before ++ (whole ++ tail) → length before + length whole ≤ most
+      → IsWholeLines whole ⊎ ((tail ≡ []) × (length before + length whole < most))
+      → AllByRecursion (IsLocated hay most) (lines_of whole)
 
   last_shown : (before : List ℕ) (b : ℕ) (part : List ℕ) → IsWholeLines before → NoFeed (b ∷ part) → Shown before (b ∷ part)
   last_shown before b part whole_lines none is room (inl all_whole) = absurd (part_not_whole b part none all_whole)
@@ -157,24 +165,38 @@ module _ (hay : List ℕ) (tail : List ℕ) (most : ℕ) where
       subst (AllByRecursion (IsLocated hay most)) (sym (lines-first part text none)) (
         record {
           at = length before;
-          is = line_at hay before part ((10 ∷ text) ++ tail) (is ∙ ap (λ t. before ++ t) (append_assoc part (10 ∷ text) tail)) whole_lines none (inr (text ++ tail, refl));
-          within = omega (arith, ap length is, length-append before ((part ++ 10 ∷ text) ++ tail), length-append (part ++ 10 ∷ text) tail, length-append part (10 ∷ text));
+          is =
+              line_at hay before part ((10 ∷ text) ++ tail) (is ∙ ap (λ t. before ++ t) (append_assoc part (10 ∷ text) tail)) whole_lines
+              none (inr (text ++ tail, refl));
+          within =
+              omega (
+                arith,
+                ap length is,
+                length-append before ((part ++ 10 ∷ text) ++ tail),
+                length-append (part ++ 10 ∷ text) tail,
+                length-append part (10 ∷ text),
+              );
           low = omega (arith, room, length-append part (10 ∷ text));
         },
         rest (is ∙ moved) (omega (arith, sizes, room)) (next end),
       )
     where
       moved : before ++ ((part ++ 10 ∷ text) ++ tail) ≡ (before ++ (part ++ 10 ∷ [])) ++ (text ++ tail)
-      moved = ap (λ t. before ++ t) (append_assoc part (10 ∷ text) tail ∙ sym (append_assoc part (10 ∷ []) (text ++ tail))) ∙ sym (append_assoc before (part ++ 10 ∷ []) (text ++ tail))
+      moved =
+          ap (λ t. before ++ t) (append_assoc part (10 ∷ text) tail ∙ sym (append_assoc part (10 ∷ []) (text ++ tail)))
+          ∙ sym (append_assoc before (part ++ 10 ∷ []) (text ++ tail))
 
       sizes : length (before ++ (part ++ 10 ∷ [])) + length text ≡ length before + length (part ++ 10 ∷ text)
       sizes = omega (arith, length-append before (part ++ 10 ∷ []), length-append part (10 ∷ []), length-append part (10 ∷ text))
 
-      next : IsWholeLines (part ++ 10 ∷ text) ⊎ ((tail ≡ []) × (length before + length (part ++ 10 ∷ text) < most)) → IsWholeLines text ⊎ ((tail ≡ []) × (length (before ++ (part ++ 10 ∷ [])) + length text < most))
+      next : IsWholeLines (part ++ 10 ∷ text) ⊎ ((tail ≡ []) × (length before + length (part ++ 10 ∷ text) < most))
+          → IsWholeLines text ⊎ ((tail ≡ []) × (length (before ++ (part ++ 10 ∷ [])) + length text < most))
       next (inl all_whole) = inl (whole_tail (10 ∷ []) text (whole_tail part (10 ∷ text) all_whole))
       next (inr (empty, low)) = inr (empty, omega (arith, sizes, low))
 
-  shown_next : (text before part : List ℕ) (b : ℕ) (t : Bool) → (b == 10) ≡ t → IsWholeLines before → NoFeed part → (b ≡ 10 → Shown (before ++ (part ++ 10 ∷ [])) text) → (b ≢ 10 → Shown before ((part ++ b ∷ []) ++ text)) → Shown before (part ++ b ∷ text)
+  shown_next : (text before part : List ℕ) (b : ℕ) (t : Bool) → (b == 10) ≡ t → IsWholeLines before → NoFeed part
+      → (b ≡ 10 → Shown (before ++ (part ++ 10 ∷ [])) text) → (b ≢ 10 → Shown before ((part ++ b ∷ []) ++ text))
+      → Shown before (part ++ b ∷ text)
   shown_next text before part b true e whole_lines none feed_next other_next =
       let feed : b ≡ 10 = grind (arith, nat_tests) in
       subst (λ x. Shown before (part ++ x ∷ text)) (sym feed) (first_shown before part text whole_lines none (feed_next feed))
@@ -184,25 +206,36 @@ module _ (hay : List ℕ) (tail : List ℕ) (most : ℕ) where
   pub shown : (text before part : List ℕ) → IsWholeLines before → NoFeed part → Shown before (part ++ text)
   shown [] before [] whole_lines none = λ is room end. nothing_shown (IsLocated hay most)
   shown [] before (b ∷ part) whole_lines none = subst (Shown before) (sym (append-nil (b ∷ part))) (last_shown before b part whole_lines none)
-  shown (b ∷ text) before part whole_lines none = shown_next text before part b (b == 10) refl whole_lines none (λ p. shown text (before ++ (part ++ 10 ∷ [])) [] (whole_with_feed before part) tt) (λ other. shown text before (part ++ b ∷ []) whole_lines (NoFeed-push part b none other))
+  shown (b ∷ text) before part whole_lines none =
+      shown_next text before part b (b == 10) refl whole_lines none
+      (λ p. shown text (before ++ (part ++ 10 ∷ [])) [] (whole_with_feed before part) tt)
+      (λ other. shown text before (part ++ b ∷ []) whole_lines (NoFeed-push part b none other))
 
-lines-append-next : (back front part : List ℕ) (b : ℕ) → NoFeed part → (t : Bool) → (b == 10) ≡ t → (b ≡ 10 → lines_of (front ++ back) ≡ lines_of front ++ lines_of back) → (b ≢ 10 → lines_of (((part ++ b ∷ []) ++ front) ++ back) ≡ lines_of ((part ++ b ∷ []) ++ front) ++ lines_of back) → lines_of ((part ++ b ∷ front) ++ back) ≡ lines_of (part ++ b ∷ front) ++ lines_of back
+lines-append-next : (back front part : List ℕ) (b : ℕ) → NoFeed part → (t : Bool) → (b == 10) ≡ t
+    → (b ≡ 10 → lines_of (front ++ back) ≡ lines_of front ++ lines_of back)
+    → (b ≢ 10 → lines_of (((part ++ b ∷ []) ++ front) ++ back) ≡ lines_of ((part ++ b ∷ []) ++ front) ++ lines_of back)
+    → lines_of ((part ++ b ∷ front) ++ back) ≡ lines_of (part ++ b ∷ front) ++ lines_of back
 lines-append-next back front part b none true e feed_next other_next =
     let feed : b ≡ 10 = grind (arith, nat_tests) in
     subst (λ x. lines_of ((part ++ x ∷ front) ++ back) ≡ lines_of (part ++ x ∷ front) ++ lines_of back) (sym feed)
-    (ap lines_of (append_assoc part (10 ∷ front) back) ∙ lines-first part (front ++ back) none ∙ ap (λ ls. part ∷ ls) (feed_next feed) ∙ ap (λ ls. ls ++ lines_of back) (sym (lines-first part front none)))
+    (ap lines_of (append_assoc part (10 ∷ front) back) ∙ lines-first part (front ++ back) none ∙ ap (λ ls. part ∷ ls) (feed_next feed)
+    ∙ ap (λ ls. ls ++ lines_of back) (sym (lines-first part front none)))
 lines-append-next back front part b none false e feed_next other_next =
-    subst (λ w. lines_of (w ++ back) ≡ lines_of w ++ lines_of back) (append_assoc part (b ∷ []) front) (other_next (λ feed. true≢false (sym (eq-eqb b 10 feed) ∙ e)))
+    subst (λ w. lines_of (w ++ back) ≡ lines_of w ++ lines_of back) (append_assoc part (b ∷ []) front)
+    (other_next (λ feed. true≢false (sym (eq-eqb b 10 feed) ∙ e)))
 
 nothing_first : (back : List ℕ) → lines_of back ≡ lines_of [] ++ lines_of back
 unfolding lines_of
 nothing_first back = refl
 
 -- after a whole_lines the lines begin anew
-pub lines-append : (back front part : List ℕ) → NoFeed part → IsWholeLines (part ++ front) → lines_of ((part ++ front) ++ back) ≡ lines_of (part ++ front) ++ lines_of back
+pub lines-append : (back front part : List ℕ) → NoFeed part → IsWholeLines (part ++ front)
+    → lines_of ((part ++ front) ++ back) ≡ lines_of (part ++ front) ++ lines_of back
 lines-append back [] [] none whole_lines = nothing_first back
 lines-append back [] (b ∷ part) none whole_lines = absurd (part_not_whole b part none (subst IsWholeLines (append-nil (b ∷ part)) whole_lines))
 lines-append back (b ∷ front) part none whole_lines =
     lines-append-next back front part b none (b == 10) refl
     (λ feed. lines-append back front [] tt (whole_tail (b ∷ []) front (whole_tail part (b ∷ front) whole_lines)))
-    (λ other. lines-append back front (part ++ b ∷ []) (NoFeed-push part b none other) (subst IsWholeLines (sym (append_assoc part (b ∷ []) front)) whole_lines))
+    (λ other.
+    lines-append back front (part ++ b ∷ []) (NoFeed-push part b none other)
+    (subst IsWholeLines (sym (append_assoc part (b ∷ []) front)) whole_lines))

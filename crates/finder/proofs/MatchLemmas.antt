@@ -40,7 +40,8 @@ module _ (tree : Tree) (re : Re) (stands : StandsFor tree re) where
       (shown text [] (length text + 1) text [] [] (inl refl) tt (sym (append-nil text)) (omega arith) (inr (refl, omega arith)))
 
   -- no line that ends before the first match is a hit
-  pub no_match_before : (front back : List ℕ) (m : Match) → IsWholeLines front → length front ≤ m.start → find re (front ++ back) 0 ≡ Some m → AllByRecursion (λ line. ContainsMatch tree line → ⊥) (lines_of front)
+  pub no_match_before : (front back : List ℕ) (m : Match) → IsWholeLines front → length front ≤ m.start → find re (front ++ back) 0 ≡ Some m
+      → AllByRecursion (λ line. ContainsMatch tree line → ⊥) (lines_of front)
   no_match_before front back m whole_lines low is =
       all_weaker (lines_of front) (λ line place hit.
       let found = engine_match (front ++ back) line place.at place.is hit in
@@ -48,13 +49,17 @@ module _ (tree : Tree) (re : Re) (stands : StandsFor tree re) where
       (shown (front ++ back) back (length front) front [] [] (inl refl) tt refl (omega arith) (inl whole_lines))
 
   -- the line of the first match is a hit
-  pub match_here : (front line after : List ℕ) (m : Match) → IsWholeLines front → NoFeed line → EndsLine after → length front ≤ m.start → m.start ≤ length front + length line → find re (front ++ (line ++ after)) 0 ≡ Some m → ContainsMatch tree line
+  pub match_here : (front line after : List ℕ) (m : Match) → IsWholeLines front → NoFeed line → EndsLine after → length front ≤ m.start
+      → m.start ≤ length front + length line → find re (front ++ (line ++ after)) 0 ≡ Some m → ContainsMatch tree line
   unfolding StandsFor
   match_here front line after m whole_lines none line_ends low high is =
       let from : m.start ≡ length front + (m.start - length front) = omega arith in
       let inside : m.start - length front ≤ length line = omega arith in
       let found = (find_sound re (front ++ (line ++ after)) 0 m is).1 in
-      let b = (stands (front ++ (line ++ after)) line (length front) (line_at (front ++ (line ++ after)) front line after refl whole_lines none line_ends)).back (m.start - length front) m.trace.end inside (subst (λ i. Matches (front ++ (line ++ after)) re i m.trace.end) from found) in
+      let b =
+      (stands (front ++ (line ++ after)) line (length front)
+      (line_at (front ++ (line ++ after)) front line after refl whole_lines none line_ends)).back (m.start - length front)
+      m.trace.end inside (subst (λ i. Matches (front ++ (line ++ after)) re i m.trace.end) from found) in
       hit_of_spans line tree (m.start - length front) b.0 inside b.3
 
   -- where a line by itself contains a match, the engine finds one

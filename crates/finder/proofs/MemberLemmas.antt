@@ -11,11 +11,17 @@ pub nothing_left : (members : List Ere) (k : ℕ) → length members ≤ k → S
 unfolding StandForEach
 nothing_left members k high = rw (drop_of_length-le members high) tt
 
-pub trees_at : (members : List Ere) (k : ℕ) (member : Ere) → k < length members → member ≡ get_or members k member → trees_of (map form (drop k members)) ≡ trees_of (map form (member ∷ drop (k + 1) members))
-trees_at members k member low e = at_drop_more (λ ms. trees_of (map form ms)) members k member low ∙ ap (λ m. trees_of (map form (m ∷ drop (k + 1) members))) (sym e)
+pub trees_at : (members : List Ere) (k : ℕ) (member : Ere) → k < length members → member ≡ get_or members k member
+    → trees_of (map form (drop k members)) ≡ trees_of (map form (member ∷ drop (k + 1) members))
+trees_at members k member low e =
+    at_drop_more (λ ms. trees_of (map form ms)) members k member low ∙ ap (λ m. trees_of (map form (m ∷ drop (k + 1) members))) (sym e)
 
 -- one member, and then the others
-pub next_member : (members : List Ere) (k : ℕ) (member : Ere) (re : Re) (done more : List Re) → k < length members → member ≡ get_or members k member → StandsFor (form member) re → ((all : List Re) → StandForEach (trees_of (map form (drop k members))) all → StandForEach (trees_of (map form members)) (done ++ all)) → StandForEach (trees_of (map form (drop (k + 1) members))) more → StandForEach (trees_of (map form members)) ((done ++ re ∷ []) ++ more)
+pub next_member : (members : List Ere) (k : ℕ) (member : Ere) (re : Re) (done more : List Re) → k < length members
+    → member ≡ get_or members k member → StandsFor (form member) re
+    → ((all : List Re) → StandForEach (trees_of (map form (drop k members))) all → StandForEach (trees_of (map form members)) (done ++ all))
+    → StandForEach (trees_of (map form (drop (k + 1) members))) more
+    → StandForEach (trees_of (map form members)) ((done ++ re ∷ []) ++ more)
 unfolding StandForEach
 next_member members k member re done more low e one so_far rest =
     subst (λ all. StandForEach (trees_of (map form members)) all) (sym (append_assoc done (re ∷ []) more))

@@ -1,5 +1,6 @@
 -- What stands for each kind of tree.
-use Rattle.std.proofs.Common.{◌≡◌, ◌≢◌, ℕ, zero, suc, ◌+◌, ◌-◌, ◌*◌, ◌≤◌, ◌<◌, ◌⊎◌, Bool, true, false, inl, inr, refl, sym, ap, subst, ◌∙◌, arith, List, [], ◌∷◌, length, Option, Some, None, IfSome, slice_get}
+use Rattle.std.proofs.Common.{◌≡◌, ◌≢◌, ℕ, zero, suc, ◌+◌, ◌-◌, ◌*◌, ◌≤◌, ◌<◌, ◌⊎◌, Bool, true, false, inl, inr, refl, sym, ap, subst, ◌∙◌}
+use Rattle.std.proofs.Common.{arith, List, [], ◌∷◌, length, Option, Some, None, IfSome, slice_get}
 use Rattle.std.specs.Prelude.{slice_index, ◌==◌, IsTrue}
 use Rattle.std.proofs.Common.{⊎_elim, eqb-true}
 use Rattle.std.proofs.lemmas.Bool.{cases_lt, true≢false, false≢true}
@@ -16,7 +17,9 @@ use Rattle.ere.specs.Tree.{Tree, empty, set, at_start, at_end, cat, alt, repeat,
 use Rattle.matcher.specs.Spans.{Relation, Steps, Spans, SpansEach, SpansSome}
 use Rattle.matcher.proofs.Walks.{Then}
 use Rattle.finder.specs.Translation.{IsLineAt, Agrees, StandsFor, StandForEach}
-use Rattle.finder.proofs.RelationLemmas.{agrees_as, agrees_stay, agrees_nowhere, agrees_then, agrees_or, Some-steps, agrees_rounds, agrees_next_copy, agrees_no_copy, Few-steps, few_none, few_stay, few_split, few_more, Many-steps, many_split, many_apart, many_of, many_none, few_apart, few_of, steps_append}
+use Rattle.finder.proofs.RelationLemmas.{agrees_as, agrees_stay, agrees_nowhere, agrees_then, agrees_or, Some-steps, agrees_rounds}
+use Rattle.finder.proofs.RelationLemmas.{agrees_next_copy, agrees_no_copy, Few-steps, few_none, few_stay, few_split, few_more, Many-steps}
+use Rattle.finder.proofs.RelationLemmas.{many_split, many_apart, many_of, many_none, few_apart, few_of, steps_append}
 
 -- ---- what stands round a position
 
@@ -41,13 +44,15 @@ empty_stands hay line at is = agrees_stay (length line) at
 
 -- ---- lists
 
-each_stands : (members : Trees) (res : List Re) → StandForEach members res → (hay line : List ℕ) (at : ℕ) → IsLineAt hay at line → Agrees (length line) at (SpansEach line members) (Matches hay (cat_all res))
+each_stands : (members : Trees) (res : List Re) → StandForEach members res → (hay line : List ℕ) (at : ℕ) → IsLineAt hay at line
+    → Agrees (length line) at (SpansEach line members) (Matches hay (cat_all res))
 unfolding StandForEach SpansEach StandsFor
 each_stands none [] h hay line at is = agrees_stay (length line) at
 each_stands none (re ∷ res) h hay line at is = absurd h
 each_stands (more tree trees) [] h hay line at is = absurd h
 each_stands (more tree trees) (re ∷ res) h hay line at is =
-    agrees_then (length line) at (Spans line tree) (SpansEach line trees) (Matches hay re) (Matches hay (cat_all res)) (h.0 hay line at is) (each_stands trees res h.1 hay line at is)
+    agrees_then (length line) at (Spans line tree) (SpansEach line trees) (Matches hay re) (Matches hay (cat_all res)) (h.0 hay line at is)
+    (each_stands trees res h.1 hay line at is)
 
 pub cat_stands : (members : Trees) (res : List Re) → StandForEach members res → StandsFor (cat members) (cat_all res)
 unfolding StandsFor Spans
@@ -57,13 +62,15 @@ no_byte : (hay : List ℕ) (i k : ℕ) → Matches hay (byte_in []) i k → ⊥
 unfolding in_ranges
 no_byte hay i k m = true≢false (sym m.2)
 
-some_stands : (members : Trees) (res : List Re) → StandForEach members res → (hay line : List ℕ) (at : ℕ) → IsLineAt hay at line → Agrees (length line) at (SpansSome line members) (Matches hay (alt_all res))
+some_stands : (members : Trees) (res : List Re) → StandForEach members res → (hay line : List ℕ) (at : ℕ) → IsLineAt hay at line
+    → Agrees (length line) at (SpansSome line members) (Matches hay (alt_all res))
 unfolding StandForEach SpansSome StandsFor
 some_stands none [] h hay line at is = agrees_nowhere (length line) at (SpansSome line none) (Matches hay (byte_in [])) (λ i k r. r) (no_byte hay)
 some_stands none (re ∷ res) h hay line at is = absurd h
 some_stands (more tree trees) [] h hay line at is = absurd h
 some_stands (more tree trees) (re ∷ res) h hay line at is =
-    agrees_or (length line) at (Spans line tree) (SpansSome line trees) (Matches hay re) (Matches hay (alt_all res)) (h.0 hay line at is) (some_stands trees res h.1 hay line at is)
+    agrees_or (length line) at (Spans line tree) (SpansSome line trees) (Matches hay re) (Matches hay (alt_all res)) (h.0 hay line at is)
+    (some_stands trees res h.1 hay line at is)
 
 pub alt_stands : (members : Trees) (res : List Re) → StandForEach members res → StandsFor (alt members) (alt_all res)
 unfolding StandsFor Spans
@@ -72,23 +79,29 @@ alt_stands members res h hay line at is = some_stands members res h hay line at 
 -- ---- repeats
 
 module _ (size at : ℕ) (hay : List ℕ) (relation : Relation) (re : Re) (one : Agrees size at relation (Matches hay re)) where
-  optional_agrees : (greedy : Bool) (rest : Relation) (other : Re) → Agrees size at rest (Matches hay other) → Agrees size at (λ i k. rest i k ⊎ (i ≡ k)) (Matches hay (optional greedy other))
+  optional_agrees : (greedy : Bool) (rest : Relation) (other : Re) → Agrees size at rest (Matches hay other)
+      → Agrees size at (λ i k. rest i k ⊎ (i ≡ k)) (Matches hay (optional greedy other))
   optional_agrees true rest other h = agrees_or size at rest (λ i k. i ≡ k) (Matches hay other) (λ i k. k ≡ i) h (agrees_stay size at)
   optional_agrees false rest other h =
       agrees_as size at (λ i k. (i ≡ k) ⊎ rest i k) (λ i k. rest i k ⊎ (i ≡ k)) (Matches hay (optional false other)) (λ i k. swap) (λ i k. swap)
       (agrees_or size at (λ i k. i ≡ k) rest (λ i k. k ≡ i) (Matches hay other) (agrees_stay size at) h)
 
-  copies_agree : (count : ℕ) (rest : Relation) (other : Re) → Agrees size at rest (Matches hay other) → Agrees size at (Then (Steps relation count) rest) (Matches hay (copies count re other))
+  copies_agree : (count : ℕ) (rest : Relation) (other : Re) → Agrees size at rest (Matches hay other)
+      → Agrees size at (Then (Steps relation count) rest) (Matches hay (copies count re other))
   copies_agree zero rest other h = agrees_no_copy size at relation rest (Matches hay other) h
-  copies_agree (suc count) rest other h = agrees_next_copy size at relation rest count (Matches hay re) (Matches hay (copies count re other)) one (copies_agree count rest other h)
+  copies_agree (suc count) rest other h =
+      agrees_next_copy size at relation rest count (Matches hay re) (Matches hay (copies count re other)) one
+      (copies_agree count rest other h)
 
   plus_agrees : (greedy : Bool) → Agrees size at (Some-steps relation) (Matches hay (plus greedy re))
   plus_agrees greedy = agrees_rounds size at relation (Matches hay re) one
 
   up_to_agrees : (greedy : Bool) (most : ℕ) → Agrees size at (Few-steps relation most) (Matches hay (up_to greedy most re))
-  up_to_agrees greedy zero = agrees_as size at (λ i k. i ≡ k) (Few-steps relation 0) (λ i k. k ≡ i) (few_none relation) (few_stay relation 0) (agrees_stay size at)
+  up_to_agrees greedy zero =
+      agrees_as size at (λ i k. i ≡ k) (Few-steps relation 0) (λ i k. k ≡ i) (few_none relation) (few_stay relation 0) (agrees_stay size at)
   up_to_agrees greedy (suc most) =
-      agrees_as size at (λ i k. Then relation (Few-steps relation most) i k ⊎ (i ≡ k)) (Few-steps relation (suc most)) (Matches hay (up_to greedy (suc most) re))
+      agrees_as size at (λ i k. Then relation (Few-steps relation most) i k ⊎ (i ≡ k)) (Few-steps relation (suc most))
+      (Matches hay (up_to greedy (suc most) re))
       (few_split relation most) (λ i k. ⊎_elim (few_more relation most i k) (few_stay relation (suc most) i k))
       (optional_agrees greedy (Then relation (Few-steps relation most)) (re_cat re (up_to greedy most re))
       (agrees_then size at relation (Few-steps relation most) (Matches hay re) (Matches hay (up_to greedy most re)) one (up_to_agrees greedy most)))
@@ -103,15 +116,19 @@ module _ (size at : ℕ) (hay : List ℕ) (relation : Relation) (re : Re) (one :
       (many_apart relation least) (many_of relation least)
       (copies_agree least (Some-steps relation) (plus greedy re) (plus_agrees greedy))
 
-pub repeat_stands : (body : Tree) (re : Re) (least : ℕ) (greatest : Option ℕ) (greedy : Bool) → IfSome greatest (λ most. least ≤ most) → StandsFor body re → StandsFor (repeat body least greatest) (re_repeat least greatest greedy re)
+pub repeat_stands : (body : Tree) (re : Re) (least : ℕ) (greatest : Option ℕ) (greedy : Bool) → IfSome greatest (λ most. least ≤ most)
+    → StandsFor body re → StandsFor (repeat body least greatest) (re_repeat least greatest greedy re)
 unfolding StandsFor Spans re_repeat
 repeat_stands body re least None greedy low h hay line at is =
-    agrees_as (length line) at (Many-steps (Spans line body) least) (Spans line (repeat body least None)) (Matches hay (at_least greedy least re)) (λ i k s. (s.0, s.1, s.3)) (λ i k s. (s.0, s.1, tt, s.2))
+    agrees_as (length line) at (Many-steps (Spans line body) least) (Spans line (repeat body least None))
+    (Matches hay (at_least greedy least re)) (λ i k s. (s.0, s.1, s.3)) (λ i k s. (s.0, s.1, tt, s.2))
     (at_least_agrees (length line) at hay (Spans line body) re (h hay line at is) greedy least)
 repeat_stands body re least (Some most) greedy low h hay line at is =
-    agrees_as (length line) at (Then (Steps (Spans line body) least) (Few-steps (Spans line body) (most - least))) (Spans line (repeat body least (Some most))) (Matches hay (copies least re (up_to greedy (most - least) re)))
+    agrees_as (length line) at (Then (Steps (Spans line body) least) (Few-steps (Spans line body) (most - least)))
+    (Spans line (repeat body least (Some most))) (Matches hay (copies least re (up_to greedy (most - least) re)))
     (λ i k s. few_apart (Spans line body) least most i k low (s.0, s.1, s.2, s.3)) (λ i k s. few_of (Spans line body) least most i k low s)
-    (copies_agree (length line) at hay (Spans line body) re (h hay line at is) least (Few-steps (Spans line body) (most - least)) (up_to greedy (most - least) re) (up_to_agrees (length line) at hay (Spans line body) re (h hay line at is) greedy (most - least)))
+    (copies_agree (length line) at hay (Spans line body) re (h hay line at is) least (Few-steps (Spans line body) (most - least))
+    (up_to greedy (most - least) re) (up_to_agrees (length line) at hay (Spans line body) re (h hay line at is) greedy (most - least)))
 
 -- ---- leaves
 
@@ -133,8 +150,11 @@ set_stands members ranges each hay line at is = record {
   back = λ i e low m. back i e m.0 (cases_lt i (length line)) low m.1 (sym (each m.0) ∙ m.2) m.3;
 }
   where
-    back : (i e b : ℕ) → (i < length line) ⊎ (length line ≤ i) → i ≤ length line → slice_get hay (at + i) ≡ Some b → has members b ≡ true → e ≡ at + i + 1 → (to : ℕ) × (e ≡ at + to) × (to ≤ length line) × Spans line (set members) i to
-    back i e b (inl low) all here held end = let b_is = (inner hay line at is i b low here).0 in (suc i, omega arith, omega arith, (refl, low, subst (λ x. IsTrue (has members x)) b_is held))
+    back : (i e b : ℕ) → (i < length line) ⊎ (length line ≤ i) → i ≤ length line → slice_get hay (at + i) ≡ Some b → has members b ≡ true
+        → e ≡ at + i + 1 → (to : ℕ) × (e ≡ at + to) × (to ≤ length line) × Spans line (set members) i to
+    back i e b (inl low) all here held end =
+        let b_is = (inner hay line at is i b low here).0 in
+        (suc i, omega arith, omega arith, (refl, low, subst (λ x. IsTrue (has members x)) b_is held))
     back i e b (inr high) all here held end =
         let last : i ≡ length line = omega arith in
         let feed : b ≡ 10 = outer hay line at is b (subst (λ x. slice_get hay (at + x) ≡ Some b) last here) in
@@ -143,7 +163,15 @@ set_stands members ranges each hay line at is = record {
 pub start_stands : StandsFor at_start (look StartLf)
 unfolding StandsFor Spans
 start_stands hay line at is = record {
-  there = λ i k low r. (omega (arith, r.0, r.1), (let here : at ≡ at + i = omega (arith, r.0) in subst (λ x. holds StartLf hay x ≡ true) here is.begins, ap (λ x. at + x) (sym r.1)));
+  there =
+      λ i k low r. (
+        omega (arith, r.0, r.1),
+        (
+          let here : at ≡ at + i = omega (arith, r.0) in
+              subst (λ x. holds StartLf hay x ≡ true) here is.begins,
+          ap (λ x. at + x) (sym r.1),
+        ),
+      );
   back = λ i e low m. (i, m.1, low, (first i low m.0, refl));
 }
   where
@@ -157,7 +185,15 @@ start_stands hay line at is = record {
 pub end_stands : StandsFor at_end (look EndLf)
 unfolding StandsFor Spans
 end_stands hay line at is = record {
-  there = λ i k low r. (omega (arith, r.0, r.1), (let here : at + length line ≡ at + i = omega (arith, r.0) in subst (λ x. holds EndLf hay x ≡ true) here is.ends, ap (λ x. at + x) (sym r.1)));
+  there =
+      λ i k low r. (
+        omega (arith, r.0, r.1),
+        (
+          let here : at + length line ≡ at + i = omega (arith, r.0) in
+              subst (λ x. holds EndLf hay x ≡ true) here is.ends,
+          ap (λ x. at + x) (sym r.1),
+        ),
+      );
   back = λ i e low m. (i, m.1, low, (last i (cases_lt i (length line)) low m.0, refl));
 }
   where
@@ -169,18 +205,21 @@ end_stands hay line at is = record {
 pub impossible_stands : (body : Tree) (least most : ℕ) → most < least → StandsFor (repeat body least (Some most)) (alt_all [])
 unfolding StandsFor Spans
 impossible_stands body least most low hay line at is =
-    agrees_nowhere (length line) at (Spans line (repeat body least (Some most))) (Matches hay (byte_in [])) (λ i k s. absurd (omega (arith, s.1, s.2))) (no_byte hay)
+    agrees_nowhere (length line) at (Spans line (repeat body least (Some most))) (Matches hay (byte_in []))
+    (λ i k s. absurd (omega (arith, s.1, s.2))) (no_byte hay)
 
 -- ---- a star of a star
 
-stars_there : (line : List ℕ) (body : Tree) (inner count i k : ℕ) → Steps (Spans line (repeat body inner None)) count i k → (all : ℕ) × (inner ≡ 1 → count ≤ all) × Steps (Spans line body) all i k
+stars_there : (line : List ℕ) (body : Tree) (inner count i k : ℕ) → Steps (Spans line (repeat body inner None)) count i k
+    → (all : ℕ) × (inner ≡ 1 → count ≤ all) × Steps (Spans line body) all i k
 unfolding Steps Spans
 stars_there line body inner zero i k s = (0, λ e. omega arith, s)
 stars_there line body inner (suc count) i k s =
     let front = stars_there line body inner count i s.0 s.1 in
     (front.0 + s.2.0, (λ e. omega (arith, front.1 e, s.2.1, e)), steps_append (Spans line body) front.0 s.2.0 i s.0 k front.2 s.2.3)
 
-stars_back : (line : List ℕ) (body : Tree) (least inner all i k : ℕ) → least ≤ 1 → inner ≤ 1 → least * inner ≤ all → Steps (Spans line body) all i k → Spans line (repeat (repeat body inner None) least None) i k
+stars_back : (line : List ℕ) (body : Tree) (least inner all i k : ℕ) → least ≤ 1 → inner ≤ 1 → least * inner ≤ all
+    → Steps (Spans line body) all i k → Spans line (repeat (repeat body inner None) least None) i k
 unfolding Steps Spans
 stars_back line body zero inner zero i k low small enough s = (0, omega arith, tt, s)
 stars_back line body zero inner (suc all) i k low small enough s = (1, omega arith, tt, (i, refl, (suc all, omega arith, tt, s)))
@@ -194,7 +233,8 @@ product_low least zero count all small low grown = let none : least * 0 ≡ 0 = 
 product_low least (suc zero) count all small low grown = let same : least * 1 ≡ least = omega arith in omega (arith, same, low, grown refl)
 product_low least (suc (suc inner)) count all small low grown = absurd (omega arith)
 
-pub star_of_star_stands : (body : Tree) (least inner : ℕ) (re : Re) → least ≤ 1 → inner ≤ 1 → StandsFor (repeat body (least * inner) None) re → StandsFor (repeat (repeat body inner None) least None) re
+pub star_of_star_stands : (body : Tree) (least inner : ℕ) (re : Re) → least ≤ 1 → inner ≤ 1
+    → StandsFor (repeat body (least * inner) None) re → StandsFor (repeat (repeat body inner None) least None) re
 unfolding StandsFor Spans
 star_of_star_stands body least inner re low small h text line at is =
     agrees_as (length line) at (Spans line (repeat body (least * inner) None)) (Spans line (repeat (repeat body inner None) least None)) (Matches text re)

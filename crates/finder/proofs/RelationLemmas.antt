@@ -6,14 +6,16 @@ use Rattle.regex_hir.specs.Matches.{Rounds, one_round, next_round}
 use Rattle.finder.specs.Translation.{Agrees}
 
 -- a relation that leads from the same positions to the same
-pub agrees_as : (size at : ℕ) (inside other outside : Relation) → ((i k : ℕ) → other i k → inside i k) → ((i k : ℕ) → inside i k → other i k) → Agrees size at inside outside → Agrees size at other outside
+pub agrees_as : (size at : ℕ) (inside other outside : Relation) → ((i k : ℕ) → other i k → inside i k)
+    → ((i k : ℕ) → inside i k → other i k) → Agrees size at inside outside → Agrees size at other outside
 agrees_as size at inside other outside to_it from_it h = record {
   there = λ i k low r. h.there i k low (to_it i k r);
   back = λ i e low r. let b = h.back i e low r in (b.0, b.1, b.2, from_it i b.0 b.3);
 }
 
 -- the same on the other side
-pub agrees_with : (size at : ℕ) (inside outside other : Relation) → ((i k : ℕ) → other i k → outside i k) → ((i k : ℕ) → outside i k → other i k) → Agrees size at inside outside → Agrees size at inside other
+pub agrees_with : (size at : ℕ) (inside outside other : Relation) → ((i k : ℕ) → other i k → outside i k)
+    → ((i k : ℕ) → outside i k → other i k) → Agrees size at inside outside → Agrees size at inside other
 agrees_with size at inside outside other to_it from_it h = record {
   there = λ i k low r. let t = h.there i k low r in (t.0, from_it (at + i) (at + k) t.1);
   back = λ i e low r. h.back i e low (to_it (at + i) e r);
@@ -31,13 +33,15 @@ agrees_nowhere size at inside outside never neither = record {
   back = λ i e low r. absurd (neither (at + i) e r);
 }
 
-pub agrees_then : (size at : ℕ) (first second one two : Relation) → Agrees size at first one → Agrees size at second two → Agrees size at (Then first second) (Then one two)
+pub agrees_then : (size at : ℕ) (first second one two : Relation) → Agrees size at first one → Agrees size at second two
+    → Agrees size at (Then first second) (Then one two)
 agrees_then size at first second one two h g = record {
   there = λ i k low r. let a = h.there i r.0 low r.1 in let b = g.there r.0 k a.0 r.2 in (b.0, (at + r.0, a.1, b.1));
   back = λ i e low r. let a = h.back i r.0 low r.1 in let b = g.back a.0 e a.2 (subst (λ m. two m e) a.1 r.2) in (b.0, b.1, b.2, (a.0, a.3, b.3));
 }
 
-pub agrees_or : (size at : ℕ) (first second one two : Relation) → Agrees size at first one → Agrees size at second two → Agrees size at (λ i k. first i k ⊎ second i k) (λ i k. one i k ⊎ two i k)
+pub agrees_or : (size at : ℕ) (first second one two : Relation) → Agrees size at first one → Agrees size at second two
+    → Agrees size at (λ i k. first i k ⊎ second i k) (λ i k. one i k ⊎ two i k)
 agrees_or size at first second one two h g = record { there = there; back = back }
   where
     there : (i k : ℕ) → i ≤ size → first i k ⊎ second i k → (k ≤ size) × (one (at + i) (at + k) ⊎ two (at + i) (at + k))
@@ -94,7 +98,8 @@ agrees_rounds size at relation round h = record { there = λ i k low s. there s.
         (b.0, b.1, b.2, (suc front.3.0, (front.0, front.3.1, b.3)))
 
 -- so many steps, and then another relation
-pub agrees_next_copy : (size at : ℕ) (relation rest : Relation) (count : ℕ) (one others : Relation) → Agrees size at relation one → Agrees size at (Then (Steps relation count) rest) others → Agrees size at (Then (Steps relation (suc count)) rest) (Then one others)
+pub agrees_next_copy : (size at : ℕ) (relation rest : Relation) (count : ℕ) (one others : Relation) → Agrees size at relation one
+    → Agrees size at (Then (Steps relation count) rest) others → Agrees size at (Then (Steps relation (suc count)) rest) (Then one others)
 agrees_next_copy size at relation rest count one others h g =
     agrees_as size at (Then relation (Then (Steps relation count) rest)) (Then (Steps relation (suc count)) rest) (Then one others)
     (λ i k r. let f = front_of_steps relation count i r.0 r.1 in (f.0, f.1, (r.0, f.2, r.2)))
@@ -172,11 +177,14 @@ steps_split relation first (suc rest) i k s =
     (f.0, f.1, (t.0, f.2, t.2))
 
 -- so many steps, and at most so many more
-pub few_apart : (relation : Relation) (least most i k : ℕ) → least ≤ most → (count : ℕ) × (least ≤ count) × (count ≤ most) × Steps relation count i k → Then (Steps relation least) (Few-steps relation (most - least)) i k
+pub few_apart : (relation : Relation) (least most i k : ℕ) → least ≤ most
+    → (count : ℕ) × (least ≤ count) × (count ≤ most) × Steps relation count i k
+    → Then (Steps relation least) (Few-steps relation (most - least)) i k
 few_apart relation least most i k low (count, above, below, s) =
     let same : count ≡ least + (count - least) = omega arith in
     let f = steps_split relation least (count - least) i k (subst (λ n. Steps relation n i k) same s) in
     (f.0, f.1, (count - least, omega arith, f.2))
 
-pub few_of : (relation : Relation) (least most i k : ℕ) → least ≤ most → Then (Steps relation least) (Few-steps relation (most - least)) i k → (count : ℕ) × (least ≤ count) × (count ≤ most) × Steps relation count i k
+pub few_of : (relation : Relation) (least most i k : ℕ) → least ≤ most → Then (Steps relation least) (Few-steps relation (most - least)) i k
+    → (count : ℕ) × (least ≤ count) × (count ≤ most) × Steps relation count i k
 few_of relation least most i k low r = (least + r.2.0, omega arith, omega (arith, r.2.1), steps_append relation least r.2.0 i r.0 k r.1 r.2.2)

@@ -1,5 +1,6 @@
 -- The state of an index after a put or a remove.
-use Rattle.std.proofs.Common.{◌≡◌, ◌≢◌, ℕ, suc, ◌+◌, ◌*◌, ◌<◌, ◌≤◌, ◌==◌, Bool, true, false, not, cond, List, [], ◌∷◌, ◌++◌, map, length, Option, Some, None, refl, sym, ◌∙◌, ap, subst, arith}
+use Rattle.std.proofs.Common.{◌≡◌, ◌≢◌, ℕ, suc, ◌+◌, ◌*◌, ◌<◌, ◌≤◌, ◌==◌, Bool, true, false, not, cond, List, [], ◌∷◌, ◌++◌, map, length}
+use Rattle.std.proofs.Common.{Option, Some, None, refl, sym, ◌∙◌, ap, subst, arith}
 use Rattle.std.specs.Prelude.{All, AllPairs, bytes_eq}
 use Rattle.std.proofs.lemmas.Bool.{false≢true}
 use Rattle.std.proofs.lemmas.Bool.Decides.{nat_tests}
@@ -26,7 +27,11 @@ Named (d ∷ ds) = All (λ e. d.name ≢ e.name) ds × Named ds
 
 pub Named-pairs : (ds : List Document) → AllPairs (λ d e. d.name ≢ e.name) ds → Named ds
 Named-pairs [] apart = tt
-Named-pairs (d ∷ ds) apart = (λ k x inside. apart 0 (suc k) x (omega arith) (omega arith), Named-pairs ds (λ i j x before inside. apart (suc i) (suc j) x (omega arith) (omega arith)))
+Named-pairs (d ∷ ds) apart = (
+  λ k x inside.
+      apart 0 (suc k) x (omega arith) (omega arith),
+  Named-pairs ds (λ i j x before inside. apart (suc i) (suc j) x (omega arith) (omega arith)),
+)
 
 other_name : (x y : List ℕ) → x ≢ y → bytes_eq x y ≡ false
 other_name x y apart = go (bytes_eq x y) refl
@@ -39,7 +44,9 @@ other_name x y apart = go (bytes_eq x y) refl
 
 without-others : (name : List ℕ) (ds : List Document) → All (λ d. d.name ≢ name) ds → without name ds ≡ ds
 without-others name [] others = refl
-without-others name (d ∷ ds) others = rw (other_name d.name name (All-head (λ e. e.name ≢ name) d ds others)) (ap (λ xs. d ∷ xs) (without-others name ds (All-tail (λ e. e.name ≢ name) d ds others)))
+without-others name (d ∷ ds) others =
+    rw (other_name d.name name (All-head (λ e. e.name ≢ name) d ds others))
+    (ap (λ xs. d ∷ xs) (without-others name ds (All-tail (λ e. e.name ≢ name) d ds others)))
 
 without_number-others : (number : ℕ) (ds : List Document) → All (λ d. number < d.number) ds → without_number number ds ≡ ds
 without_number-others number [] above = refl
@@ -72,11 +79,14 @@ without-left name (d ∷ ds) numbered named = go (bytes_eq d.name name) refl (wi
         let no : (d.number == number) ≡ false = grind (arith, nat_tests) in
         rw no (ap (λ xs. d ∷ xs) deeper)
 
-    go : (t : Bool) → bytes_eq d.name name ≡ t → without name ds ≡ left_after (number_of name ds) ds → cond (not t) (d ∷ without name ds) (without name ds) ≡ left_after (cond t (Some d.number) (number_of name ds)) (d ∷ ds)
+    go : (t : Bool) → bytes_eq d.name name ≡ t → without name ds ≡ left_after (number_of name ds) ds
+        → cond (not t) (d ∷ without name ds) (without name ds) ≡ left_after (cond t (Some d.number) (number_of name ds)) (d ∷ ds)
     go true e deeper =
         let is = same_name d.name name e in
         let same : (d.number == d.number) ≡ true = grind (arith, nat_tests) in
-        let others : without name ds ≡ ds = subst (λ n. without n ds ≡ ds) is (without-others d.name ds (λ k x inside. (let apart = named.0 k x inside in λ h. apart (sym h)))) in
+        let others : without name ds ≡ ds =
+        subst (λ n. without n ds ≡ ds) is
+        (without-others d.name ds (λ k x inside. (let apart = named.0 k x inside in λ h. apart (sym h)))) in
         others ∙ sym (rw same (without_number-others d.number ds numbered.0))
     go false e deeper = rest_of (number_of name ds) refl deeper
 
@@ -94,7 +104,10 @@ number_of-without name [] q = none (bytes_eq name q)
     none false = refl
 number_of-without name (d ∷ ds) q = go (bytes_eq d.name name) refl (bytes_eq d.name q) refl (number_of-without name ds q)
   where
-    pick : (t : Bool) → bytes_eq d.name name ≡ t → (u : Bool) → bytes_eq d.name q ≡ u → number_of q (without name ds) ≡ cond (bytes_eq name q) None (number_of q ds) → number_of q (cond (not t) (d ∷ without name ds) (without name ds)) ≡ cond (bytes_eq name q) None (cond u (Some d.number) (number_of q ds))
+    pick : (t : Bool) → bytes_eq d.name name ≡ t → (u : Bool) → bytes_eq d.name q ≡ u
+        → number_of q (without name ds) ≡ cond (bytes_eq name q) None (number_of q ds)
+        → number_of q (cond (not t) (d ∷ without name ds) (without name ds))
+        ≡ cond (bytes_eq name q) None (cond u (Some d.number) (number_of q ds))
     pick true e true f deeper =
         let one = same_name d.name name e in
         let here : bytes_eq name q ≡ true = subst (λ n. bytes_eq n q ≡ true) one f in
@@ -107,7 +120,10 @@ number_of-without name (d ∷ ds) q = go (bytes_eq d.name name) refl (bytes_eq d
         rw f (rw here refl)
     pick false e false f deeper = rw f deeper
 
-    go : (t : Bool) → bytes_eq d.name name ≡ t → (u : Bool) → bytes_eq d.name q ≡ u → number_of q (without name ds) ≡ cond (bytes_eq name q) None (number_of q ds) → number_of q (cond (not (bytes_eq d.name name)) (d ∷ without name ds) (without name ds)) ≡ cond (bytes_eq name q) None (cond (bytes_eq d.name q) (Some d.number) (number_of q ds))
+    go : (t : Bool) → bytes_eq d.name name ≡ t → (u : Bool) → bytes_eq d.name q ≡ u
+        → number_of q (without name ds) ≡ cond (bytes_eq name q) None (number_of q ds)
+        → number_of q (cond (not (bytes_eq d.name name)) (d ∷ without name ds) (without name ds))
+        ≡ cond (bytes_eq name q) None (cond (bytes_eq d.name q) (Some d.number) (number_of q ds))
     go t e u f deeper = rw (e, f) (pick t e u f deeper)
 
 number_of-append : (ds : List Document) (d : Document) (q : List ℕ) → bytes_eq d.name q ≡ false → number_of q (ds ++ d ∷ []) ≡ number_of q ds
@@ -120,14 +136,17 @@ unfolding number_of
 number_of-new [] d q e none = rw e refl
 number_of-new (x ∷ ds) d q e none = go (bytes_eq x.name q) none (number_of-new ds d q e)
   where
-    go : (t : Bool) → cond t (Some x.number) (number_of q ds) ≡ None → (number_of q ds ≡ None → number_of q (ds ++ d ∷ []) ≡ Some d.number) → cond t (Some x.number) (number_of q (ds ++ d ∷ [])) ≡ Some d.number
+    go : (t : Bool) → cond t (Some x.number) (number_of q ds) ≡ None → (number_of q ds ≡ None → number_of q (ds ++ d ∷ []) ≡ Some d.number)
+        → cond t (Some x.number) (number_of q (ds ++ d ∷ [])) ≡ Some d.number
     go true h deeper = cc
     go false h deeper = deeper h
 
-pub number_of-put : (number : ℕ) (name body : List ℕ) (ds : List Document) (q : List ℕ) → number_of q (without name ds ++ document number name body ∷ []) ≡ cond (bytes_eq name q) (Some number) (number_of q ds)
+pub number_of-put : (number : ℕ) (name body : List ℕ) (ds : List Document) (q : List ℕ)
+    → number_of q (without name ds ++ document number name body ∷ []) ≡ cond (bytes_eq name q) (Some number) (number_of q ds)
 number_of-put number name body ds q = go (bytes_eq name q) refl (number_of-without name ds q)
   where
-    go : (t : Bool) → bytes_eq name q ≡ t → number_of q (without name ds) ≡ cond (bytes_eq name q) None (number_of q ds) → number_of q (without name ds ++ document number name body ∷ []) ≡ cond t (Some number) (number_of q ds)
+    go : (t : Bool) → bytes_eq name q ≡ t → number_of q (without name ds) ≡ cond (bytes_eq name q) None (number_of q ds)
+        → number_of q (without name ds ++ document number name body ∷ []) ≡ cond t (Some number) (number_of q ds)
     go true e left = number_of-new (without name ds) (document number name body) q e (rw e at left)
     go false e left = number_of-append (without name ds) (document number name body) q e ∙ rw e at left
 
@@ -139,7 +158,9 @@ later_good version d good = (good.0, omega (arith, good.1), good.2, good.3)
 pub IsState-remove : (version : ℕ) (ds : List Document) (name : List ℕ) → IsState (state version ds) → IsState (state (version + 1) (without name ds))
 IsState-remove version ds name is = record {
   rise = rise-filter (λ d. d.number) (λ d. not (bytes_eq d.name name)) ds is.rise;
-  good = All-filter (λ d. not (bytes_eq d.name name)) (λ d. IsGoodDocument (version + 1) d) ds (All-weaker (λ d. IsGoodDocument version d) (λ d. IsGoodDocument (version + 1) d) (later_good version) ds is.good);
+  good =
+      All-filter (λ d. not (bytes_eq d.name name)) (λ d. IsGoodDocument (version + 1) d) ds
+      (All-weaker (λ d. IsGoodDocument version d) (λ d. IsGoodDocument (version + 1) d) (later_good version) ds is.good);
   names = AllPairs-filter (λ d e. d.name ≢ e.name) (λ d. not (bytes_eq d.name name)) ds is.names;
 }
 
@@ -147,23 +168,35 @@ without_name : (name : List ℕ) (ds : List Document) → All (λ d. d.name ≢ 
 without_name name [] = All-nil (λ d. d.name ≢ name)
 without_name name (d ∷ ds) = go (bytes_eq d.name name) refl (without_name name ds)
   where
-    go : (t : Bool) → bytes_eq d.name name ≡ t → All (λ x. x.name ≢ name) (without name ds) → All (λ x. x.name ≢ name) (cond (not t) (d ∷ without name ds) (without name ds))
+    go : (t : Bool) → bytes_eq d.name name ≡ t → All (λ x. x.name ≢ name) (without name ds)
+        → All (λ x. x.name ≢ name) (cond (not t) (d ∷ without name ds) (without name ds))
     go true e rest = rest
-    go false e rest = All-cons (λ x. x.name ≢ name) d (without name ds) (λ is. false≢true (sym e ∙ subst (λ n. bytes_eq n name ≡ true) (sym is) (bytes_eq-refl name))) rest
+    go false e rest =
+        All-cons (λ x. x.name ≢ name) d (without name ds)
+        (λ is. false≢true (sym e ∙ subst (λ n. bytes_eq n name ≡ true) (sym is) (bytes_eq-refl name))) rest
 
-pub IsState-put : (version : ℕ) (ds : List Document) (name body : List ℕ) → IsName name → IsBody body → IsState (state version ds) → IsState (state (version + 1) (without name ds ++ document (version + 1) name body ∷ []))
+pub IsState-put : (version : ℕ) (ds : List Document) (name body : List ℕ) → IsName name → IsBody body → IsState (state version ds)
+    → IsState (state (version + 1) (without name ds ++ document (version + 1) name body ∷ []))
 IsState-put version ds name body is_name is_body is =
     let left = IsState-remove version ds name is in
-    let low : All (λ d. d.number < version + 1) (without name ds) = All-filter (λ d. not (bytes_eq d.name name)) (λ d. d.number < version + 1) ds (λ k d inside. (let good = is.good k d inside in omega (arith, good.1))) in
+    let low : All (λ d. d.number < version + 1) (without name ds) =
+    All-filter (λ d. not (bytes_eq d.name name)) (λ d. d.number < version + 1) ds
+    (λ k d inside. (let good = is.good k d inside in omega (arith, good.1))) in
     record {
-      rise = rw (map-append (λ d. d.number) (without name ds) (document (version + 1) name body ∷ [])) (rising-push (map (λ d. d.number) (without name ds)) (version + 1) left.rise (All-map (λ n. n < version + 1) (λ d. d.number) (without name ds) low));
-      good = All-push (λ d. IsGoodDocument (version + 1) d) (without name ds) (document (version + 1) name body) left.good (omega arith, omega arith, is_name, is_body);
+      rise =
+          rw (map-append (λ d. d.number) (without name ds) (document (version + 1) name body ∷ []))
+          (rising-push (map (λ d. d.number) (without name ds)) (version + 1) left.rise
+          (All-map (λ n. n < version + 1) (λ d. d.number) (without name ds) low));
+      good =
+          All-push (λ d. IsGoodDocument (version + 1) d) (without name ds) (document (version + 1) name body) left.good
+          (omega arith, omega arith, is_name, is_body);
       names = all_pairs_push (λ d e. d.name ≢ e.name) (without name ds) (document (version + 1) name body) left.names (without_name name ds);
     }
 
 -- ---- how many there may be
 
-count-above : (ds : List Document) (low version : ℕ) → Numbered ds → All (λ d. d.number ≤ version) ds → All (λ d. low < d.number) ds → low ≤ version → length ds + low ≤ version
+count-above : (ds : List Document) (low version : ℕ) → Numbered ds → All (λ d. d.number ≤ version) ds → All (λ d. low < d.number) ds
+    → low ≤ version → length ds + low ≤ version
 count-above [] low version numbered most above under = omega arith
 count-above (d ∷ ds) low version numbered most above under =
     let here = All-head (λ e. low < e.number) d ds above in
@@ -173,7 +206,9 @@ count-above (d ∷ ds) low version numbered most above under =
 
 pub length-documents : (version : ℕ) (ds : List Document) → IsState (state version ds) → length ds ≤ version
 length-documents version ds is =
-    let all = count-above ds 0 version (Numbered-rise ds is.rise) (λ k d inside. (let good = is.good k d inside in good.1)) (λ k d inside. (let good = is.good k d inside in good.0)) (omega arith) in
+    let all =
+    count-above ds 0 version (Numbered-rise ds is.rise) (λ k d inside. (let good = is.good k d inside in good.1))
+    (λ k d inside. (let good = is.good k d inside in good.0)) (omega arith) in
     omega arith
 
 bytes_at_most : (ds : List Document) → All (λ d. length d.body ≤ 1048576) ds → body_bytes ds ≤ 1048576 * length ds

@@ -1,5 +1,6 @@
 -- The documents that commands leave, by their numbers and by their names.
-use Rattle.std.proofs.Common.{◌≡◌, ℕ, zero, suc, ◌+◌, ◌<◌, ◌==◌, ◌||◌, Bool, true, false, cond, List, [], ◌∷◌, drop, Option, Some, None, refl, sym, ◌∙◌, ap, subst, arith}
+use Rattle.std.proofs.Common.{◌≡◌, ℕ, zero, suc, ◌+◌, ◌<◌, ◌==◌, ◌||◌, Bool, true, false, cond, List, [], ◌∷◌, drop, Option, Some, None}
+use Rattle.std.proofs.Common.{refl, sym, ◌∙◌, ap, subst, arith}
 use Rattle.std.specs.Prelude.{bytes_eq, slice_get}
 use Rattle.std.specs.Cmp.Lexicographic.{bytes_decides}
 use Rattle.std.proofs.lemmas.Cmp.{nat_list_eq_equiv}
@@ -22,7 +23,9 @@ document_at-below number place [] h = refl
 document_at-below number place (Remove name ∷ later) h = document_at-below number (suc place) later (omega arith)
 document_at-below number place (Put name body ∷ later) h = go (names later name) (document_at-below number (suc place) later (omega arith))
   where
-    go : (t : Bool) → document_at number (documents_from (suc place) later) ≡ None → document_at number (cond t (documents_from (suc place) later) (document place name body ∷ documents_from (suc place) later)) ≡ None
+    go : (t : Bool) → document_at number (documents_from (suc place) later) ≡ None
+        → document_at number (cond t (documents_from (suc place) later) (document place name body ∷ documents_from (suc place) later))
+        ≡ None
     go true deeper = deeper
     go false deeper =
         let apart : (place == number) ≡ false = grind (arith, nat_tests) in
@@ -40,7 +43,9 @@ document_at-place place i [] = refl
 document_at-place place zero (Remove name ∷ later) = document_at-below (place + 0) (suc place) later (omega arith)
 document_at-place place zero (Put name body ∷ later) = go (names later name)
   where
-    go : (t : Bool) → document_at (place + 0) (cond t (documents_from (suc place) later) (document place name body ∷ documents_from (suc place) later)) ≡ cond t None (Some (name, body))
+    go : (t : Bool)
+        → document_at (place + 0) (cond t (documents_from (suc place) later) (document place name body ∷ documents_from (suc place) later))
+        ≡ cond t None (Some (name, body))
     go true = document_at-below (place + 0) (suc place) later (omega arith)
     go false =
         let here : (place == place + 0) ≡ true = grind (arith, nat_tests) in
@@ -50,7 +55,10 @@ document_at-place place (suc i) (Remove name ∷ later) =
     rw moved (document_at-place (suc place) i later)
 document_at-place place (suc i) (Put name body ∷ later) = go (names later name) (document_at-place (suc place) i later)
   where
-    go : (t : Bool) → document_at (suc place + i) (documents_from (suc place) later) ≡ left_by (slice_get later i) (drop (suc i) later) → document_at (place + suc i) (cond t (documents_from (suc place) later) (document place name body ∷ documents_from (suc place) later)) ≡ left_by (slice_get later i) (drop (suc i) later)
+    go : (t : Bool) → document_at (suc place + i) (documents_from (suc place) later) ≡ left_by (slice_get later i) (drop (suc i) later)
+        → document_at (place + suc i)
+        (cond t (documents_from (suc place) later) (document place name body ∷ documents_from (suc place) later))
+        ≡ left_by (slice_get later i) (drop (suc i) later)
     go true deeper =
         let moved : place + suc i ≡ suc place + i = omega arith in
         rw moved deeper
@@ -73,7 +81,8 @@ names-at (first ∷ later) zero command e =
 names-at (first ∷ later) (suc i) command e = rw (names-at later i command e) (or_true (bytes_eq (name_of first) (name_of command)))
 
 -- A Put that no later command names is found by its name.
-pub number_of-place : (place i : ℕ) (c : List Command) (name body : List ℕ) → slice_get c i ≡ Some (Put name body) → names (drop (suc i) c) name ≡ false → number_of name (documents_from place c) ≡ Some (place + i)
+pub number_of-place : (place i : ℕ) (c : List Command) (name body : List ℕ) → slice_get c i ≡ Some (Put name body)
+    → names (drop (suc i) c) name ≡ false → number_of name (documents_from place c) ≡ Some (place + i)
 unfolding documents_from number_of
 number_of-place place i [] name body e h = cc
 number_of-place place zero (first ∷ later) name body e h =
@@ -83,9 +92,13 @@ number_of-place place zero (first ∷ later) name body e h =
 number_of-place place (suc i) (Remove other ∷ later) name body e h =
     let moved : place + suc i ≡ suc place + i = omega arith in
     rw moved (number_of-place (suc place) i later name body e h)
-number_of-place place (suc i) (Put other text ∷ later) name body e h = go (names later other) refl (bytes_eq other name) refl (number_of-place (suc place) i later name body e h)
+number_of-place place (suc i) (Put other text ∷ later) name body e h =
+    go (names later other) refl (bytes_eq other name) refl (number_of-place (suc place) i later name body e h)
   where
-    go : (t : Bool) → names later other ≡ t → (u : Bool) → bytes_eq other name ≡ u → number_of name (documents_from (suc place) later) ≡ Some (suc place + i) → number_of name (cond t (documents_from (suc place) later) (document place other text ∷ documents_from (suc place) later)) ≡ Some (place + suc i)
+    go : (t : Bool) → names later other ≡ t → (u : Bool) → bytes_eq other name ≡ u
+        → number_of name (documents_from (suc place) later) ≡ Some (suc place + i)
+        → number_of name (cond t (documents_from (suc place) later) (document place other text ∷ documents_from (suc place) later))
+        ≡ Some (place + suc i)
     go true n u b deeper =
         let moved : place + suc i ≡ suc place + i = omega arith in
         rw moved deeper

@@ -1,5 +1,6 @@
 -- The lines of a text, one after another.
-use Rattle.std.proofs.Common.{◌≡◌, ◌≢◌, ℕ, zero, suc, ◌+◌, ◌-◌, ◌<◌, ◌≤◌, ◌==◌, ◌||◌, Bool, true, false, nat_lt, List, [], ◌∷◌, length, take, drop, get_or, Option, Some, None, refl, sym, ◌∙◌, ap, arith, is_some, add-one}
+use Rattle.std.proofs.Common.{◌≡◌, ◌≢◌, ℕ, zero, suc, ◌+◌, ◌-◌, ◌<◌, ◌≤◌, ◌==◌, ◌||◌, Bool, true, false, nat_lt, List, [], ◌∷◌, length}
+use Rattle.std.proofs.Common.{take, drop, get_or, Option, Some, None, refl, sym, ◌∙◌, ap, arith, is_some, add-one}
 use Rattle.std.specs.List.{list_any}
 use Rattle.std.proofs.lemmas.Bool.Decides.{nat_tests}
 use Rattle.std.proofs.lemmas.List.{length-take, length-drop, take_all}
@@ -8,7 +9,8 @@ use Rattle.ere.specs.Lines.{lines_of, with_byte_in_front}
 use Rattle.memchr.specs.Find.{IsFirstByte, is_byte, Nowhere, NoneBefore, Passes}
 
 -- Up to the first line feed, which stands at a place, it is the first line.
-pub lines_of-first : (place : ℕ) (text : List ℕ) → place < length text → get_or text place 0 ≡ 10 → ((k : ℕ) → k < place → get_or text k 0 ≢ 10) → lines_of text ≡ take place text ∷ lines_of (drop (suc place) text)
+pub lines_of-first : (place : ℕ) (text : List ℕ) → place < length text → get_or text place 0 ≡ 10
+    → ((k : ℕ) → k < place → get_or text k 0 ≢ 10) → lines_of text ≡ take place text ∷ lines_of (drop (suc place) text)
 unfolding lines_of
 lines_of-first place [] below found before = absurd (omega arith)
 lines_of-first zero (b ∷ text) below found before =
@@ -59,7 +61,9 @@ has_byte_0-memchr text None none = sym (no_zero text (λ k below. none k (omega 
 has_byte_0-memchr text (Some place) first = sym (some_zero text place first.0.high first.1)
 
 -- where memchr finds the first line feed
-pub lines_of-memchr : (text : List ℕ) (place : ℕ) → (NoneBefore (Passes (is_byte 10) text) 0 (length text) place × Passes (is_byte 10) text place) → lines_of text ≡ take place text ∷ lines_of (drop (suc place) text)
+pub lines_of-memchr : (text : List ℕ) (place : ℕ)
+    → (NoneBefore (Passes (is_byte 10) text) 0 (length text) place × Passes (is_byte 10) text place)
+    → lines_of text ≡ take place text ∷ lines_of (drop (suc place) text)
 lines_of-memchr text place first =
     let found : (get_or text place 0 == 10) ≡ true = first.1 in
     lines_of-first place text first.0.high (grind (arith, nat_tests)) (λ k below e. first.0.before k (omega arith) below (rw e refl))
@@ -67,7 +71,9 @@ lines_of-memchr text place first =
 pub lines_of-none : (text : List ℕ) → Nowhere (Passes (is_byte 10) text) 0 (length text) → lines_of text ≡ only_line text
 lines_of-none text none = lines_of-last text (λ k below e. none k (omega arith) below (rw e refl))
 
-pub long-first : (text : List ℕ) (place : ℕ) → (NoneBefore (Passes (is_byte 10) text) 0 (length text) place × Passes (is_byte 10) text place) → (16384 < place → has_long_line text ≡ true) × (place ≤ 16384 → has_long_line text ≡ has_long_line (drop (suc place) text))
+pub long-first : (text : List ℕ) (place : ℕ)
+    → (NoneBefore (Passes (is_byte 10) text) 0 (length text) place × Passes (is_byte 10) text place)
+    → (16384 < place → has_long_line text ≡ true) × (place ≤ 16384 → has_long_line text ≡ has_long_line (drop (suc place) text))
 long-first text place first =
     let cut : lines_of text ≡ take place text ∷ lines_of (drop (suc place) text) = lines_of-memchr text place first in
     let size : length (take place text) ≡ place = simp length-take (omega (arith, first.0.high)) in

@@ -1,5 +1,6 @@
 -- The documents in the order of their names.
-use Rattle.std.proofs.Common.{◌≡◌, ℕ, zero, suc, ◌<◌, ◌==◌, ◌||◌, ◌⊎◌, inl, inr, Bool, true, false, cond, ◌++◌, List, [], ◌∷◌, map, length, get_or, Option, Some, None, Contains, refl, sym, ◌∙◌, ap, subst, arith, append_assoc}
+use Rattle.std.proofs.Common.{◌≡◌, ℕ, zero, suc, ◌<◌, ◌==◌, ◌||◌, ◌⊎◌, inl, inr, Bool, true, false, cond, ◌++◌, List, [], ◌∷◌, map, length}
+use Rattle.std.proofs.Common.{get_or, Option, Some, None, Contains, refl, sym, ◌∙◌, ap, subst, arith, append_assoc}
 use Rattle.std.specs.Prelude.{slice_get, bytes_eq, filter}
 use Rattle.std.specs.List.{AllByRecursion}
 use Rattle.std.specs.declared.cmp.Ordering.TheVariants.{Less}
@@ -51,7 +52,8 @@ unfolding number_of
 number_of-Contains [] named d h = absurd (omega (arith, h.1))
 number_of-Contains (x ∷ ds) named d h = go (bytes_eq x.name d.name) refl (Contains-cons x ds d h) (number_of-Contains ds named.1 d)
   where
-    go : (t : Bool) → bytes_eq x.name d.name ≡ t → (x ≡ d) ⊎ Contains ds d → (Contains ds d → number_of d.name ds ≡ Some d.number) → cond t (Some x.number) (number_of d.name ds) ≡ Some d.number
+    go : (t : Bool) → bytes_eq x.name d.name ≡ t → (x ≡ d) ⊎ Contains ds d → (Contains ds d → number_of d.name ds ≡ Some d.number)
+        → cond t (Some x.number) (number_of d.name ds) ≡ Some d.number
     go true e (inl is) deeper = ap (λ y. Some y.number) is
     go true e (inr there) deeper = absurd (named.0 there.0 d there.1 (same_name x.name d.name e ∙ ap (λ y. y.name) (sym there.2)))
     go false e (inl is) deeper = absurd (false≢true (sym e ∙ subst (λ y. bytes_eq x.name y.name ≡ true) is (bytes_eq-refl x.name)))
@@ -85,12 +87,15 @@ module _ {K : Type 0} (name_in : K → List ℕ) where
   abbrev shown : List Document → K × ℕ → Document
   shown documents entry = document entry.1 (name_in entry.0) (body_of (document_at entry.1 documents))
 
-  rises-shown : (documents : List Document) (entries : List (K × ℕ)) → IsStrictlySortedBy (λ x y. slice_cmp nat_cmp (name_in x) (name_in y)) (keys_of entries) → RisesByName (map (shown documents) entries)
+  rises-shown : (documents : List Document) (entries : List (K × ℕ))
+      → IsStrictlySortedBy (λ x y. slice_cmp nat_cmp (name_in x) (name_in y)) (keys_of entries)
+      → RisesByName (map (shown documents) entries)
   unfolding IsStrictlySortedBy
   rises-shown documents [] sorted = tt
   rises-shown documents (entry ∷ entries) sorted = (above entries sorted.0, rises-shown documents entries sorted.1)
     where
-      above : (es : List (K × ℕ)) → AllByRecursion (λ k. slice_cmp nat_cmp (name_in entry.0) (name_in k) ≡ Less) (keys_of es) → AllByRecursion (λ n. slice_cmp nat_cmp (name_in entry.0) n ≡ Less) (map (λ d. d.name) (map (shown documents) es))
+      above : (es : List (K × ℕ)) → AllByRecursion (λ k. slice_cmp nat_cmp (name_in entry.0) (name_in k) ≡ Less) (keys_of es)
+          → AllByRecursion (λ n. slice_cmp nat_cmp (name_in entry.0) n ≡ Less) (map (λ d. d.name) (map (shown documents) es))
       above [] h = tt
       above (e ∷ es) h = (h.0, above es h.1)
 
@@ -98,13 +103,15 @@ module _ {K : Type 0} (name_in : K → List ℕ) where
   numbers-shown documents [] = refl
   numbers-shown documents (entry ∷ entries) = ap (λ xs. entry.1 ∷ xs) (numbers-shown documents entries)
 
-  slice_get-shown : (documents : List Document) (entries : List (K × ℕ)) (i : ℕ) (entry : K × ℕ) → slice_get entries i ≡ Some entry → slice_get (map (shown documents) entries) i ≡ Some (shown documents entry)
+  slice_get-shown : (documents : List Document) (entries : List (K × ℕ)) (i : ℕ) (entry : K × ℕ) → slice_get entries i ≡ Some entry
+      → slice_get (map (shown documents) entries) i ≡ Some (shown documents entry)
   slice_get-shown documents [] i entry e = cc
   slice_get-shown documents (first ∷ entries) zero entry e = let same : first ≡ entry = cc in ap (λ x. Some (shown documents x)) same
   slice_get-shown documents (first ∷ entries) (suc i) entry e = slice_get-shown documents entries i entry e
 
   -- an entry that stands at a place, behind a document that is shown there
-  shown-Contains : (documents : List Document) (entries : List (K × ℕ)) (d : Document) (k : ℕ) → k < length (map (shown documents) entries) → get_or (map (shown documents) entries) k d ≡ d → (entry : K × ℕ) × (slice_get entries k ≡ Some entry) × (shown documents entry ≡ d)
+  shown-Contains : (documents : List Document) (entries : List (K × ℕ)) (d : Document) (k : ℕ) → k < length (map (shown documents) entries)
+      → get_or (map (shown documents) entries) k d ≡ d → (entry : K × ℕ) × (slice_get entries k ≡ Some entry) × (shown documents entry ≡ d)
   shown-Contains documents [] d k below e = absurd (omega arith)
   shown-Contains documents (entry ∷ entries) d zero below e = (entry, refl, e)
   shown-Contains documents (entry ∷ entries) d (suc k) below e = shown-Contains documents entries d k (omega arith) e
@@ -114,8 +121,13 @@ pub filter-Contains : (p : Document → Bool) (ds : List Document) (d : Document
 filter-Contains p [] d h = absurd (omega (arith, h.1))
 filter-Contains p (x ∷ ds) d h = go (p x) refl (filter-Contains p ds d) h
   where
-    go : (t : Bool) → p x ≡ t → (Contains (filter p ds) d → Contains ds d × (p d ≡ true)) → Contains (cond t (x ∷ filter p ds) (filter p ds)) d → Contains (x ∷ ds) d × (p d ≡ true)
-    go true e deeper h = elim (Contains-cons x (filter p ds) d h) [ inl is ↦ (subst (λ y. Contains (x ∷ ds) y) is (Contains-head x ds), subst (λ y. p y ≡ true) is e) | inr rest ↦ (let at = deeper rest in (Contains-tail x ds d at.0, at.1)) ]
+    go : (t : Bool) → p x ≡ t → (Contains (filter p ds) d → Contains ds d × (p d ≡ true))
+        → Contains (cond t (x ∷ filter p ds) (filter p ds)) d → Contains (x ∷ ds) d × (p d ≡ true)
+    go true e deeper h =
+        elim (Contains-cons x (filter p ds) d h) [
+          | inl is ↦ (subst (λ y. Contains (x ∷ ds) y) is (Contains-head x ds), subst (λ y. p y ≡ true) is e)
+          | inr rest ↦ (let at = deeper rest in (Contains-tail x ds d at.0, at.1))
+        ]
     go false e deeper h = let at = deeper h in (Contains-tail x ds d at.0, at.1)
 
 pub Contains-filter : (p : Document → Bool) (ds : List Document) (d : Document) → Contains ds d → p d ≡ true → Contains (filter p ds) d
@@ -128,11 +140,14 @@ Contains-filter p (x ∷ ds) d h passes = go (p x) refl (Contains-cons x ds d h)
     go false e (inl is) deeper = absurd (false≢true (sym e ∙ (ap p is ∙ passes)))
     go false e (inr rest) deeper = deeper rest
 
-names-above : (name : List ℕ) (p : Document → Bool) (xs : List Document) → AllByRecursion (λ n. slice_cmp nat_cmp name n ≡ Less) (map (λ d. d.name) xs) → AllByRecursion (λ n. slice_cmp nat_cmp name n ≡ Less) (map (λ d. d.name) (filter p xs))
+names-above : (name : List ℕ) (p : Document → Bool) (xs : List Document)
+    → AllByRecursion (λ n. slice_cmp nat_cmp name n ≡ Less) (map (λ d. d.name) xs)
+    → AllByRecursion (λ n. slice_cmp nat_cmp name n ≡ Less) (map (λ d. d.name) (filter p xs))
 names-above name p [] h = tt
 names-above name p (y ∷ xs) h = pick (p y) (names-above name p xs h.1)
   where
-    pick : (t : Bool) → AllByRecursion (λ n. slice_cmp nat_cmp name n ≡ Less) (map (λ d. d.name) (filter p xs)) → AllByRecursion (λ n. slice_cmp nat_cmp name n ≡ Less) (map (λ d. d.name) (cond t (y ∷ filter p xs) (filter p xs)))
+    pick : (t : Bool) → AllByRecursion (λ n. slice_cmp nat_cmp name n ≡ Less) (map (λ d. d.name) (filter p xs))
+        → AllByRecursion (λ n. slice_cmp nat_cmp name n ≡ Less) (map (λ d. d.name) (cond t (y ∷ filter p xs) (filter p xs)))
     pick true rest = (h.0, rest)
     pick false rest = rest
 
@@ -141,7 +156,8 @@ unfolding IsStrictlySortedBy
 rises-filter p [] rises = tt
 rises-filter p (x ∷ ds) rises = go (p x) (names-above x.name p ds rises.0) (rises-filter p ds rises.1)
   where
-    go : (t : Bool) → AllByRecursion (λ n. slice_cmp nat_cmp x.name n ≡ Less) (map (λ d. d.name) (filter p ds)) → RisesByName (filter p ds) → RisesByName (cond t (x ∷ filter p ds) (filter p ds))
+    go : (t : Bool) → AllByRecursion (λ n. slice_cmp nat_cmp x.name n ≡ Less) (map (λ d. d.name) (filter p ds)) → RisesByName (filter p ds)
+        → RisesByName (cond t (x ∷ filter p ds) (filter p ds))
     go true above deeper = (above, deeper)
     go false above deeper = deeper
 
@@ -149,33 +165,46 @@ numbers-filter : (test : ℕ → Bool) (ds : List Document) → filter test (map
 numbers-filter test [] = refl
 numbers-filter test (d ∷ ds) = go (test d.number) (numbers-filter test ds)
   where
-    go : (t : Bool) → filter test (map (λ d. d.number) ds) ≡ map (λ d. d.number) (filter (λ d. test d.number) ds) → cond t (d.number ∷ filter test (map (λ d. d.number) ds)) (filter test (map (λ d. d.number) ds)) ≡ map (λ d. d.number) (cond t (d ∷ filter (λ d. test d.number) ds) (filter (λ d. test d.number) ds))
+    go : (t : Bool) → filter test (map (λ d. d.number) ds) ≡ map (λ d. d.number) (filter (λ d. test d.number) ds)
+        → cond t (d.number ∷ filter test (map (λ d. d.number) ds)) (filter test (map (λ d. d.number) ds))
+        ≡ map (λ d. d.number) (cond t (d ∷ filter (λ d. test d.number) ds) (filter (λ d. test d.number) ds))
     go true e = ap (λ xs. d.number ∷ xs) e
     go false e = e
 
-module _ (ds : List Document) (numbered : Numbered ds) (named : Named ds) {K : Type 0} (name_in : K → List ℕ) (key : List ℕ → K) (is_key : (name : List ℕ) → name_in (key name) ≡ name) (test : ℕ → Bool) (numbers : BTreeMap K ℕ) (kept : (k : K) → get (λ x y. slice_cmp nat_cmp (name_in x) (name_in y)) numbers k ≡ kept_if test (number_of (name_in k) ds)) (ordered : IsOrdered (λ x y. slice_cmp nat_cmp (name_in x) (name_in y)) numbers) where
+module _ (ds : List Document) (numbered : Numbered ds) (named : Named ds) {K : Type 0} (name_in : K → List ℕ) (key : List ℕ → K)
+    (is_key : (name : List ℕ) → name_in (key name) ≡ name) (test : ℕ → Bool) (numbers : BTreeMap K ℕ)
+    (kept : (k : K) → get (λ x y. slice_cmp nat_cmp (name_in x) (name_in y)) numbers k ≡ kept_if test (number_of (name_in k) ds))
+    (ordered : IsOrdered (λ x y. slice_cmp nat_cmp (name_in x) (name_in y)) numbers) where
   abbrev chosen : List Document
   chosen = filter (λ d. test d.number) ds
 
   there : (entry : K × ℕ) (k : ℕ) → slice_get numbers.entries k ≡ Some entry → Contains chosen (shown name_in ds entry)
   there entry k e =
-      let found : get (λ x y. slice_cmp nat_cmp (name_in x) (name_in y)) numbers entry.0 ≡ Some entry.1 = btree_map_get_place (on_total name_in nat_list_cmp_total) numbers k entry.0 entry.1 ordered e in
+      let found : get (λ x y. slice_cmp nat_cmp (name_in x) (name_in y)) numbers entry.0 ≡ Some entry.1 =
+      btree_map_get_place (on_total name_in nat_list_cmp_total) numbers k entry.0 entry.1 ordered e in
       let passes = kept_number test (number_of (name_in entry.0) ds) entry.1 (sym (kept entry.0) ∙ found) in
       let put = Contains-number_of ds (name_in entry.0) entry.1 passes.0 in
       let body : body_of (document_at entry.1 ds) ≡ put.0 = ap body_of (document_at-Contains ds numbered (document entry.1 (name_in entry.0) put.0) put.1) in
-      subst (λ b. Contains chosen (document entry.1 (name_in entry.0) b)) (sym body) (Contains-filter (λ d. test d.number) ds (document entry.1 (name_in entry.0) put.0) put.1 passes.1)
+      subst (λ b. Contains chosen (document entry.1 (name_in entry.0) b)) (sym body)
+      (Contains-filter (λ d. test d.number) ds (document entry.1 (name_in entry.0) put.0) put.1 passes.1)
 
   back : (d : Document) → Contains chosen d → Contains (map (shown name_in ds) numbers.entries) d
   back d h =
       let at = filter-Contains (λ x. test x.number) ds d h in
       let k = key d.name in
-      let found : get (λ x y. slice_cmp nat_cmp (name_in x) (name_in y)) numbers k ≡ Some d.number = kept k ∙ (ap (λ n. kept_if test (number_of n ds)) (is_key d.name) ∙ (ap (kept_if test) (number_of-Contains ds named d at.0) ∙ ap (λ t. cond t (Some d.number) None) at.1)) in
+      let found : get (λ x y. slice_cmp nat_cmp (name_in x) (name_in y)) numbers k ≡ Some d.number =
+      kept k
+      ∙ (ap (λ n. kept_if test (number_of n ds)) (is_key d.name)
+      ∙ (ap (kept_if test) (number_of-Contains ds named d at.0) ∙ ap (λ t. cond t (Some d.number) None) at.1)) in
       let place = place_from_lookup (is_at (λ x. slice_cmp nat_cmp (name_in k) (name_in x))) numbers.entries d.number found in
       let same : name_in k ≡ name_in place.1 = same_name (name_in k) (name_in place.1) (texts_ties (name_in k) (name_in place.1) ∙ place.3) in
       let name : d.name ≡ name_in place.1 = sym (is_key d.name) ∙ same in
       let body : body_of (document_at d.number ds) ≡ d.body = ap body_of (document_at-Contains ds numbered d at.0) in
       let put = slice_get-shown name_in ds numbers.entries place.0 (place.1, d.number) place.2 in
-      Contains-slice_get (map (shown name_in ds) numbers.entries) place.0 d (put ∙ (ap (λ n. Some (document d.number n (body_of (document_at d.number ds)))) (sym name) ∙ ap (λ b. Some (document d.number d.name b)) body))
+      Contains-slice_get (map (shown name_in ds) numbers.entries) place.0 d
+      (put
+      ∙ (ap (λ n. Some (document d.number n (body_of (document_at d.number ds)))) (sym name)
+      ∙ ap (λ b. Some (document d.number d.name b)) body))
 
   in_order : IsInNameOrder chosen (map (shown name_in ds) numbers.entries)
   in_order = record {
@@ -186,12 +215,18 @@ module _ (ds : List Document) (numbered : Numbered ds) (named : Named ds) {K : T
     );
   }
 
-  pub chosen_in_order : (items : List ℕ) → items ≡ values numbers → (ordered_documents : List Document) × IsInNameOrder chosen ordered_documents × (items ≡ map (λ d. d.number) ordered_documents)
+  pub chosen_in_order : (items : List ℕ) → items ≡ values numbers
+      → (ordered_documents : List Document) × IsInNameOrder chosen ordered_documents × (items ≡ map (λ d. d.number) ordered_documents)
   chosen_in_order items e = (map (shown name_in ds) numbers.entries, in_order, e ∙ numbers-shown name_in ds numbers.entries)
 
 -- the documents of a map by references to their names
-pub few_in_order : (ds : List Document) → Numbered ds → Named ds → (test : ℕ → Bool) (few : BTreeMap (Bor (List ℕ)) ℕ) → ((name : Bor (List ℕ)) → get by_bytes few name ≡ kept_if test (number_of name.now ds)) → IsOrdered by_bytes few → (items : List ℕ) → items ≡ values few → (ordered : List Document) × IsInNameOrder (filter (λ d. test d.number) ds) ordered × (items ≡ map (λ d. d.number) ordered)
-few_in_order ds numbered named test few kept ordered items e = chosen_in_order ds numbered named (λ k. k.now) (λ name. record { ref_ptr = (0, 0); now = name }) (λ name. refl) test few kept ordered items e
+pub few_in_order : (ds : List Document) → Numbered ds → Named ds → (test : ℕ → Bool) (few : BTreeMap (Bor (List ℕ)) ℕ)
+    → ((name : Bor (List ℕ)) → get by_bytes few name ≡ kept_if test (number_of name.now ds)) → IsOrdered by_bytes few → (items : List ℕ)
+    → items ≡ values few
+    → (ordered : List Document) × IsInNameOrder (filter (λ d. test d.number) ds) ordered × (items ≡ map (λ d. d.number) ordered)
+few_in_order ds numbered named test few kept ordered items e =
+    chosen_in_order ds numbered named (λ k. k.now) (λ name. record { ref_ptr = (0, 0); now = name }) (λ name. refl) test few kept ordered
+    items e
 
 kept_all : (found : Option ℕ) → found ≡ kept_if (λ _. true) found
 kept_all None = refl
@@ -201,12 +236,21 @@ filter_all : (ds : List Document) → filter (λ d. true) ds ≡ ds
 filter_all [] = refl
 filter_all (d ∷ ds) = ap (λ xs. d ∷ xs) (filter_all ds)
 
-by_name : (ds : List Document) → Numbered ds → Named ds → (numbers : BTreeMap (List ℕ) ℕ) → ((name : List ℕ) → get (slice_cmp nat_cmp) numbers name ≡ number_of name ds) → IsOrdered (slice_cmp nat_cmp) numbers → (items : List ℕ) → items ≡ values numbers → (ordered : List Document) × IsInNameOrder ds ordered × (items ≡ map (λ d. d.number) ordered)
+by_name : (ds : List Document) → Numbered ds → Named ds → (numbers : BTreeMap (List ℕ) ℕ)
+    → ((name : List ℕ) → get (slice_cmp nat_cmp) numbers name ≡ number_of name ds) → IsOrdered (slice_cmp nat_cmp) numbers
+    → (items : List ℕ) → items ≡ values numbers
+    → (ordered : List Document) × IsInNameOrder ds ordered × (items ≡ map (λ d. d.number) ordered)
 by_name ds numbered named numbers kept ordered items e =
-    subst (λ xs. (ordered_documents : List Document) × IsInNameOrder xs ordered_documents × (items ≡ map (λ d. d.number) ordered_documents)) (filter_all ds) (chosen_in_order ds numbered named (λ k. k) (λ name. name) (λ name. refl) (λ _. true) numbers (λ name. kept name ∙ kept_all (number_of name ds)) ordered items e)
+    subst (λ xs. (ordered_documents : List Document) × IsInNameOrder xs ordered_documents × (items ≡ map (λ d. d.number) ordered_documents))
+    (filter_all ds)
+    (chosen_in_order ds numbered named (λ k. k) (λ name. name) (λ name. refl) (λ _. true) numbers
+    (λ name. kept name ∙ kept_all (number_of name ds)) ordered items e)
 
 -- those of all documents that pass, in the same order
-pub among_by_name : (ds : List Document) → Numbered ds → Named ds → (test : ℕ → Bool) (numbers : BTreeMap (List ℕ) ℕ) → ((name : List ℕ) → get (slice_cmp nat_cmp) numbers name ≡ number_of name ds) → IsOrdered (slice_cmp nat_cmp) numbers → (items : List ℕ) → items ≡ filter test (values numbers) → (ordered : List Document) × IsInNameOrder (filter (λ d. test d.number) ds) ordered × (items ≡ map (λ d. d.number) ordered)
+pub among_by_name : (ds : List Document) → Numbered ds → Named ds → (test : ℕ → Bool) (numbers : BTreeMap (List ℕ) ℕ)
+    → ((name : List ℕ) → get (slice_cmp nat_cmp) numbers name ≡ number_of name ds) → IsOrdered (slice_cmp nat_cmp) numbers
+    → (items : List ℕ) → items ≡ filter test (values numbers)
+    → (ordered : List Document) × IsInNameOrder (filter (λ d. test d.number) ds) ordered × (items ≡ map (λ d. d.number) ordered)
 among_by_name ds numbered named test numbers kept ordered items e =
     let all = by_name ds numbered named numbers kept ordered (values numbers) refl in (
       filter (λ d. test d.number) all.0,
@@ -251,13 +295,15 @@ or_no true = refl
 or_no false = refl
 
 -- the number is that of no document with this name
-not_named : (ds : List Document) (numbered : Numbered ds) (named : Named ds) (number : ℕ) (q : List ℕ) (m : ℕ) → (number_of q ds ≡ Some number → ⊥) → number_of q ds ≡ Some m → (t : Bool) → (number == m) ≡ t → t ≡ false
+not_named : (ds : List Document) (numbered : Numbered ds) (named : Named ds) (number : ℕ) (q : List ℕ) (m : ℕ)
+    → (number_of q ds ≡ Some number → ⊥) → number_of q ds ≡ Some m → (t : Bool) → (number == m) ≡ t → t ≡ false
 not_named ds numbered named number q m other e false h = refl
 not_named ds numbered named number q m other e true h =
     let same : m ≡ number = grind (arith, nat_tests) in
     absurd (other (e ∙ ap Some same))
 
-kept-other : (ds : List Document) (numbered : Numbered ds) (named : Named ds) (done : List ℕ) (number : ℕ) (q : List ℕ) → (number_of q ds ≡ Some number → ⊥) → kept_if (has done) (number_of q ds) ≡ kept_if (has (done ++ number ∷ [])) (number_of q ds)
+kept-other : (ds : List Document) (numbered : Numbered ds) (named : Named ds) (done : List ℕ) (number : ℕ) (q : List ℕ)
+    → (number_of q ds ≡ Some number → ⊥) → kept_if (has done) (number_of q ds) ≡ kept_if (has (done ++ number ∷ [])) (number_of q ds)
 kept-other ds numbered named done number q other = go (number_of q ds) refl
   where
     go : (found : Option ℕ) → number_of q ds ≡ found → kept_if (has done) found ≡ kept_if (has (done ++ number ∷ [])) found
@@ -267,11 +313,14 @@ kept-other ds numbered named done number q other = go (number_of q ds) refl
         ap (λ t. cond t (Some m) None) (sym (has-more done number m false apart ∙ or_no (has done m)))
 
 -- a number of no document
-pub few-skip : (ds : List Document) (numbered : Numbered ds) (named : Named ds) (done : List ℕ) (number : ℕ) → document_at number ds ≡ None → (q : List ℕ) → kept_if (has done) (number_of q ds) ≡ kept_if (has (done ++ number ∷ [])) (number_of q ds)
+pub few-skip : (ds : List Document) (numbered : Numbered ds) (named : Named ds) (done : List ℕ) (number : ℕ) → document_at number ds ≡ None
+    → (q : List ℕ) → kept_if (has done) (number_of q ds) ≡ kept_if (has (done ++ number ∷ [])) (number_of q ds)
 few-skip ds numbered named done number absent q = kept-other ds numbered named done number q (λ found. named_is_shown ds numbered q number found absent)
 
 -- the number of a document, which goes in under its name
-pub few-more : (ds : List Document) (numbered : Numbered ds) (named : Named ds) (done : List ℕ) (number : ℕ) (name body : List ℕ) → document_at number ds ≡ Some (name, body) → (q : List ℕ) → cond (bytes_eq name q) (Some number) (kept_if (has done) (number_of q ds)) ≡ kept_if (has (done ++ number ∷ [])) (number_of q ds)
+pub few-more : (ds : List Document) (numbered : Numbered ds) (named : Named ds) (done : List ℕ) (number : ℕ) (name body : List ℕ)
+    → document_at number ds ≡ Some (name, body) → (q : List ℕ)
+    → cond (bytes_eq name q) (Some number) (kept_if (has done) (number_of q ds)) ≡ kept_if (has (done ++ number ∷ [])) (number_of q ds)
 few-more ds numbered named done number name body at q = go (bytes_eq name q) refl
   where
     name_or : Option (List ℕ × List ℕ) → List ℕ
@@ -295,22 +344,38 @@ few-more ds numbered named done number name body at q = go (bytes_eq name q) ref
         let here : (number == number) ≡ true = grind (arith, nat_tests) in
         let passes : has (done ++ number ∷ []) number ≡ true = has-more done number number true here ∙ or_yes (has done number) in
         sym (ap (kept_if (has (done ++ number ∷ []))) is ∙ ap (λ t. cond t (Some number) None) passes)
-    go false other = kept-other ds numbered named done number q (λ found. false≢true (sym other ∙ subst (λ n. bytes_eq name n ≡ true) (name_at q found) (bytes_eq-refl name)))
+    go false other =
+        kept-other ds numbered named done number q
+        (λ found. false≢true (sym other ∙ subst (λ n. bytes_eq name n ≡ true) (name_at q found) (bytes_eq-refl name)))
 
 -- what `insert` of a name says
-pub inserted : (old new : BTreeMap (Bor (List ℕ)) ℕ) (name : List ℕ) (number : ℕ) → ((q : Bor (List ℕ)) → get by_bytes new q ≡ cond (is_at (λ k. slice_cmp nat_cmp name k.now) q) (Some number) (get by_bytes old q)) → (q : Bor (List ℕ)) → get by_bytes new q ≡ cond (bytes_eq name q.now) (Some number) (get by_bytes old q)
+pub inserted : (old new : BTreeMap (Bor (List ℕ)) ℕ) (name : List ℕ) (number : ℕ)
+    → ((q : Bor (List ℕ)) → get by_bytes new q ≡ cond (is_at (λ k. slice_cmp nat_cmp name k.now) q) (Some number) (get by_bytes old q))
+    → (q : Bor (List ℕ)) → get by_bytes new q ≡ cond (bytes_eq name q.now) (Some number) (get by_bytes old q)
 inserted old new name number updates q = updates q ∙ ap (λ t. cond t (Some number) (get by_bytes old q)) (sym (texts_ties name q.now))
 
 -- ---- candidates
 
-pub candidates_are : (ds : List Document) → Numbered ds → (sets : Sets) (formula : Formula) → AreSetsOf ds sets → filter (λ n. is_met formula (trigrams_with sets.postings n)) sets.live.members ≡ map (λ d. d.number) (filter (meets formula) ds)
-candidates_are ds numbered sets formula kept = ap (λ xs. filter (λ n. is_met formula (trigrams_with sets.postings n)) xs) kept.live ∙ go ds (λ d there. ap (is_met formula) (fun_ext (λ t. kept.postings t d.number ∙ ap (λ found. trigrams_shown found t) (document_at-Contains ds numbered d there))))
+pub candidates_are : (ds : List Document) → Numbered ds → (sets : Sets) (formula : Formula) → AreSetsOf ds sets
+    → filter (λ n. is_met formula (trigrams_with sets.postings n)) sets.live.members ≡ map (λ d. d.number) (filter (meets formula) ds)
+candidates_are ds numbered sets formula kept =
+    ap (λ xs. filter (λ n. is_met formula (trigrams_with sets.postings n)) xs) kept.live
+    ∙ go ds (λ d there.
+    ap (is_met formula)
+    (fun_ext (λ t. kept.postings t d.number ∙ ap (λ found. trigrams_shown found t) (document_at-Contains ds numbered d there))))
   where
-    go : (ds : List Document) → ((d : Document) → Contains ds d → is_met formula (trigrams_with sets.postings d.number) ≡ meets formula d) → filter (λ n. is_met formula (trigrams_with sets.postings n)) (map (λ d. d.number) ds) ≡ map (λ d. d.number) (filter (meets formula) ds)
+    go : (ds : List Document) → ((d : Document) → Contains ds d → is_met formula (trigrams_with sets.postings d.number) ≡ meets formula d)
+        → filter (λ n. is_met formula (trigrams_with sets.postings n)) (map (λ d. d.number) ds)
+        ≡ map (λ d. d.number) (filter (meets formula) ds)
     go [] each = refl
     go (d ∷ ds) each = rw (each d (Contains-head d ds)) (pick (meets formula d) (go ds (λ x there. each x (Contains-tail d ds x there))))
       where
-        pick : (t : Bool) → filter (λ n. is_met formula (trigrams_with sets.postings n)) (map (λ d. d.number) ds) ≡ map (λ d. d.number) (filter (meets formula) ds) → cond t (d.number ∷ filter (λ n. is_met formula (trigrams_with sets.postings n)) (map (λ d. d.number) ds)) (filter (λ n. is_met formula (trigrams_with sets.postings n)) (map (λ d. d.number) ds)) ≡ map (λ d. d.number) (cond t (d ∷ filter (meets formula) ds) (filter (meets formula) ds))
+        pick : (t : Bool)
+            → filter (λ n. is_met formula (trigrams_with sets.postings n)) (map (λ d. d.number) ds)
+            ≡ map (λ d. d.number) (filter (meets formula) ds)
+            → cond t (d.number ∷ filter (λ n. is_met formula (trigrams_with sets.postings n)) (map (λ d. d.number) ds))
+            (filter (λ n. is_met formula (trigrams_with sets.postings n)) (map (λ d. d.number) ds))
+            ≡ map (λ d. d.number) (cond t (d ∷ filter (meets formula) ds) (filter (meets formula) ds))
         pick true e = ap (λ xs. d.number ∷ xs) e
         pick false e = e
 
@@ -320,7 +385,9 @@ number_among : (ds : List Document) (number : ℕ) → has (map (λ d. d.number)
 number_among [] number e = absurd (false≢true e)
 number_among (d ∷ ds) number e = go (d.number == number) refl e (number_among ds number)
   where
-    go : (t : Bool) → (d.number == number) ≡ t → (t || has (map (λ d. d.number) ds) number) ≡ true → (has (map (λ d. d.number) ds) number ≡ true → (x : Document) × Contains ds x × (x.number ≡ number)) → (x : Document) × Contains (d ∷ ds) x × (x.number ≡ number)
+    go : (t : Bool) → (d.number == number) ≡ t → (t || has (map (λ d. d.number) ds) number) ≡ true
+        → (has (map (λ d. d.number) ds) number ≡ true → (x : Document) × Contains ds x × (x.number ≡ number))
+        → (x : Document) × Contains (d ∷ ds) x × (x.number ≡ number)
     go true same h deeper = (d, Contains-head d ds, grind (arith, nat_tests))
     go false same h deeper = let at = deeper h in (at.0, Contains-tail d ds at.0 at.1, at.2)
 
@@ -328,7 +395,8 @@ has_number : (ds : List Document) (d : Document) → Contains ds d → has (map 
 has_number [] d h = absurd (omega (arith, h.1))
 has_number (x ∷ ds) d h = go (Contains-cons x ds d h) (has_number ds d)
   where
-    go : (x ≡ d) ⊎ Contains ds d → (Contains ds d → has (map (λ x. x.number) ds) d.number ≡ true) → (x.number == d.number || has (map (λ x. x.number) ds) d.number) ≡ true
+    go : (x ≡ d) ⊎ Contains ds d → (Contains ds d → has (map (λ x. x.number) ds) d.number ≡ true)
+        → (x.number == d.number || has (map (λ x. x.number) ds) d.number) ≡ true
     go (inl is) deeper =
         let same : x.number ≡ d.number = ap (λ y. y.number) is in
         let here : (x.number == d.number) ≡ true = grind (arith, nat_tests) in
@@ -336,7 +404,10 @@ has_number (x ∷ ds) d h = go (Contains-cons x ds d h) (has_number ds d)
     go (inr rest) deeper = rw (deeper rest) (or_yes (x.number == d.number))
 
 pub chosen_are : (ds : List Document) → Numbered ds → (p : Document → Bool) → filter (λ d. has (map (λ x. x.number) (filter p ds)) d.number) ds ≡ filter p ds
-chosen_are ds numbered p = filter_same (λ d. has (map (λ x. x.number) (filter p ds)) d.number) p ds (λ d there. same_bool (has (map (λ x. x.number) (filter p ds)) d.number) (p d) (forth d there) (λ passes. has_number (filter p ds) d (Contains-filter p ds d there passes)))
+chosen_are ds numbered p =
+    filter_same (λ d. has (map (λ x. x.number) (filter p ds)) d.number) p ds (λ d there.
+    same_bool (has (map (λ x. x.number) (filter p ds)) d.number) (p d) (forth d there)
+    (λ passes. has_number (filter p ds) d (Contains-filter p ds d there passes)))
   where
     pair_or : List ℕ × List ℕ → Option (List ℕ × List ℕ) → List ℕ × List ℕ
     pair_or d None = d
@@ -346,5 +417,8 @@ chosen_are ds numbered p = filter_same (λ d. has (map (λ x. x.number) (filter 
     forth d there h =
         let x = number_among (filter p ds) d.number h in
         let at = filter-Contains p ds x.0 x.1 in
-        let texts : (x.0.name, x.0.body) ≡ (d.name, d.body) = ap (pair_or (x.0.name, x.0.body)) (sym (document_at-Contains ds numbered x.0 at.0) ∙ (ap (λ n. document_at n ds) x.2 ∙ document_at-Contains ds numbered d there)) in
+        let texts : (x.0.name, x.0.body) ≡ (d.name, d.body) =
+        ap (pair_or (x.0.name, x.0.body))
+        (sym (document_at-Contains ds numbered x.0 at.0)
+        ∙ (ap (λ n. document_at n ds) x.2 ∙ document_at-Contains ds numbered d there)) in
         sym (ap (λ n. p (document n x.0.name x.0.body)) x.2 ∙ ap (λ t. p (document d.number t.0 t.1)) texts) ∙ at.1

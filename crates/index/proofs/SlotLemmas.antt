@@ -1,5 +1,6 @@
 -- The slots, and the documents in them.
-use Rattle.std.proofs.Common.{◌≡◌, ◌≢◌, ℕ, zero, suc, ◌<◌, ◌≤◌, ◌==◌, nat_lt, Bool, true, false, cond, List, [], ◌∷◌, ◌++◌, length, get_or, set, Option, Some, None, refl, sym, ◌∙◌, ap, subst, arith, ⊎_elim, is_some, append_assoc}
+use Rattle.std.proofs.Common.{◌≡◌, ◌≢◌, ℕ, zero, suc, ◌<◌, ◌≤◌, ◌==◌, nat_lt, Bool, true, false, cond, List, [], ◌∷◌, ◌++◌, length, get_or}
+use Rattle.std.proofs.Common.{set, Option, Some, None, refl, sym, ◌∙◌, ap, subst, arith, ⊎_elim, is_some, append_assoc}
 use Rattle.std.specs.Prelude.{All, filter, slice_get, option_map}
 use Rattle.std.specs.List.Sorted.{IsNonDecreasingBy, IsPartitionedBy, IsPartitionPoint}
 use Rattle.std.proofs.lemmas.Bool.Decides.{nat_tests}
@@ -18,7 +19,9 @@ use Rattle.index.specs.Private.Slots.{documents_of_slot, documents_in, numbers_i
 -- ---- the numbers rise
 
 pub non_decreasing : (last : ℕ) (slots : List Slot) → RiseTo last slots → IsNonDecreasingBy (λ s. s.number) slots
-non_decreasing last slots rises i j d before inside = ⊎_elim (λ same. subst (λ k. (get_or slots i d).number ≤ (get_or slots k d).number) same (omega arith)) (λ apart. (let less = below_later (λ s. s.number) slots rises.rise i j d (omega arith) inside in omega arith)) (cases_eq i j)
+non_decreasing last slots rises i j d before inside =
+    ⊎_elim (λ same. subst (λ k. (get_or slots i d).number ≤ (get_or slots k d).number) same (omega arith))
+    (λ apart. (let less = below_later (λ s. s.number) slots rises.rise i j d (omega arith) inside in omega arith)) (cases_eq i j)
 
 pub partitioned : (last : ℕ) (slots : List Slot) (number : ℕ) → RiseTo last slots → IsPartitionedBy (λ s. nat_lt s.number number) slots
 partitioned last slots number rises = IsPartitionedBy-ltb (λ s. s.number) slots number (non_decreasing last slots rises)
@@ -28,14 +31,19 @@ partitioned last slots number rises = IsPartitionedBy-ltb (λ s. s.number) slots
 abbrev pub Others : ℕ → List Slot → Type 0
 Others number slots = All (λ s. s.number ≢ number) slots
 
-pub others_past : (number : ℕ) (slots : List Slot) (place : ℕ) → IsPartitionPoint (λ s. nat_lt s.number number ≡ true) (λ s. nat_lt s.number number ≡ false) slots place → place ≡ length slots → Others number slots
+pub others_past : (number : ℕ) (slots : List Slot) (place : ℕ)
+    → IsPartitionPoint (λ s. nat_lt s.number number ≡ true) (λ s. nat_lt s.number number ≡ false) slots place → place ≡ length slots
+    → Others number slots
 others_past number slots place point past = λ k d inside. (let less = point.0 k d (omega arith) (omega arith) in λ e. differ (get_or slots k d).number less e)
   where
     differ : (n : ℕ) → nat_lt n number ≡ true → n ≡ number → ⊥
     differ n less e = let below : n < number = grind (arith, nat_tests) in omega arith
 
-pub others_apart : (last number : ℕ) (slots : List Slot) (place : ℕ) (slot : Slot) → RiseTo last slots → IsPartitionPoint (λ s. nat_lt s.number number ≡ true) (λ s. nat_lt s.number number ≡ false) slots place → slot ≡ get_or slots place slot → slot.number ≢ number → Others number slots
-others_apart last number slots place slot rises point read apart = λ k d inside. ⊎_elim (λ before. before_is k d before) (λ from. from_is k d from inside) (cases_lt k place)
+pub others_apart : (last number : ℕ) (slots : List Slot) (place : ℕ) (slot : Slot) → RiseTo last slots
+    → IsPartitionPoint (λ s. nat_lt s.number number ≡ true) (λ s. nat_lt s.number number ≡ false) slots place
+    → slot ≡ get_or slots place slot → slot.number ≢ number → Others number slots
+others_apart last number slots place slot rises point read apart =
+    λ k d inside. ⊎_elim (λ before. before_is k d before) (λ from. from_is k d from inside) (cases_lt k place)
   where
     below : (n : ℕ) → nat_lt n number ≡ true → n < number
     below n less = grind (arith, nat_tests)
@@ -55,20 +63,23 @@ others_apart last number slots place slot rises point read apart = λ k d inside
         let same : (get_or slots k slot).number ≡ (get_or slots k d).number = ap (λ s. s.number) one in
         λ e. omega arith
 
-document_at-skip : (number other : ℕ) (entry : Option Entry) (ds : List Document) → other ≢ number → document_at number (documents_of_slot other entry ++ ds) ≡ document_at number ds
+document_at-skip : (number other : ℕ) (entry : Option Entry) (ds : List Document) → other ≢ number
+    → document_at number (documents_of_slot other entry ++ ds) ≡ document_at number ds
 unfolding document_at
 document_at-skip number other None ds apart = refl
 document_at-skip number other (Some entry) ds apart =
     let no : (other == number) ≡ false = grind (arith, nat_tests) in
     rw no refl
 
-without-skip : (number other : ℕ) (entry : Option Entry) (ds : List Document) → other ≢ number → without_number number (documents_of_slot other entry ++ ds) ≡ documents_of_slot other entry ++ without_number number ds
+without-skip : (number other : ℕ) (entry : Option Entry) (ds : List Document) → other ≢ number
+    → without_number number (documents_of_slot other entry ++ ds) ≡ documents_of_slot other entry ++ without_number number ds
 without-skip number other None ds apart = refl
 without-skip number other (Some entry) ds apart =
     let no : (other == number) ≡ false = grind (arith, nat_tests) in
     rw no refl
 
-without-here : (number other : ℕ) (entry : Option Entry) (ds : List Document) → other ≡ number → without_number number (documents_of_slot other entry ++ ds) ≡ without_number number ds
+without-here : (number other : ℕ) (entry : Option Entry) (ds : List Document) → other ≡ number
+    → without_number number (documents_of_slot other entry ++ ds) ≡ without_number number ds
 without-here number other None ds same = refl
 without-here number other (Some entry) ds same =
     let yes : (other == number) ≡ true = grind (arith, nat_tests) in
@@ -77,14 +88,17 @@ without-here number other (Some entry) ds same =
 pub document_at-absent : (number : ℕ) (slots : List Slot) → Others number slots → document_at number (documents_in slots) ≡ None
 unfolding document_at documents_in
 document_at-absent number [] others = refl
-document_at-absent number (s ∷ slots) others = document_at-skip number s.number s.entry (documents_in slots) (All-head (λ t. t.number ≢ number) s slots others) ∙ document_at-absent number slots (All-tail (λ t. t.number ≢ number) s slots others)
+document_at-absent number (s ∷ slots) others =
+    document_at-skip number s.number s.entry (documents_in slots) (All-head (λ t. t.number ≢ number) s slots others)
+    ∙ document_at-absent number slots (All-tail (λ t. t.number ≢ number) s slots others)
 
 pub without-absent : (number : ℕ) (slots : List Slot) → Others number slots → documents_in slots ≡ without_number number (documents_in slots)
 unfolding documents_in
 without-absent number [] others = refl
 without-absent number (s ∷ slots) others =
     let rest = without-absent number slots (All-tail (λ t. t.number ≢ number) s slots others) in
-    ap (λ ds. documents_of_slot s.number s.entry ++ ds) rest ∙ sym (without-skip number s.number s.entry (documents_in slots) (All-head (λ t. t.number ≢ number) s slots others))
+    ap (λ ds. documents_of_slot s.number s.entry ++ ds) rest
+    ∙ sym (without-skip number s.number s.entry (documents_in slots) (All-head (λ t. t.number ≢ number) s slots others))
 
 -- ---- the slot with the number
 
@@ -95,7 +109,11 @@ Rising (s ∷ slots) = All (λ t. s.number < t.number) slots × Rising slots
 rising_of : (slots : List Slot) → ((i j : ℕ) (d : Slot) → i < j → j < length slots → (get_or slots i d).number < (get_or slots j d).number) → Rising slots
 unfolding Rising
 rising_of [] less = tt
-rising_of (s ∷ slots) less = (λ k d inside. less 0 (suc k) d (omega arith) (omega arith), rising_of slots (λ i j d before inside. less (suc i) (suc j) d (omega arith) (omega arith)))
+rising_of (s ∷ slots) less = (
+  λ k d inside.
+      less 0 (suc k) d (omega arith) (omega arith),
+  rising_of slots (λ i j d before inside. less (suc i) (suc j) d (omega arith) (omega arith)),
+)
 
 pub rising : (last : ℕ) (slots : List Slot) → RiseTo last slots → Rising slots
 rising last slots rises = rising_of slots (below_later (λ s. s.number) slots rises.rise)
@@ -103,17 +121,23 @@ rising last slots rises = rising_of slots (below_later (λ s. s.number) slots ri
 above_are_others : (number : ℕ) (slots : List Slot) (s : Slot) → s.number ≡ number → All (λ t. s.number < t.number) slots → Others number slots
 above_are_others number slots s same above = λ k d inside. (let less = above k d inside in λ e. omega arith)
 
-place_above : (s : Slot) (slots : List Slot) (place : ℕ) (slot : Slot) → All (λ t. s.number < t.number) slots → slice_get slots place ≡ Some slot → s.number < slot.number
-place_above s slots place slot above at = subst (λ t. s.number < t.number) (get_or_from_slice_get slots place slot slot at) (above place slot (slice_get_within slots place slot at))
+place_above : (s : Slot) (slots : List Slot) (place : ℕ) (slot : Slot) → All (λ t. s.number < t.number) slots
+    → slice_get slots place ≡ Some slot → s.number < slot.number
+place_above s slots place slot above at =
+    subst (λ t. s.number < t.number) (get_or_from_slice_get slots place slot slot at)
+    (above place slot (slice_get_within slots place slot at))
 
-pub document_at-here : (number : ℕ) (slots : List Slot) (place : ℕ) (slot : Slot) → Rising slots → slice_get slots place ≡ Some slot → slot.number ≡ number → document_at number (documents_in slots) ≡ option_map texts_of slot.entry
+pub document_at-here : (number : ℕ) (slots : List Slot) (place : ℕ) (slot : Slot) → Rising slots → slice_get slots place ≡ Some slot
+    → slot.number ≡ number → document_at number (documents_in slots) ≡ option_map texts_of slot.entry
 unfolding document_at documents_in Rising
 document_at-here number [] place slot rises at same = cc
 document_at-here number (s ∷ slots) zero slot rises at same =
     let is : s ≡ slot = cc in
-    here s.entry (ap (λ t. t.number) is ∙ same) (above_are_others number slots s (ap (λ t. t.number) is ∙ same) rises.0) ∙ ap (λ t. option_map texts_of t.entry) is
+    here s.entry (ap (λ t. t.number) is ∙ same) (above_are_others number slots s (ap (λ t. t.number) is ∙ same) rises.0)
+    ∙ ap (λ t. option_map texts_of t.entry) is
   where
-    here : (entry : Option Entry) → s.number ≡ number → Others number slots → document_at number (documents_of_slot s.number entry ++ documents_in slots) ≡ option_map texts_of entry
+    here : (entry : Option Entry) → s.number ≡ number → Others number slots
+        → document_at number (documents_of_slot s.number entry ++ documents_in slots) ≡ option_map texts_of entry
     here None e others = document_at-absent number slots others
     here (Some entry) e others =
         let yes : (s.number == number) ≡ true = grind (arith, nat_tests) in
@@ -122,7 +146,9 @@ document_at-here number (s ∷ slots) (suc place) slot rises at same =
     let below = place_above s slots place slot rises.0 at in
     document_at-skip number s.number s.entry (documents_in slots) (λ e. omega arith) ∙ document_at-here number slots place slot rises.1 at same
 
-pub documents_in-emptied : (number : ℕ) (slots : List Slot) (place : ℕ) (slot : Slot) → Rising slots → slice_get slots place ≡ Some slot → slot.number ≡ number → documents_in (set slots place (record { number = slot.number; entry = None })) ≡ without_number number (documents_in slots)
+pub documents_in-emptied : (number : ℕ) (slots : List Slot) (place : ℕ) (slot : Slot) → Rising slots → slice_get slots place ≡ Some slot
+    → slot.number ≡ number
+    → documents_in (set slots place (record { number = slot.number; entry = None })) ≡ without_number number (documents_in slots)
 unfolding documents_in Rising
 documents_in-emptied number [] place slot rises at same = cc
 documents_in-emptied number (s ∷ slots) zero slot rises at same =
@@ -131,7 +157,8 @@ documents_in-emptied number (s ∷ slots) zero slot rises at same =
     sym (without-here number s.number s.entry (documents_in slots) e ∙ sym (without-absent number slots (above_are_others number slots s e rises.0)))
 documents_in-emptied number (s ∷ slots) (suc place) slot rises at same =
     let below = place_above s slots place slot rises.0 at in
-    ap (λ ds. documents_of_slot s.number s.entry ++ ds) (documents_in-emptied number slots place slot rises.1 at same) ∙ sym (without-skip number s.number s.entry (documents_in slots) (λ e. omega arith))
+    ap (λ ds. documents_of_slot s.number s.entry ++ ds) (documents_in-emptied number slots place slot rises.1 at same)
+    ∙ sym (without-skip number s.number s.entry (documents_in slots) (λ e. omega arith))
 
 -- ---- empty slots left out
 
@@ -143,11 +170,14 @@ unfolding documents_in
 documents_in-compact [] = refl
 documents_in-compact (s ∷ slots) = go s.entry refl (documents_in-compact slots)
   where
-    go : (entry : Option Entry) → s.entry ≡ entry → documents_in (filter is_full slots) ≡ documents_in slots → documents_in (cond (is_some s.entry) (s ∷ filter is_full slots) (filter is_full slots)) ≡ documents_of_slot s.number s.entry ++ documents_in slots
+    go : (entry : Option Entry) → s.entry ≡ entry → documents_in (filter is_full slots) ≡ documents_in slots
+        → documents_in (cond (is_some s.entry) (s ∷ filter is_full slots) (filter is_full slots))
+        ≡ documents_of_slot s.number s.entry ++ documents_in slots
     go None e rest = rw e rest
     go (Some entry) e rest = rw e (ap (λ ds. document s.number entry.name entry.held ∷ ds) rest)
 
-numbers_in-filter : (p : Slot → Bool) (n : ℕ) (slots : List Slot) → ((k : ℕ) (d : ℕ) → k < length (numbers_in slots) → get_or (numbers_in slots) k d ≤ n) → All (λ m. m ≤ n) (numbers_in (filter p slots))
+numbers_in-filter : (p : Slot → Bool) (n : ℕ) (slots : List Slot)
+    → ((k : ℕ) (d : ℕ) → k < length (numbers_in slots) → get_or (numbers_in slots) k d ≤ n) → All (λ m. m ≤ n) (numbers_in (filter p slots))
 numbers_in-filter p n [] below = All-nil (λ m. m ≤ n)
 numbers_in-filter p n (s ∷ slots) below = go (p s) (numbers_in-filter p n slots (All-tail (λ m. m ≤ n) s.number (numbers_in slots) below))
   where
@@ -166,10 +196,17 @@ RiseTo-filter p last slots rises = record {
 pub documents_in-push : (slots : List Slot) (slot : Slot) → documents_in (slots ++ slot ∷ []) ≡ documents_in slots ++ documents_of_slot slot.number slot.entry
 unfolding documents_in
 documents_in-push [] slot = append-nil (documents_of_slot slot.number slot.entry)
-documents_in-push (s ∷ slots) slot = ap (λ ds. documents_of_slot s.number s.entry ++ ds) (documents_in-push slots slot) ∙ sym (append_assoc (documents_of_slot s.number s.entry) (documents_in slots) (documents_of_slot slot.number slot.entry))
+documents_in-push (s ∷ slots) slot =
+    ap (λ ds. documents_of_slot s.number s.entry ++ ds) (documents_in-push slots slot)
+    ∙ sym (append_assoc (documents_of_slot s.number s.entry) (documents_in slots) (documents_of_slot slot.number slot.entry))
 
 pub RiseTo-push : (last : ℕ) (slots : List Slot) (slot : Slot) → RiseTo last slots → last < slot.number → RiseTo slot.number (slots ++ slot ∷ [])
 RiseTo-push last slots slot rises above = record {
-  rise = rw (map-append (λ s. s.number) slots (slot ∷ [])) (rising-push (numbers_in slots) slot.number rises.rise (λ k d inside. (let low = rises.below k d inside in omega arith)));
-  below = rw (map-append (λ s. s.number) slots (slot ∷ [])) (All-push (λ n. n ≤ slot.number) (numbers_in slots) slot.number (λ k d inside. (let low = rises.below k d inside in omega arith)) (omega arith));
+  rise =
+      rw (map-append (λ s. s.number) slots (slot ∷ []))
+      (rising-push (numbers_in slots) slot.number rises.rise (λ k d inside. (let low = rises.below k d inside in omega arith)));
+  below =
+      rw (map-append (λ s. s.number) slots (slot ∷ []))
+      (All-push (λ n. n ≤ slot.number) (numbers_in slots) slot.number (λ k d inside. (let low = rises.below k d inside in omega arith))
+      (omega arith));
 }

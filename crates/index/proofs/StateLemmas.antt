@@ -25,13 +25,17 @@ pub bytes_eq-sym : (x y : List ℕ) → bytes_eq x y ≡ bytes_eq y x
 bytes_eq-sym x y = nat_list_eq_equiv.symm x y
 
 -- the first document stays before what comes after it, unless the command names it
-after_first : (place : ℕ) (command : Command) (first : Document) (others : List Document) → documents_after place command (first ∷ others) ≡ cond (bytes_eq (name_of command) first.name) (documents_after place command others) (first ∷ documents_after place command others)
+after_first : (place : ℕ) (command : Command) (first : Document) (others : List Document)
+    → documents_after place command (first ∷ others)
+    ≡ cond (bytes_eq (name_of command) first.name) (documents_after place command others) (first ∷ documents_after place command others)
 after_first place (Put name body) first others = go (bytes_eq first.name name) (bytes_eq name first.name) (bytes_eq-sym first.name name)
   where
     new : Document
     new = document place name body
 
-    go : (t u : Bool) → t ≡ u → cond (not t) (first ∷ without name others) (without name others) ++ new ∷ [] ≡ cond u (without name others ++ new ∷ []) (first ∷ without name others ++ new ∷ [])
+    go : (t u : Bool) → t ≡ u
+        → cond (not t) (first ∷ without name others) (without name others) ++ new ∷ []
+        ≡ cond u (without name others ++ new ∷ []) (first ∷ without name others ++ new ∷ [])
     go true true e = refl
     go false false e = refl
     go true false e = cc
@@ -44,7 +48,8 @@ after_first place (Remove name) first others = go (bytes_eq first.name name) (by
     go true false e = cc
     go false true e = cc
 
-pub documents_from-push : (place : ℕ) (c : List Command) (command : Command) → documents_from place (c ++ command ∷ []) ≡ documents_after (place + length c) command (documents_from place c)
+pub documents_from-push : (place : ℕ) (c : List Command) (command : Command)
+    → documents_from place (c ++ command ∷ []) ≡ documents_after (place + length c) command (documents_from place c)
 unfolding documents_from names
 documents_from-push place [] (Put name body) =
     let start : place ≡ place + 0 = omega arith in
@@ -66,9 +71,13 @@ documents_from-push place (Put other body ∷ later) command =
     n : ℕ
     n = place + suc (length later)
 
-    go : (t : Bool) (after : List Document) → after ≡ documents_after n command before → cond (t || bytes_eq (name_of command) other) after (document place other body ∷ after) ≡ documents_after n command (cond t before (document place other body ∷ before))
+    go : (t : Bool) (after : List Document) → after ≡ documents_after n command before
+        → cond (t || bytes_eq (name_of command) other) after (document place other body ∷ after)
+        ≡ documents_after n command (cond t before (document place other body ∷ before))
     go true after e = e
-    go false after e = ap (λ a. cond (bytes_eq (name_of command) other) a (document place other body ∷ a)) e ∙ sym (after_first n command (document place other body) before)
+    go false after e =
+        ap (λ a. cond (bytes_eq (name_of command) other) a (document place other body ∷ a)) e
+        ∙ sym (after_first n command (document place other body) before)
 
 pub state_of-push : (commands : List Command) (command : Command) → state_of (commands ++ command ∷ []) ≡ applied command (state_of commands)
 state_of-push commands command =

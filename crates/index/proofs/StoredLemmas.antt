@@ -1,5 +1,6 @@
 -- Documents whose numbers rise, and their sets.
-use Rattle.std.proofs.Common.{◌≡◌, ◌≢◌, ℕ, suc, ◌+◌, ◌<◌, ◌≤◌, ◌==◌, ◌||◌, ◌&&◌, Bool, true, false, not, cond, List, [], ◌∷◌, ◌++◌, map, length, get_or, Option, Some, None, Contains, refl, sym, ◌∙◌, ap, subst, arith}
+use Rattle.std.proofs.Common.{◌≡◌, ◌≢◌, ℕ, suc, ◌+◌, ◌<◌, ◌≤◌, ◌==◌, ◌||◌, ◌&&◌, Bool, true, false, not, cond, List, [], ◌∷◌, ◌++◌, map}
+use Rattle.std.proofs.Common.{length, get_or, Option, Some, None, Contains, refl, sym, ◌∙◌, ap, subst, arith}
 use Rattle.std.specs.Prelude.{All}
 use Rattle.std.specs.List.Sorted.{IsStrictlyIncreasing}
 use Rattle.std.proofs.lemmas.Bool.{false≢true}
@@ -42,12 +43,18 @@ Numbered-rise ds rise = go ds (below_later (λ d. d.number) ds rise)
   where
     go : (ds : List Document) → ((i j : ℕ) (d : Document) → i < j → j < length ds → (get_or ds i d).number < (get_or ds j d).number) → Numbered ds
     go [] less = tt
-    go (d ∷ ds) less = (λ k x inside. less 0 (suc k) x (omega arith) (omega arith), go ds (λ i j x before inside. less (suc i) (suc j) x (omega arith) (omega arith)))
+    go (d ∷ ds) less = (
+      λ k x inside.
+          less 0 (suc k) x (omega arith) (omega arith),
+      go ds (λ i j x before inside. less (suc i) (suc j) x (omega arith) (omega arith)),
+    )
 
 All-documents_in : (P : ℕ → Type 0) (slots : List Slot) → All (λ s. P s.number) slots → All (λ d. P d.number) (documents_in slots)
 unfolding documents_in
 All-documents_in P [] each = All-nil (λ d. P d.number)
-All-documents_in P (s ∷ slots) each = All-append (λ d. P d.number) (documents_of_slot s.number s.entry) (documents_in slots) (one s.entry (All-head (λ t. P t.number) s slots each)) (All-documents_in P slots (All-tail (λ t. P t.number) s slots each))
+All-documents_in P (s ∷ slots) each =
+    All-append (λ d. P d.number) (documents_of_slot s.number s.entry) (documents_in slots)
+    (one s.entry (All-head (λ t. P t.number) s slots each)) (All-documents_in P slots (All-tail (λ t. P t.number) s slots each))
   where
     one : (entry : Option Entry) → P s.number → All (λ d. P d.number) (documents_of_slot s.number entry)
     one None p = All-nil (λ d. P d.number)
@@ -58,7 +65,8 @@ unfolding documents_in Rising
 Numbered-rising [] rises = tt
 Numbered-rising (s ∷ slots) rises = go s.entry (All-documents_in (λ n. s.number < n) slots rises.0) (Numbered-rising slots rises.1)
   where
-    go : (entry : Option Entry) → All (λ d. s.number < d.number) (documents_in slots) → Numbered (documents_in slots) → Numbered (documents_of_slot s.number entry ++ documents_in slots)
+    go : (entry : Option Entry) → All (λ d. s.number < d.number) (documents_in slots) → Numbered (documents_in slots)
+        → Numbered (documents_of_slot s.number entry ++ documents_in slots)
     go None above rest = rest
     go (Some entry) above rest = (above, rest)
 
@@ -66,7 +74,11 @@ pub Numbered-stored : (last : ℕ) (slots : List Slot) → RiseTo last slots →
 Numbered-stored last slots rises = Numbered-rising slots (rising last slots rises)
 
 pub numbers_at_most : (last : ℕ) (slots : List Slot) → RiseTo last slots → All (λ d. d.number ≤ last) (documents_in slots)
-numbers_at_most last slots rises = All-documents_in (λ n. n ≤ last) slots (λ k d inside. (let low = rises.below k d.number (omega (arith, length-map slots (λ s. s.number))) in let is : get_or (numbers_in slots) k d.number ≡ (get_or slots k d).number = get_or-map (λ s. s.number) slots k d d.number inside in omega arith))
+numbers_at_most last slots rises =
+    All-documents_in (λ n. n ≤ last) slots (λ k d inside.
+    (let low = rises.below k d.number (omega (arith, length-map slots (λ s. s.number))) in
+    let is : get_or (numbers_in slots) k d.number ≡ (get_or slots k d).number = get_or-map (λ s. s.number) slots k d d.number inside in
+    omega arith))
 
 -- ---- documents by their numbers
 
@@ -90,7 +102,9 @@ unfolding document_at or_else
 document_at-append number [] ys = refl
 document_at-append number (x ∷ xs) ys = go (x.number == number) (document_at-append number xs ys)
   where
-    go : (t : Bool) → document_at number (xs ++ ys) ≡ or_else (document_at number xs) (document_at number ys) → cond t (Some (x.name, x.body)) (document_at number (xs ++ ys)) ≡ or_else (cond t (Some (x.name, x.body)) (document_at number xs)) (document_at number ys)
+    go : (t : Bool) → document_at number (xs ++ ys) ≡ or_else (document_at number xs) (document_at number ys)
+        → cond t (Some (x.name, x.body)) (document_at number (xs ++ ys))
+        ≡ or_else (cond t (Some (x.name, x.body)) (document_at number xs)) (document_at number ys)
     go true e = refl
     go false e = e
 
@@ -106,7 +120,10 @@ document_at-kept gone number [] = none (number == gone)
     none false = refl
 document_at-kept gone number (d ∷ ds) = go (d.number == gone) refl (d.number == number) refl (document_at-kept gone number ds)
   where
-    pick : (t : Bool) → (d.number == gone) ≡ t → (u : Bool) → (d.number == number) ≡ u → document_at number (without_number gone ds) ≡ cond (number == gone) None (document_at number ds) → document_at number (cond (not t) (d ∷ without_number gone ds) (without_number gone ds)) ≡ cond (number == gone) None (cond u (Some (d.name, d.body)) (document_at number ds))
+    pick : (t : Bool) → (d.number == gone) ≡ t → (u : Bool) → (d.number == number) ≡ u
+        → document_at number (without_number gone ds) ≡ cond (number == gone) None (document_at number ds)
+        → document_at number (cond (not t) (d ∷ without_number gone ds) (without_number gone ds))
+        ≡ cond (number == gone) None (cond u (Some (d.name, d.body)) (document_at number ds))
     pick true e true same deeper =
         let here : (number == gone) ≡ true = grind (arith, nat_tests) in
         let none : document_at number (without_number gone ds) ≡ None = rw here at deeper in
@@ -117,7 +134,10 @@ document_at-kept gone number (d ∷ ds) = go (d.number == gone) refl (d.number =
         rw same (rw here refl)
     pick false e false same deeper = rw same deeper
 
-    go : (t : Bool) → (d.number == gone) ≡ t → (u : Bool) → (d.number == number) ≡ u → document_at number (without_number gone ds) ≡ cond (number == gone) None (document_at number ds) → document_at number (cond (not (d.number == gone)) (d ∷ without_number gone ds) (without_number gone ds)) ≡ cond (number == gone) None (cond (d.number == number) (Some (d.name, d.body)) (document_at number ds))
+    go : (t : Bool) → (d.number == gone) ≡ t → (u : Bool) → (d.number == number) ≡ u
+        → document_at number (without_number gone ds) ≡ cond (number == gone) None (document_at number ds)
+        → document_at number (cond (not (d.number == gone)) (d ∷ without_number gone ds) (without_number gone ds))
+        ≡ cond (number == gone) None (cond (d.number == number) (Some (d.name, d.body)) (document_at number ds))
     go t e u same deeper = rw (e, same) (pick t e u same deeper)
 
 -- ---- trigrams
@@ -158,33 +178,56 @@ numbers-kept : (gone : ℕ) (ds : List Document) → map (λ d. d.number) (witho
 numbers-kept gone [] = refl
 numbers-kept gone (d ∷ ds) = go (not (d.number == gone)) (numbers-kept gone ds)
   where
-    go : (t : Bool) → map (λ x. x.number) (without_number gone ds) ≡ without gone (map (λ x. x.number) ds) → map (λ x. x.number) (cond t (d ∷ without_number gone ds) (without_number gone ds)) ≡ cond t (d.number ∷ without gone (map (λ x. x.number) ds)) (without gone (map (λ x. x.number) ds))
+    go : (t : Bool) → map (λ x. x.number) (without_number gone ds) ≡ without gone (map (λ x. x.number) ds)
+        → map (λ x. x.number) (cond t (d ∷ without_number gone ds) (without_number gone ds))
+        ≡ cond t (d.number ∷ without gone (map (λ x. x.number) ds)) (without gone (map (λ x. x.number) ds))
     go true e = ap (λ xs. d.number ∷ xs) e
     go false e = e
 
 -- the sets after a document went
-pub AreSetsOf-take : (ds : List Document) (gone : ℕ) (name body trigrams : List ℕ) (old new : Sets) → AreSetsOf ds old → document_at gone ds ≡ Some (name, body) → ListsTrigrams body trigrams → new.live.members ≡ without gone old.live.members → ((trigram n : ℕ) → holds new.postings trigram n ≡ (holds old.postings trigram n && not (has trigrams trigram && n == gone))) → AreSetsOf (without_number gone ds) new
+pub AreSetsOf-take : (ds : List Document) (gone : ℕ) (name body trigrams : List ℕ) (old new : Sets) → AreSetsOf ds old
+    → document_at gone ds ≡ Some (name, body) → ListsTrigrams body trigrams → new.live.members ≡ without gone old.live.members
+    → ((trigram n : ℕ) → holds new.postings trigram n ≡ (holds old.postings trigram n && not (has trigrams trigram && n == gone)))
+    → AreSetsOf (without_number gone ds) new
 AreSetsOf-take ds gone name body trigrams old new kept at lists live sets = record {
   live = live ∙ (ap (without gone) kept.live ∙ sym (numbers-kept gone ds));
-  postings = λ trigram number. sets trigram number ∙ (left_over trigram number (number == gone) refl ∙ ap (λ found. trigrams_shown found trigram) (sym (document_at-kept gone number ds)));
+  postings =
+      λ trigram number.
+      sets trigram number
+      ∙ (left_over trigram number (number == gone) refl
+      ∙ ap (λ found. trigrams_shown found trigram) (sym (document_at-kept gone number ds)));
 }
   where
-    left_over : (trigram number : ℕ) (t : Bool) → (number == gone) ≡ t → (holds old.postings trigram number && not (has trigrams trigram && number == gone)) ≡ trigrams_shown (cond (number == gone) None (document_at number ds)) trigram
+    left_over : (trigram number : ℕ) (t : Bool) → (number == gone) ≡ t
+        → (holds old.postings trigram number && not (has trigrams trigram && number == gone))
+        ≡ trigrams_shown (cond (number == gone) None (document_at number ds)) trigram
     left_over trigram number true e =
         let same : number ≡ gone = grind (arith, nat_tests) in
-        let was : holds old.postings trigram number ≡ trigrams_of_body body trigram = kept.postings trigram number ∙ ap (λ n. trigrams_shown (document_at n ds) trigram) same ∙ ap (λ found. trigrams_shown found trigram) at in
+        let was : holds old.postings trigram number ≡ trigrams_of_body body trigram =
+        kept.postings trigram number ∙ ap (λ n. trigrams_shown (document_at n ds) trigram) same
+        ∙ ap (λ found. trigrams_shown found trigram) at in
         rw e (rw was (rw (listed body trigrams lists trigram) (and_same (trigrams_of_body body trigram))))
     left_over trigram number false e = rw e (and_none (holds old.postings trigram number) (has trigrams trigram) ∙ kept.postings trigram number)
 
 -- the sets after a document came
-pub AreSetsOf-put : (ds : List Document) (number : ℕ) (name body trigrams : List ℕ) (old new : Sets) → AreSetsOf ds old → document_at number ds ≡ None → ListsTrigrams body trigrams → new.live.members ≡ old.live.members ++ number ∷ [] → ((trigram n : ℕ) → holds new.postings trigram n ≡ (holds old.postings trigram n || (has trigrams trigram && number == n))) → AreSetsOf (ds ++ document number name body ∷ []) new
+pub AreSetsOf-put : (ds : List Document) (number : ℕ) (name body trigrams : List ℕ) (old new : Sets) → AreSetsOf ds old
+    → document_at number ds ≡ None → ListsTrigrams body trigrams → new.live.members ≡ old.live.members ++ number ∷ []
+    → ((trigram n : ℕ) → holds new.postings trigram n ≡ (holds old.postings trigram n || (has trigrams trigram && number == n)))
+    → AreSetsOf (ds ++ document number name body ∷ []) new
 unfolding document_at or_else
 AreSetsOf-put ds number name body trigrams old new kept fresh lists live sets = record {
   live = live ∙ (ap (λ xs. xs ++ number ∷ []) kept.live ∙ sym (map-append (λ d. d.number) ds (document number name body ∷ [])));
-  postings = λ trigram n. sets trigram n ∙ (ap (λ b. b || (has trigrams trigram && number == n)) (kept.postings trigram n) ∙ (come_in trigram n (document_at n ds) (number == n) refl (λ e. ap (λ m. document_at m ds) (sym e) ∙ fresh) ∙ ap (λ found. trigrams_shown found trigram) (sym (document_at-append n ds (document number name body ∷ [])))));
+  postings =
+      λ trigram n.
+      sets trigram n
+      ∙ (ap (λ b. b || (has trigrams trigram && number == n)) (kept.postings trigram n)
+      ∙ (come_in trigram n (document_at n ds) (number == n) refl (λ e. ap (λ m. document_at m ds) (sym e) ∙ fresh)
+      ∙ ap (λ found. trigrams_shown found trigram) (sym (document_at-append n ds (document number name body ∷ [])))));
 }
   where
-    come_in : (trigram n : ℕ) (found : Option (List ℕ × List ℕ)) (t : Bool) → (number == n) ≡ t → (number ≡ n → found ≡ None) → (trigrams_shown found trigram || (has trigrams trigram && number == n)) ≡ trigrams_shown (or_else found (document_at n (document number name body ∷ []))) trigram
+    come_in : (trigram n : ℕ) (found : Option (List ℕ × List ℕ)) (t : Bool) → (number == n) ≡ t → (number ≡ n → found ≡ None)
+        → (trigrams_shown found trigram || (has trigrams trigram && number == n))
+        ≡ trigrams_shown (or_else found (document_at n (document number name body ∷ []))) trigram
     come_in trigram n None true e new_here = rw e (and_true (has trigrams trigram) ∙ listed body trigrams lists trigram)
     come_in trigram n None false e new_here = rw e (and_false (has trigrams trigram))
     come_in trigram n (Some d) true e new_here =
@@ -193,19 +236,26 @@ AreSetsOf-put ds number name body trigrams old new kept fresh lists live sets = 
         cc
     come_in trigram n (Some d) false e new_here = rw e (rw (and_false (has trigrams trigram)) (or_none (trigrams_of_body d.1 trigram)))
 
-pub document_at-found_in : (number : ℕ) (ds : List Document) (d : List ℕ × List ℕ) → document_at number ds ≡ Some d → (x : Document) × Contains ds x × (x.number ≡ number)
+pub document_at-found_in : (number : ℕ) (ds : List Document) (d : List ℕ × List ℕ) → document_at number ds ≡ Some d
+    → (x : Document) × Contains ds x × (x.number ≡ number)
 unfolding document_at
 document_at-found_in number [] d e = cc
 document_at-found_in number (first ∷ others) d e = go (first.number == number) refl (document_at-found_in number others d) e
   where
-    go : (t : Bool) → (first.number == number) ≡ t → (document_at number others ≡ Some d → (x : Document) × Contains others x × (x.number ≡ number)) → cond t (Some (first.name, first.body)) (document_at number others) ≡ Some d → (x : Document) × Contains (first ∷ others) x × (x.number ≡ number)
+    go : (t : Bool) → (first.number == number) ≡ t
+        → (document_at number others ≡ Some d → (x : Document) × Contains others x × (x.number ≡ number))
+        → cond t (Some (first.name, first.body)) (document_at number others) ≡ Some d
+        → (x : Document) × Contains (first ∷ others) x × (x.number ≡ number)
     go true same deeper h = (first, (0, omega arith, refl), grind (arith, nat_tests))
     go false same deeper h = let rest = deeper h in (rest.0, (suc rest.1.0, omega (arith, rest.1.1), rest.1.2), rest.2)
 
 -- a number above all is new to the sets
-pub IsNew-above : (ds : List Document) (last number : ℕ) (body trigrams : List ℕ) (sets : Sets) → AreSetsOf ds sets → All (λ d. d.number ≤ last) ds → last < number → ListsTrigrams body trigrams → IsNew sets number trigrams
+pub IsNew-above : (ds : List Document) (last number : ℕ) (body trigrams : List ℕ) (sets : Sets) → AreSetsOf ds sets
+    → All (λ d. d.number ≤ last) ds → last < number → ListsTrigrams body trigrams → IsNew sets number trigrams
 IsNew-above ds last number body trigrams sets kept low above lists = record {
-  live = subst (λ xs. All (λ m. m < number) xs) (sym kept.live) (All-map (λ m. m < number) (λ d. d.number) ds (λ k d inside. (let under = low k d inside in omega arith)));
+  live =
+      subst (λ xs. All (λ m. m < number) xs) (sym kept.live)
+      (All-map (λ m. m < number) (λ d. d.number) ds (λ k d inside. (let under = low k d inside in omega arith)));
   postings = λ trigram n there. below trigram n (document_at n ds) refl (sym (kept.postings trigram n) ∙ there);
   once = λ i j d before inside. (let less = AllPairs-from_increasing trigrams lists.rising i j d before inside in λ e. omega arith);
 }
@@ -221,7 +271,9 @@ IsNew-above ds last number body trigrams sets kept low above lists = record {
 -- ---- the bytes of the bodies
 
 pub body_bytes-cons : (d : Document) (ds : List Document) → body_bytes (d ∷ ds) ≡ length d.body + body_bytes ds
-body_bytes-cons d ds = sum-map (λ x. length x.body) (d ∷ ds) ∙ (sum_by-cons (λ x. length x.body) d ds ∙ ap (λ n. length d.body + n) (sym (sum-map (λ x. length x.body) ds)))
+body_bytes-cons d ds =
+    sum-map (λ x. length x.body) (d ∷ ds)
+    ∙ (sum_by-cons (λ x. length x.body) d ds ∙ ap (λ n. length d.body + n) (sym (sum-map (λ x. length x.body) ds)))
 
 pub body_bytes-push : (ds : List Document) (d : Document) → body_bytes (ds ++ d ∷ []) ≡ body_bytes ds + length d.body
 body_bytes-push [] d = refl
@@ -234,12 +286,17 @@ without-all_others gone (d ∷ ds) others =
     let no : (d.number == gone) ≡ false = grind (arith, nat_tests) in
     rw no (ap (λ xs. d ∷ xs) (without-all_others gone ds (All-tail (λ e. e.number ≢ gone) d ds others)))
 
-pub body_bytes-without : (gone : ℕ) (ds : List Document) (name body : List ℕ) → Numbered ds → document_at gone ds ≡ Some (name, body) → body_bytes (without_number gone ds) + length body ≡ body_bytes ds
+pub body_bytes-without : (gone : ℕ) (ds : List Document) (name body : List ℕ) → Numbered ds → document_at gone ds ≡ Some (name, body)
+    → body_bytes (without_number gone ds) + length body ≡ body_bytes ds
 unfolding document_at
 body_bytes-without gone [] name body numbered at = cc
-body_bytes-without gone (d ∷ ds) name body numbered at = go (d.number == gone) refl at (body_bytes-without gone ds name body numbered.1) ∙ sym (body_bytes-cons d ds)
+body_bytes-without gone (d ∷ ds) name body numbered at =
+    go (d.number == gone) refl at (body_bytes-without gone ds name body numbered.1) ∙ sym (body_bytes-cons d ds)
   where
-    go : (t : Bool) → (d.number == gone) ≡ t → cond t (Some (d.name, d.body)) (document_at gone ds) ≡ Some (name, body) → (document_at gone ds ≡ Some (name, body) → body_bytes (without_number gone ds) + length body ≡ body_bytes ds) → body_bytes (cond (not (d.number == gone)) (d ∷ without_number gone ds) (without_number gone ds)) + length body ≡ length d.body + body_bytes ds
+    go : (t : Bool) → (d.number == gone) ≡ t → cond t (Some (d.name, d.body)) (document_at gone ds) ≡ Some (name, body)
+        → (document_at gone ds ≡ Some (name, body) → body_bytes (without_number gone ds) + length body ≡ body_bytes ds)
+        → body_bytes (cond (not (d.number == gone)) (d ∷ without_number gone ds) (without_number gone ds)) + length body
+        ≡ length d.body + body_bytes ds
     go true e found deeper =
         let same : d.number ≡ gone = grind (arith, nat_tests) in
         let is : d.body ≡ body = (some_pair_parts d.name name d.body body found).1 in
@@ -257,7 +314,9 @@ unfolding document_at
 without-absent_number gone [] none = refl
 without-absent_number gone (d ∷ ds) none = go (d.number == gone) none (without-absent_number gone ds)
   where
-    go : (t : Bool) → cond t (Some (d.name, d.body)) (document_at gone ds) ≡ None → (document_at gone ds ≡ None → without_number gone ds ≡ ds) → cond (not t) (d ∷ without_number gone ds) (without_number gone ds) ≡ d ∷ ds
+    go : (t : Bool) → cond t (Some (d.name, d.body)) (document_at gone ds) ≡ None
+        → (document_at gone ds ≡ None → without_number gone ds ≡ ds)
+        → cond (not t) (d ∷ without_number gone ds) (without_number gone ds) ≡ d ∷ ds
     go true h deeper = cc
     go false h deeper = ap (λ xs. d ∷ xs) (deeper h)
 

@@ -1,9 +1,11 @@
 -- Bits that move, and the positions of a set of words.
-use Rattle.std.proofs.Common.{◌≡◌, ◌≢◌, ℕ, ◌+◌, ◌-◌, ◌*◌, ◌/◌, ◌%◌, ◌^◌, ◌≤◌, ◌<◌, Bool, true, false, not, ◌&&◌, ◌||◌, ◌==◌, nat_le, IsTrue, List, length, get_or, set, refl, sym, ap, ◌∙◌, arith, w64}
+use Rattle.std.proofs.Common.{◌≡◌, ◌≢◌, ℕ, ◌+◌, ◌-◌, ◌*◌, ◌/◌, ◌%◌, ◌^◌, ◌≤◌, ◌<◌, Bool, true, false, not, ◌&&◌, ◌||◌, ◌==◌, nat_le, IsTrue}
+use Rattle.std.proofs.Common.{List, length, get_or, set, refl, sym, ap, ◌∙◌, arith, w64}
 use Rattle.std.proofs.lemmas.List.{get_or-set_same, get_or-set_other}
 use Rattle.std.proofs.lemmas.Bool.Decides.{nat_tests}
 use Rattle.std.proofs.lemmas.Nat.{shr-shr, and_le_l, pow_pos}
-use Rattle.std.proofs.lemmas.Nat.Bits.{bit_at-zero, bit_at_lowest, bit_at_above, bit_at_ones, bit_at_ones_above, ones_shr, bit_at-trailing_zeros, bit_at_cat_low, bit_at_cat_high}
+use Rattle.std.proofs.lemmas.Nat.Bits.{bit_at-zero, bit_at_lowest, bit_at_above, bit_at_ones, bit_at_ones_above, ones_shr}
+use Rattle.std.proofs.lemmas.Nat.Bits.{bit_at-trailing_zeros, bit_at_cat_low, bit_at_cat_high}
 use Rattle.std.specs.Prelude.{bit_and, bit_or}
 use Rattle.std.specs.Int.{bit_at, bit_not, trailing_zeros}
 use Rattle.ere.proofs.Bits.{has_or, has_zero, has_cleared}
@@ -27,7 +29,9 @@ pub lowest_bit : (word : ℕ) → 0 < word → word < 2 ^ 64 → (trailing_zeros
 lowest_bit word some small = let lowest = bit_at-trailing_zeros w64 word some small in (lowest.0, λ b below. ap (λ n. n == 1) (lowest.2 b below))
 
 pub cleared_less : (word bit : ℕ) → bit < 64 → IsTrue (has_bit word bit) → bit_and word (bit_not w64 (1 * 2 ^ bit % 2 ^ 64)) < word
-cleared_less word bit inside held = less (bit_and word (bit_not w64 (1 * 2 ^ bit % 2 ^ 64))) (and_le_l word (bit_not w64 (1 * 2 ^ bit % 2 ^ 64))) (λ e. false≢true (sym gone ∙ ap (λ n. has_bit n bit) e ∙ held))
+cleared_less word bit inside held =
+    less (bit_and word (bit_not w64 (1 * 2 ^ bit % 2 ^ 64))) (and_le_l word (bit_not w64 (1 * 2 ^ bit % 2 ^ 64)))
+    (λ e. false≢true (sym gone ∙ ap (λ n. has_bit n bit) e ∙ held))
   where
     less : (n : ℕ) → n ≤ word → n ≢ word → n < word
     less n le apart = omega arith
@@ -62,7 +66,8 @@ moved_word word small = omega arith
 
 pub moved_lowest : (word carried : ℕ) → word < 2 ^ 64 → has_bit (bit_or (word * 2 ^ 1 % 2 ^ 64) carried) 0 ≡ has_bit carried 0
 moved_lowest word carried small =
-    has_or (word * 2 ^ 1 % 2 ^ 64) carried 0 ∙ ap (λ n. has_bit n 0 || has_bit carried 0) (moved_word word small) ∙ ap (λ n. n == 1 || has_bit carried 0) (bit_at_cat_low (word % 2 ^ 63) 1 0 0 (omega arith))
+    has_or (word * 2 ^ 1 % 2 ^ 64) carried 0 ∙ ap (λ n. has_bit n 0 || has_bit carried 0) (moved_word word small)
+    ∙ ap (λ n. n == 1 || has_bit carried 0) (bit_at_cat_low (word % 2 ^ 63) 1 0 0 (omega arith))
 
 one_small : (carried b : ℕ) → carried < 2 → has_bit carried (b + 1) ≡ false
 one_small carried b small = ap (λ n. n == 1) (bit_at_above carried 1 (b + 1) (omega arith) (omega arith))
@@ -74,9 +79,12 @@ or_none false = refl
 pub moved_others : (word carried b : ℕ) → word < 2 ^ 64 → carried < 2 → b < 63 → has_bit (bit_or (word * 2 ^ 1 % 2 ^ 64) carried) (b + 1) ≡ has_bit word b
 moved_others word carried b small bit inside =
     let back : b + 1 - 1 ≡ b = omega arith in
-    let low : bit_at (word % 2 ^ 63) b ≡ bit_at word b = sym (bit_at_cat_low (word / 2 ^ 63) 63 (word % 2 ^ 63) b inside) ∙ ap (λ n. bit_at n b) (sym (split_word word)) in
-    let up : bit_at (word % 2 ^ 63 * 2 ^ 1 + 0) (b + 1) ≡ bit_at word b = bit_at_cat_high (word % 2 ^ 63) 1 0 (b + 1) (omega arith) (omega arith) ∙ ap (λ n. bit_at (word % 2 ^ 63) n) back ∙ low in
-    has_or (word * 2 ^ 1 % 2 ^ 64) carried (b + 1) ∙ ap (λ t. has_bit (word * 2 ^ 1 % 2 ^ 64) (b + 1) || t) (one_small carried b bit) ∙ or_none (has_bit (word * 2 ^ 1 % 2 ^ 64) (b + 1)) ∙ ap (λ n. has_bit n (b + 1)) (moved_word word small) ∙ ap (λ n. n == 1) up
+    let low : bit_at (word % 2 ^ 63) b ≡ bit_at word b =
+    sym (bit_at_cat_low (word / 2 ^ 63) 63 (word % 2 ^ 63) b inside) ∙ ap (λ n. bit_at n b) (sym (split_word word)) in
+    let up : bit_at (word % 2 ^ 63 * 2 ^ 1 + 0) (b + 1) ≡ bit_at word b =
+    bit_at_cat_high (word % 2 ^ 63) 1 0 (b + 1) (omega arith) (omega arith) ∙ ap (λ n. bit_at (word % 2 ^ 63) n) back ∙ low in
+    has_or (word * 2 ^ 1 % 2 ^ 64) carried (b + 1) ∙ ap (λ t. has_bit (word * 2 ^ 1 % 2 ^ 64) (b + 1) || t) (one_small carried b bit)
+    ∙ or_none (has_bit (word * 2 ^ 1 % 2 ^ 64) (b + 1)) ∙ ap (λ n. has_bit n (b + 1)) (moved_word word small) ∙ ap (λ n. n == 1) up
 
 pub highest_is : (word : ℕ) → has_bit (word / 2 ^ 63) 0 ≡ has_bit word 63
 highest_is word = ap (λ n. n == 1) (bit_at_lowest (word / 2 ^ 63))
@@ -130,7 +138,10 @@ and_all false = refl
 
 -- `word << at`
 pub has_moved_to : (word at b : ℕ) → b < 64 → has_bit (word * 2 ^ at % 2 ^ 64) b ≡ (nat_le at b && has_bit word (b - at))
-has_moved_to word at b inside = ap (λ n. n == 1) (sym (bit_at_cat_low (word * 2 ^ at / 2 ^ 64) 64 (word * 2 ^ at % 2 ^ 64) b inside) ∙ ap (λ n. bit_at n b) (whole (word * 2 ^ at))) ∙ go (nat_le at b) refl
+has_moved_to word at b inside =
+    ap (λ n. n == 1)
+    (sym (bit_at_cat_low (word * 2 ^ at / 2 ^ 64) 64 (word * 2 ^ at % 2 ^ 64) b inside) ∙ ap (λ n. bit_at n b) (whole (word * 2 ^ at)))
+    ∙ go (nat_le at b) refl
   where
     whole : (n : ℕ) → n / 2 ^ 64 * 2 ^ 64 + n % 2 ^ 64 ≡ n + 0
     whole n = omega arith

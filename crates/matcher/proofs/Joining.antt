@@ -1,5 +1,7 @@
 -- What the operations on sets of positions have done up to a word.
-use Rattle.std.proofs.Common.{◌≡◌, ◌≢◌, ℕ, zero, suc, ◌+◌, ◌-◌, ◌*◌, ◌/◌, ◌%◌, ◌^◌, ◌≤◌, ◌<◌, Bool, true, false, not, ◌&&◌, ◌||◌, ◌==◌, nat_le, nat_lt, if◌then◌else◌, IsTrue, MatchBool, List, length, get_or, set, refl, sym, ap, subst, ◌∙◌, arith, length-set, w64}
+use Rattle.std.proofs.Common.{◌≡◌, ◌≢◌, ℕ, zero, suc, ◌+◌, ◌-◌, ◌*◌, ◌/◌, ◌%◌, ◌^◌, ◌≤◌, ◌<◌, Bool, true, false, not, ◌&&◌, ◌||◌, ◌==◌}
+use Rattle.std.proofs.Common.{nat_le, nat_lt, if◌then◌else◌, IsTrue, MatchBool, List, length, get_or, set, refl, sym, ap, subst, ◌∙◌, arith}
+use Rattle.std.proofs.Common.{length-set, w64}
 use Rattle.std.proofs.lemmas.List.{get_or-set_same, get_or-set_other, get_or_past}
 use Rattle.std.proofs.lemmas.Grind.{same_number_lists}
 use Rattle.std.proofs.lemmas.Bool.Decides.{nat_tests}
@@ -21,7 +23,8 @@ in_room position size held = go (nat_le size WORDS) refl held
     go false e inside = absurd (omega arith)
 
 -- a set that is found to be empty, or not
-pub none_in_bounds : {size : ℕ} {words : List ℕ} {first end : ℕ} → IsBounded size words first end → (at : ℕ) → end ≤ at → ((i : ℕ) → i < at → get_or words i 0 ≡ 0) → HasNone words
+pub none_in_bounds : {size : ℕ} {words : List ℕ} {first end : ℕ} → IsBounded size words first end → (at : ℕ) → end ≤ at
+    → ((i : ℕ) → i < at → get_or words i 0 ≡ 0) → HasNone words
 none_in_bounds {size} {words} bounds at far none = none_held words each
   where
     each : (i : ℕ) → get_or words i 0 ≡ 0
@@ -37,14 +40,25 @@ some_position words i some small =
     (i * 64 + trailing_zeros w64 (get_or words i 0), position_in words i (trailing_zeros w64 (get_or words i 0)) bit.0 ∙ bit.1)
 
 -- without the empty words before the first position
-pub trimmed : {size : ℕ} (words : List ℕ) (first end at : ℕ) → IsBounded size words first end → (first ≤ at) × (at ≤ end) → ((i : ℕ) → first ≤ i → i < at → get_or words i 0 ≡ 0) → IsBounded size words at end
-trimmed words first end at bounds between none = record { whole = bounds.whole; few = bounds.few; ordered = between.1; inside = bounds.inside; low = λ i l. low i l (nat_lt i first) refl; high = bounds.high }
+pub trimmed : {size : ℕ} (words : List ℕ) (first end at : ℕ) → IsBounded size words first end → (first ≤ at) × (at ≤ end)
+    → ((i : ℕ) → first ≤ i → i < at → get_or words i 0 ≡ 0) → IsBounded size words at end
+trimmed words first end at bounds between none =
+    record {
+      whole = bounds.whole;
+      few = bounds.few;
+      ordered = between.1;
+      inside = bounds.inside;
+      low =
+          λ i l. low i l (nat_lt i first) refl;
+      high = bounds.high;
+    }
   where
     low : (i : ℕ) → i < at → (t : Bool) → nat_lt i first ≡ t → get_or words i 0 ≡ 0
     low i l true e = bounds.low i (grind (arith, nat_tests))
     low i l false e = none i (grind (arith, nat_tests)) l
 
-pub none_since : (words : List ℕ) (first at : ℕ) → ((i : ℕ) → first ≤ i → i < at → get_or words i 0 ≡ 0) → get_or words at 0 ≡ 0 → (i : ℕ) → first ≤ i → i < at + 1 → get_or words i 0 ≡ 0
+pub none_since : (words : List ℕ) (first at : ℕ) → ((i : ℕ) → first ≤ i → i < at → get_or words i 0 ≡ 0) → get_or words at 0 ≡ 0 → (i : ℕ)
+    → first ≤ i → i < at + 1 → get_or words i 0 ≡ 0
 none_since words first at none here i low inside = go (i == at) refl
   where
     go : (t : Bool) → (i == at) ≡ t → get_or words i 0 ≡ 0
@@ -102,7 +116,8 @@ pub record IsFilled (size : ℕ) (words : List ℕ) (at : ℕ) : Type 0 where
 pub filled_first : {size : ℕ} (words : List ℕ) → length words ≡ size → ((i : ℕ) → get_or words i 0 ≡ 0) → IsFilled size words 0
 filled_first words whole none = record { whole = whole; below = λ k l. absurd (omega arith); above = λ i l. none i }
 
-pub filled_more : {size : ℕ} (words : List ℕ) (at word : ℕ) → IsFilled size words at → at < size → ((b : ℕ) → has_bit word b ≡ nat_le b 63) → IsFilled size (set words at word) (at + 1)
+pub filled_more : {size : ℕ} (words : List ℕ) (at word : ℕ) → IsFilled size words at → at < size → ((b : ℕ) → has_bit word b ≡ nat_le b 63)
+    → IsFilled size (set words at word) (at + 1)
 filled_more words at word h inside full = record {
   whole = length-set words at word ∙ h.whole;
   below = λ k l. below k l (nat_lt k (at * 64)) refl;
@@ -118,17 +133,25 @@ filled_more words at word h inside full = record {
         let place : at * 64 + (k - at * 64) ≡ k = omega arith in
         let bit : k - at * 64 < 64 = omega arith in
         let test : nat_le (k - at * 64) 63 ≡ true = grind (arith, nat_tests) in
-        subst (λ n. has_position (set words at word) n ≡ true) place (position_set_same words at word (k - at * 64) (omega (arith, h.whole)) bit ∙ full (k - at * 64) ∙ test)
+        subst (λ n. has_position (set words at word) n ≡ true) place
+        (position_set_same words at word (k - at * 64) (omega (arith, h.whole)) bit ∙ full (k - at * 64) ∙ test)
 
-pub filled_all : {size : ℕ} (words : List ℕ) (last at word : ℕ) → IsFilled size words at → at ≡ last / 64 → at < size → ((b : ℕ) → has_bit word b ≡ nat_le b (last % 64)) → (k : ℕ) → has_position (set words at word) k ≡ nat_le k last
+pub filled_all : {size : ℕ} (words : List ℕ) (last at word : ℕ) → IsFilled size words at → at ≡ last / 64 → at < size
+    → ((b : ℕ) → has_bit word b ≡ nat_le b (last % 64)) → (k : ℕ) → has_position (set words at word) k ≡ nat_le k last
 filled_all words last at word h e inside full k = go (nat_lt k (at * 64)) (nat_lt k (at * 64 + 64)) refl refl
   where
     same_test : (b m n : ℕ) → at * 64 + b ≡ m → at * 64 + last % 64 ≡ n → nat_le b (last % 64) ≡ nat_le m n
     same_test b m n p q = pick (nat_le b (last % 64)) refl
       where
         pick : (t : Bool) → nat_le b (last % 64) ≡ t → nat_le b (last % 64) ≡ nat_le m n
-        pick true f = let low : nat_le m n ≡ true = let le : b ≤ last % 64 = grind (arith, nat_tests) in let le_all : m ≤ n = omega arith in grind (arith, nat_tests) in f ∙ sym low
-        pick false f = let high : nat_le m n ≡ false = let gt : last % 64 < b = grind (arith, nat_tests) in let gt_all : n < m = omega arith in grind (arith, nat_tests) in f ∙ sym high
+        pick true f =
+            let low : nat_le m n ≡ true =
+            let le : b ≤ last % 64 = grind (arith, nat_tests) in let le_all : m ≤ n = omega arith in grind (arith, nat_tests) in
+            f ∙ sym low
+        pick false f =
+            let high : nat_le m n ≡ false =
+            let gt : last % 64 < b = grind (arith, nat_tests) in let gt_all : n < m = omega arith in grind (arith, nat_tests) in
+            f ∙ sym high
 
     go : (t u : Bool) → nat_lt k (at * 64) ≡ t → nat_lt k (at * 64 + 64) ≡ u → has_position (set words at word) k ≡ nat_le k last
     go true u f g =
@@ -140,14 +163,17 @@ filled_all words last at word h e inside full k = go (nat_lt k (at * 64)) (nat_l
         let low : k < at * 64 + 64 = grind (arith, nat_tests) in
         let place : at * 64 + (k - at * 64) ≡ k = omega arith in
         let whole : at * 64 + last % 64 ≡ last = omega arith in
-        let own : has_position (set words at word) (at * 64 + (k - at * 64)) ≡ nat_le k last = position_set_same words at word (k - at * 64) (omega (arith, h.whole)) (omega arith) ∙ full (k - at * 64) ∙ same_test (k - at * 64) k last place whole in
+        let own : has_position (set words at word) (at * 64 + (k - at * 64)) ≡ nat_le k last =
+        position_set_same words at word (k - at * 64) (omega (arith, h.whole)) (omega arith) ∙ full (k - at * 64)
+        ∙ same_test (k - at * 64) k last place whole in
         subst (λ n. has_position (set words at word) n ≡ nat_le k last) place own
     go false false f g =
         let high : at * 64 + 64 ≤ k = grind (arith, nat_tests) in
         let test : nat_le k last ≡ false = let gt : last < k = omega arith in grind (arith, nat_tests) in
         position_set_other words at word k (omega arith) ∙ empty_word words k (h.above (k / 64) (omega arith)) ∙ sym test
 
-pub filled_bounded : {size : ℕ} (words : List ℕ) (at word : ℕ) → size ≤ WORDS → IsFilled size words at → at < size → IsBounded size (set words at word) 0 (at + 1)
+pub filled_bounded : {size : ℕ} (words : List ℕ) (at word : ℕ) → size ≤ WORDS → IsFilled size words at → at < size
+    → IsBounded size (set words at word) 0 (at + 1)
 filled_bounded words at word few h inside = record {
   whole = length-set words at word ∙ h.whole;
   few = few;
@@ -161,7 +187,9 @@ filled_bounded words at word few h inside = record {
 and_none : (a b : Bool) → a ≡ false → (a && b) ≡ false
 and_none a b e = rw e refl
 
-pub kept : (words old : List ℕ) (position word : ℕ) → ((i : ℕ) → get_or words i 0 ≡ 0) → position / 64 < length words → ((b : ℕ) → has_bit word b ≡ (b == position % 64 && has_bit (get_or old (position / 64) 0) b)) → (k : ℕ) → has_position (set words (position / 64) word) k ≡ (k == position && has_position old k)
+pub kept : (words old : List ℕ) (position word : ℕ) → ((i : ℕ) → get_or words i 0 ≡ 0) → position / 64 < length words
+    → ((b : ℕ) → has_bit word b ≡ (b == position % 64 && has_bit (get_or old (position / 64) 0) b)) → (k : ℕ)
+    → has_position (set words (position / 64) word) k ≡ (k == position && has_position old k)
 kept words old position word none inside only k = go (k / 64 == position / 64) refl
   where
     other : k == position ≡ false → (k == position && has_position old k) ≡ false
@@ -185,15 +213,20 @@ kept words old position word none inside only k = go (k / 64 == position / 64) r
     go true e =
         let same : k / 64 ≡ position / 64 = grind (arith, nat_tests) in
         let place : position / 64 * 64 + k % 64 ≡ k = omega arith in
-        let bits : has_bit word (k % 64) ≡ (k == position && has_position old k) = only (k % 64) ∙ ap (λ t. t && has_bit (get_or old (position / 64) 0) (k % 64)) (same_test same) ∙ ap (λ t. k == position && t) (sym (position_in old (position / 64) (k % 64) (omega arith)) ∙ ap (λ n. has_position old n) place) in
-        let own : has_position (set words (position / 64) word) (position / 64 * 64 + k % 64) ≡ (k == position && has_position old k) = position_set_same words (position / 64) word (k % 64) inside (omega arith) ∙ bits in
+        let bits : has_bit word (k % 64) ≡ (k == position && has_position old k) =
+        only (k % 64) ∙ ap (λ t. t && has_bit (get_or old (position / 64) 0) (k % 64)) (same_test same)
+        ∙ ap (λ t. k == position && t)
+        (sym (position_in old (position / 64) (k % 64) (omega arith)) ∙ ap (λ n. has_position old n) place) in
+        let own : has_position (set words (position / 64) word) (position / 64 * 64 + k % 64) ≡ (k == position && has_position old k) =
+        position_set_same words (position / 64) word (k % 64) inside (omega arith) ∙ bits in
         subst (λ n. has_position (set words (position / 64) word) n ≡ (k == position && has_position old k)) place own
     go false e =
         let apart : k / 64 ≢ position / 64 = grind (arith, nat_tests) in
         let test : k == position ≡ false = let apart_all : k ≢ position = λ same. apart (ap (λ n. n / 64) same) in grind (arith, nat_tests) in
         position_set_other words (position / 64) word k apart ∙ empty_word words k (none (k / 64)) ∙ sym (other test)
 
-pub kept_bounded : {size : ℕ} (words : List ℕ) (at word : ℕ) → size ≤ WORDS → ((i : ℕ) → get_or words i 0 ≡ 0) → length words ≡ size → at < size → IsBounded size (set words at word) at (at + 1)
+pub kept_bounded : {size : ℕ} (words : List ℕ) (at word : ℕ) → size ≤ WORDS → ((i : ℕ) → get_or words i 0 ≡ 0) → length words ≡ size
+    → at < size → IsBounded size (set words at word) at (at + 1)
 kept_bounded words at word few none whole inside = record {
   whole = length-set words at word ∙ whole;
   few = few;
@@ -209,10 +242,12 @@ pub record IsCopied (size : ℕ) (words other : List ℕ) (at : ℕ) : Type 0 wh
   pub below : (i : ℕ) → i < at → get_or words i 0 ≡ get_or other i 0
   pub above : (i : ℕ) → at ≤ i → get_or words i 0 ≡ 0
 
-pub copied_first : {size : ℕ} (words other : List ℕ) (first end : ℕ) → length words ≡ size → ((i : ℕ) → get_or words i 0 ≡ 0) → IsBounded size other first end → IsCopied size words other first
+pub copied_first : {size : ℕ} (words other : List ℕ) (first end : ℕ) → length words ≡ size → ((i : ℕ) → get_or words i 0 ≡ 0)
+    → IsBounded size other first end → IsCopied size words other first
 copied_first words other first end whole none bounds = record { whole = whole; below = λ i l. none i ∙ sym (bounds.low i l); above = λ i l. none i }
 
-pub copied_more : {size : ℕ} (words other : List ℕ) (at : ℕ) → IsCopied size words other at → at < size → IsCopied size (set words at (get_or other at 0)) other (at + 1)
+pub copied_more : {size : ℕ} (words other : List ℕ) (at : ℕ) → IsCopied size words other at → at < size
+    → IsCopied size (set words at (get_or other at 0)) other (at + 1)
 copied_more words other at h inside = record {
   whole = length-set words at (get_or other at 0) ∙ h.whole;
   below = λ i l. below i l (i == at) refl;
@@ -248,7 +283,8 @@ or_false : (b : Bool) → b ≡ (b || false)
 or_false true = refl
 or_false false = refl
 
-pub added_first : {size : ℕ} (found fresh : List ℕ) (first end : ℕ) → length found ≡ size → IsBounded size fresh first end → IsAddedTo size found fresh found fresh first first
+pub added_first : {size : ℕ} (found fresh : List ℕ) (first end : ℕ) → length found ≡ size → IsBounded size fresh first end
+    → IsAddedTo size found fresh found fresh first first
 added_first found fresh first end whole bounds = record {
   found_whole = whole;
   fresh_whole = bounds.whole;
@@ -260,7 +296,8 @@ added_first found fresh first end whole bounds = record {
   fresh_above = λ i l. refl;
 }
 
-pub added_more : {size : ℕ} (old_found old_fresh found fresh : List ℕ) (first at rest both : ℕ) → IsAddedTo size old_found old_fresh found fresh first at → first ≤ at → at < size
+pub added_more : {size : ℕ} (old_found old_fresh found fresh : List ℕ) (first at rest both : ℕ)
+    → IsAddedTo size old_found old_fresh found fresh first at → first ≤ at → at < size
     → ((b : ℕ) → b < 64 → has_bit rest b ≡ (has_bit (get_or fresh at 0) b && not (has_bit (get_or found at 0) b)))
     → ((b : ℕ) → has_bit both b ≡ (has_bit (get_or found at 0) b || has_bit (get_or fresh at 0) b))
     → IsAddedTo size old_found old_fresh (set found at both) (set fresh at rest) first (at + 1)
@@ -281,7 +318,8 @@ added_more old_found old_fresh found fresh first at rest both h begun inside new
     old_fresh_bit : (b : ℕ) → b < 64 → has_bit (get_or fresh at 0) b ≡ has_position old_fresh (at * 64 + b)
     old_fresh_bit b l = ap (λ w. has_bit w b) (h.fresh_above at (omega arith)) ∙ sym (position_in old_fresh at b l)
 
-    found_below : (k : ℕ) → k < (at + 1) * 64 → (t : Bool) → nat_lt k (at * 64) ≡ t → has_position (set found at both) k ≡ (has_position old_found k || has_position old_fresh k)
+    found_below : (k : ℕ) → k < (at + 1) * 64 → (t : Bool) → nat_lt k (at * 64) ≡ t
+        → has_position (set found at both) k ≡ (has_position old_found k || has_position old_fresh k)
     found_below k l true e =
         let low : k < at * 64 = grind (arith, nat_tests) in
         position_set_other found at both k (omega arith) ∙ h.found_below k low
@@ -289,9 +327,12 @@ added_more old_found old_fresh found fresh first at rest both h begun inside new
         let high : at * 64 ≤ k = grind (arith, nat_tests) in
         let place : at * 64 + (k - at * 64) ≡ k = omega arith in
         let bit : k - at * 64 < 64 = omega arith in
-        subst (λ n. has_position (set found at both) n ≡ (has_position old_found n || has_position old_fresh n)) place (position_set_same found at both (k - at * 64) (omega (arith, h.found_whole)) bit ∙ joins (k - at * 64) ∙ rw (old_found_bit (k - at * 64) bit, old_fresh_bit (k - at * 64) bit) refl)
+        subst (λ n. has_position (set found at both) n ≡ (has_position old_found n || has_position old_fresh n)) place
+        (position_set_same found at both (k - at * 64) (omega (arith, h.found_whole)) bit ∙ joins (k - at * 64)
+        ∙ rw (old_found_bit (k - at * 64) bit, old_fresh_bit (k - at * 64) bit) refl)
 
-    fresh_below : (k : ℕ) → k < (at + 1) * 64 → (t : Bool) → nat_lt k (at * 64) ≡ t → has_position (set fresh at rest) k ≡ (has_position old_fresh k && not (has_position old_found k))
+    fresh_below : (k : ℕ) → k < (at + 1) * 64 → (t : Bool) → nat_lt k (at * 64) ≡ t
+        → has_position (set fresh at rest) k ≡ (has_position old_fresh k && not (has_position old_found k))
     fresh_below k l true e =
         let low : k < at * 64 = grind (arith, nat_tests) in
         position_set_other fresh at rest k (omega arith) ∙ h.fresh_below k low
@@ -299,9 +340,12 @@ added_more old_found old_fresh found fresh first at rest both h begun inside new
         let high : at * 64 ≤ k = grind (arith, nat_tests) in
         let place : at * 64 + (k - at * 64) ≡ k = omega arith in
         let bit : k - at * 64 < 64 = omega arith in
-        subst (λ n. has_position (set fresh at rest) n ≡ (has_position old_fresh n && not (has_position old_found n))) place (position_set_same fresh at rest (k - at * 64) (omega (arith, h.fresh_whole)) bit ∙ news (k - at * 64) bit ∙ rw (old_found_bit (k - at * 64) bit, old_fresh_bit (k - at * 64) bit) refl)
+        subst (λ n. has_position (set fresh at rest) n ≡ (has_position old_fresh n && not (has_position old_found n))) place
+        (position_set_same fresh at rest (k - at * 64) (omega (arith, h.fresh_whole)) bit ∙ news (k - at * 64) bit
+        ∙ rw (old_found_bit (k - at * 64) bit, old_fresh_bit (k - at * 64) bit) refl)
 
-module _ {size : ℕ} (old_found old_fresh found fresh : List ℕ) (first at end : ℕ) (h : IsAddedTo size old_found old_fresh found fresh first at) (bounds : IsBounded size old_fresh first end) (limit : at ≡ end) where
+module _ {size : ℕ} (old_found old_fresh found fresh : List ℕ) (first at end : ℕ)
+    (h : IsAddedTo size old_found old_fresh found fresh first at) (bounds : IsBounded size old_fresh first end) (limit : at ≡ end) where
   pub added_found : IsEither old_found old_fresh found
   added_found = record { each = λ k. go k (nat_lt k (at * 64)) refl }
     where
@@ -333,17 +377,26 @@ module _ {size : ℕ} (old_found old_fresh found fresh : List ℕ) (first at end
   }
 
   -- the joined set lies within the bounds of both
-  pub found_bounded : (old_first old_end low high : ℕ) → IsBounded size old_found old_first old_end → low ≤ high → high ≤ size → (first < end → (low ≤ first) × (end ≤ high)) → (old_first < old_end → (low ≤ old_first) × (old_end ≤ high)) → IsBounded size found low high
+  pub found_bounded : (old_first old_end low high : ℕ) → IsBounded size old_found old_first old_end → low ≤ high → high ≤ size
+      → (first < end → (low ≤ first) × (end ≤ high)) → (old_first < old_end → (low ≤ old_first) × (old_end ≤ high))
+      → IsBounded size found low high
   found_bounded old_first old_end low high old ordered inside holds holds_old = record {
     whole = h.found_whole;
     few = bounds.few;
     ordered = ordered;
     inside = inside;
-    low = λ i l. outside i (λ within some. let both = holds some in omega (arith, both.0, within.0)) (λ within some. let both = holds_old some in omega (arith, both.0, within.0));
-    high = λ i l. outside i (λ within some. let both = holds some in omega (arith, both.1, within.1)) (λ within some. let both = holds_old some in omega (arith, both.1, within.1));
+    low =
+        λ i l.
+        outside i (λ within some. let both = holds some in omega (arith, both.0, within.0))
+        (λ within some. let both = holds_old some in omega (arith, both.0, within.0));
+    high =
+        λ i l.
+        outside i (λ within some. let both = holds some in omega (arith, both.1, within.1))
+        (λ within some. let both = holds_old some in omega (arith, both.1, within.1));
   }
     where
-      old_none : (i : ℕ) → ((old_first ≤ i) × (i < old_end) → old_first < old_end → ⊥) → (t u : Bool) → nat_lt i old_first ≡ t → nat_lt i old_end ≡ u → get_or old_found i 0 ≡ 0
+      old_none : (i : ℕ) → ((old_first ≤ i) × (i < old_end) → old_first < old_end → ⊥) → (t u : Bool) → nat_lt i old_first ≡ t
+          → nat_lt i old_end ≡ u → get_or old_found i 0 ≡ 0
       old_none i out true u e f = old.low i (grind (arith, nat_tests))
       old_none i out false true e f =
           let above : old_first ≤ i = grind (arith, nat_tests) in
@@ -360,7 +413,9 @@ module _ {size : ℕ} (old_found old_fresh found fresh : List ℕ) (first at end
               let above : first ≤ i = grind (arith, nat_tests) in
               let below : i < end = grind (arith, nat_tests) in
               absurd (out (above, below) (omega arith))
-          go false false e f = let past : end ≤ i = grind (arith, nat_tests) in h.found_above i (omega arith) ∙ old_none i out_old (nat_lt i old_first) (nat_lt i old_end) refl refl
+          go false false e f =
+              let past : end ≤ i = grind (arith, nat_tests) in
+              h.found_above i (omega arith) ∙ old_none i out_old (nat_lt i old_first) (nat_lt i old_end) refl refl
 
 -- a set that grows has fewer positions absent
 absent_least : (old new : List ℕ) → ((k : ℕ) → IsTrue (has_position old k) → IsTrue (has_position new k)) → (n : ℕ) → absent_below new n ≤ absent_below old n
@@ -368,27 +423,32 @@ unfolding absent_below
 absent_least old new grows zero = omega arith
 absent_least old new grows (suc n) = go (has_position old n) (has_position new n) (grows n) (absent_least old new grows n)
   where
-    go : (a b : Bool) → (IsTrue a → IsTrue b) → absent_below new n ≤ absent_below old n → more_unless b (absent_below new n) ≤ more_unless a (absent_below old n)
+    go : (a b : Bool) → (IsTrue a → IsTrue b) → absent_below new n ≤ absent_below old n
+        → more_unless b (absent_below new n) ≤ more_unless a (absent_below old n)
     go true true g l = l
     go true false g l = absurd (false≢true (g refl))
     go false true g l = omega (arith, l)
     go false false g l = omega (arith, l)
 
-absent_fewer : (old new : List ℕ) → ((k : ℕ) → IsTrue (has_position old k) → IsTrue (has_position new k)) → (n k : ℕ) → k < n → has_position old k ≡ false → IsTrue (has_position new k) → absent_below new n < absent_below old n
+absent_fewer : (old new : List ℕ) → ((k : ℕ) → IsTrue (has_position old k) → IsTrue (has_position new k)) → (n k : ℕ) → k < n
+    → has_position old k ≡ false → IsTrue (has_position new k) → absent_below new n < absent_below old n
 unfolding absent_below
 absent_fewer old new grows zero k inside gone there = absurd (omega arith)
 absent_fewer old new grows (suc n) k inside gone there = pick (k == n) refl (λ below. absent_fewer old new grows n k below gone there)
   where
-    own : has_position old n ≡ false → IsTrue (has_position new n) → more_unless (has_position new n) (absent_below new n) < more_unless (has_position old n) (absent_below old n)
+    own : has_position old n ≡ false → IsTrue (has_position new n)
+        → more_unless (has_position new n) (absent_below new n) < more_unless (has_position old n) (absent_below old n)
     own a b = let least : absent_below new n ≤ absent_below old n = absent_least old new grows n in rw (a, b) (omega (arith, least))
 
-    go : (a b : Bool) → (IsTrue a → IsTrue b) → absent_below new n < absent_below old n → more_unless b (absent_below new n) < more_unless a (absent_below old n)
+    go : (a b : Bool) → (IsTrue a → IsTrue b) → absent_below new n < absent_below old n
+        → more_unless b (absent_below new n) < more_unless a (absent_below old n)
     go true true g l = l
     go true false g l = absurd (false≢true (g refl))
     go false true g l = omega (arith, l)
     go false false g l = omega (arith, l)
 
-    pick : (t : Bool) → (k == n) ≡ t → (k < n → absent_below new n < absent_below old n) → more_unless (has_position new n) (absent_below new n) < more_unless (has_position old n) (absent_below old n)
+    pick : (t : Bool) → (k == n) ≡ t → (k < n → absent_below new n < absent_below old n)
+        → more_unless (has_position new n) (absent_below new n) < more_unless (has_position old n) (absent_below old n)
     pick true e fewer = let same : k ≡ n = grind (arith, nat_tests) in own (rw same at gone) (rw same at there)
     pick false e fewer = let apart : k ≢ n = grind (arith, nat_tests) in go (has_position old n) (has_position new n) (grows n) (fewer (omega arith))
 
@@ -402,7 +462,9 @@ held_inside words k h = go (nat_lt k (64 * length words)) refl
         let far : 64 * length words ≤ k = grind (arith, nat_tests) in
         absurd (false≢true (sym (empty_word words k (get_or_past words (k / 64) 0 (omega arith))) ∙ h))
 
-pub added_grows : (old_found old_fresh found fresh : List ℕ) → length found ≡ length old_found → IsEither old_found old_fresh found → IsNew old_fresh old_found fresh → (none : Bool) → MatchBool none (HasNone fresh) ((k : ℕ) × IsTrue (has_position fresh k)) → MatchBool (not none) (absent found < absent old_found) (HasNone fresh)
+pub added_grows : (old_found old_fresh found fresh : List ℕ) → length found ≡ length old_found → IsEither old_found old_fresh found
+    → IsNew old_fresh old_found fresh → (none : Bool) → MatchBool none (HasNone fresh) ((k : ℕ) × IsTrue (has_position fresh k))
+    → MatchBool (not none) (absent found < absent old_found) (HasNone fresh)
 unfolding absent
 added_grows old_found old_fresh found fresh whole either new true h = h
 added_grows old_found old_fresh found fresh whole either new false h =

@@ -1,5 +1,6 @@
 -- Sets of positions that are one word.
-use Rattle.std.proofs.Common.{◌≡◌, ◌≢◌, ℕ, zero, suc, ◌+◌, ◌*◌, ◌/◌, ◌^◌, ◌≤◌, ◌<◌, Bool, true, false, not, ◌&&◌, ◌||◌, ◌==◌, nat_le, nat_lt, IsTrue, MatchBool, List, [], ◌∷◌, length, refl, sym, ap, subst, ◌∙◌, arith}
+use Rattle.std.proofs.Common.{◌≡◌, ◌≢◌, ℕ, zero, suc, ◌+◌, ◌*◌, ◌/◌, ◌^◌, ◌≤◌, ◌<◌, Bool, true, false, not, ◌&&◌, ◌||◌, ◌==◌, nat_le}
+use Rattle.std.proofs.Common.{nat_lt, IsTrue, MatchBool, List, [], ◌∷◌, length, refl, sym, ap, subst, ◌∙◌, arith}
 use Rattle.std.proofs.lemmas.List.{get_or_past}
 use Rattle.std.proofs.lemmas.Bool.Decides.{nat_tests}
 use Rattle.ere.specs.Tree as tree
@@ -24,7 +25,8 @@ one_out word k far =
     let past : 1 ≤ k / 64 = omega arith in
     empty_word (word ∷ []) k (get_or_past (word ∷ []) (k / 64) 0 past)
 
-pub one_each : (word : ℕ) (held : ℕ → Bool) → ((k : ℕ) → k < 64 → has_bit word k ≡ held k) → ((k : ℕ) → 64 ≤ k → held k ≡ false) → (k : ℕ) → has_position (word ∷ []) k ≡ held k
+pub one_each : (word : ℕ) (held : ℕ → Bool) → ((k : ℕ) → k < 64 → has_bit word k ≡ held k) → ((k : ℕ) → 64 ≤ k → held k ≡ false) → (k : ℕ)
+    → has_position (word ∷ []) k ≡ held k
 one_each word held inside outside k = go (nat_lt k 64) refl
   where
     go : (t : Bool) → nat_lt k 64 ≡ t → has_position (word ∷ []) k ≡ held k
@@ -47,48 +49,79 @@ one_through word last low each = one_each word (λ k. nat_le k last) (λ k l. ea
     outside : (k : ℕ) → 64 ≤ k → nat_le k last ≡ false
     outside k far = let past : last < k = omega arith in grind (arith, nat_tests)
 
-pub one_kept : (old new position : ℕ) → ((b : ℕ) → has_bit new b ≡ (b == position && has_bit old b)) → (k : ℕ) → has_position (new ∷ []) k ≡ (k == position && has_position (old ∷ []) k)
-one_kept old new position each = one_each new (λ k. k == position && has_position (old ∷ []) k) (λ k l. each k ∙ ap (λ t. k == position && t) (sym (one_in old k l))) (λ k far. and_false (k == position) (has_position (old ∷ []) k) (one_out old k far))
+pub one_kept : (old new position : ℕ) → ((b : ℕ) → has_bit new b ≡ (b == position && has_bit old b)) → (k : ℕ)
+    → has_position (new ∷ []) k ≡ (k == position && has_position (old ∷ []) k)
+one_kept old new position each =
+    one_each new (λ k. k == position && has_position (old ∷ []) k) (λ k l. each k ∙ ap (λ t. k == position && t) (sym (one_in old k l)))
+    (λ k far. and_false (k == position) (has_position (old ∷ []) k) (one_out old k far))
 
 pub one_either : (left right both : ℕ) → ((b : ℕ) → has_bit both b ≡ (has_bit left b || has_bit right b)) → IsEither (left ∷ []) (right ∷ []) (both ∷ [])
-one_either left right both each = record { each = one_each both (λ k. has_position (left ∷ []) k || has_position (right ∷ []) k) (λ k l. each k ∙ sym (rw (one_in left k l, one_in right k l) refl)) (λ k far. rw (one_out left k far, one_out right k far) refl) }
+one_either left right both each =
+    record {
+      each =
+          one_each both (λ k. has_position (left ∷ []) k || has_position (right ∷ []) k)
+          (λ k l. each k ∙ sym (rw (one_in left k l, one_in right k l) refl))
+          (λ k far. rw (one_out left k far, one_out right k far) refl);
+    }
 
-pub one_new : (next found fresh : ℕ) → ((b : ℕ) → b < 64 → has_bit fresh b ≡ (has_bit next b && not (has_bit found b))) → IsNew (next ∷ []) (found ∷ []) (fresh ∷ [])
-one_new next found fresh each = record { each = one_each fresh (λ k. has_position (next ∷ []) k && not (has_position (found ∷ []) k)) (λ k l. each k l ∙ sym (rw (one_in next k l, one_in found k l) refl)) (λ k far. rw (one_out next k far) refl) }
+pub one_new : (next found fresh : ℕ) → ((b : ℕ) → b < 64 → has_bit fresh b ≡ (has_bit next b && not (has_bit found b)))
+    → IsNew (next ∷ []) (found ∷ []) (fresh ∷ [])
+one_new next found fresh each =
+    record {
+      each =
+          one_each fresh (λ k. has_position (next ∷ []) k && not (has_position (found ∷ []) k))
+          (λ k l. each k l ∙ sym (rw (one_in next k l, one_in found k l) refl)) (λ k far. rw (one_out next k far) refl);
+    }
 
-pub one_grows : (old next both fresh : ℕ) → fresh < 2 ^ 64 → ((b : ℕ) → has_bit both b ≡ (has_bit old b || has_bit next b)) → ((b : ℕ) → b < 64 → has_bit fresh b ≡ (has_bit next b && not (has_bit old b))) → MatchBool (not (fresh == 0)) (absent (both ∷ []) < absent (old ∷ [])) (HasNone (fresh ∷ []))
-one_grows old next both fresh small joins news = added_grows (old ∷ []) (next ∷ []) (both ∷ []) (fresh ∷ []) refl (one_either old next both joins) (one_new next old fresh news) (fresh == 0) (one_empty fresh small)
+pub one_grows : (old next both fresh : ℕ) → fresh < 2 ^ 64 → ((b : ℕ) → has_bit both b ≡ (has_bit old b || has_bit next b))
+    → ((b : ℕ) → b < 64 → has_bit fresh b ≡ (has_bit next b && not (has_bit old b)))
+    → MatchBool (not (fresh == 0)) (absent (both ∷ []) < absent (old ∷ [])) (HasNone (fresh ∷ []))
+one_grows old next both fresh small joins news =
+    added_grows (old ∷ []) (next ∷ []) (both ∷ []) (fresh ∷ []) refl (one_either old next both joins) (one_new next old fresh news)
+    (fresh == 0) (one_empty fresh small)
 
 module _ (line : List ℕ) (members : List Bool) (short : length line ≤ 63) where
-  pub one_shifted : (old passing new : ℕ) → ((b : ℕ) → b < 64 → has_bit passing b ≡ (has_bit old b && passes members line (0 + b))) → has_bit new 0 ≡ has_bit 0 0 → ((b : ℕ) → b < 63 → has_bit new (b + 1) ≡ has_bit passing b) → Moves (Spans line (tree.set members)) (old ∷ []) (new ∷ [])
-  one_shifted old passing new followed lowest others = moves_shifted line members (old ∷ []) (new ∷ []) (one_each new (arrives members line (old ∷ [])) inside outside)
+  pub one_shifted : (old passing new : ℕ) → ((b : ℕ) → b < 64 → has_bit passing b ≡ (has_bit old b && passes members line (0 + b)))
+      → has_bit new 0 ≡ has_bit 0 0 → ((b : ℕ) → b < 63 → has_bit new (b + 1) ≡ has_bit passing b)
+      → Moves (Spans line (tree.set members)) (old ∷ []) (new ∷ [])
+  one_shifted old passing new followed lowest others =
+      moves_shifted line members (old ∷ []) (new ∷ []) (one_each new (arrives members line (old ∷ [])) inside outside)
     where
       inside : (k : ℕ) → k < 64 → has_bit new k ≡ arrives members line (old ∷ []) k
       inside zero l = lowest ∙ has_zero 0
       inside (suc k) l =
           let next : suc k ≡ k + 1 = omega arith in
           let place : 0 + k ≡ k = omega arith in
-          ap (λ n. has_bit new n) next ∙ others k (omega arith) ∙ followed k (omega arith) ∙ ap (λ n. has_bit old k && passes members line n) place ∙ ap (λ t. t && passes members line k) (sym (one_in old k (omega arith)))
+          ap (λ n. has_bit new n) next ∙ others k (omega arith) ∙ followed k (omega arith)
+          ∙ ap (λ n. has_bit old k && passes members line n) place
+          ∙ ap (λ t. t && passes members line k) (sym (one_in old k (omega arith)))
 
       outside : (k : ℕ) → 64 ≤ k → arrives members line (old ∷ []) k ≡ false
       outside zero far = refl
       outside (suc k) far = and_false (has_position (old ∷ []) k) (passes members line k) (none_passes members line k (omega arith))
 
-  pub one_swept : (old new : ℕ) → ((b : ℕ) → b < 64 → has_bit new b ≡ flood (has_bit old) (λ n. passes members line (0 + n)) b) → Moves (λ from to. (count : ℕ) × Steps (Spans line (tree.set members)) count from to) (old ∷ []) (new ∷ [])
-  one_swept old new floods = moves_swept line members (old ∷ []) (new ∷ []) (one_each new (flood (has_position (old ∷ [])) (passes members line)) inside outside)
+  pub one_swept : (old new : ℕ) → ((b : ℕ) → b < 64 → has_bit new b ≡ flood (has_bit old) (λ n. passes members line (0 + n)) b)
+      → Moves (λ from to. (count : ℕ) × Steps (Spans line (tree.set members)) count from to) (old ∷ []) (new ∷ [])
+  one_swept old new floods =
+      moves_swept line members (old ∷ []) (new ∷ []) (one_each new (flood (has_position (old ∷ [])) (passes members line)) inside outside)
     where
       held : (b : ℕ) → b < 64 → has_bit old b ≡ (has_position (old ∷ []) (0 + b) || has_bit 0 b)
       held b low =
           let place : b ≡ 0 + b = omega arith in
-          sym (one_in old b low) ∙ ap (λ n. has_position (old ∷ []) n) place ∙ sym (or_none (has_position (old ∷ []) (0 + b))) ∙ ap (λ t. has_position (old ∷ []) (0 + b) || t) (sym (has_zero b))
+          sym (one_in old b low) ∙ ap (λ n. has_position (old ∷ []) n) place ∙ sym (or_none (has_position (old ∷ []) (0 + b)))
+          ∙ ap (λ t. has_position (old ∷ []) (0 + b) || t) (sym (has_zero b))
 
       inside : (k : ℕ) → k < 64 → has_bit new k ≡ flood (has_position (old ∷ [])) (passes members line) k
       inside k l =
           let place : 0 + k ≡ k = omega arith in
-          floods k l ∙ comes_word (has_position (old ∷ [])) (passes members line) old 0 0 (λ b low. held b low) (λ b some. has_zero b) (has_zero 0) k l ∙ ap (λ n. flood (has_position (old ∷ [])) (passes members line) n) place
+          floods k l
+          ∙ comes_word (has_position (old ∷ [])) (passes members line) old 0 0 (λ b low. held b low) (λ b some. has_zero b) (has_zero 0)
+          k l ∙ ap (λ n. flood (has_position (old ∷ [])) (passes members line) n) place
 
       outside : (k : ℕ) → 64 ≤ k → flood (has_position (old ∷ [])) (passes members line) k ≡ false
       outside zero far = absurd (omega arith)
       outside (suc k) far =
-          let none : comes (has_position (old ∷ [])) (passes members line) (suc k) ≡ false = and_false (has_position (old ∷ []) k || comes (has_position (old ∷ [])) (passes members line) k) (passes members line k) (none_passes members line k (omega arith)) in
+          let none : comes (has_position (old ∷ [])) (passes members line) (suc k) ≡ false =
+          and_false (has_position (old ∷ []) k || comes (has_position (old ∷ [])) (passes members line) k) (passes members line k)
+          (none_passes members line k (omega arith)) in
           rw (one_out old (suc k) far, none) refl

@@ -1,12 +1,14 @@
 -- Rounds of a repeat, of which each goes on from new positions alone, and passes over those that are done.
-use Rattle.std.proofs.Common.{◌≡◌, ℕ, zero, suc, ◌+◌, ◌-◌, ◌≤◌, ◌<◌, Bool, true, false, not, ◌&&◌, IsTrue, List, length, get_or, drop, map, Option, Some, None, ◌⊎◌, inl, inr, refl, sym, subst, ◌∙◌, arith}
+use Rattle.std.proofs.Common.{◌≡◌, ℕ, zero, suc, ◌+◌, ◌-◌, ◌≤◌, ◌<◌, Bool, true, false, not, ◌&&◌, IsTrue, List, length, get_or, drop, map}
+use Rattle.std.proofs.Common.{Option, Some, None, ◌⊎◌, inl, inr, refl, sym, subst, ◌∙◌, arith}
 use Rattle.ere.specs.declared.tree.Ere.{Ere}
 use Rattle.ere.specs.Tree.{form, trees_of, Tree, empty, cat, alt, repeat, Trees, more}
 use Rattle.matcher.specs.Spans.{Relation, Steps, Spans, SpansEach, SpansSome}
 use Rattle.matcher.specs.PositionSets.{has_position}
 use Rattle.matcher.specs.Private.Moves.{HasNone, IsEither, IsNew, Moves, MovesIf, MovesPast}
 use Rattle.matcher.proofs.Bits.{false≢true}
-use Rattle.matcher.proofs.Walks.{AnySteps, not_held, in_left, in_right, in_either, decide, moves_none, moves_then, moves_each_more, trees_from, steps_split, steps_join}
+use Rattle.matcher.proofs.Walks.{AnySteps, not_held, in_left, in_right, in_either, decide, moves_none, moves_then, moves_each_more}
+use Rattle.matcher.proofs.Walks.{trees_from, steps_split, steps_join}
 
 -- by one step or more
 abbrev pub MoreSteps : Relation → Relation
@@ -26,27 +28,32 @@ moves_of_past relation done from to none_done h = record { sound = h.sound; comp
     found k (inl x) = x
     found k (inr w) = absurd (not_held none_done w.0 w.1)
 
-pub past_cat : (line : List ℕ) (members : Trees) (done from to : List ℕ) → MovesPast (SpansEach line members) done from to → MovesPast (Spans line (cat members)) done from to
+pub past_cat : (line : List ℕ) (members : Trees) (done from to : List ℕ) → MovesPast (SpansEach line members) done from to
+    → MovesPast (Spans line (cat members)) done from to
 unfolding Spans
 past_cat line members done from to h = record { sound = h.sound; complete = h.complete }
 
-pub past_alt : (line : List ℕ) (members : Trees) (done from to : List ℕ) → MovesPast (SpansSome line members) done from to → MovesPast (Spans line (alt members)) done from to
+pub past_alt : (line : List ℕ) (members : Trees) (done from to : List ℕ) → MovesPast (SpansSome line members) done from to
+    → MovesPast (Spans line (alt members)) done from to
 unfolding Spans
 past_alt line members done from to h = record { sound = h.sound; complete = h.complete }
 
 -- any number of words, and one or more
-pub past_star : (line : List ℕ) (body : Tree) (done from to : List ℕ) → MovesPast (AnySteps (Spans line body)) done from to → MovesPast (Spans line (repeat body 0 None)) done from to
+pub past_star : (line : List ℕ) (body : Tree) (done from to : List ℕ) → MovesPast (AnySteps (Spans line body)) done from to
+    → MovesPast (Spans line (repeat body 0 None)) done from to
 unfolding Spans
 past_star line body done from to h = record {
   sound = λ k held. let w = h.sound k held in (w.0, w.1, (w.2.0, omega arith, tt, w.2.1));
   complete = λ i k held r. covered k (h.complete i k held (r.0, r.3));
 }
   where
-    covered : (k : ℕ) → IsTrue (has_position to k) ⊎ Covered (AnySteps (Spans line body)) done k → IsTrue (has_position to k) ⊎ Covered (Spans line (repeat body 0 None)) done k
+    covered : (k : ℕ) → IsTrue (has_position to k) ⊎ Covered (AnySteps (Spans line body)) done k
+        → IsTrue (has_position to k) ⊎ Covered (Spans line (repeat body 0 None)) done k
     covered k (inl x) = inl x
     covered k (inr w) = inr (w.0, w.1, (w.2.0, omega arith, tt, w.2.1))
 
-pub past_plus : (line : List ℕ) (body : Tree) (done from to : List ℕ) → MovesPast (MoreSteps (Spans line body)) done from to → MovesPast (Spans line (repeat body 1 None)) done from to
+pub past_plus : (line : List ℕ) (body : Tree) (done from to : List ℕ) → MovesPast (MoreSteps (Spans line body)) done from to
+    → MovesPast (Spans line (repeat body 1 None)) done from to
 unfolding Spans
 past_plus line body done from to h = record {
   sound = λ k held. let w = h.sound k held in (w.0, w.1, (suc w.2.0, omega arith, tt, w.2.1));
@@ -57,12 +64,15 @@ past_plus line body done from to h = record {
     some i k zero low r = absurd (omega arith)
     some i k (suc count) low r = (count, r)
 
-    covered : (k : ℕ) → IsTrue (has_position to k) ⊎ Covered (MoreSteps (Spans line body)) done k → IsTrue (has_position to k) ⊎ Covered (Spans line (repeat body 1 None)) done k
+    covered : (k : ℕ) → IsTrue (has_position to k) ⊎ Covered (MoreSteps (Spans line body)) done k
+        → IsTrue (has_position to k) ⊎ Covered (Spans line (repeat body 1 None)) done k
     covered k (inl x) = inl x
     covered k (inr w) = inr (w.0, w.1, (suc w.2.0, omega arith, tt, w.2.1))
 
 -- a count that is one less, and then one word or more
-pub moves_some_more_words : (line : List ℕ) (body : Tree) (least before : ℕ) (from middle to : List ℕ) → least ≡ suc before → Moves (Steps (Spans line body) before) from middle → Moves (MoreSteps (Spans line body)) middle to → Moves (Spans line (repeat body least None)) from to
+pub moves_some_more_words : (line : List ℕ) (body : Tree) (least before : ℕ) (from middle to : List ℕ) → least ≡ suc before
+    → Moves (Steps (Spans line body) before) from middle → Moves (MoreSteps (Spans line body)) middle to
+    → Moves (Spans line (repeat body least None)) from to
 unfolding Spans
 moves_some_more_words line body least before from middle to e one two =
     let both = moves_then (Steps (Spans line body) before) (MoreSteps (Spans line body)) from middle to one two in
@@ -78,7 +88,8 @@ moves_some_more_words line body least before from middle to e one two =
     }
 
 -- where the start is added to what one word or more lead to
-pub past_any : (relation : Relation) (done from moved to : List ℕ) → MovesPast (MoreSteps relation) done from moved → IsEither moved from to → MovesPast (AnySteps relation) done from to
+pub past_any : (relation : Relation) (done from moved to : List ℕ) → MovesPast (MoreSteps relation) done from moved → IsEither moved from to
+    → MovesPast (AnySteps relation) done from to
 unfolding Steps
 past_any relation done from moved to h either = record {
   sound = λ k held. sound k (in_either either k held);
@@ -93,32 +104,38 @@ past_any relation done from moved to h either = record {
     covered k (inl x) = inl (in_left either k x)
     covered k (inr w) = inr (w.0, w.1, (suc w.2.0, w.2.1))
 
-    complete : (i k : ℕ) → IsTrue (has_position from i) → (count : ℕ) → Steps relation count i k → IsTrue (has_position to k) ⊎ Covered (AnySteps relation) done k
+    complete : (i k : ℕ) → IsTrue (has_position from i) → (count : ℕ) → Steps relation count i k
+        → IsTrue (has_position to k) ⊎ Covered (AnySteps relation) done k
     complete i k held zero r = inl (in_right either k (subst (λ n. IsTrue (has_position from n)) r held))
     complete i k held (suc count) r = covered k (h.complete i k held (count, r))
 
-pub past_optional : (line : List ℕ) (body : Tree) (done from moved to : List ℕ) → MovesPast (Spans line body) done from moved → IsEither moved from to → MovesPast (Spans line (repeat body 0 (Some 1))) done from to
+pub past_optional : (line : List ℕ) (body : Tree) (done from moved to : List ℕ) → MovesPast (Spans line body) done from moved
+    → IsEither moved from to → MovesPast (Spans line (repeat body 0 (Some 1))) done from to
 unfolding Spans Steps
 past_optional line body done from moved to h either = record {
   sound = λ k held. sound k (in_either either k held);
   complete = λ i k held r. complete i k held r.0 r.2 r.3;
 }
   where
-    sound : (k : ℕ) → IsTrue (has_position moved k) ⊎ IsTrue (has_position from k) → (i : ℕ) × IsTrue (has_position from i) × Spans line (repeat body 0 (Some 1)) i k
+    sound : (k : ℕ) → IsTrue (has_position moved k) ⊎ IsTrue (has_position from k)
+        → (i : ℕ) × IsTrue (has_position from i) × Spans line (repeat body 0 (Some 1)) i k
     sound k (inl x) = let w = h.sound k x in (w.0, w.1, (1, omega arith, omega arith, (w.0, refl, w.2)))
     sound k (inr x) = (k, x, (0, omega arith, omega arith, refl))
 
-    covered : (k : ℕ) → IsTrue (has_position moved k) ⊎ Covered (Spans line body) done k → IsTrue (has_position to k) ⊎ Covered (Spans line (repeat body 0 (Some 1))) done k
+    covered : (k : ℕ) → IsTrue (has_position moved k) ⊎ Covered (Spans line body) done k
+        → IsTrue (has_position to k) ⊎ Covered (Spans line (repeat body 0 (Some 1))) done k
     covered k (inl x) = inl (in_left either k x)
     covered k (inr w) = inr (w.0, w.1, (1, omega arith, omega arith, (w.0, refl, w.2)))
 
-    complete : (i k : ℕ) → IsTrue (has_position from i) → (count : ℕ) → count ≤ 1 → Steps (Spans line body) count i k → IsTrue (has_position to k) ⊎ Covered (Spans line (repeat body 0 (Some 1))) done k
+    complete : (i k : ℕ) → IsTrue (has_position from i) → (count : ℕ) → count ≤ 1 → Steps (Spans line body) count i k
+        → IsTrue (has_position to k) ⊎ Covered (Spans line (repeat body 0 (Some 1))) done k
     complete i k held zero most r = inl (in_right either k (subst (λ n. IsTrue (has_position from n)) r held))
     complete i k held (suc zero) most r = covered k (h.complete i k held (subst (λ n. Spans line body n k) (sym r.1) r.2))
     complete i k held (suc (suc count)) most r = absurd (omega arith)
 
 -- one step of a set, and then any number
-pub moves_more : (relation : Relation) (from middle to : List ℕ) → Moves relation from middle → Moves (AnySteps relation) middle to → Moves (MoreSteps relation) from to
+pub moves_more : (relation : Relation) (from middle to : List ℕ) → Moves relation from middle → Moves (AnySteps relation) middle to
+    → Moves (MoreSteps relation) from to
 unfolding Steps
 moves_more relation from middle to one two = record {
   sound = λ k held.
@@ -135,34 +152,47 @@ moves_more relation from middle to one two = record {
 }
 
 -- Members one behind the other: the next stands at the front too, where this one can be empty.
-pub past_each_more : (line : List ℕ) (tree : Tree) (trees : Trees) (done from middle to : List ℕ) (leads next : Bool) → MovesIf leads (Spans line tree) done from middle → (IsTrue next → IsTrue leads × ((place : ℕ) → Spans line tree place place)) → MovesIf next (SpansEach line trees) done middle to → MovesIf leads (SpansEach line (more tree trees)) done from to
+pub past_each_more : (line : List ℕ) (tree : Tree) (trees : Trees) (done from middle to : List ℕ) (leads next : Bool)
+    → MovesIf leads (Spans line tree) done from middle → (IsTrue next → IsTrue leads × ((place : ℕ) → Spans line tree place place))
+    → MovesIf next (SpansEach line trees) done middle to → MovesIf leads (SpansEach line (more tree trees)) done from to
 unfolding SpansEach
 past_each_more line tree trees done from middle to false true one can two = absurd (false≢true (can refl).0)
 past_each_more line tree trees done from middle to false false one can two = moves_each_more line tree trees from middle to one two
 past_each_more line tree trees done from middle to true next one can two = record { sound = sound next two; complete = complete }
   where
-    sound : (t : Bool) → MovesIf t (SpansEach line trees) done middle to → (k : ℕ) → IsTrue (has_position to k) → (i : ℕ) × IsTrue (has_position from i) × SpansEach line (more tree trees) i k
+    sound : (t : Bool) → MovesIf t (SpansEach line trees) done middle to → (k : ℕ) → IsTrue (has_position to k)
+        → (i : ℕ) × IsTrue (has_position from i) × SpansEach line (more tree trees) i k
     sound true h k held = let m = h.sound k held in let w = one.sound m.0 m.1 in (w.0, w.1, (m.0, w.2, m.2))
     sound false h k held = let m = h.sound k held in let w = one.sound m.0 m.1 in (w.0, w.1, (m.0, w.2, m.2))
 
-    after : (t : Bool) → MovesIf t (SpansEach line trees) done middle to → (IsTrue t → (place : ℕ) → Spans line tree place place) → (m k : ℕ) → IsTrue (has_position middle m) → SpansEach line trees m k → IsTrue (has_position to k) ⊎ Covered (SpansEach line (more tree trees)) done k
+    after : (t : Bool) → MovesIf t (SpansEach line trees) done middle to → (IsTrue t → (place : ℕ) → Spans line tree place place)
+        → (m k : ℕ) → IsTrue (has_position middle m) → SpansEach line trees m k
+        → IsTrue (has_position to k) ⊎ Covered (SpansEach line (more tree trees)) done k
     after false h can_end m k held r = inl (h.complete m k held r)
     after true h can_end m k held r = from_past (h.complete m k held r)
       where
-        from_past : IsTrue (has_position to k) ⊎ Covered (SpansEach line trees) done k → IsTrue (has_position to k) ⊎ Covered (SpansEach line (more tree trees)) done k
+        from_past : IsTrue (has_position to k) ⊎ Covered (SpansEach line trees) done k
+            → IsTrue (has_position to k) ⊎ Covered (SpansEach line (more tree trees)) done k
         from_past (inl x) = inl x
         from_past (inr w) = inr (w.0, w.1, (w.0, can_end refl w.0, w.2))
 
-    complete : (i k : ℕ) → IsTrue (has_position from i) → SpansEach line (more tree trees) i k → IsTrue (has_position to k) ⊎ Covered (SpansEach line (more tree trees)) done k
+    complete : (i k : ℕ) → IsTrue (has_position from i) → SpansEach line (more tree trees) i k
+        → IsTrue (has_position to k) ⊎ Covered (SpansEach line (more tree trees)) done k
     complete i k held r = go (one.complete i r.0 held r.1)
       where
-        go : IsTrue (has_position middle r.0) ⊎ Covered (Spans line tree) done r.0 → IsTrue (has_position to k) ⊎ Covered (SpansEach line (more tree trees)) done k
+        go : IsTrue (has_position middle r.0) ⊎ Covered (Spans line tree) done r.0
+            → IsTrue (has_position to k) ⊎ Covered (SpansEach line (more tree trees)) done k
         go (inl x) = after next two (λ t. (can t).1) r.0 k x r.2
         go (inr w) = inr (w.0, w.1, (r.0, w.2, r.2))
 
-pub past_members : (line : List ℕ) (members : List Ere) (i : ℕ) (member : Ere) (done from middle to : List ℕ) (leads next : Bool) → i < length members → member ≡ get_or members i member → MovesIf leads (Spans line (form member)) done from middle → (IsTrue next → IsTrue leads × ((place : ℕ) → Spans line (form member) place place)) → MovesIf next (SpansEach line (trees_of (map form (drop (i + 1) members)))) done middle to → MovesIf leads (SpansEach line (trees_of (map form (drop i members)))) done from to
+pub past_members : (line : List ℕ) (members : List Ere) (i : ℕ) (member : Ere) (done from middle to : List ℕ) (leads next : Bool)
+    → i < length members → member ≡ get_or members i member → MovesIf leads (Spans line (form member)) done from middle
+    → (IsTrue next → IsTrue leads × ((place : ℕ) → Spans line (form member) place place))
+    → MovesIf next (SpansEach line (trees_of (map form (drop (i + 1) members)))) done middle to
+    → MovesIf leads (SpansEach line (trees_of (map form (drop i members)))) done from to
 past_members line members i member done from middle to leads next inside e one can rest =
-    subst (λ trees. MovesIf leads (SpansEach line trees) done from to) (sym (trees_from members i member inside e)) (past_each_more line (form member) (trees_of (map form (drop (i + 1) members))) done from middle to leads next one can rest)
+    subst (λ trees. MovesIf leads (SpansEach line trees) done from to) (sym (trees_from members i member inside e))
+    (past_each_more line (form member) (trees_of (map form (drop (i + 1) members))) done from middle to leads next one can rest)
 
 pub past_nothing : (leads : Bool) (relation : Relation) (done at : List ℕ) → HasNone at → MovesIf leads relation done at at
 past_nothing true relation done at h = past_of_moves relation done at at (moves_none relation at at h h)
@@ -173,7 +203,9 @@ past_if true relation done from to h = past_of_moves relation done from to h
 past_if false relation done from to h = h
 
 -- one member more of which a word may lead on
-pub past_some_more : (line : List ℕ) (tree : Tree) (trees : Trees) (done from one rest both : List ℕ) → MovesPast (Spans line tree) done from one → MovesPast (SpansSome line trees) done from rest → IsEither rest one both → MovesPast (SpansSome line (more tree trees)) done from both
+pub past_some_more : (line : List ℕ) (tree : Tree) (trees : Trees) (done from one rest both : List ℕ)
+    → MovesPast (Spans line tree) done from one → MovesPast (SpansSome line trees) done from rest → IsEither rest one both
+    → MovesPast (SpansSome line (more tree trees)) done from both
 unfolding SpansSome
 past_some_more line tree trees done from one rest both first others either = record {
   sound = λ k h. sound k (in_either either k h);
@@ -184,21 +216,28 @@ past_some_more line tree trees done from one rest both first others either = rec
     sound k (inl h) = let w = others.sound k h in (w.0, w.1, inr w.2)
     sound k (inr h) = let w = first.sound k h in (w.0, w.1, inl w.2)
 
-    by_first : (k : ℕ) → IsTrue (has_position one k) ⊎ Covered (Spans line tree) done k → IsTrue (has_position both k) ⊎ Covered (SpansSome line (more tree trees)) done k
+    by_first : (k : ℕ) → IsTrue (has_position one k) ⊎ Covered (Spans line tree) done k
+        → IsTrue (has_position both k) ⊎ Covered (SpansSome line (more tree trees)) done k
     by_first k (inl x) = inl (in_right either k x)
     by_first k (inr w) = inr (w.0, w.1, inl w.2)
 
-    by_others : (k : ℕ) → IsTrue (has_position rest k) ⊎ Covered (SpansSome line trees) done k → IsTrue (has_position both k) ⊎ Covered (SpansSome line (more tree trees)) done k
+    by_others : (k : ℕ) → IsTrue (has_position rest k) ⊎ Covered (SpansSome line trees) done k
+        → IsTrue (has_position both k) ⊎ Covered (SpansSome line (more tree trees)) done k
     by_others k (inl x) = inl (in_left either k x)
     by_others k (inr w) = inr (w.0, w.1, inr w.2)
 
-    complete : (i k : ℕ) → IsTrue (has_position from i) → Spans line tree i k ⊎ SpansSome line trees i k → IsTrue (has_position both k) ⊎ Covered (SpansSome line (more tree trees)) done k
+    complete : (i k : ℕ) → IsTrue (has_position from i) → Spans line tree i k ⊎ SpansSome line trees i k
+        → IsTrue (has_position both k) ⊎ Covered (SpansSome line (more tree trees)) done k
     complete i k h (inl r) = by_first k (first.complete i k h r)
     complete i k h (inr r) = by_others k (others.complete i k h r)
 
-pub past_by_member : (line : List ℕ) (members : List Ere) (i : ℕ) (member : Ere) (done from one rest both : List ℕ) → i < length members → member ≡ get_or members i member → MovesPast (Spans line (form member)) done from one → MovesPast (SpansSome line (trees_of (map form (drop (i + 1) members)))) done from rest → IsEither rest one both → MovesPast (SpansSome line (trees_of (map form (drop i members)))) done from both
+pub past_by_member : (line : List ℕ) (members : List Ere) (i : ℕ) (member : Ere) (done from one rest both : List ℕ) → i < length members
+    → member ≡ get_or members i member → MovesPast (Spans line (form member)) done from one
+    → MovesPast (SpansSome line (trees_of (map form (drop (i + 1) members)))) done from rest → IsEither rest one both
+    → MovesPast (SpansSome line (trees_of (map form (drop i members)))) done from both
 past_by_member line members i member done from one rest both inside e first others either =
-    subst (λ trees. MovesPast (SpansSome line trees) done from both) (sym (trees_from members i member inside e)) (past_some_more line (form member) (trees_of (map form (drop (i + 1) members))) done from one rest both first others either)
+    subst (λ trees. MovesPast (SpansSome line trees) done from both) (sym (trees_from members i member inside e))
+    (past_some_more line (form member) (trees_of (map form (drop (i + 1) members))) done from one rest both first others either)
 
 -- What rounds have found. From each position that is known all is found or covered, but from the fresh ones; from those that are over, all.
 pub record IsRounded (relation : Relation) (done start found over known fresh : List ℕ) : Type 0 where
@@ -206,10 +245,12 @@ pub record IsRounded (relation : Relation) (done start found over known fresh : 
   pub begun : (k : ℕ) → IsTrue (has_position fresh k) → IsTrue (has_position start k) ⊎ IsTrue (has_position found k)
   pub knows_start : (k : ℕ) → IsTrue (has_position start k) → IsTrue (has_position known k)
   pub knows_found : (k : ℕ) → IsTrue (has_position found k) → IsTrue (has_position known k)
-  pub closed : (k to : ℕ) → IsTrue (has_position known k) → relation k to → IsTrue (has_position fresh k) ⊎ (IsTrue (has_position found to) ⊎ Covered (MoreSteps relation) done to)
+  pub closed : (k to : ℕ) → IsTrue (has_position known k) → relation k to
+      → IsTrue (has_position fresh k) ⊎ (IsTrue (has_position found to) ⊎ Covered (MoreSteps relation) done to)
   pub over_closed : (k to : ℕ) → IsTrue (has_position over k) → relation k to → IsTrue (has_position found to) ⊎ Covered (MoreSteps relation) done to
 
-pub rounded_first : (relation : Relation) (done start found known fresh : List ℕ) → HasNone found → IsEither done start known → IsNew start done fresh → IsRounded relation done start found done known fresh
+pub rounded_first : (relation : Relation) (done start found known fresh : List ℕ) → HasNone found → IsEither done start known
+    → IsNew start done fresh → IsRounded relation done start found done known fresh
 unfolding Steps
 rounded_first relation done start found known fresh none_found either new = record {
   sound = λ k held. absurd (not_held none_found k held);
@@ -227,12 +268,17 @@ rounded_first relation done start found known fresh none_found either new = reco
     one : (k to : ℕ) → IsTrue (has_position done k) → relation k to → Covered (MoreSteps relation) done to
     one k to held r = (k, held, (0, (k, refl, r)))
 
-    closed : (k to : ℕ) → IsTrue (has_position done k) ⊎ (has_position done k ≡ false) → IsTrue (has_position done k) ⊎ IsTrue (has_position start k) → relation k to → IsTrue (has_position fresh k) ⊎ (IsTrue (has_position found to) ⊎ Covered (MoreSteps relation) done to)
+    closed : (k to : ℕ) → IsTrue (has_position done k) ⊎ (has_position done k ≡ false)
+        → IsTrue (has_position done k) ⊎ IsTrue (has_position start k) → relation k to
+        → IsTrue (has_position fresh k) ⊎ (IsTrue (has_position found to) ⊎ Covered (MoreSteps relation) done to)
     closed k to (inl held) x r = inr (inr (one k to held r))
     closed k to (inr absent) (inl held) r = absurd (false≢true (sym absent ∙ held))
     closed k to (inr absent) (inr held) r = inl (new.each k ∙ rw (held, absent) refl)
 
-pub rounded_more : (relation : Relation) (done start found over known fresh next found_next unfound known_next fresh_next : List ℕ) → IsRounded relation done start found over known fresh → MovesPast relation over fresh next → IsEither found next found_next → IsNew next found unfound → IsEither known unfound known_next → IsNew unfound known fresh_next → IsRounded relation done start found_next known known_next fresh_next
+pub rounded_more : (relation : Relation) (done start found over known fresh next found_next unfound known_next fresh_next : List ℕ)
+    → IsRounded relation done start found over known fresh → MovesPast relation over fresh next → IsEither found next found_next
+    → IsNew next found unfound → IsEither known unfound known_next → IsNew unfound known fresh_next
+    → IsRounded relation done start found_next known known_next fresh_next
 unfolding Steps
 rounded_more relation done start found over known fresh next found_next unfound known_next fresh_next h moves either new either_known new_known = record {
   sound = λ k held. sound k (in_either either k held);
@@ -253,7 +299,8 @@ rounded_more relation done start found over known fresh next found_next unfound 
     was_unfound : (k : ℕ) → IsTrue (has_position fresh_next k) → IsTrue (has_position unfound k)
     was_unfound k held = and_left (has_position unfound k) (not (has_position known k)) (sym (new_known.each k) ∙ held)
 
-    by_step : (m k : ℕ) → relation m k → IsTrue (has_position start m) ⊎ IsTrue (has_position found m) → (i : ℕ) × IsTrue (has_position start i) × MoreSteps relation i k
+    by_step : (m k : ℕ) → relation m k → IsTrue (has_position start m) ⊎ IsTrue (has_position found m)
+        → (i : ℕ) × IsTrue (has_position start i) × MoreSteps relation i k
     by_step m k r (inl x) = (m, x, (0, (m, refl, r)))
     by_step m k r (inr x) = let w = h.sound m x in (w.0, w.1, (suc w.2.0, (m, w.2.1, r)))
 
@@ -261,48 +308,59 @@ rounded_more relation done start found over known fresh next found_next unfound 
     sound k (inl held) = h.sound k held
     sound k (inr held) = let m = moves.sound k held in by_step m.0 k m.2 (h.begun m.0 m.1)
 
-    knows_found : (k : ℕ) → IsTrue (has_position found k) ⊎ (has_position found k ≡ false) → IsTrue (has_position found k) ⊎ IsTrue (has_position next k) → IsTrue (has_position known_next k)
+    knows_found : (k : ℕ) → IsTrue (has_position found k) ⊎ (has_position found k ≡ false)
+        → IsTrue (has_position found k) ⊎ IsTrue (has_position next k) → IsTrue (has_position known_next k)
     knows_found k (inl held) x = in_left either_known k (h.knows_found k held)
     knows_found k (inr absent) (inl held) = absurd (false≢true (sym absent ∙ held))
     knows_found k (inr absent) (inr held) = in_right either_known k (new.each k ∙ rw (held, absent) refl)
 
-    kept : (to : ℕ) → IsTrue (has_position found to) ⊎ Covered (MoreSteps relation) done to → IsTrue (has_position found_next to) ⊎ Covered (MoreSteps relation) done to
+    kept : (to : ℕ) → IsTrue (has_position found to) ⊎ Covered (MoreSteps relation) done to
+        → IsTrue (has_position found_next to) ⊎ Covered (MoreSteps relation) done to
     kept to (inl x) = inl (in_left either to x)
     kept to (inr w) = inr w
 
-    from_fresh : (to : ℕ) → IsTrue (has_position next to) ⊎ Covered relation over to → IsTrue (has_position found_next to) ⊎ Covered (MoreSteps relation) done to
+    from_fresh : (to : ℕ) → IsTrue (has_position next to) ⊎ Covered relation over to
+        → IsTrue (has_position found_next to) ⊎ Covered (MoreSteps relation) done to
     from_fresh to (inl x) = inl (in_right either to x)
     from_fresh to (inr w) = kept to (h.over_closed w.0 to w.1 w.2)
 
-    from_known : (k to : ℕ) → relation k to → IsTrue (has_position fresh k) ⊎ (IsTrue (has_position found to) ⊎ Covered (MoreSteps relation) done to) → IsTrue (has_position found_next to) ⊎ Covered (MoreSteps relation) done to
+    from_known : (k to : ℕ) → relation k to
+        → IsTrue (has_position fresh k) ⊎ (IsTrue (has_position found to) ⊎ Covered (MoreSteps relation) done to)
+        → IsTrue (has_position found_next to) ⊎ Covered (MoreSteps relation) done to
     from_known k to r (inl x) = from_fresh to (moves.complete k to x r)
     from_known k to r (inr x) = kept to x
 
     known_closed : (k to : ℕ) → IsTrue (has_position known k) → relation k to → IsTrue (has_position found_next to) ⊎ Covered (MoreSteps relation) done to
     known_closed k to held r = from_known k to r (h.closed k to held r)
 
-    closed : (k to : ℕ) → IsTrue (has_position known k) ⊎ (has_position known k ≡ false) → IsTrue (has_position known k) ⊎ IsTrue (has_position unfound k) → relation k to → IsTrue (has_position fresh_next k) ⊎ (IsTrue (has_position found_next to) ⊎ Covered (MoreSteps relation) done to)
+    closed : (k to : ℕ) → IsTrue (has_position known k) ⊎ (has_position known k ≡ false)
+        → IsTrue (has_position known k) ⊎ IsTrue (has_position unfound k) → relation k to
+        → IsTrue (has_position fresh_next k) ⊎ (IsTrue (has_position found_next to) ⊎ Covered (MoreSteps relation) done to)
     closed k to (inl held) x r = inr (known_closed k to held r)
     closed k to (inr absent) (inl held) r = absurd (false≢true (sym absent ∙ held))
     closed k to (inr absent) (inr held) r = inl (new_known.each k ∙ rw (held, absent) refl)
 
 -- with nothing fresh, everything is found or covered
-pub rounded_all : (relation : Relation) (done start found over known fresh : List ℕ) → IsRounded relation done start found over known fresh → HasNone fresh → MovesPast (MoreSteps relation) done start found
+pub rounded_all : (relation : Relation) (done start found over known fresh : List ℕ) → IsRounded relation done start found over known fresh
+    → HasNone fresh → MovesPast (MoreSteps relation) done start found
 unfolding Steps
 rounded_all relation done start found over known fresh h none_fresh = record {
   sound = h.sound;
   complete = λ i k held r. reached r.0 i k held r.1;
 }
   where
-    not_fresh : (k to : ℕ) → IsTrue (has_position fresh k) ⊎ (IsTrue (has_position found to) ⊎ Covered (MoreSteps relation) done to) → IsTrue (has_position found to) ⊎ Covered (MoreSteps relation) done to
+    not_fresh : (k to : ℕ) → IsTrue (has_position fresh k) ⊎ (IsTrue (has_position found to) ⊎ Covered (MoreSteps relation) done to)
+        → IsTrue (has_position found to) ⊎ Covered (MoreSteps relation) done to
     not_fresh k to (inl x) = absurd (not_held none_fresh k x)
     not_fresh k to (inr x) = x
 
-    further : (m k : ℕ) → relation m k → IsTrue (has_position found m) ⊎ Covered (MoreSteps relation) done m → IsTrue (has_position found k) ⊎ Covered (MoreSteps relation) done k
+    further : (m k : ℕ) → relation m k → IsTrue (has_position found m) ⊎ Covered (MoreSteps relation) done m
+        → IsTrue (has_position found k) ⊎ Covered (MoreSteps relation) done k
     further m k r (inl x) = not_fresh m k (h.closed m k (h.knows_found m x) r)
     further m k r (inr w) = inr (w.0, w.1, (suc w.2.0, (m, w.2.1, r)))
 
-    reached : (count i k : ℕ) → IsTrue (has_position start i) → Steps relation (suc count) i k → IsTrue (has_position found k) ⊎ Covered (MoreSteps relation) done k
+    reached : (count i k : ℕ) → IsTrue (has_position start i) → Steps relation (suc count) i k
+        → IsTrue (has_position found k) ⊎ Covered (MoreSteps relation) done k
     reached zero i k held r =
         let first : relation i k = subst (λ n. relation n k) (sym r.1) r.2 in
         not_fresh i k (h.closed i k (h.knows_start i held) first)
@@ -318,5 +376,6 @@ unfolding Spans Steps
 empty_repeat line body None place = (0, omega arith, tt, refl)
 empty_repeat line body (Some most) place = (0, omega arith, omega arith, refl)
 
-pub empty_if : (line : List ℕ) (body tree : Tree) (least : ℕ) (greatest : Option ℕ) → tree ≡ repeat body least greatest → least ≡ 0 → (place : ℕ) → Spans line tree place place
+pub empty_if : (line : List ℕ) (body tree : Tree) (least : ℕ) (greatest : Option ℕ) → tree ≡ repeat body least greatest → least ≡ 0
+    → (place : ℕ) → Spans line tree place place
 empty_if line body tree least greatest e least_is place = subst (λ t. Spans line t place place) (sym e) (rw least_is (empty_repeat line body greatest place))

@@ -1,5 +1,6 @@
 -- What a step over a set of bytes, and a sweep, have done up to a word.
-use Rattle.std.proofs.Common.{◌≡◌, ◌≢◌, ◌⊎◌, inl, inr, ℕ, zero, suc, ◌+◌, ◌-◌, ◌*◌, ◌/◌, ◌≤◌, ◌<◌, ◌↔◌, Bool, true, false, ◌&&◌, ◌||◌, ◌==◌, nat_le, nat_lt, IsTrue, List, length, get_or, set, refl, sym, ap, subst, ◌∙◌, arith, length-set}
+use Rattle.std.proofs.Common.{◌≡◌, ◌≢◌, ◌⊎◌, inl, inr, ℕ, zero, suc, ◌+◌, ◌-◌, ◌*◌, ◌/◌, ◌≤◌, ◌<◌, ◌↔◌, Bool, true, false, ◌&&◌, ◌||◌, ◌==◌}
+use Rattle.std.proofs.Common.{nat_le, nat_lt, IsTrue, List, length, get_or, set, refl, sym, ap, subst, ◌∙◌, arith, length-set}
 use Rattle.std.proofs.lemmas.List.{get_or-set_same, get_or-set_other}
 use Rattle.std.proofs.lemmas.Bool.Decides.{nat_tests}
 use Rattle.std.proofs.lemmas.Nat.Bits.{bit_at_above}
@@ -38,7 +39,8 @@ pub record IsShifted (size : ℕ) (members : List Bool) (line old new : List ℕ
   pub is_bit : carried < 2
   pub carry : has_bit carried 0 ≡ arrives members line old (i * 64)
 
-pub shifted_first : {size : ℕ} (members : List Bool) (line old : List ℕ) (first end : ℕ) → IsBounded size old first end → IsShifted size members line old old first first 0
+pub shifted_first : {size : ℕ} (members : List Bool) (line old : List ℕ) (first end : ℕ) → IsBounded size old first end
+    → IsShifted size members line old old first first 0
 shifted_first members line old first end bounds = record {
   whole = bounds.whole;
   low = bounds.low;
@@ -52,7 +54,8 @@ shifted_first members line old first end bounds = record {
     none zero l = refl
     none (suc k) l = rw (none_before bounds k (omega arith)) refl
 
-pub shifted_more : {size : ℕ} (members : List Bool) (line old new : List ℕ) (first i carried passing moved next : ℕ) → IsShifted size members line old new first i carried → first ≤ i → i < size
+pub shifted_more : {size : ℕ} (members : List Bool) (line old new : List ℕ) (first i carried passing moved next : ℕ)
+    → IsShifted size members line old new first i carried → first ≤ i → i < size
     → ((b : ℕ) → b < 64 → has_bit passing b ≡ (has_bit (get_or new i 0) b && passes members line (i * 64 + b)))
     → has_bit moved 0 ≡ has_bit carried 0 → ((b : ℕ) → b < 63 → has_bit moved (b + 1) ≡ has_bit passing b)
     → next < 2 → has_bit next 0 ≡ has_bit passing 63
@@ -90,10 +93,12 @@ shifted_more members line old new first i carried passing moved next h begun ins
         let high : i * 64 ≤ k = grind (arith, nat_tests) in
         let place : i * 64 + (k - i * 64) ≡ k = omega arith in
         let bit : k - i * 64 < 64 = omega arith in
-        subst (λ n. has_position (set new i moved) n ≡ arrives members line old n) place (position_set_same new i moved (k - i * 64) within bit ∙ at (k - i * 64) bit)
+        subst (λ n. has_position (set new i moved) n ≡ arrives members line old n) place
+        (position_set_same new i moved (k - i * 64) within bit ∙ at (k - i * 64) bit)
 
 -- What is carried out of the last word lies in the next, or there is none.
-module _ {size : ℕ} (members : List Bool) (line old new : List ℕ) (first end carried : ℕ) (h : IsShifted size members line old new first end carried) (bounds : IsBounded size old first end) where
+module _ {size : ℕ} (members : List Bool) (line old new : List ℕ) (first end carried : ℕ)
+    (h : IsShifted size members line old new first end carried) (bounds : IsBounded size old first end) where
   arrives_after : (k : ℕ) → end * 64 < k → arrives members line old k ≡ false
   arrives_after zero l = refl
   arrives_after (suc k) l = rw (none_after bounds k (omega arith)) refl
@@ -142,7 +147,8 @@ module _ {size : ℕ} (members : List Bool) (line old new : List ℕ) (first end
           let high : end * 64 ≤ k = grind (arith, nat_tests) in
           let low : k < end * 64 + 64 = grind (arith, nat_tests) in
           let place : end * 64 + (k - end * 64) ≡ k = omega arith in
-          subst (λ n. has_position (set new end carried) n ≡ arrives members line old n) place (position_set_same new end carried (k - end * 64) (omega (arith, h.whole)) (omega arith) ∙ at (k - end * 64))
+          subst (λ n. has_position (set new end carried) n ≡ arrives members line old n) place
+          (position_set_same new end carried (k - end * 64) (omega (arith, h.whole)) (omega arith) ∙ at (k - end * 64))
       go false false e f =
           let high : end * 64 + 64 ≤ k = grind (arith, nat_tests) in
           position_set_other new end carried k (omega arith) ∙ past k (omega arith)
@@ -184,7 +190,8 @@ pub record IsSwept (size : ℕ) (members : List Bool) (line old new : List ℕ) 
   pub carry : has_bit carried 0 ≡ comes (has_position old) (passes members line) (i * 64)
 
 -- where nothing is held, nothing comes
-comes_none : (held pass : ℕ → Bool) (start k : ℕ) → comes held pass start ≡ false → ((j : ℕ) → start ≤ j → j < k → held j ≡ false) → start ≤ k → comes held pass k ≡ false
+comes_none : (held pass : ℕ → Bool) (start k : ℕ) → comes held pass start ≡ false → ((j : ℕ) → start ≤ j → j < k → held j ≡ false)
+    → start ≤ k → comes held pass k ≡ false
 comes_none held pass start zero none empty far = refl
 comes_none held pass start (suc k) none empty far =
     go (nat_le start k) refl (λ before. comes_none held pass start k none (λ j low high. empty j low (omega arith)) before)
@@ -197,7 +204,8 @@ comes_none held pass start (suc k) none empty far =
         let same : start ≡ suc k = let past : k < start = grind (arith, nat_tests) in omega arith in
         subst (λ n. comes held pass n ≡ false) same none
 
-pub swept_first : {size : ℕ} (members : List Bool) (line old : List ℕ) (first end : ℕ) → IsBounded size old first end → IsSwept size members line old old first first 0
+pub swept_first : {size : ℕ} (members : List Bool) (line old : List ℕ) (first end : ℕ) → IsBounded size old first end
+    → IsSwept size members line old old first first 0
 swept_first members line old first end bounds = record {
   whole = bounds.whole;
   low = bounds.low;
@@ -211,7 +219,10 @@ swept_first members line old first end bounds = record {
     none k l = comes_none (has_position old) (passes members line) 0 k refl (λ j low high. none_before bounds j (omega arith)) (omega arith)
 
 -- the flood of one word is that of all
-pub comes_word : (held pass : ℕ → Bool) (word carried base : ℕ) → ((b : ℕ) → b < 64 → has_bit word b ≡ (held (base + b) || has_bit carried b)) → ((b : ℕ) → 0 < b → has_bit carried b ≡ false) → has_bit carried 0 ≡ comes held pass base → (b : ℕ) → b < 64 → flood (has_bit word) (λ n. pass (base + n)) b ≡ flood held pass (base + b)
+pub comes_word : (held pass : ℕ → Bool) (word carried base : ℕ)
+    → ((b : ℕ) → b < 64 → has_bit word b ≡ (held (base + b) || has_bit carried b)) → ((b : ℕ) → 0 < b → has_bit carried b ≡ false)
+    → has_bit carried 0 ≡ comes held pass base → (b : ℕ) → b < 64
+    → flood (has_bit word) (λ n. pass (base + n)) b ≡ flood held pass (base + b)
 comes_word held pass word carried base bits small start b inside = go b inside
   where
     or_none : (t : Bool) → (t || false) ≡ t
@@ -224,11 +235,14 @@ comes_word held pass word carried base bits small start b inside = go b inside
         or_none (has_bit word 0) ∙ bits 0 l ∙ ap (λ t. held (base + 0) || t) (start ∙ ap (λ n. comes held pass n) place)
     go (suc b) l =
         let place : suc (base + b) ≡ base + suc b = omega arith in
-        let own : has_bit word (suc b) ≡ held (base + suc b) = bits (suc b) l ∙ ap (λ t. held (base + suc b) || t) (small (suc b) (omega arith)) ∙ or_none (held (base + suc b)) in
-        let before : comes (has_bit word) (λ n. pass (base + n)) (suc b) ≡ comes held pass (suc (base + b)) = ap (λ t. t && pass (base + b)) (go b (omega arith)) in
+        let own : has_bit word (suc b) ≡ held (base + suc b) =
+        bits (suc b) l ∙ ap (λ t. held (base + suc b) || t) (small (suc b) (omega arith)) ∙ or_none (held (base + suc b)) in
+        let before : comes (has_bit word) (λ n. pass (base + n)) (suc b) ≡ comes held pass (suc (base + b)) =
+        ap (λ t. t && pass (base + b)) (go b (omega arith)) in
         rw own (ap (λ t. held (base + suc b) || t) (before ∙ ap (λ n. comes held pass n) place))
 
-pub swept_more : {size : ℕ} (members : List Bool) (line old new : List ℕ) (first i carried joined reached next : ℕ) → IsSwept size members line old new first i carried → first ≤ i → i < size
+pub swept_more : {size : ℕ} (members : List Bool) (line old new : List ℕ) (first i carried joined reached next : ℕ)
+    → IsSwept size members line old new first i carried → first ≤ i → i < size
     → ((b : ℕ) → has_bit joined b ≡ (has_bit (get_or new i 0) b || has_bit carried b))
     → ((b : ℕ) → b < 64 → has_bit reached b ≡ flood (has_bit joined) (λ n. passes members line (i * 64 + n)) b)
     → next < 2 → has_bit next 0 ≡ (has_bit reached 63 && passes members line (i * 64 + 63))
@@ -246,9 +260,15 @@ swept_more members line old new first i carried joined reached next h begun insi
     last = omega arith
 
     at : (b : ℕ) → b < 64 → has_bit reached b ≡ flood (has_position old) (passes members line) (i * 64 + b)
-    at b l = floods b l ∙ comes_word (has_position old) (passes members line) joined carried (i * 64) (λ n inside. joins n ∙ ap (λ t. t || has_bit carried n) (ap (λ w. has_bit w n) (h.above i (omega arith)) ∙ sym (position_in old i n inside))) (λ n some. ap (λ x. x == 1) (bit_at_above carried 1 n (omega (arith, h.is_bit)) some)) h.carry b l
+    at b l =
+        floods b l
+        ∙ comes_word (has_position old) (passes members line) joined carried (i * 64) (λ n inside.
+        joins n
+        ∙ ap (λ t. t || has_bit carried n) (ap (λ w. has_bit w n) (h.above i (omega arith)) ∙ sym (position_in old i n inside)))
+        (λ n some. ap (λ x. x == 1) (bit_at_above carried 1 n (omega (arith, h.is_bit)) some)) h.carry b l
 
-    below : (k : ℕ) → k < (i + 1) * 64 → (t : Bool) → nat_lt k (i * 64) ≡ t → has_position (set new i reached) k ≡ flood (has_position old) (passes members line) k
+    below : (k : ℕ) → k < (i + 1) * 64 → (t : Bool) → nat_lt k (i * 64) ≡ t
+        → has_position (set new i reached) k ≡ flood (has_position old) (passes members line) k
     below k l true e =
         let low : k < i * 64 = grind (arith, nat_tests) in
         position_set_other new i reached k (omega arith) ∙ h.below k low
@@ -256,10 +276,12 @@ swept_more members line old new first i carried joined reached next h begun insi
         let high : i * 64 ≤ k = grind (arith, nat_tests) in
         let place : i * 64 + (k - i * 64) ≡ k = omega arith in
         let bit : k - i * 64 < 64 = omega arith in
-        subst (λ n. has_position (set new i reached) n ≡ flood (has_position old) (passes members line) n) place (position_set_same new i reached (k - i * 64) (omega (arith, h.whole)) bit ∙ at (k - i * 64) bit)
+        subst (λ n. has_position (set new i reached) n ≡ flood (has_position old) (passes members line) n) place
+        (position_set_same new i reached (k - i * 64) (omega (arith, h.whole)) bit ∙ at (k - i * 64) bit)
 
 -- the whole sweep, where it stops early, and where it has been through all words
-module _ {size : ℕ} (members : List Bool) (line old new : List ℕ) (first i carried end : ℕ) (h : IsSwept size members line old new first i carried) (bounds : IsBounded size old first end) (after : end ≤ i) where
+module _ {size : ℕ} (members : List Bool) (line old new : List ℕ) (first i carried end : ℕ)
+    (h : IsSwept size members line old new first i carried) (bounds : IsBounded size old first end) (after : end ≤ i) where
   pub swept_all : has_bit carried 0 ≡ false → (k : ℕ) → has_position new k ≡ flood (has_position old) (passes members line) k
   swept_all none k = go (nat_lt k (i * 64)) refl
     where
@@ -268,7 +290,9 @@ module _ {size : ℕ} (members : List Bool) (line old new : List ℕ) (first i c
       go false e =
           let far : i * 64 ≤ k = grind (arith, nat_tests) in
           let empty : has_position old k ≡ false = none_after bounds k (omega arith) in
-          let nothing : comes (has_position old) (passes members line) k ≡ false = comes_none (has_position old) (passes members line) (i * 64) k (sym h.carry ∙ none) (λ j low high. none_after bounds j (omega arith)) far in
+          let nothing : comes (has_position old) (passes members line) k ≡ false =
+          comes_none (has_position old) (passes members line) (i * 64) k (sym h.carry ∙ none)
+          (λ j low high. none_after bounds j (omega arith)) far in
           same_word new old k (h.above (k / 64) (omega arith)) ∙ empty ∙ sym (rw (empty, nothing) refl)
 
   pub swept_bounded : i ≤ size → IsBounded size new first i
@@ -287,7 +311,9 @@ none_swept_on members line old i short = go (i * 64) refl
   where
     go : (k : ℕ) → k ≡ i * 64 → comes (has_position old) (passes members line) k ≡ false
     go zero e = refl
-    go (suc k) e = and_false (has_position old k || comes (has_position old) (passes members line) k) (passes members line k) (none_passes members line k (omega arith))
+    go (suc k) e =
+        and_false (has_position old k || comes (has_position old) (passes members line) k) (passes members line k)
+        (none_passes members line k (omega arith))
 
 -- by one byte of the set, and by any number
 and_parts : (a b c : Bool) → IsTrue (a && (b && c)) → IsTrue a × IsTrue b × IsTrue c
@@ -302,7 +328,8 @@ and_made true true false x y z = z
 and_made true false c x y z = y
 and_made false b c x y z = x
 
-pub moves_shifted : (line : List ℕ) (members : List Bool) (old new : List ℕ) → ((k : ℕ) → has_position new k ≡ arrives members line old k) → Moves (Spans line (tree.set members)) old new
+pub moves_shifted : (line : List ℕ) (members : List Bool) (old new : List ℕ) → ((k : ℕ) → has_position new k ≡ arrives members line old k)
+    → Moves (Spans line (tree.set members)) old new
 unfolding Spans
 moves_shifted line members old new each = record {
   sound = λ k holds. sound k (sym (each k) ∙ holds);
@@ -320,11 +347,16 @@ moves_shifted line members old new each = record {
     complete start k held leads =
         let inside : start < length line = leads.1 in
         let test : IsTrue (nat_lt start (length line)) = grind (arith, nat_tests) in
-        let at_next : IsTrue (has_position new (suc start)) = each (suc start) ∙ and_made (has_position old start) (nat_lt start (length line)) (has members (get_or line start 0)) held test leads.2 in
+        let at_next : IsTrue (has_position new (suc start)) =
+        each (suc start)
+        ∙ and_made (has_position old start) (nat_lt start (length line)) (has members (get_or line start 0)) held test leads.2 in
         subst (λ (n : ℕ). IsTrue (has_position new n)) (sym leads.0) at_next
 
 -- the public words for one step
-pub step_is : (line : List ℕ) (members : List Bool) (old new : List ℕ) → ((k : ℕ) → has_position new k ≡ arrives members line old k) → (k : ℕ) → IsTrue (has_position new k) ↔ ((1 ≤ k) × (k ≤ length line) × IsTrue (has_position old (k - 1)) × IsTrue (has members (get_or line (k - 1) 0)))
+pub step_is : (line : List ℕ) (members : List Bool) (old new : List ℕ) → ((k : ℕ) → has_position new k ≡ arrives members line old k)
+    → (k : ℕ)
+    → IsTrue (has_position new k)
+    ↔ ((1 ≤ k) × (k ≤ length line) × IsTrue (has_position old (k - 1)) × IsTrue (has members (get_or line (k - 1) 0)))
 step_is line members old new each zero = (λ h. absurd (false≢true (sym (each 0) ∙ h)), λ h. absurd (omega (arith, h.0)))
 step_is line members old new each (suc k) = rw back (there, back_again)
   where
@@ -358,7 +390,9 @@ or_right false b h = h
 abbrev Comes : List ℕ → List Bool → List ℕ → ℕ → Type 0
 Comes line members old k = (start : ℕ) × IsTrue (has_position old start) × ((words : ℕ) × Steps (Spans line (tree.set members)) words start k)
 
-pub moves_swept : (line : List ℕ) (members : List Bool) (old new : List ℕ) → ((k : ℕ) → has_position new k ≡ flood (has_position old) (passes members line) k) → Moves (λ from to. (words : ℕ) × Steps (Spans line (tree.set members)) words from to) old new
+pub moves_swept : (line : List ℕ) (members : List Bool) (old new : List ℕ)
+    → ((k : ℕ) → has_position new k ≡ flood (has_position old) (passes members line) k)
+    → Moves (λ from to. (words : ℕ) × Steps (Spans line (tree.set members)) words from to) old new
 unfolding Spans Steps
 moves_swept line members old new each = record {
   sound = λ k h. sound k (sym (each k) ∙ h);
@@ -368,9 +402,14 @@ moves_swept line members old new each = record {
     more : (k : ℕ) → Comes line members old k → IsTrue (nat_lt k (length line)) → IsTrue (has members (get_or line k 0)) → Comes line members old (suc k)
     more k w test member = (w.0, w.1, (suc w.2.0, (k, w.2.1, (refl, grind (arith, nat_tests), member))))
 
-    next : (k : ℕ) → (IsTrue (flood (has_position old) (passes members line) k) → Comes line members old k) → IsTrue (has_position old (suc k)) ⊎ IsTrue (flood (has_position old) (passes members line) k && passes members line k) → Comes line members old (suc k)
+    next : (k : ℕ) → (IsTrue (flood (has_position old) (passes members line) k) → Comes line members old k)
+        → IsTrue (has_position old (suc k)) ⊎ IsTrue (flood (has_position old) (passes members line) k && passes members line k)
+        → Comes line members old (suc k)
     next k before (inl x) = (suc k, x, (0, refl))
-    next k before (inr x) = let parts = and_parts (flood (has_position old) (passes members line) k) (nat_lt k (length line)) (has members (get_or line k 0)) x in more k (before parts.0) parts.1 parts.2
+    next k before (inr x) =
+        let parts =
+        and_parts (flood (has_position old) (passes members line) k) (nat_lt k (length line)) (has members (get_or line k 0)) x in
+        more k (before parts.0) parts.1 parts.2
 
     sound : (k : ℕ) → IsTrue (flood (has_position old) (passes members line) k) → Comes line members old k
     sound zero h = pick (either (has_position old 0) false h)
@@ -383,17 +422,22 @@ moves_swept line members old new each = record {
     held_reached : (k : ℕ) → IsTrue (has_position old k) → IsTrue (flood (has_position old) (passes members line) k)
     held_reached k h = or_left (has_position old k) (comes (has_position old) (passes members line) k) h
 
-    complete : (words start k : ℕ) → IsTrue (has_position old start) → Steps (Spans line (tree.set members)) words start k → IsTrue (flood (has_position old) (passes members line) k)
+    complete : (words start k : ℕ) → IsTrue (has_position old start) → Steps (Spans line (tree.set members)) words start k
+        → IsTrue (flood (has_position old) (passes members line) k)
     complete zero start k held r = held_reached k (subst (λ (n : ℕ). IsTrue (has_position old n)) r held)
     complete (suc words) start k held r =
         let before = complete words start r.0 held r.1 in
         let inside : r.0 < length line = r.2.1 in
         let test : IsTrue (nat_lt r.0 (length line)) = grind (arith, nat_tests) in
-        let next : IsTrue (flood (has_position old) (passes members line) (suc r.0)) = or_right (has_position old (suc r.0)) (flood (has_position old) (passes members line) r.0 && passes members line r.0) (and_made (flood (has_position old) (passes members line) r.0) (nat_lt r.0 (length line)) (has members (get_or line r.0 0)) before test r.2.2) in
+        let next : IsTrue (flood (has_position old) (passes members line) (suc r.0)) =
+        or_right (has_position old (suc r.0)) (flood (has_position old) (passes members line) r.0 && passes members line r.0)
+        (and_made (flood (has_position old) (passes members line) r.0) (nat_lt r.0 (length line)) (has members (get_or line r.0 0))
+        before test r.2.2) in
         subst (λ n. IsTrue (flood (has_position old) (passes members line) n)) (sym r.2.0) next
 
 -- The flood needs the tests only from the first position that is held on.
-pub flood_from : (held pass other : ℕ → Bool) (first : ℕ) → ((b : ℕ) → b < first → held b ≡ false) → ((b : ℕ) → first ≤ b → b < 64 → other b ≡ pass b) → (b : ℕ) → b < 64 → flood held other b ≡ flood held pass b
+pub flood_from : (held pass other : ℕ → Bool) (first : ℕ) → ((b : ℕ) → b < first → held b ≡ false)
+    → ((b : ℕ) → first ≤ b → b < 64 → other b ≡ pass b) → (b : ℕ) → b < 64 → flood held other b ≡ flood held pass b
 flood_from held pass other first none same b inside = ap (λ t. held b || t) (comes_from b inside)
   where
     comes_from : (b : ℕ) → b < 64 → comes held other b ≡ comes held pass b

@@ -1,5 +1,7 @@
 -- What each kind of tree does to a set of positions.
-use Rattle.std.proofs.Common.{◌≡◌, ℕ, zero, suc, ◌+◌, ◌-◌, ◌≤◌, ◌<◌, Bool, true, false, not, ◌&&◌, ◌||◌, ◌==◌, nat_le, IsTrue, MatchBool, List, length, get_or, drop, map, Option, Some, None, is_some, ◌⊎◌, ◌↔◌, inl, inr, refl, sym, ap, subst, ◌∙◌, arith}
+use Rattle.std.proofs.Common.{◌≡◌, ℕ, zero, suc, ◌+◌, ◌-◌, ◌≤◌, ◌<◌, Bool, true, false, not, ◌&&◌, ◌||◌, ◌==◌, nat_le, IsTrue, MatchBool}
+use Rattle.std.proofs.Common.{List, length, get_or, drop, map, Option, Some, None, is_some, ◌⊎◌, ◌↔◌, inl, inr, refl, sym, ap, subst, ◌∙◌}
+use Rattle.std.proofs.Common.{arith}
 use Rattle.std.proofs.lemmas.Bool.Decides.{nat_tests}
 use Rattle.std.proofs.lemmas.List.{at_drop_more, at_drop_all}
 use Rattle.ere.specs.declared.tree.Ere.{Ere}
@@ -36,7 +38,8 @@ moves_same relation places there only = record {
 }
 
 -- a relation that leads one position to itself
-moves_kept : (relation : Relation) (at : ℕ) (from to : List ℕ) → relation at at → ((i k : ℕ) → relation i k → (i ≡ at) × (i ≡ k)) → ((k : ℕ) → has_position to k ≡ (k == at && has_position from k)) → Moves relation from to
+moves_kept : (relation : Relation) (at : ℕ) (from to : List ℕ) → relation at at → ((i k : ℕ) → relation i k → (i ≡ at) × (i ≡ k))
+    → ((k : ℕ) → has_position to k ≡ (k == at && has_position from k)) → Moves relation from to
 moves_kept relation at from to there only each = record {
   sound = λ k h. sound k (k == at) refl (sym (each k) ∙ h);
   complete = λ i k h r. complete i k h (only i k r);
@@ -61,7 +64,8 @@ pub moves_start : (line : List ℕ) (from to : List ℕ) → ((k : ℕ) → has_
 unfolding Spans
 moves_start line from to each = moves_kept (Spans line at_start) 0 from to (refl, refl) (λ i k r. r) each
 
-pub moves_end : (line : List ℕ) (from to : List ℕ) → ((k : ℕ) → has_position to k ≡ (k == length line && has_position from k)) → Moves (Spans line at_end) from to
+pub moves_end : (line : List ℕ) (from to : List ℕ) → ((k : ℕ) → has_position to k ≡ (k == length line && has_position from k))
+    → Moves (Spans line at_end) from to
 unfolding Spans
 moves_end line from to each = moves_kept (Spans line at_end) (length line) from to (refl, refl) (λ i k r. r) each
 
@@ -87,7 +91,8 @@ pub moves_each_none : (line : List ℕ) (places : List ℕ) → Moves (SpansEach
 unfolding SpansEach
 moves_each_none line places = moves_same (SpansEach line none) places (λ i. refl) (λ i k r. r)
 
-pub moves_each_more : (line : List ℕ) (tree : Tree) (trees : Trees) (from middle to : List ℕ) → Moves (Spans line tree) from middle → Moves (SpansEach line trees) middle to → Moves (SpansEach line (more tree trees)) from to
+pub moves_each_more : (line : List ℕ) (tree : Tree) (trees : Trees) (from middle to : List ℕ) → Moves (Spans line tree) from middle
+    → Moves (SpansEach line trees) middle to → Moves (SpansEach line (more tree trees)) from to
 unfolding SpansEach
 moves_each_more line tree trees from middle to one two =
     let both = moves_then (Spans line tree) (SpansEach line trees) from middle to one two in
@@ -107,14 +112,16 @@ in_right {left} {right} either k h = either.each k ∙ or_right (has_position le
     or_right true b h = refl
     or_right false b h = h
 
-pub in_either : {left right both : List ℕ} → IsEither left right both → (k : ℕ) → IsTrue (has_position both k) → IsTrue (has_position left k) ⊎ IsTrue (has_position right k)
+pub in_either : {left right both : List ℕ} → IsEither left right both → (k : ℕ) → IsTrue (has_position both k)
+    → IsTrue (has_position left k) ⊎ IsTrue (has_position right k)
 in_either {left} {right} either k h = parts (has_position left k) (has_position right k) (sym (either.each k) ∙ h)
   where
     parts : (a b : Bool) → IsTrue (a || b) → IsTrue a ⊎ IsTrue b
     parts true b h = inl refl
     parts false b h = inr h
 
-pub moves_some_more : (line : List ℕ) (tree : Tree) (trees : Trees) (from one rest both : List ℕ) → Moves (Spans line tree) from one → Moves (SpansSome line trees) from rest → IsEither rest one both → Moves (SpansSome line (more tree trees)) from both
+pub moves_some_more : (line : List ℕ) (tree : Tree) (trees : Trees) (from one rest both : List ℕ) → Moves (Spans line tree) from one
+    → Moves (SpansSome line trees) from rest → IsEither rest one both → Moves (SpansSome line (more tree trees)) from both
 unfolding SpansSome
 moves_some_more line tree trees from one rest both first others either = record {
   sound = λ k h. sound k (in_either either k h);
@@ -134,7 +141,8 @@ pub moves_zero_steps : (relation : Relation) (places : List ℕ) → Moves (Step
 unfolding Steps
 moves_zero_steps relation places = moves_same (Steps relation 0) places (λ i. refl) (λ i k r. r)
 
-pub moves_more_steps : (relation : Relation) (count next : ℕ) (from middle to : List ℕ) → next ≡ count + 1 → Moves (Steps relation count) from middle → Moves relation middle to → Moves (Steps relation next) from to
+pub moves_more_steps : (relation : Relation) (count next : ℕ) (from middle to : List ℕ) → next ≡ count + 1
+    → Moves (Steps relation count) from middle → Moves relation middle to → Moves (Steps relation next) from to
 unfolding Steps
 moves_more_steps relation count next from middle to e one two =
     let both = moves_then (Steps relation count) relation from middle to one two in
@@ -165,7 +173,8 @@ steps_join relation first (suc rest) i m k a b =
     subst (λ n. Steps relation n i k) more_is moved
 
 -- Once no position is left, no further round brings one back.
-pub moves_no_more : (relation : Relation) (done count : ℕ) (from to : List ℕ) → done ≤ count → Moves (Steps relation done) from to → HasNone to → Moves (Steps relation count) from to
+pub moves_no_more : (relation : Relation) (done count : ℕ) (from to : List ℕ) → done ≤ count → Moves (Steps relation done) from to
+    → HasNone to → Moves (Steps relation count) from to
 moves_no_more relation done count from to less moves none_to = record {
   sound = λ k h. absurd (not_held none_to k h);
   complete = λ i k h r.
@@ -194,7 +203,10 @@ pub decide : (b : Bool) → IsTrue b ⊎ (b ≡ false)
 decide true = inl refl
 decide false = inr refl
 
-pub widened_more : (relation : Relation) (allowed allowed_next : ℕ → Type 0) (start found fresh next found_next fresh_next : List ℕ) → IsWidened relation allowed start found fresh → Moves relation fresh next → IsEither found next found_next → IsNew next found fresh_next → ((count : ℕ) → allowed count → allowed_next count) → ((count : ℕ) → allowed count → allowed_next (suc count)) → IsWidened relation allowed_next start found_next fresh_next
+pub widened_more : (relation : Relation) (allowed allowed_next : ℕ → Type 0) (start found fresh next found_next fresh_next : List ℕ)
+    → IsWidened relation allowed start found fresh → Moves relation fresh next → IsEither found next found_next
+    → IsNew next found fresh_next → ((count : ℕ) → allowed count → allowed_next count)
+    → ((count : ℕ) → allowed count → allowed_next (suc count)) → IsWidened relation allowed_next start found_next fresh_next
 unfolding Steps
 widened_more relation allowed allowed_next start found fresh next found_next fresh_next h moves either new keeps grows = record {
   sound = λ k held. sound k (in_either either k held);
@@ -210,7 +222,8 @@ widened_more relation allowed allowed_next start found fresh next found_next fre
     was_next : (k : ℕ) → IsTrue (has_position fresh_next k) → IsTrue (has_position next k)
     was_next k held = and_left (has_position next k) (not (has_position found k)) (sym (new.each k) ∙ held)
 
-    sound : (k : ℕ) → IsTrue (has_position found k) ⊎ IsTrue (has_position next k) → (i : ℕ) × (count : ℕ) × IsTrue (has_position start i) × allowed_next count × Steps relation count i k
+    sound : (k : ℕ) → IsTrue (has_position found k) ⊎ IsTrue (has_position next k)
+        → (i : ℕ) × (count : ℕ) × IsTrue (has_position start i) × allowed_next count × Steps relation count i k
     sound k (inl held) = let w = h.sound k held in (w.0, w.1, w.2, keeps w.1 w.3, w.4)
     sound k (inr held) =
         let m = moves.sound k held in
@@ -221,13 +234,16 @@ widened_more relation allowed allowed_next start found fresh next found_next fre
     from_old k to r (inl held) = in_right either to (moves.complete k to held r)
     from_old k to r (inr held) = in_left either to held
 
-    closed : (k to : ℕ) → IsTrue (has_position found k) ⊎ (has_position found k ≡ false) → IsTrue (has_position found k) ⊎ IsTrue (has_position next k) → relation k to → IsTrue (has_position fresh_next k) ⊎ IsTrue (has_position found_next to)
+    closed : (k to : ℕ) → IsTrue (has_position found k) ⊎ (has_position found k ≡ false)
+        → IsTrue (has_position found k) ⊎ IsTrue (has_position next k) → relation k to
+        → IsTrue (has_position fresh_next k) ⊎ IsTrue (has_position found_next to)
     closed k to (inl held) x r = inr (from_old k to r (h.closed k to held r))
     closed k to (inr absent) (inl held) r = absurd (false≢true (sym absent ∙ held))
     closed k to (inr absent) (inr held) r = inl (new.each k ∙ rw (held, absent) refl)
 
 -- with nothing fresh, everything is found
-widened_all : (relation : Relation) (allowed : ℕ → Type 0) (start found fresh : List ℕ) → IsWidened relation allowed start found fresh → HasNone fresh → (count i k : ℕ) → IsTrue (has_position start i) → Steps relation count i k → IsTrue (has_position found k)
+widened_all : (relation : Relation) (allowed : ℕ → Type 0) (start found fresh : List ℕ) → IsWidened relation allowed start found fresh
+    → HasNone fresh → (count i k : ℕ) → IsTrue (has_position start i) → Steps relation count i k → IsTrue (has_position found k)
 unfolding Steps
 widened_all relation allowed start found fresh h none_fresh zero i k held r = subst (λ n. IsTrue (has_position found n)) r (h.begins i held)
 widened_all relation allowed start found fresh h none_fresh (suc count) i k held r =
@@ -241,7 +257,8 @@ widened_all relation allowed start found fresh h none_fresh (suc count) i k held
 abbrev pub AnySteps : Relation → Relation
 AnySteps relation from to = (words : ℕ) × Steps relation words from to
 
-pub moves_any : (relation : Relation) (start found fresh : List ℕ) → IsWidened relation (λ _. Unit {0}) start found fresh → HasNone fresh → Moves (AnySteps relation) start found
+pub moves_any : (relation : Relation) (start found fresh : List ℕ) → IsWidened relation (λ _. Unit {0}) start found fresh → HasNone fresh
+    → Moves (AnySteps relation) start found
 moves_any relation start found fresh h none_fresh = record {
   sound = λ k held. let w = h.sound k held in (w.0, w.2, (w.1, w.4));
   complete = λ i k held r. widened_all relation (λ _. Unit {0}) start found fresh h none_fresh r.0 i k held r.1;
@@ -267,10 +284,14 @@ widened_by_none relation start = record {
     reaches zero i k less held r = subst (λ n. IsTrue (has_position start n)) r held
     reaches (suc count) i k less held r = absurd (omega arith)
 
-pub widened_by_more : (relation : Relation) (rounds rounds_next : ℕ) (start found fresh next found_next fresh_next : List ℕ) → rounds_next ≡ rounds + 1 → IsWidenedBy relation rounds start found fresh → Moves relation fresh next → IsEither found next found_next → IsNew next found fresh_next → IsWidenedBy relation rounds_next start found_next fresh_next
+pub widened_by_more : (relation : Relation) (rounds rounds_next : ℕ) (start found fresh next found_next fresh_next : List ℕ)
+    → rounds_next ≡ rounds + 1 → IsWidenedBy relation rounds start found fresh → Moves relation fresh next → IsEither found next found_next
+    → IsNew next found fresh_next → IsWidenedBy relation rounds_next start found_next fresh_next
 unfolding Steps
 widened_by_more relation rounds rounds_next start found fresh next found_next fresh_next e h moves either new = record {
-  widened = widened_more relation (λ count. count ≤ rounds) (λ count. count ≤ rounds_next) start found fresh next found_next fresh_next h.widened moves either new (λ count less. omega arith) (λ count less. omega arith);
+  widened =
+      widened_more relation (λ count. count ≤ rounds) (λ count. count ≤ rounds_next) start found fresh next found_next fresh_next h.widened
+      moves either new (λ count less. omega arith) (λ count less. omega arith);
   reaches = reaches;
 }
   where
@@ -284,14 +305,16 @@ widened_by_more relation rounds rounds_next start found fresh next found_next fr
         let before = h.reaches count i r.0 (omega arith) held r.1 in
         from_old r.0 k r.2 (h.widened.closed r.0 k before r.2)
 
-pub moves_few : (relation : Relation) (rounds : ℕ) (start found fresh : List ℕ) → IsWidenedBy relation rounds start found fresh → Moves (FewSteps relation rounds) start found
+pub moves_few : (relation : Relation) (rounds : ℕ) (start found fresh : List ℕ) → IsWidenedBy relation rounds start found fresh
+    → Moves (FewSteps relation rounds) start found
 moves_few relation rounds start found fresh h = record {
   sound = λ k held. let w = h.widened.sound k held in (w.0, w.2, (w.1, w.3, w.4));
   complete = λ i k held r. h.reaches r.0 i k r.1 held r.2;
 }
 
 -- with nothing fresh, further rounds find nothing
-pub moves_few_closed : (relation : Relation) (rounds most : ℕ) (start found fresh : List ℕ) → rounds ≤ most → IsWidenedBy relation rounds start found fresh → HasNone fresh → Moves (FewSteps relation most) start found
+pub moves_few_closed : (relation : Relation) (rounds most : ℕ) (start found fresh : List ℕ) → rounds ≤ most
+    → IsWidenedBy relation rounds start found fresh → HasNone fresh → Moves (FewSteps relation most) start found
 moves_few_closed relation rounds most start found fresh less h none_fresh = record {
   sound = λ k held. let w = h.widened.sound k held in (w.0, w.2, (w.1, omega (arith, w.3), w.4));
   complete = λ i k held r. widened_all relation (λ count. count ≤ rounds) start found fresh h.widened none_fresh r.0 i k held r.2;
@@ -303,22 +326,31 @@ steps_stay relation zero i stays = refl
 steps_stay relation (suc count) i stays = (i, steps_stay relation count i stays, stays i)
 
 -- Where a step can stay, at most so many are as good as exactly so many.
-pub moves_exactly : (relation : Relation) (count : ℕ) (from to : List ℕ) → ((i : ℕ) → relation i i) → Moves (FewSteps relation count) from to → Moves (Steps relation count) from to
+pub moves_exactly : (relation : Relation) (count : ℕ) (from to : List ℕ) → ((i : ℕ) → relation i i)
+    → Moves (FewSteps relation count) from to → Moves (Steps relation count) from to
 moves_exactly relation count from to stays moves = record {
   sound = λ k h.
       let few = moves.sound k h in
       let words = few.2.0 in
-      let sum : words + (count - words) ≡ count = let less = few.2.1 in omega arith in
-      (few.0, few.1, subst (λ n. Steps relation n few.0 k) sum (steps_join relation words (count - words) few.0 k k few.2.2 (steps_stay relation (count - words) k stays)));
+      let sum : words + (count - words) ≡ count = let less = few.2.1 in omega arith in (
+        few.0,
+        few.1,
+        subst (λ n. Steps relation n few.0 k) sum
+            (steps_join relation words (count - words) few.0 k k few.2.2 (steps_stay relation (count - words) k stays)),
+      );
   complete = λ i k h r. moves.complete i k h (count, omega arith, r);
 }
 
 -- counted repeats
-pub moves_impossible : (line : List ℕ) (body : Tree) (least most : ℕ) (from to : List ℕ) → most < least → HasNone to → Moves (Spans line (repeat body least (Some most))) from to
+pub moves_impossible : (line : List ℕ) (body : Tree) (least most : ℕ) (from to : List ℕ) → most < least → HasNone to
+    → Moves (Spans line (repeat body least (Some most))) from to
 unfolding Spans
-moves_impossible line body least most from to less none_to = moves_nowhere (Spans line (repeat body least (Some most))) from to (λ i k r. omega (arith, r.1, r.2)) none_to
+moves_impossible line body least most from to less none_to =
+    moves_nowhere (Spans line (repeat body least (Some most))) from to (λ i k r. omega (arith, r.1, r.2)) none_to
 
-pub moves_between : (line : List ℕ) (body : Tree) (least most rest : ℕ) (from middle to : List ℕ) → least + rest ≡ most → Moves (Steps (Spans line body) least) from middle → Moves (FewSteps (Spans line body) rest) middle to → Moves (Spans line (repeat body least (Some most))) from to
+pub moves_between : (line : List ℕ) (body : Tree) (least most rest : ℕ) (from middle to : List ℕ) → least + rest ≡ most
+    → Moves (Steps (Spans line body) least) from middle → Moves (FewSteps (Spans line body) rest) middle to
+    → Moves (Spans line (repeat body least (Some most))) from to
 unfolding Spans
 moves_between line body least most rest from middle to e one two =
     let both = moves_then (Steps (Spans line body) least) (FewSteps (Spans line body) rest) from middle to one two in
@@ -333,7 +365,8 @@ moves_between line body least most rest from middle to e one two =
           both.complete i k h (parts.0, parts.1, (r.0 - least, omega (arith, r.2), parts.2));
     }
 
-pub moves_at_least : (line : List ℕ) (body : Tree) (least : ℕ) (from middle to : List ℕ) → Moves (Steps (Spans line body) least) from middle → Moves (AnySteps (Spans line body)) middle to → Moves (Spans line (repeat body least None)) from to
+pub moves_at_least : (line : List ℕ) (body : Tree) (least : ℕ) (from middle to : List ℕ) → Moves (Steps (Spans line body) least) from middle
+    → Moves (AnySteps (Spans line body)) middle to → Moves (Spans line (repeat body least None)) from to
 unfolding Spans
 moves_at_least line body least from middle to one two =
     let both = moves_then (Steps (Spans line body) least) (AnySteps (Spans line body)) from middle to one two in
@@ -359,7 +392,8 @@ one_step relation joins zero i k h = subst (λ n. relation n k) (sym h.1) h.2
 one_step relation joins (suc count) i k h = joins i h.0 k (one_step relation joins count i h.0 h.1) h.2
 
 -- and a step behind others adds nothing
-pub moves_joined : (line : List ℕ) (body : Tree) (least : ℕ) (from to : List ℕ) → IsTransitive (Spans line body) → 0 < least → Moves (Steps (Spans line body) least) from to → Moves (Spans line (repeat body least None)) from to
+pub moves_joined : (line : List ℕ) (body : Tree) (least : ℕ) (from to : List ℕ) → IsTransitive (Spans line body) → 0 < least
+    → Moves (Steps (Spans line body) least) from to → Moves (Spans line (repeat body least None)) from to
 unfolding Spans Steps
 moves_joined line body zero from to joins some moves = absurd (omega arith)
 moves_joined line body (suc least) from to joins some moves = record {
@@ -370,7 +404,9 @@ moves_joined line body (suc least) from to joins some moves = record {
       moves.complete i k h (parts.0, parts.1, one_step (Spans line body) joins (r.0 - suc least) parts.0 k parts.2);
 }
 
-pub moves_optional : (line : List ℕ) (body : Tree) (from middle to : List ℕ) → IsTransitive (Spans line body) → Moves (Steps (Spans line body) 0) from middle → Moves (FewSteps (Spans line body) 1) middle to → Moves (Spans line (repeat body 0 None)) from to
+pub moves_optional : (line : List ℕ) (body : Tree) (from middle to : List ℕ) → IsTransitive (Spans line body)
+    → Moves (Steps (Spans line body) 0) from middle → Moves (FewSteps (Spans line body) 1) middle to
+    → Moves (Spans line (repeat body 0 None)) from to
 unfolding Spans Steps
 moves_optional line body from middle to joins one two =
     let both = moves_then (Steps (Spans line body) 0) (FewSteps (Spans line body) 1) from middle to one two in
@@ -390,34 +426,50 @@ pub repeats_join : (line : List ℕ) (body : Tree) (least : ℕ) → IsTransitiv
 unfolding Spans
 repeats_join line body least i m k a b = (a.0 + b.0, omega (arith, a.1), tt, steps_join (Spans line body) a.0 b.0 i m k a.3 b.3)
 
-pub joins_if : (line : List ℕ) (body tree : Tree) (least : ℕ) (greatest : Option ℕ) → tree ≡ repeat body least greatest → (absent : Bool) → is_some greatest ≡ not absent → IsTrue absent → IsTransitive (Spans line tree)
+pub joins_if : (line : List ℕ) (body tree : Tree) (least : ℕ) (greatest : Option ℕ) → tree ≡ repeat body least greatest → (absent : Bool)
+    → is_some greatest ≡ not absent → IsTrue absent → IsTransitive (Spans line tree)
 joins_if line body tree least None e absent a h = subst (λ t. IsTransitive (Spans line t)) (sym e) (repeats_join line body least)
 joins_if line body tree least (Some most) e true a h = absurd (false≢true (sym a))
 joins_if line body tree least (Some most) e false a h = absurd (false≢true h)
 
 -- one more member from the last one back, and from the first one on
-pub trees_from : (members : List Ere) (i : ℕ) (member : Ere) → i < length members → member ≡ get_or members i member → trees_of (map form (drop i members)) ≡ more (form member) (trees_of (map form (drop (i + 1) members)))
-trees_from members i member inside e = at_drop_more (λ rest. trees_of (map form rest)) members i member inside ∙ ap (λ m. more (form m) (trees_of (map form (drop (i + 1) members)))) (sym e)
+pub trees_from : (members : List Ere) (i : ℕ) (member : Ere) → i < length members → member ≡ get_or members i member
+    → trees_of (map form (drop i members)) ≡ more (form member) (trees_of (map form (drop (i + 1) members)))
+trees_from members i member inside e =
+    at_drop_more (λ rest. trees_of (map form rest)) members i member inside
+    ∙ ap (λ m. more (form m) (trees_of (map form (drop (i + 1) members)))) (sym e)
 
 pub trees_past : (members : List Ere) (i : ℕ) → length members ≤ i → trees_of (map form (drop i members)) ≡ none
 trees_past members i past = at_drop_all (λ rest. trees_of (map form rest)) members i past
 
-pub moves_members : (line : List ℕ) (members : List Ere) (i : ℕ) (member : Ere) (from middle to : List ℕ) → i < length members → member ≡ get_or members i member → Moves (Spans line (form member)) from middle → Moves (SpansEach line (trees_of (map form (drop (i + 1) members)))) middle to → Moves (SpansEach line (trees_of (map form (drop i members)))) from to
+pub moves_members : (line : List ℕ) (members : List Ere) (i : ℕ) (member : Ere) (from middle to : List ℕ) → i < length members
+    → member ≡ get_or members i member → Moves (Spans line (form member)) from middle
+    → Moves (SpansEach line (trees_of (map form (drop (i + 1) members)))) middle to
+    → Moves (SpansEach line (trees_of (map form (drop i members)))) from to
 moves_members line members i member from middle to inside e one rest =
-    subst (λ trees. Moves (SpansEach line trees) from to) (sym (trees_from members i member inside e)) (moves_each_more line (form member) (trees_of (map form (drop (i + 1) members))) from middle to one rest)
+    subst (λ trees. Moves (SpansEach line trees) from to) (sym (trees_from members i member inside e))
+    (moves_each_more line (form member) (trees_of (map form (drop (i + 1) members))) from middle to one rest)
 
-pub moves_no_members : (line : List ℕ) (members : List Ere) (i : ℕ) (at : List ℕ) → length members ≤ i → Moves (SpansEach line (trees_of (map form (drop i members)))) at at
+pub moves_no_members : (line : List ℕ) (members : List Ere) (i : ℕ) (at : List ℕ) → length members ≤ i
+    → Moves (SpansEach line (trees_of (map form (drop i members)))) at at
 moves_no_members line members i at past = subst (λ trees. Moves (SpansEach line trees) at at) (sym (trees_past members i past)) (moves_each_none line at)
 
-pub moves_by_member : (line : List ℕ) (members : List Ere) (i : ℕ) (member : Ere) (from one rest both : List ℕ) → i < length members → member ≡ get_or members i member → Moves (Spans line (form member)) from one → Moves (SpansSome line (trees_of (map form (drop (i + 1) members)))) from rest → IsEither rest one both → Moves (SpansSome line (trees_of (map form (drop i members)))) from both
+pub moves_by_member : (line : List ℕ) (members : List Ere) (i : ℕ) (member : Ere) (from one rest both : List ℕ) → i < length members
+    → member ≡ get_or members i member → Moves (Spans line (form member)) from one
+    → Moves (SpansSome line (trees_of (map form (drop (i + 1) members)))) from rest → IsEither rest one both
+    → Moves (SpansSome line (trees_of (map form (drop i members)))) from both
 moves_by_member line members i member from one rest both inside e first others either =
-    subst (λ trees. Moves (SpansSome line trees) from both) (sym (trees_from members i member inside e)) (moves_some_more line (form member) (trees_of (map form (drop (i + 1) members))) from one rest both first others either)
+    subst (λ trees. Moves (SpansSome line trees) from both) (sym (trees_from members i member inside e))
+    (moves_some_more line (form member) (trees_of (map form (drop (i + 1) members))) from one rest both first others either)
 
-pub moves_by_no_member : (line : List ℕ) (members : List Ere) (i : ℕ) (from to : List ℕ) → length members ≤ i → HasNone to → Moves (SpansSome line (trees_of (map form (drop i members)))) from to
-moves_by_no_member line members i from to past none_to = subst (λ trees. Moves (SpansSome line trees) from to) (sym (trees_past members i past)) (moves_some_none line from to none_to)
+pub moves_by_no_member : (line : List ℕ) (members : List Ere) (i : ℕ) (from to : List ℕ) → length members ≤ i → HasNone to
+    → Moves (SpansSome line (trees_of (map form (drop i members)))) from to
+moves_by_no_member line members i from to past none_to =
+    subst (λ trees. Moves (SpansSome line trees) from to) (sym (trees_past members i past)) (moves_some_none line from to none_to)
 
 -- a walk of all positions of a line, and whether any is left
-module _ (tree : Tree) (line : List ℕ) (all left : List ℕ) (every : (k : ℕ) → has_position all k ≡ nat_le k (length line)) (moves : Moves (Spans line tree) all left) where
+module _ (tree : Tree) (line : List ℕ) (all left : List ℕ) (every : (k : ℕ) → has_position all k ≡ nat_le k (length line))
+    (moves : Moves (Spans line tree) all left) where
   pub hit_of_position : (k : ℕ) → IsTrue (has_position left k) → ContainsMatch tree line
   hit_of_position k h =
       let w = moves.sound k h in

@@ -1,5 +1,6 @@
 -- Queries as formulas: their equality, and members joined.
-use Rattle.std.proofs.Common.{◌≡◌, ◌≢◌, ℕ, zero, suc, ◌<◌, ◌≤◌, Bool, true, false, ◌&&◌, IsFalse, List, [], ◌∷◌, ◌++◌, length, map, get_or, refl, sym, ap, ◌∙◌, arith, subst, Some, None, length-append, lit<}
+use Rattle.std.proofs.Common.{◌≡◌, ◌≢◌, ℕ, zero, suc, ◌<◌, ◌≤◌, Bool, true, false, ◌&&◌, IsFalse, List, [], ◌∷◌, ◌++◌, length, map, get_or}
+use Rattle.std.proofs.Common.{refl, sym, ap, ◌∙◌, arith, subst, Some, None, length-append, lit<}
 use Rattle.std.specs.declared.alloc.Global.{Global}
 use Rattle.std.specs.declared.vec.Vec.{Vec}
 use Rattle.query.specs.declared.query.Query.{Query}
@@ -10,13 +11,16 @@ use Rattle.query.specs.Trigrams.{TrigramSet}
 use Rattle.query.proofs.Forms.{formula_of-And, formula_of-Or}
 use Rattle.std.proofs.Math.Bool.{and_assoc, or_assoc}
 use Rattle.std.proofs.lemmas.Bool.{true≢false}
-use Rattle.query.specs.Query.{Formula, Formulas, always, never, has, all_of, one_of, none, more, formulas_of, formula_of, is_met, are_all_met, is_one_met, joined, HasTwo, IsPlain, IsReduced, AreReducedParts, IsJoin, IsSimplification}
+use Rattle.query.specs.Query.{Formula, Formulas, always, never, has, all_of, one_of, none, more, formulas_of, formula_of, is_met}
+use Rattle.query.specs.Query.{are_all_met, is_one_met, joined, HasTwo, IsPlain, IsReduced, AreReducedParts, IsJoin, IsSimplification}
 use Rattle.query.specs.Private.Joining.{are_met, is_of, idle, constant_of, AreMembersOf, HasTakenIn, IsCompound, AddsNothing}
 
-pub and_same : (ones others : Vec Query Global) → map formula_of ones.items ≡ map formula_of others.items → formula_of (query.And ones) ≡ formula_of (query.And others)
+pub and_same : (ones others : Vec Query Global) → map formula_of ones.items ≡ map formula_of others.items
+    → formula_of (query.And ones) ≡ formula_of (query.And others)
 and_same ones others same = formula_of-And ones ∙ ap (λ members. all_of (formulas_of members)) same ∙ sym (formula_of-And others)
 
-pub or_same : (ones others : Vec Query Global) → map formula_of ones.items ≡ map formula_of others.items → formula_of (query.Or ones) ≡ formula_of (query.Or others)
+pub or_same : (ones others : Vec Query Global) → map formula_of ones.items ≡ map formula_of others.items
+    → formula_of (query.Or ones) ≡ formula_of (query.Or others)
 or_same ones others same = formula_of-Or ones ∙ ap (λ members. one_of (formulas_of members)) same ∙ sym (formula_of-Or others)
 
 pub reduced_from_plain : (f : Formula) → constant_of f ≡ None → IsPlain f → IsReduced f
@@ -81,7 +85,8 @@ unfolding are_all_met is_one_met
 met_more And f fs set = refl
 met_more Or f fs set = refl
 
-met-append : (k : Connective) (xs ys : List Formula) (set : TrigramSet) → are_met k (formulas_of (xs ++ ys)) set ≡ joined k (are_met k (formulas_of xs) set) (are_met k (formulas_of ys) set)
+met-append : (k : Connective) (xs ys : List Formula) (set : TrigramSet)
+    → are_met k (formulas_of (xs ++ ys)) set ≡ joined k (are_met k (formulas_of xs) set) (are_met k (formulas_of ys) set)
 met-append k [] ys set = sym (ap (λ b. joined k b (are_met k (formulas_of ys) set)) (met_none k set) ∙ idle_joined k (are_met k (formulas_of ys) set))
 met-append k (x ∷ xs) ys set =
     met_more k x (formulas_of (xs ++ ys)) set
@@ -92,7 +97,8 @@ met-append k (x ∷ xs) ys set =
 only_met : (k : Connective) (f : Formula) (set : TrigramSet) → are_met k (more f none) set ≡ is_met f set
 only_met k f set = met_more k f none set ∙ ap (joined k (is_met f set)) (met_none k set) ∙ joined_idle k (is_met f set)
 
-parts-push : (kind : Formula → Bool) (xs : List Formula) (f : Formula) → AreReducedParts kind (formulas_of xs) → IsReduced f → IsFalse (kind f) → AreReducedParts kind (formulas_of (xs ++ f ∷ []))
+parts-push : (kind : Formula → Bool) (xs : List Formula) (f : Formula) → AreReducedParts kind (formulas_of xs) → IsReduced f
+    → IsFalse (kind f) → AreReducedParts kind (formulas_of (xs ++ f ∷ []))
 unfolding AreReducedParts
 parts-push kind [] f parts reduced other = (reduced, other, tt)
 parts-push kind (x ∷ xs) f parts reduced other = (parts.0, parts.1, parts-push kind xs f parts.2 reduced other)
@@ -102,7 +108,8 @@ has_two [] some other = absurd (omega arith)
 has_two (f ∷ []) some other = absurd (other refl)
 has_two (f ∷ g ∷ fs) some other = tt
 
-pub compound_and : (fs : List Formula) → AreReducedParts (is_of And) (formulas_of fs) → 0 < length fs → length fs ≢ 1 → IsCompound And fs (all_of (formulas_of fs))
+pub compound_and : (fs : List Formula) → AreReducedParts (is_of And) (formulas_of fs) → 0 < length fs → length fs ≢ 1
+    → IsCompound And fs (all_of (formulas_of fs))
 unfolding IsReduced is_met
 compound_and fs parts some other = record { plain = (has_two fs some other, parts); met = λ set. refl }
 
@@ -110,7 +117,8 @@ pub compound_or : (fs : List Formula) → AreReducedParts (is_of Or) (formulas_o
 unfolding IsReduced is_met
 compound_or fs parts some other = record { plain = (has_two fs some other, parts); met = λ set. refl }
 
-pub compound_one : (k : Connective) (fs : List Formula) (f : Formula) → AreReducedParts (is_of k) (formulas_of fs) → length fs ≡ 1 → f ≡ get_or fs 0 f → IsCompound k fs f
+pub compound_one : (k : Connective) (fs : List Formula) (f : Formula) → AreReducedParts (is_of k) (formulas_of fs) → length fs ≡ 1
+    → f ≡ get_or fs 0 f → IsCompound k fs f
 unfolding AreReducedParts
 compound_one k [] f parts one is = absurd (omega arith)
 compound_one k (g ∷ []) f parts one is = record {
@@ -131,12 +139,14 @@ some_from_two : (fs : List Formula) → HasTwo (formulas_of fs) → 0 < length f
 some_from_two [] h = absurd h
 some_from_two (f ∷ fs) h = omega arith
 
-pub members_of_and : (k : Connective) (fs : List Formula) → IsReduced (all_of (formulas_of fs)) → is_of k (all_of (formulas_of fs)) ≡ true → AreMembersOf k (all_of (formulas_of fs)) fs
+pub members_of_and : (k : Connective) (fs : List Formula) → IsReduced (all_of (formulas_of fs)) → is_of k (all_of (formulas_of fs)) ≡ true
+    → AreMembersOf k (all_of (formulas_of fs)) fs
 unfolding IsReduced is_met
 members_of_and And fs reduced of = record { parts = reduced.1; some = some_from_two fs reduced.0; met = λ set. refl }
 members_of_and Or fs reduced of = cc
 
-pub members_of_or : (k : Connective) (fs : List Formula) → IsReduced (one_of (formulas_of fs)) → is_of k (one_of (formulas_of fs)) ≡ true → AreMembersOf k (one_of (formulas_of fs)) fs
+pub members_of_or : (k : Connective) (fs : List Formula) → IsReduced (one_of (formulas_of fs)) → is_of k (one_of (formulas_of fs)) ≡ true
+    → AreMembersOf k (one_of (formulas_of fs)) fs
 unfolding IsReduced is_met
 members_of_or And fs reduced of = cc
 members_of_or Or fs reduced of = record { parts = reduced.1; some = some_from_two fs reduced.0; met = λ set. refl }
@@ -158,12 +168,16 @@ pub record IsTakingIn (k : Connective) (old further new rest : List Formula) : T
   pub parts : AreReducedParts (is_of k) (formulas_of new)
   pub rest_parts : AreReducedParts (is_of k) (formulas_of rest)
   pub longer : length old ≤ length new
-  pub met : (set : TrigramSet) → joined k (are_met k (formulas_of new) set) (are_met k (formulas_of rest) set) ≡ joined k (are_met k (formulas_of old) set) (are_met k (formulas_of further) set)
+  pub met : (set : TrigramSet)
+      → joined k (are_met k (formulas_of new) set) (are_met k (formulas_of rest) set)
+      ≡ joined k (are_met k (formulas_of old) set) (are_met k (formulas_of further) set)
 
-pub IsTakingIn-none : (k : Connective) (old further : List Formula) → AreReducedParts (is_of k) (formulas_of old) → AreReducedParts (is_of k) (formulas_of further) → IsTakingIn k old further old further
+pub IsTakingIn-none : (k : Connective) (old further : List Formula) → AreReducedParts (is_of k) (formulas_of old)
+    → AreReducedParts (is_of k) (formulas_of further) → IsTakingIn k old further old further
 IsTakingIn-none k old further p q = record { parts = p; rest_parts = q; longer = omega arith; met = λ set. refl }
 
-pub IsTakingIn-step : (k : Connective) (old further new newer rest : List Formula) (f : Formula) → IsTakingIn k old further new (f ∷ rest) → HasTakenIn k new (f ∷ []) newer → IsTakingIn k old further newer rest
+pub IsTakingIn-step : (k : Connective) (old further new newer rest : List Formula) (f : Formula) → IsTakingIn k old further new (f ∷ rest)
+    → HasTakenIn k new (f ∷ []) newer → IsTakingIn k old further newer rest
 unfolding AreReducedParts
 IsTakingIn-step k old further new newer rest f h one = record {
   parts = one.parts;
@@ -176,11 +190,13 @@ IsTakingIn-step k old further new newer rest f h one = record {
       ∙ h.met set;
 }
 
-pub first_parts : (k : Connective) (f : Formula) (rest : List Formula) → AreReducedParts (is_of k) (formulas_of (f ∷ rest)) → AreReducedParts (is_of k) (formulas_of (f ∷ []))
+pub first_parts : (k : Connective) (f : Formula) (rest : List Formula) → AreReducedParts (is_of k) (formulas_of (f ∷ rest))
+    → AreReducedParts (is_of k) (formulas_of (f ∷ []))
 unfolding AreReducedParts
 first_parts k f rest h = (h.0, h.1, tt)
 
-pub HasTakenIn-push : (k : Connective) (new : List Formula) (f : Formula) → AreReducedParts (is_of k) (formulas_of new) → AreReducedParts (is_of k) (formulas_of (f ∷ [])) → HasTakenIn k new (f ∷ []) (new ++ f ∷ [])
+pub HasTakenIn-push : (k : Connective) (new : List Formula) (f : Formula) → AreReducedParts (is_of k) (formulas_of new)
+    → AreReducedParts (is_of k) (formulas_of (f ∷ [])) → HasTakenIn k new (f ∷ []) (new ++ f ∷ [])
 unfolding AreReducedParts
 HasTakenIn-push k new f parts one = record {
   parts = parts-push (is_of k) new f parts one.0 one.1;
@@ -188,7 +204,8 @@ HasTakenIn-push k new f parts one = record {
   met = λ set. met-append k new (f ∷ []) set;
 }
 
-pub HasTakenIn-again : (k : Connective) (new : List Formula) (f : Formula) → AreReducedParts (is_of k) (formulas_of new) → AddsNothing k new f → HasTakenIn k new (f ∷ []) new
+pub HasTakenIn-again : (k : Connective) (new : List Formula) (f : Formula) → AreReducedParts (is_of k) (formulas_of new)
+    → AddsNothing k new f → HasTakenIn k new (f ∷ []) new
 HasTakenIn-again k new f parts nothing = record {
   parts = parts;
   more = omega arith;
@@ -215,10 +232,14 @@ keeps false b c e = refl
 pub stands_already : (fs : List Formula) (i : ℕ) (f : Formula) → i < length fs → get_or fs i f ≡ f → AddsNothing And fs f
 unfolding are_all_met
 stands_already [] i f below is set = absurd (omega arith)
-stands_already (g ∷ fs) zero f below is set = ap (λ h. is_met g set && are_all_met (formulas_of fs) set && is_met h set) (sym is) ∙ absorbs (is_met g set) (are_all_met (formulas_of fs) set)
-stands_already (g ∷ fs) (suc i) f below is set = keeps (is_met g set) (are_all_met (formulas_of fs) set) (is_met f set) (stands_already fs i f (omega arith) is set)
+stands_already (g ∷ fs) zero f below is set =
+    ap (λ h. is_met g set && are_all_met (formulas_of fs) set && is_met h set) (sym is)
+    ∙ absorbs (is_met g set) (are_all_met (formulas_of fs) set)
+stands_already (g ∷ fs) (suc i) f below is set =
+    keeps (is_met g set) (are_all_met (formulas_of fs) set) (is_met f set) (stands_already fs i f (omega arith) is set)
 
-pub join_compound : (k : Connective) (left right whole : Formula) (old further new : List Formula) → AreMembersOf k left old → AreMembersOf k right further → HasTakenIn k old further new → IsCompound k new whole → IsJoin k left right whole
+pub join_compound : (k : Connective) (left right whole : Formula) (old further new : List Formula) → AreMembersOf k left old
+    → AreMembersOf k right further → HasTakenIn k old further new → IsCompound k new whole → IsJoin k left right whole
 join_compound k left right whole old further new l r taken c = record {
   plain = c.plain;
   met = λ set. c.met set ∙ taken.met set ∙ ap (λ b. joined k b (are_met k (formulas_of further) set)) (l.met set) ∙ ap (joined k (is_met left set)) (r.met set);
@@ -242,7 +263,8 @@ join_idle_right k left right b e is plain = record {
   met = λ set. sym (ap (joined k (is_met left set)) (met_constant right b set e ∙ is) ∙ joined_idle k (is_met left set));
 }
 
-pub join_settled_right : (k : Connective) (left right : Formula) (b : Bool) → Some b ≡ constant_of right → b ≢ idle k → IsPlain right → IsJoin k left right right
+pub join_settled_right : (k : Connective) (left right : Formula) (b : Bool) → Some b ≡ constant_of right → b ≢ idle k → IsPlain right
+    → IsJoin k left right right
 join_settled_right k left right b e other plain = record {
   plain = plain;
   met = λ set. met_constant right b set e ∙ sym (ap (joined k (is_met left set)) (met_constant right b set e) ∙ settled_right k b (is_met left set) other);
@@ -263,10 +285,15 @@ plain_constant (one_of ms) b e = cc
 pub IsJoinedSoFar-none : (k : Connective) (members : List Formula) (f : Formula) → constant_of f ≡ Some (idle k) → IsJoinedSoFar k members members f
 IsJoinedSoFar-none k members f e = record {
   plain = plain_constant f (idle k) e;
-  met = λ set. ap (λ b. joined k b (are_met k (formulas_of members) set)) (met_constant f (idle k) set (sym e)) ∙ idle_joined k (are_met k (formulas_of members) set);
+  met =
+      λ set.
+      ap (λ b. joined k b (are_met k (formulas_of members) set)) (met_constant f (idle k) set (sym e))
+      ∙ idle_joined k (are_met k (formulas_of members) set);
 }
 
-pub IsJoinedSoFar-more : (k : Connective) (members rest : List Formula) (so_far member simple whole : Formula) → IsJoinedSoFar k members (member ∷ rest) so_far → IsSimplification member simple → IsJoin k so_far simple whole → IsJoinedSoFar k members rest whole
+pub IsJoinedSoFar-more : (k : Connective) (members rest : List Formula) (so_far member simple whole : Formula)
+    → IsJoinedSoFar k members (member ∷ rest) so_far → IsSimplification member simple → IsJoin k so_far simple whole
+    → IsJoinedSoFar k members rest whole
 IsJoinedSoFar-more k members rest so_far member simple whole h s j = record {
   plain = j.plain;
   met = λ set.

@@ -18,16 +18,26 @@ use Rattle.readers.specs.Private.Giving.{given, Gives}
 prefix_further : {A : Type 0} (xs ys zs : List A) → IsPrefix xs ys → IsPrefix ys zs → IsPrefix xs zs
 prefix_further xs ys zs p q = (p.0 ++ q.0, sym (append_assoc xs p.0 q.0) ∙ ap (λ l. l ++ q.0) p.1 ∙ q.1)
 
-given_later : (searches : List (Option Prepared)) (seen later : List Command) → IsPrefix seen later → (given : Given) → IsGiven searches seen given → IsGiven searches later given
+given_later : (searches : List (Option Prepared)) (seen later : List Command) → IsPrefix seen later → (given : Given)
+    → IsGiven searches seen given → IsGiven searches later given
 given_later searches seen later more given is =
-    record { prepared = is.prepared; numbered = is.numbered; listed = is.listed; commands = is.commands; begins = prefix_further is.commands seen later is.begins more; exact = is.exact }
+    record {
+      prepared = is.prepared;
+      numbered = is.numbered;
+      listed = is.listed;
+      commands = is.commands;
+      begins = prefix_further is.commands seen later is.begins more;
+      exact = is.exact;
+    }
 
 -- the reading has seen more, and no answer is added
 pub sees_more : (searches : List (Option Prepared)) (before : Known) (old new : Report)
     → new.reading.opening ≡ old.reading.opening → IsPrefix old.reading.commands new.reading.commands → new.given.items ≡ old.given.items
     → IsReport searches before old → IsReport searches before new
 sees_more searches before old new opening seen same is =
-    let all = All-weaker (IsGiven searches old.reading.commands) (IsGiven searches new.reading.commands) (given_later searches old.reading.commands new.reading.commands seen) old.given.items is.given in
+    let all =
+    All-weaker (IsGiven searches old.reading.commands) (IsGiven searches new.reading.commands)
+    (given_later searches old.reading.commands new.reading.commands seen) old.given.items is.given in
     record {
       opening = opening ∙ is.opening;
       seen = prefix_further before.commands old.reading.commands new.reading.commands is.seen seen;
@@ -41,9 +51,19 @@ pub gives_more : (searches : List (Option Prepared)) (before : Known) (search : 
     → IsReport searches before old → IsReport searches before new
 gives_more searches before search prepared answer old new numbered listed exact gives is =
     let one : (turn : ℕ) → IsGiven searches old.reading.commands (given search turn answer) =
-    λ turn. record { prepared = prepared; numbered = numbered; listed = listed; commands = old.reading.commands; begins = prefix_self old.reading.commands; exact = exact } in
+    λ turn.
+    record {
+      prepared = prepared;
+      numbered = numbered;
+      listed = listed;
+      commands = old.reading.commands;
+      begins = prefix_self old.reading.commands;
+      exact = exact;
+    } in
     let all : All (IsGiven searches old.reading.commands) new.given.items = ⊎_elim
-    (λ more. subst (All (IsGiven searches old.reading.commands)) (sym more.1) (All-push (IsGiven searches old.reading.commands) old.given.items (given search more.0 answer) is.given (one more.0)))
+    (λ more.
+    subst (All (IsGiven searches old.reading.commands)) (sym more.1)
+    (All-push (IsGiven searches old.reading.commands) old.given.items (given search more.0 answer) is.given (one more.0)))
     (λ same. subst (All (IsGiven searches old.reading.commands)) (sym same) is.given)
     gives.given in
     record {

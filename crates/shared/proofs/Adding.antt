@@ -16,7 +16,8 @@ abbrev moved : List (List Command) → List (List Command) → ℕ → Type 0
 moved xs ys n = Unit {0}
 
 abbrev AddGoes : (v : List (List Command)) (ask : List Command) (s : Option ℕ) (old new : ℕ) → List Cell → List (List Command) → Type 0
-AddGoes v ask s old new cells log = Goes IsCounted shown moved 0 (v, (no_nib, s)) (λ n. either (n == old) new n) (Adds (step 0 old new ask) (v, (no_nib, s))) cells log
+AddGoes v ask s old new cells log =
+    Goes IsCounted shown moved 0 (v, (no_nib, s)) (λ n. either (n == old) new n) (Adds (step 0 old new ask) (v, (no_nib, s))) cells log
 
 adds_goes : (v log : List (List Command)) (ask : List Command) (s : Option ℕ) (old new : ℕ) → length v ≡ old → new ≡ old + 1 → IsPrefix v log
     → (b : Bool) → (length log == old) ≡ b

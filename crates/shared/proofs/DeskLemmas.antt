@@ -1,5 +1,6 @@
 -- What a desk keeps, from call to call.
-use Rattle.std.proofs.Common.{◌≡◌, ℕ, ◌+◌, ◌<◌, ◌≤◌, false, List, [], ◌∷◌, ◌++◌, length, sym, ap, subst, ◌∙◌, arith, append_assoc, length-append, fold, not, ◌&&◌, ◌||◌}
+use Rattle.std.proofs.Common.{◌≡◌, ℕ, ◌+◌, ◌<◌, ◌≤◌, false, List, [], ◌∷◌, ◌++◌, length, sym, ap, subst, ◌∙◌, arith, append_assoc}
+use Rattle.std.proofs.Common.{length-append, fold, not, ◌&&◌, ◌||◌}
 use Rattle.std.specs.Prelude.{bytes_eq, Option}
 use Rattle.std.proofs.lemmas.List.{append-nil}
 use mathlib.Core.List.{IsPrefix}
@@ -24,11 +25,14 @@ use Rattle.shared.proofs.DocumentNames.{has_document-none, has_document-put, has
 use Rattle.shared.proofs.ShelfLemmas.{accepted_of-change, accepted_of-stamp, next_front, next_exact}
 use Rattle.shared.proofs.Turns.{turns_at}
 
-pub nothing_accepted : (shown : Shelf) (pending : List Operation) (front : Known) → shown.front ≡ front → front.commands ≡ [] → pending ≡ [] → accepted_of shown pending ≡ []
-nothing_accepted shown pending front is none empty = ap (λ ops. shown.front.commands ++ commands_in ops) empty ∙ ap (λ c. c ++ []) (ap (λ f. f.commands) is ∙ none)
+pub nothing_accepted : (shown : Shelf) (pending : List Operation) (front : Known) → shown.front ≡ front → front.commands ≡ [] → pending ≡ []
+    → accepted_of shown pending ≡ []
+nothing_accepted shown pending front is none empty =
+    ap (λ ops. shown.front.commands ++ commands_in ops) empty ∙ ap (λ c. c ++ []) (ap (λ f. f.commands) is ∙ none)
 
 pub desk_begins : (shown : Shelf) (pending : List Operation) (head : Named) (front : Known) (names : Names) (limit : ℕ)
-    → shown.front ≡ front → head ≡ head_of front.opening → front.commands ≡ [] → pending ≡ [] → ((name : List ℕ) → has_name names name ≡ false) → limit ≤ 1000000
+    → shown.front ≡ front → head ≡ head_of front.opening → front.commands ≡ [] → pending ≡ []
+    → ((name : List ℕ) → has_name names name ≡ false) → limit ≤ 1000000
     → IsDesk shown pending head front names 0 limit
 desk_begins shown pending head front names limit is head_is none empty no_names limited =
     let all = nothing_accepted shown pending front is none empty in
@@ -43,16 +47,22 @@ desk_begins shown pending head front names limit is head_is none empty no_names 
     }
 
 -- one more command, whose name is noted
-pub desk_goes_on : (shown shown' : Shelf) (pending pending' : List Operation) (head : Named) (front : Known) (names names' : Names) (accepted limit : ℕ) (edit : Edit)
+pub desk_goes_on : (shown shown' : Shelf) (pending pending' : List Operation) (head : Named) (front : Known) (names names' : Names)
+    (accepted limit : ℕ) (edit : Edit)
     → IsDesk shown pending head front names accepted limit → accepted < limit → shown' ≡ shown → pending' ≡ pending ++ Change edit ∷ []
     → ((name : List ℕ) → has_name names' name ≡ has_document (accepted_of shown pending ++ command_of edit ∷ []) name)
     → IsDesk shown' pending' head front names' (accepted + 1) limit
 desk_goes_on shown shown' pending pending' head front names names' accepted limit edit was room same more noted =
-    let all : accepted_of shown' pending' ≡ accepted_of shown pending ++ command_of edit ∷ [] = ap (λ s. accepted_of s pending') same ∙ (ap (accepted_of shown) more ∙ accepted_of-change shown pending edit) in
+    let all : accepted_of shown' pending' ≡ accepted_of shown pending ++ command_of edit ∷ [] =
+    ap (λ s. accepted_of s pending') same ∙ (ap (accepted_of shown) more ∙ accepted_of-change shown pending edit) in
     record {
       one = ap (λ s. s.front.opening) same ∙ was.one;
       head_is = was.head_is;
-      begins = (was.begins.0 ++ command_of edit ∷ [], sym (append_assoc front.commands was.begins.0 (command_of edit ∷ [])) ∙ (ap (λ c. c ++ command_of edit ∷ []) was.begins.1 ∙ sym all));
+      begins = (
+        was.begins.0 ++ command_of edit ∷ [],
+        sym (append_assoc front.commands was.begins.0 (command_of edit ∷ []))
+            ∙ (ap (λ c. c ++ command_of edit ∷ []) was.begins.1 ∙ sym all),
+      );
       counted = omega (arith, was.counted, ap length all, length-append (accepted_of shown pending) (command_of edit ∷ []));
       few = omega arith;
       limited = was.limited;
@@ -61,7 +71,8 @@ desk_goes_on shown shown' pending pending' head front names names' accepted limi
 
 -- the same commands are accepted, and the front has them
 pub desk_stays : (shown shown' : Shelf) (pending pending' : List Operation) (head : Named) (front front' : Known) (names : Names) (accepted limit : ℕ)
-    → IsDesk shown pending head front names accepted limit → shown'.front.opening ≡ front.opening → front'.opening ≡ front.opening → front'.commands ≡ accepted_of shown pending
+    → IsDesk shown pending head front names accepted limit → shown'.front.opening ≡ front.opening → front'.opening ≡ front.opening
+    → front'.commands ≡ accepted_of shown pending
     → accepted_of shown' pending' ≡ accepted_of shown pending
     → IsDesk shown' pending' head front' names accepted limit
 desk_stays shown shown' pending pending' head front front' names accepted limit was one opening all same =
@@ -76,23 +87,33 @@ desk_stays shown shown' pending pending' head front front' names accepted limit 
     }
 
 -- the names after a put and after a remove
-pub noted_put : (commands : List Command) (names names' : Names) (n n' body : List ℕ) → n' ≡ n → ((name : List ℕ) → has_name names name ≡ has_document commands name)
-    → ((name : List ℕ) → has_name names' name ≡ (bytes_eq n name || has_name names name)) → (name : List ℕ) → has_name names' name ≡ has_document (commands ++ Put n' body ∷ []) name
+pub noted_put : (commands : List Command) (names names' : Names) (n n' body : List ℕ) → n' ≡ n
+    → ((name : List ℕ) → has_name names name ≡ has_document commands name)
+    → ((name : List ℕ) → has_name names' name ≡ (bytes_eq n name || has_name names name)) → (name : List ℕ)
+    → has_name names' name ≡ has_document (commands ++ Put n' body ∷ []) name
 noted_put commands names names' n n' body same was now name =
-    now name ∙ (ap (λ b. bytes_eq n name || b) (was name) ∙ (ap (λ m. bytes_eq m name || has_document commands name) (sym same) ∙ sym (has_document-put commands n' body name)))
+    now name
+    ∙ (ap (λ b. bytes_eq n name || b) (was name)
+    ∙ (ap (λ m. bytes_eq m name || has_document commands name) (sym same) ∙ sym (has_document-put commands n' body name)))
 
-pub noted_remove : (commands : List Command) (names names' : Names) (n n' : List ℕ) → n' ≡ n → ((name : List ℕ) → has_name names name ≡ has_document commands name)
-    → ((name : List ℕ) → has_name names' name ≡ (not (bytes_eq n name) && has_name names name)) → (name : List ℕ) → has_name names' name ≡ has_document (commands ++ Remove n' ∷ []) name
+pub noted_remove : (commands : List Command) (names names' : Names) (n n' : List ℕ) → n' ≡ n
+    → ((name : List ℕ) → has_name names name ≡ has_document commands name)
+    → ((name : List ℕ) → has_name names' name ≡ (not (bytes_eq n name) && has_name names name)) → (name : List ℕ)
+    → has_name names' name ≡ has_document (commands ++ Remove n' ∷ []) name
 noted_remove commands names names' n n' same was now name =
-    now name ∙ (ap (λ b. not (bytes_eq n name) && b) (was name) ∙ (ap (λ m. not (bytes_eq m name) && has_document commands name) (sym same) ∙ sym (has_document-remove commands n' name)))
+    now name
+    ∙ (ap (λ b. not (bytes_eq n name) && b) (was name)
+    ∙ (ap (λ m. not (bytes_eq m name) && has_document commands name) (sym same) ∙ sym (has_document-remove commands n' name)))
 
 -- what contracts see, after one more command
 pub desk_with : (front : Known) (limit : ℕ) (shown shown' : Shelf) (pending pending' : List Operation) (edit : Edit) (command : Command) (desk : DeskState)
-    → desk_state front.opening limit shown.front.commands (accepted_of shown pending) ≡ desk → shown' ≡ shown → pending' ≡ pending ++ Change edit ∷ [] → command_of edit ≡ command
+    → desk_state front.opening limit shown.front.commands (accepted_of shown pending) ≡ desk → shown' ≡ shown
+    → pending' ≡ pending ++ Change edit ∷ [] → command_of edit ≡ command
     → desk_state front.opening limit shown'.front.commands (accepted_of shown' pending') ≡ with_command command desk
 desk_with front limit shown shown' pending pending' edit command desk seen same more is =
     ap (λ s. desk_state front.opening limit s.front.commands (accepted_of s pending')) same
-    ∙ (ap (desk_state front.opening limit shown.front.commands) (ap (accepted_of shown) more ∙ (accepted_of-change shown pending edit ∙ ap (λ c. accepted_of shown pending ++ c ∷ []) is))
+    ∙ (ap (desk_state front.opening limit shown.front.commands)
+    (ap (accepted_of shown) more ∙ (accepted_of-change shown pending edit ∙ ap (λ c. accepted_of shown pending ++ c ∷ []) is))
     ∙ ap (with_command command) seen)
 
 -- a front that has all that is accepted is stamped on what is pending
@@ -127,7 +148,8 @@ module _ (shown old : Shelf) (pending pending' : List Operation) (before front :
       (ap (λ f. f.opening) (next_front shown next pending front to) ∙ (h.opening ∙ (sym h.one ∙ ap (λ s. s.front.opening) (sym h.same))))
       (λ exact. next_exact shown next pending front to h.all (subst IsExact h.same exact))
 
-  module _ (head : Named) (names : Names) (accepted limit : ℕ) (was : IsDesk shown pending head before names accepted limit) (next : Shelf) (left : List Operation) where
+  module _ (head : Named) (names : Names) (accepted limit : ℕ) (was : IsDesk shown pending head before names accepted limit) (next : Shelf)
+      (left : List Operation) where
     pub desk_publishes : next ≡ fold operated old pending' → left ≡ [] → IsDesk next left head front names accepted limit
     desk_publishes is none =
         let to = next_front shown next pending front (next_is next is) in
@@ -138,14 +160,20 @@ module _ (shown old : Shelf) (pending pending' : List Operation) (before front :
     left_is is rest = ap (λ s. accepted_of s left) (is ∙ h.same) ∙ (ap (accepted_of shown) (rest ∙ h.more) ∙ accepted_of-stamp shown pending front)
 
     pub desk_refuses : next ≡ old → left ≡ pending' → IsDesk next left head front names accepted limit
-    desk_refuses is rest = desk_stays shown next pending left head before front names accepted limit was (ap (λ s. s.front.opening) (is ∙ h.same) ∙ h.one) h.opening h.all (left_is is rest)
+    desk_refuses is rest =
+        desk_stays shown next pending left head before front names accepted limit was (ap (λ s. s.front.opening) (is ∙ h.same) ∙ h.one)
+        h.opening h.all (left_is is rest)
 
-    pub desk_same : next ≡ old → left ≡ pending' → desk_state front.opening limit next.front.commands (accepted_of next left) ≡ desk_state before.opening limit shown.front.commands (accepted_of shown pending)
+    pub desk_same : next ≡ old → left ≡ pending'
+        → desk_state front.opening limit next.front.commands (accepted_of next left)
+        ≡ desk_state before.opening limit shown.front.commands (accepted_of shown pending)
     desk_same is rest =
         ap (λ b. desk_state b limit next.front.commands (accepted_of next left)) h.opening
-        ∙ (ap (λ s. desk_state before.opening limit s.front.commands (accepted_of next left)) (is ∙ h.same) ∙ ap (desk_state before.opening limit shown.front.commands) (left_is is rest))
+        ∙ (ap (λ s. desk_state before.opening limit s.front.commands (accepted_of next left)) (is ∙ h.same)
+        ∙ ap (desk_state before.opening limit shown.front.commands) (left_is is rest))
 
-    pub desk_told : (desk : DeskState) → desk_state before.opening limit shown.front.commands (accepted_of shown pending) ≡ desk → next ≡ fold operated old pending' → left ≡ []
+    pub desk_told : (desk : DeskState) → desk_state before.opening limit shown.front.commands (accepted_of shown pending) ≡ desk
+        → next ≡ fold operated old pending' → left ≡ []
         → desk_state front.opening limit next.front.commands (accepted_of next left) ≡ all_published desk
     desk_told desk seen is none =
         let all : next.front.commands ≡ accepted_of shown pending = ap (λ f. f.commands) (next_front shown next pending front (next_is next is)) ∙ h.all in

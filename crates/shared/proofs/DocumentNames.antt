@@ -15,7 +15,8 @@ and_false true = refl
 and_false false = refl
 
 -- a name other than another is found where it was found
-without_same : (n : List ℕ) (name : List ℕ) (docs : List Document) → is_some (number_of name (without n docs)) ≡ (not (bytes_eq n name) && is_some (number_of name docs))
+without_same : (n : List ℕ) (name : List ℕ) (docs : List Document)
+    → is_some (number_of name (without n docs)) ≡ (not (bytes_eq n name) && is_some (number_of name docs))
 unfolding number_of
 without_same n name [] = and_false (not (bytes_eq n name))
 without_same n name (d ∷ ds) = go (bytes_eq d.name n) refl (bytes_eq d.name name) refl (without_same n name ds)
@@ -23,7 +24,8 @@ without_same n name (d ∷ ds) = go (bytes_eq d.name n) refl (bytes_eq d.name na
     rest : Option ℕ
     rest = number_of name ds
 
-    go : (t : Bool) → bytes_eq d.name n ≡ t → (u : Bool) → bytes_eq d.name name ≡ u → is_some (number_of name (without n ds)) ≡ (not (bytes_eq n name) && is_some rest)
+    go : (t : Bool) → bytes_eq d.name n ≡ t → (u : Bool) → bytes_eq d.name name ≡ u
+        → is_some (number_of name (without n ds)) ≡ (not (bytes_eq n name) && is_some rest)
         → is_some (number_of name (cond (not t) (d ∷ without n ds) (without n ds))) ≡ (not (bytes_eq n name) && is_some (cond u (Some d.number) rest))
     go true is true named deeper =
         let v : bytes_eq n name ≡ true = ap (λ x. bytes_eq x name) (sym (same_name d.name n is)) ∙ named in
@@ -35,7 +37,8 @@ without_same n name (d ∷ ds) = go (bytes_eq d.name n) refl (bytes_eq d.name na
         ap (λ b. is_some (cond b (Some d.number) (number_of name (without n ds)))) named ∙ sym (ap (λ b. not b && true) v)
     go false is false named deeper = ap (λ b. is_some (cond b (Some d.number) (number_of name (without n ds)))) named ∙ deeper
 
-found_push : (k : ℕ) (n body name : List ℕ) (docs : List Document) → is_some (number_of name (docs ++ document k n body ∷ [])) ≡ (is_some (number_of name docs) || bytes_eq n name)
+found_push : (k : ℕ) (n body name : List ℕ) (docs : List Document)
+    → is_some (number_of name (docs ++ document k n body ∷ [])) ≡ (is_some (number_of name docs) || bytes_eq n name)
 unfolding number_of
 found_push k n body name [] = go (bytes_eq n name)
   where
@@ -45,7 +48,8 @@ found_push k n body name [] = go (bytes_eq n name)
 found_push k n body name (d ∷ ds) = go (bytes_eq d.name name) (found_push k n body name ds)
   where
     go : (t : Bool) → is_some (number_of name (ds ++ document k n body ∷ [])) ≡ (is_some (number_of name ds) || bytes_eq n name)
-        → is_some (cond t (Some d.number) (number_of name (ds ++ document k n body ∷ []))) ≡ (is_some (cond t (Some d.number) (number_of name ds)) || bytes_eq n name)
+        → is_some (cond t (Some d.number) (number_of name (ds ++ document k n body ∷ [])))
+        ≡ (is_some (cond t (Some d.number) (number_of name ds)) || bytes_eq n name)
     go true deeper = refl
     go false deeper = deeper
 
@@ -54,15 +58,18 @@ either_way true x = refl
 either_way false true = refl
 either_way false false = refl
 
-pub has_document-put : (commands : List Command) (n body name : List ℕ) → has_document (commands ++ Put n body ∷ []) name ≡ (bytes_eq n name || has_document commands name)
+pub has_document-put : (commands : List Command) (n body name : List ℕ)
+    → has_document (commands ++ Put n body ∷ []) name ≡ (bytes_eq n name || has_document commands name)
 has_document-put commands n body name =
     let docs = documents_of commands in
     ap (λ s. is_some (number_of name s.documents)) (state_of-push commands (Put n body))
     ∙ (found_push (length commands + 1) n body name (without n docs)
     ∙ (ap (λ b. b || bytes_eq n name) (without_same n name docs) ∙ either_way (bytes_eq n name) (has_document commands name)))
 
-pub has_document-remove : (commands : List Command) (n name : List ℕ) → has_document (commands ++ Remove n ∷ []) name ≡ (not (bytes_eq n name) && has_document commands name)
-has_document-remove commands n name = ap (λ s. is_some (number_of name s.documents)) (state_of-push commands (Remove n)) ∙ without_same n name (documents_of commands)
+pub has_document-remove : (commands : List Command) (n name : List ℕ)
+    → has_document (commands ++ Remove n ∷ []) name ≡ (not (bytes_eq n name) && has_document commands name)
+has_document-remove commands n name =
+    ap (λ s. is_some (number_of name s.documents)) (state_of-push commands (Remove n)) ∙ without_same n name (documents_of commands)
 
 pub has_document-none : (name : List ℕ) → has_document [] name ≡ false
 unfolding documents_from number_of

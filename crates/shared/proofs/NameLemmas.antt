@@ -17,8 +17,14 @@ and_is false x = refl
 module _ (old new : BTreeSet (List ℕ)) (name : List ℕ) where
   pub added : ((q : List ℕ) → contains (slice_cmp nat_cmp) new q ≡ cond (is_at (slice_cmp nat_cmp name) q) true (contains (slice_cmp nat_cmp) old q))
       → (q : List ℕ) → contains (slice_cmp nat_cmp) new q ≡ (bytes_eq name q || contains (slice_cmp nat_cmp) old q)
-  added updates q = updates q ∙ (ap (λ t. cond t true (contains (slice_cmp nat_cmp) old q)) (sym (texts_ties name q)) ∙ or_is (bytes_eq name q) (contains (slice_cmp nat_cmp) old q))
+  added updates q =
+      updates q
+      ∙ (ap (λ t. cond t true (contains (slice_cmp nat_cmp) old q)) (sym (texts_ties name q))
+      ∙ or_is (bytes_eq name q) (contains (slice_cmp nat_cmp) old q))
 
   pub removed : ((q : List ℕ) → contains (slice_cmp nat_cmp) new q ≡ cond (is_at (slice_cmp nat_cmp name) q) false (contains (slice_cmp nat_cmp) old q))
       → (q : List ℕ) → contains (slice_cmp nat_cmp) new q ≡ (not (bytes_eq name q) && contains (slice_cmp nat_cmp) old q)
-  removed updates q = updates q ∙ (ap (λ t. cond t false (contains (slice_cmp nat_cmp) old q)) (sym (texts_ties name q)) ∙ and_is (bytes_eq name q) (contains (slice_cmp nat_cmp) old q))
+  removed updates q =
+      updates q
+      ∙ (ap (λ t. cond t false (contains (slice_cmp nat_cmp) old q)) (sym (texts_ties name q))
+      ∙ and_is (bytes_eq name q) (contains (slice_cmp nat_cmp) old q))

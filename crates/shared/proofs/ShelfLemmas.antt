@@ -36,8 +36,11 @@ commands_in-append [] ys = refl
 commands_in-append (Change edit ∷ xs) ys = ap (λ c. command_of edit ∷ c) (commands_in-append xs ys)
 commands_in-append (Stamp front ∷ xs) ys = commands_in-append xs ys
 
-pub accepted_of-change : (shown : Shelf) (pending : List Operation) (edit : Edit) → accepted_of shown (pending ++ Change edit ∷ []) ≡ accepted_of shown pending ++ command_of edit ∷ []
-accepted_of-change shown pending edit = ap (λ c. shown.front.commands ++ c) (commands_in-append pending (Change edit ∷ [])) ∙ sym (append_assoc shown.front.commands (commands_in pending) (command_of edit ∷ []))
+pub accepted_of-change : (shown : Shelf) (pending : List Operation) (edit : Edit)
+    → accepted_of shown (pending ++ Change edit ∷ []) ≡ accepted_of shown pending ++ command_of edit ∷ []
+accepted_of-change shown pending edit =
+    ap (λ c. shown.front.commands ++ c) (commands_in-append pending (Change edit ∷ []))
+    ∙ sym (append_assoc shown.front.commands (commands_in pending) (command_of edit ∷ []))
 
 pub accepted_of-stamp : (shown : Shelf) (pending : List Operation) (front : Known) → accepted_of shown (pending ++ Stamp front ∷ []) ≡ accepted_of shown pending
 accepted_of-stamp shown pending front = ap (λ c. shown.front.commands ++ c) (commands_in-append pending (Stamp front ∷ []) ∙ append-nil (commands_in pending))
@@ -53,18 +56,21 @@ module _ (shown next : Shelf) (pending : List Operation) (front : Known) (is : n
   pub next_exact : front.commands ≡ accepted_of shown pending → IsExact shown → IsExact next
   next_exact all exact =
       let index : next.index ≡ after shown.index (commands_in pending) = ap (λ s. s.index) stamped ∙ fold_index shown pending in
-      let state : state_of next.front.commands ≡ after (state_of shown.front.commands) (commands_in pending) = ap (λ f. state_of f.commands) next_front ∙ (ap state_of all ∙ state_of-more shown.front.commands (commands_in pending)) in
+      let state : state_of next.front.commands ≡ after (state_of shown.front.commands) (commands_in pending) =
+      ap (λ f. state_of f.commands) next_front ∙ (ap state_of all ∙ state_of-more shown.front.commands (commands_in pending)) in
       index ∙ (ap (λ s. after s (commands_in pending)) exact ∙ sym state)
 
 -- a step of no operations
 pub nothing_done : (shown next : Shelf) (pending : List Operation) → pending ≡ [] → next ≡ fold operated shown pending → next ≡ shown
 nothing_done shown next pending none is = is ∙ ap (fold operated shown) none
 
-pub nothing_turns : (seat : ℕ) (met : Option Known) (shown next : Shelf) (pending : List Operation) → pending ≡ [] → next ≡ fold operated shown pending → TurnsAt IsKept seat met shown next Meets
+pub nothing_turns : (seat : ℕ) (met : Option Known) (shown next : Shelf) (pending : List Operation) → pending ≡ []
+    → next ≡ fold operated shown pending → TurnsAt IsKept seat met shown next Meets
 nothing_turns seat met shown next pending none is =
     let same = nothing_done shown next pending none is in
     turns_at seat met shown next (ap (λ s. s.front.opening) same) (subst IsExact (sym same))
 
 -- what the writer has met when nothing is on the shelf
-pub met_front : (met met' : Option Known) (shown next : Shelf) (pending : List Operation) (front : Known) → pending ≡ [] → next ≡ fold operated shown pending → shown.front ≡ front → Meets met shown next met' → met' ≡ Some front
+pub met_front : (met met' : Option Known) (shown next : Shelf) (pending : List Operation) (front : Known) → pending ≡ []
+    → next ≡ fold operated shown pending → shown.front ≡ front → Meets met shown next met' → met' ≡ Some front
 met_front met met' shown next pending front none is kept meets = meets.met ∙ (ap (λ s. Some s.front) (nothing_done shown next pending none is) ∙ ap Some kept)

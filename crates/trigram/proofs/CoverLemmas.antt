@@ -1,13 +1,17 @@
 -- What the analysis says of words: each operation, over arbitrary sets of words.
-use Rattle.std.proofs.Common.{◌≡◌, ℕ, zero, suc, ◌+◌, ◌-◌, ◌<◌, ◌≤◌, Bool, true, false, cond, ◌&&◌, ◌||◌, ◌==◌, IsTrue, List, [], ◌∷◌, ◌++◌, take, refl, sym, ap, subst, ◌∙◌, arith, ◌⊎◌, inl, inr, ⊎_elim, Option, Some, None, IfSome, if◌then◌else◌}
+use Rattle.std.proofs.Common.{◌≡◌, ℕ, zero, suc, ◌+◌, ◌-◌, ◌<◌, ◌≤◌, Bool, true, false, cond, ◌&&◌, ◌||◌, ◌==◌, IsTrue, List, [], ◌∷◌, ◌++◌}
+use Rattle.std.proofs.Common.{take, refl, sym, ap, subst, ◌∙◌, arith, ◌⊎◌, inl, inr, ⊎_elim, Option, Some, None, IfSome, if◌then◌else◌}
 use Rattle.std.proofs.lemmas.Bool.{or_left, or_right, and_parts, and_from}
 use Rattle.std.proofs.lemmas.Bool.Decides.{nat_tests}
 use Rattle.std.proofs.lemmas.List.{append_assoc, append-nil}
 use Rattle.ere.proofs.Words.{WordSet, IsPower}
 use Rattle.query.specs.Trigrams.{TrigramSet, holds_front, has_all_trigrams}
 use Rattle.trigram.specs.Texts.{Texts, has_text, union, joins, has_all_of_one, ending, kept_ends}
-use Rattle.trigram.specs.Analysis.{SetTest, Analysis, known, loose, anything, just_empty, settle_loose, settle_known, are_kept, loosen, is_nullable, fronts_of, backs_of, condition_beside, either, both, joined_fronts, joined_backs, across, copies_of, optional, repeated}
-use Rattle.trigram.proofs.MemberLemmas.{IsIn, has_text-IsIn, IsIn-union_left, IsIn-union_right, IsIn-joins, list_any-IsIn, IsFront, IsBack, IsFront-trans, IsBack-trans, kept_front, kept_back}
+use Rattle.trigram.specs.Analysis.{SetTest, Analysis, known, loose, anything, just_empty, settle_loose, settle_known, are_kept, loosen}
+use Rattle.trigram.specs.Analysis.{is_nullable, fronts_of, backs_of, condition_beside, either, both, joined_fronts, joined_backs, across}
+use Rattle.trigram.specs.Analysis.{copies_of, optional, repeated}
+use Rattle.trigram.proofs.MemberLemmas.{IsIn, has_text-IsIn, IsIn-union_left, IsIn-union_right, IsIn-joins, list_any-IsIn, IsFront, IsBack}
+use Rattle.trigram.proofs.MemberLemmas.{IsFront-trans, IsBack-trans, kept_front, kept_back}
 
 front_held : (a : ℕ) (u v : List ℕ) (set : TrigramSet) → IsTrue (holds_front (a ∷ (u ++ v)) set) → IsTrue (holds_front (a ∷ u) set)
 front_held a [] v set h = refl
@@ -61,7 +65,8 @@ pub covers_weaker : (a : Analysis) (words fewer : WordSet) → ((w : List ℕ) �
 covers_weaker (known texts) words fewer f h = λ w i. h w (f w i)
 covers_weaker (loose n p s c) words fewer f h = λ w i. h w (f w i)
 
-cover_settle : (n : Bool) (p s : Texts) (c : SetTest) (w : List ℕ) → IsCovered n p s c w → IsCovered n (kept_ends take p) (kept_ends ending s) (λ set. c set && (has_all_of_one p set && has_all_of_one s set)) w
+cover_settle : (n : Bool) (p s : Texts) (c : SetTest) (w : List ℕ) → IsCovered n p s c w
+    → IsCovered n (kept_ends take p) (kept_ends ending s) (λ set. c set && (has_all_of_one p set && has_all_of_one s set)) w
 cover_settle n p s c w h =
     let f = h.front in
     let b = h.back in
@@ -71,11 +76,16 @@ cover_settle n p s c w h =
       empty = h.empty;
       front = (kf.0, kf.1, IsFront-trans kf.0 f.0 w kf.2 f.2);
       back = (kb.0, kb.1, IsBack-trans kb.0 b.0 w kb.2 b.2);
-      held = λ set all. and_from (c set) (has_all_of_one p set && has_all_of_one s set) (h.held set all) (and_from (has_all_of_one p set) (has_all_of_one s set) (some_held p f.0 set f.1 (held_front f.0 w set f.2 all)) (some_held s b.0 set b.1 (held_back b.0 w set b.2 all)));
+      held =
+          λ set all.
+          and_from (c set) (has_all_of_one p set && has_all_of_one s set) (h.held set all)
+          (and_from (has_all_of_one p set) (has_all_of_one s set) (some_held p f.0 set f.1 (held_front f.0 w set f.2 all))
+          (some_held s b.0 set b.1 (held_back b.0 w set b.2 all)));
     }
 
 -- known texts as ends, with their own condition or none
-covered : (a : Analysis) (words : WordSet) → Covers a words → (w : List ℕ) → words w → IsCovered (is_nullable a) (fronts_of a) (backs_of a) (condition_beside a) w
+covered : (a : Analysis) (words : WordSet) → Covers a words → (w : List ℕ) → words w
+    → IsCovered (is_nullable a) (fronts_of a) (backs_of a) (condition_beside a) w
 covered (known texts) words h w i = record {
   empty = λ e. has_text-IsIn texts [] (subst (λ v. IsIn v texts) e (h w i));
   front = (w, h w i, ([], sym (append-nil w)));
@@ -100,10 +110,19 @@ covers_settle_known texts words h = go (are_kept texts)
     go true = h
     go false = covers_loosen (known texts) words h
 
-covers_either_any : (l r : Analysis) (words others : WordSet) → Covers l words → Covers r others → Covers (settle_loose (is_nullable l || is_nullable r) (union (fronts_of l) (fronts_of r)) (union (backs_of l) (backs_of r)) (λ set. condition_beside l set || condition_beside r set)) (Either words others)
-covers_either_any l r words others hl hr = λ w i. cover_settle (is_nullable l || is_nullable r) (union (fronts_of l) (fronts_of r)) (union (backs_of l) (backs_of r)) (λ set. condition_beside l set || condition_beside r set) w (⊎_elim (λ j. on_left w (covered l words hl w j)) (λ j. on_right w (covered r others hr w j)) i)
+covers_either_any : (l r : Analysis) (words others : WordSet) → Covers l words → Covers r others
+    → Covers
+    (settle_loose (is_nullable l || is_nullable r) (union (fronts_of l) (fronts_of r)) (union (backs_of l) (backs_of r))
+    (λ set. condition_beside l set || condition_beside r set)) (Either words others)
+covers_either_any l r words others hl hr =
+    λ w i.
+    cover_settle (is_nullable l || is_nullable r) (union (fronts_of l) (fronts_of r)) (union (backs_of l) (backs_of r))
+    (λ set. condition_beside l set || condition_beside r set) w
+    (⊎_elim (λ j. on_left w (covered l words hl w j)) (λ j. on_right w (covered r others hr w j)) i)
   where
-    on_left : (w : List ℕ) → IsCovered (is_nullable l) (fronts_of l) (backs_of l) (condition_beside l) w → IsCovered (is_nullable l || is_nullable r) (union (fronts_of l) (fronts_of r)) (union (backs_of l) (backs_of r)) (λ set. condition_beside l set || condition_beside r set) w
+    on_left : (w : List ℕ) → IsCovered (is_nullable l) (fronts_of l) (backs_of l) (condition_beside l) w
+        → IsCovered (is_nullable l || is_nullable r) (union (fronts_of l) (fronts_of r)) (union (backs_of l) (backs_of r))
+        (λ set. condition_beside l set || condition_beside r set) w
     on_left w h = record {
       empty = λ e. or_left (is_nullable l) (is_nullable r) (h.empty e);
       front = let f = h.front in (f.0, IsIn-union_left (fronts_of l) (fronts_of r) f.0 f.1, f.2);
@@ -111,7 +130,9 @@ covers_either_any l r words others hl hr = λ w i. cover_settle (is_nullable l |
       held = λ set all. or_left (condition_beside l set) (condition_beside r set) (h.held set all);
     }
 
-    on_right : (w : List ℕ) → IsCovered (is_nullable r) (fronts_of r) (backs_of r) (condition_beside r) w → IsCovered (is_nullable l || is_nullable r) (union (fronts_of l) (fronts_of r)) (union (backs_of l) (backs_of r)) (λ set. condition_beside l set || condition_beside r set) w
+    on_right : (w : List ℕ) → IsCovered (is_nullable r) (fronts_of r) (backs_of r) (condition_beside r) w
+        → IsCovered (is_nullable l || is_nullable r) (union (fronts_of l) (fronts_of r)) (union (backs_of l) (backs_of r))
+        (λ set. condition_beside l set || condition_beside r set) w
     on_right w h = record {
       empty = λ e. or_right (is_nullable l) (is_nullable r) (h.empty e);
       front = let f = h.front in (f.0, IsIn-union_right (fronts_of l) (fronts_of r) f.0 f.1, f.2);
@@ -120,12 +141,16 @@ covers_either_any l r words others hl hr = λ w i. cover_settle (is_nullable l |
     }
 
 pub covers_either : (a b : Analysis) (words others : WordSet) → Covers a words → Covers b others → Covers (either a b) (Either words others)
-covers_either (known x) (known y) words others h k = covers_settle_known (union x y) (Either words others) (λ w i. ⊎_elim (λ j. IsIn-union_left x y w (h w j)) (λ j. IsIn-union_right x y w (k w j)) i)
+covers_either (known x) (known y) words others h k =
+    covers_settle_known (union x y) (Either words others)
+    (λ w i. ⊎_elim (λ j. IsIn-union_left x y w (h w j)) (λ j. IsIn-union_right x y w (k w j)) i)
 covers_either (known x) (loose m q t d) words others h k = covers_either_any (loosen (known x)) (loose m q t d) words others (covers_loosen (known x) words h) k
-covers_either (loose n p s c) (known y) words others h k = covers_either_any (loose n p s c) (loosen (known y)) words others h (covers_loosen (known y) others k)
+covers_either (loose n p s c) (known y) words others h k =
+    covers_either_any (loose n p s c) (loosen (known y)) words others h (covers_loosen (known y) others k)
 covers_either (loose n p s c) (loose m q t d) words others h k = covers_either_any (loose n p s c) (loose m q t d) words others h k
 
-front_of_both : (a b : Analysis) (words others : WordSet) → Covers a words → Covers b others → (u v : List ℕ) → words u → others v → (p : List ℕ) × IsIn p (joined_fronts a b) × IsFront p (u ++ v)
+front_of_both : (a b : Analysis) (words others : WordSet) → Covers a words → Covers b others → (u v : List ℕ) → words u → others v
+    → (p : List ℕ) × IsIn p (joined_fronts a b) × IsFront p (u ++ v)
 front_of_both (known x) b words others h k u v i j =
     let f = (covered b others k v j).front in
     (u ++ f.0, IsIn-joins x (fronts_of b) u f.0 (h u i) f.1, (f.2.0, ap (λ t. u ++ t) f.2.1 ∙ sym (append_assoc u f.0 f.2.0)))
@@ -141,7 +166,8 @@ front_of_both (loose n p s c) b words others h k u v i j = go n
     go true = (f.0, IsIn-union_left p (fronts_of b) f.0 f.1, longer)
     go false = (f.0, f.1, longer)
 
-back_of_both : (a b : Analysis) (words others : WordSet) → Covers a words → Covers b others → (u v : List ℕ) → words u → others v → (p : List ℕ) × IsIn p (joined_backs a b) × IsBack p (u ++ v)
+back_of_both : (a b : Analysis) (words others : WordSet) → Covers a words → Covers b others → (u v : List ℕ) → words u → others v
+    → (p : List ℕ) × IsIn p (joined_backs a b) × IsBack p (u ++ v)
 back_of_both a (known y) words others h k u v i j =
     let f = (covered a words h u i).back in
     (f.0 ++ v, IsIn-joins (backs_of a) y f.0 v f.1 (k v j), (f.2.0, ap (λ t. t ++ v) f.2.1 ∙ append_assoc f.2.0 f.0 v))
@@ -157,7 +183,8 @@ back_of_both a (loose n p s c) words others h k u v i j = go n
     go true = (f.0, IsIn-union_left s (backs_of a) f.0 f.1, longer)
     go false = (f.0, f.1, longer)
 
-held_across : (a b : Analysis) (words others : WordSet) → Covers a words → Covers b others → (u v : List ℕ) → words u → others v → (set : TrigramSet) → IsTrue (has_all_trigrams (u ++ v) set) → IsTrue (across a b set)
+held_across : (a b : Analysis) (words others : WordSet) → Covers a words → Covers b others → (u v : List ℕ) → words u → others v
+    → (set : TrigramSet) → IsTrue (has_all_trigrams (u ++ v) set) → IsTrue (across a b set)
 held_across (known x) (known y) words others h k u v i j set all = refl
 held_across (known x) (loose m q t d) words others h k u v i j set all = refl
 held_across (loose n p s c) (known y) words others h k u v i j set all = refl
@@ -173,11 +200,21 @@ empty_parts : (u v : List ℕ) → u ++ v ≡ [] → (u ≡ []) × (v ≡ [])
 empty_parts [] v e = (refl, e)
 empty_parts (a ∷ u) v e = cc
 
-covers_both_any : (a b : Analysis) (words others : WordSet) → Covers a words → Covers b others → Covers (settle_loose (is_nullable a && is_nullable b) (joined_fronts a b) (joined_backs a b) (λ set. condition_beside a set && (condition_beside b set && across a b set))) (Concat words others)
-covers_both_any a b words others h k = λ w i. cover_settle (is_nullable a && is_nullable b) (joined_fronts a b) (joined_backs a b) (λ set. condition_beside a set && (condition_beside b set && across a b set)) w
-    (subst (λ t. IsCovered (is_nullable a && is_nullable b) (joined_fronts a b) (joined_backs a b) (λ set. condition_beside a set && (condition_beside b set && across a b set)) t) (sym i.2) (together i.0 i.1 i.3 i.4))
+covers_both_any : (a b : Analysis) (words others : WordSet) → Covers a words → Covers b others
+    → Covers
+    (settle_loose (is_nullable a && is_nullable b) (joined_fronts a b) (joined_backs a b)
+    (λ set. condition_beside a set && (condition_beside b set && across a b set))) (Concat words others)
+covers_both_any a b words others h k =
+    λ w i.
+    cover_settle (is_nullable a && is_nullable b) (joined_fronts a b) (joined_backs a b)
+    (λ set. condition_beside a set && (condition_beside b set && across a b set)) w
+    (subst (λ t.
+    IsCovered (is_nullable a && is_nullable b) (joined_fronts a b) (joined_backs a b)
+    (λ set. condition_beside a set && (condition_beside b set && across a b set)) t) (sym i.2) (together i.0 i.1 i.3 i.4))
   where
-    together : (u v : List ℕ) → words u → others v → IsCovered (is_nullable a && is_nullable b) (joined_fronts a b) (joined_backs a b) (λ set. condition_beside a set && (condition_beside b set && across a b set)) (u ++ v)
+    together : (u v : List ℕ) → words u → others v
+        → IsCovered (is_nullable a && is_nullable b) (joined_fronts a b) (joined_backs a b)
+        (λ set. condition_beside a set && (condition_beside b set && across a b set)) (u ++ v)
     together u v i j =
         let l = covered a words h u i in
         let r = covered b others k v j in
@@ -185,11 +222,17 @@ covers_both_any a b words others h k = λ w i. cover_settle (is_nullable a && is
           empty = λ e. let parts = empty_parts u v e in and_from (is_nullable a) (is_nullable b) (l.empty parts.0) (r.empty parts.1);
           front = front_of_both a b words others h k u v i j;
           back = back_of_both a b words others h k u v i j;
-          held = λ set all. and_from (condition_beside a set) (condition_beside b set && across a b set) (l.held set (held_by_front u v set all)) (and_from (condition_beside b set) (across a b set) (r.held set (held_by_back u v set all)) (held_across a b words others h k u v i j set all));
+          held =
+              λ set all.
+              and_from (condition_beside a set) (condition_beside b set && across a b set) (l.held set (held_by_front u v set all))
+              (and_from (condition_beside b set) (across a b set) (r.held set (held_by_back u v set all))
+              (held_across a b words others h k u v i j set all));
         }
 
 pub covers_both : (a b : Analysis) (words others : WordSet) → Covers a words → Covers b others → Covers (both a b) (Concat words others)
-covers_both (known x) (known y) words others h k = covers_settle_known (joins x y) (Concat words others) (λ w i. subst (λ t. IsIn t (joins x y)) (sym i.2) (IsIn-joins x y i.0 i.1 (h i.0 i.3) (k i.1 i.4)))
+covers_both (known x) (known y) words others h k =
+    covers_settle_known (joins x y) (Concat words others)
+    (λ w i. subst (λ t. IsIn t (joins x y)) (sym i.2) (IsIn-joins x y i.0 i.1 (h i.0 i.3) (k i.1 i.4)))
 covers_both (known x) (loose m q t d) words others h k = covers_both_any (known x) (loose m q t d) words others h k
 covers_both (loose n p s c) (known y) words others h k = covers_both_any (loose n p s c) (known y) words others h k
 covers_both (loose n p s c) (loose m q t d) words others h k = covers_both_any (loose n p s c) (loose m q t d) words others h k
@@ -203,7 +246,8 @@ unfolding copies_of IsPower
 covers_copies a words h zero = covers_weaker a words (IsPower words (suc zero)) (power_one words) h
 covers_copies a words h (suc n) = covers_both (copies_of a n) a (IsPower words (suc n)) words (covers_copies a words h n) h
 
-cover_plus : (n : Bool) (p s : Texts) (c : SetTest) (words : WordSet) → ((w : List ℕ) → words w → IsCovered n p s c w) → (k : ℕ) (w : List ℕ) → IsPower words (suc k) w → IsCovered n p s c w
+cover_plus : (n : Bool) (p s : Texts) (c : SetTest) (words : WordSet) → ((w : List ℕ) → words w → IsCovered n p s c w)
+    → (k : ℕ) (w : List ℕ) → IsPower words (suc k) w → IsCovered n p s c w
 unfolding IsPower
 cover_plus n p s c words h zero w i = h w (power_one words w i)
 cover_plus n p s c words h (suc k) w i = subst (λ t. IsCovered n p s c t) (sym i.2) (together i.0 i.1 (cover_plus n p s c words h k i.0 i.3) (h i.1 i.4))
@@ -220,7 +264,11 @@ abbrev pub Plus : WordSet → WordSet
 Plus words word = (others : ℕ) × IsPower words (suc others) word
 
 pub covers_plus : (a : Analysis) (words : WordSet) → Covers a words → Covers (loosen a) (Plus words)
-covers_plus (known texts) words h = λ w i. cover_plus (has_text texts []) (kept_ends take texts) (kept_ends ending texts) (λ set. has_all_of_one texts set && (has_all_of_one texts set && has_all_of_one texts set)) words (covers_loosen (known texts) words h) i.0 w i.1
+covers_plus (known texts) words h =
+    λ w i.
+    cover_plus (has_text texts []) (kept_ends take texts) (kept_ends ending texts)
+    (λ set. has_all_of_one texts set && (has_all_of_one texts set && has_all_of_one texts set)) words
+    (covers_loosen (known texts) words h) i.0 w i.1
 covers_plus (loose n p s c) words h = λ w i. cover_plus n p s c words h i.0 w i.1
 
 pub covers_anything : (words : WordSet) → Covers anything words
@@ -246,7 +294,10 @@ power_at_most_one words (suc zero) w below h = inr (power_one words w h)
 power_at_most_one words (suc (suc n)) w below h = absurd (omega arith)
 
 covers_at_most_one : (a : Analysis) (words : WordSet) → Covers a words → Covers (optional a 1) (AtMost words 1)
-covers_at_most_one (known x) words h = covers_settle_known (union x just_empty) (AtMost words 1) (λ w i. ⊎_elim (λ e. IsIn-union_right x just_empty w (inl (sym e))) (λ j. IsIn-union_left x just_empty w (h w j)) (power_at_most_one words i.0 w i.1 i.2))
+covers_at_most_one (known x) words h =
+    covers_settle_known (union x just_empty) (AtMost words 1) (λ w i.
+    ⊎_elim (λ e. IsIn-union_right x just_empty w (inl (sym e))) (λ j. IsIn-union_left x just_empty w (h w j))
+    (power_at_most_one words i.0 w i.1 i.2))
 covers_at_most_one (loose n p s c) words h = covers_anything (AtMost words 1)
 
 pub covers_optional : (a : Analysis) (words : WordSet) → Covers a words → (most : ℕ) → Covers (optional a most) (AtMost words most)
@@ -278,18 +329,24 @@ power_split words m (suc k) n w e h =
     joined : (f c : List ℕ) → w ≡ f ++ c → words c → Concat (IsPower words m) (IsPower words k) f → Concat (IsPower words m) (IsPower words (suc k)) w
     joined f c e last split = (split.0, split.1 ++ c, e ∙ regroup f split.0 split.1 c split.2, split.3, (split.1, c, refl, split.4, last))
 
-    step : IsPower words (suc (m + k)) w → ((u : List ℕ) → IsPower words (m + k) u → Concat (IsPower words m) (IsPower words k) u) → Concat (IsPower words m) (IsPower words (suc k)) w
+    step : IsPower words (suc (m + k)) w → ((u : List ℕ) → IsPower words (m + k) u → Concat (IsPower words m) (IsPower words k) u)
+        → Concat (IsPower words m) (IsPower words (suc k)) w
     step last again = joined last.0 last.1 last.2 last.4 (again last.0 last.3)
 
-covers_at_least_two : (a : Analysis) (words : WordSet) → Covers a words → (least : ℕ) → 2 ≤ least → Covers (both (copies_of a (least - 2)) (loosen a)) (Repeated words least None)
+covers_at_least_two : (a : Analysis) (words : WordSet) → Covers a words → (least : ℕ) → 2 ≤ least
+    → Covers (both (copies_of a (least - 2)) (loosen a)) (Repeated words least None)
 covers_at_least_two a words h least two =
     covers_weaker (both (copies_of a (least - 2)) (loosen a)) (Concat (IsPower words (suc (least - 2))) (Plus words)) (Repeated words least None)
     (λ w i. let s = power_split words (suc (least - 2)) (suc (i.0 - least)) i.0 w (omega (arith, i.1, two)) i.3 in (s.0, s.1, s.2, s.3, (i.0 - least, s.4)))
-    (covers_both (copies_of a (least - 2)) (loosen a) (IsPower words (suc (least - 2))) (Plus words) (covers_copies a words h (least - 2)) (covers_plus a words h))
+    (covers_both (copies_of a (least - 2)) (loosen a) (IsPower words (suc (least - 2))) (Plus words) (covers_copies a words h (least - 2))
+    (covers_plus a words h))
 
 pub covers_at_least : (a : Analysis) (words : WordSet) → Covers a words → (least : ℕ) → Covers (repeated a least None) (Repeated words least None)
 covers_at_least a words h zero = covers_anything (Repeated words 0 None)
-covers_at_least a words h (suc zero) = covers_weaker (loosen a) (Plus words) (Repeated words 1 None) (λ w i. let same : i.0 ≡ suc (i.0 - 1) = omega (arith, i.1) in (i.0 - 1, subst (λ j. IsPower words j w) same i.3)) (covers_plus a words h)
+covers_at_least a words h (suc zero) =
+    covers_weaker (loosen a) (Plus words) (Repeated words 1 None)
+    (λ w i. let same : i.0 ≡ suc (i.0 - 1) = omega (arith, i.1) in (i.0 - 1, subst (λ j. IsPower words j w) same i.3))
+    (covers_plus a words h)
 covers_at_least a words h (suc (suc k)) = many
   where
     not_zero : (suc (suc k) == 0) ≡ false
@@ -301,20 +358,29 @@ covers_at_least a words h (suc (suc k)) = many
     many : Covers (repeated a (suc (suc k)) None) (Repeated words (suc (suc k)) None)
     many = rw (not_zero, not_one) (covers_at_least_two a words h (suc (suc k)) (omega arith))
 
-covers_exactly : (a : Analysis) (words : WordSet) → Covers a words → (least most : ℕ) → 0 < least → least ≡ most → Covers (copies_of a (least - 1)) (Repeated words least (Some most))
+covers_exactly : (a : Analysis) (words : WordSet) → Covers a words → (least most : ℕ) → 0 < least → least ≡ most
+    → Covers (copies_of a (least - 1)) (Repeated words least (Some most))
 covers_exactly a words h least most some same =
     covers_weaker (copies_of a (least - 1)) (IsPower words (suc (least - 1))) (Repeated words least (Some most))
     (λ w i. let is : i.0 ≡ suc (least - 1) = omega (arith, i.1, i.2, same, some) in subst (λ j. IsPower words j w) is i.3)
     (covers_copies a words h (least - 1))
 
-covers_range : (a : Analysis) (words : WordSet) → Covers a words → (least most : ℕ) → 0 < least → Covers (both (copies_of a (least - 1)) (optional a (most - least))) (Repeated words least (Some most))
+covers_range : (a : Analysis) (words : WordSet) → Covers a words → (least most : ℕ) → 0 < least
+    → Covers (both (copies_of a (least - 1)) (optional a (most - least))) (Repeated words least (Some most))
 covers_range a words h least most some =
-    covers_weaker (both (copies_of a (least - 1)) (optional a (most - least))) (Concat (IsPower words (suc (least - 1))) (AtMost words (most - least))) (Repeated words least (Some most))
-    (λ w i. let s = power_split words (suc (least - 1)) (i.0 - least) i.0 w (omega (arith, i.1, some)) i.3 in (s.0, s.1, s.2, s.3, (i.0 - least, omega (arith, i.1, i.2), s.4)))
-    (covers_both (copies_of a (least - 1)) (optional a (most - least)) (IsPower words (suc (least - 1))) (AtMost words (most - least)) (covers_copies a words h (least - 1)) (covers_optional a words h (most - least)))
+    covers_weaker (both (copies_of a (least - 1)) (optional a (most - least)))
+    (Concat (IsPower words (suc (least - 1))) (AtMost words (most - least))) (Repeated words least (Some most))
+    (λ w i.
+    let s = power_split words (suc (least - 1)) (i.0 - least) i.0 w (omega (arith, i.1, some)) i.3 in
+    (s.0, s.1, s.2, s.3, (i.0 - least, omega (arith, i.1, i.2), s.4)))
+    (covers_both (copies_of a (least - 1)) (optional a (most - least)) (IsPower words (suc (least - 1))) (AtMost words (most - least))
+    (covers_copies a words h (least - 1)) (covers_optional a words h (most - least)))
 
-pub covers_between : (a : Analysis) (words : WordSet) → Covers a words → (least most : ℕ) → Covers (repeated a least (Some most)) (Repeated words least (Some most))
-covers_between a words h zero most = covers_weaker (optional a most) (AtMost words most) (Repeated words 0 (Some most)) (λ w i. (i.0, i.2, i.3)) (covers_optional a words h most)
+pub covers_between : (a : Analysis) (words : WordSet) → Covers a words → (least most : ℕ)
+    → Covers (repeated a least (Some most)) (Repeated words least (Some most))
+covers_between a words h zero most =
+    covers_weaker (optional a most) (AtMost words most) (Repeated words 0 (Some most)) (λ w i. (i.0, i.2, i.3))
+    (covers_optional a words h most)
 covers_between a words h (suc k) most = go (suc k == most) refl
   where
     not_zero : (suc k == 0) ≡ false

@@ -33,9 +33,11 @@ all_fresh texts (text ∷ others) h =
 
 Fresh-append : (texts left right : Texts) → Fresh texts left → Fresh (texts ++ left) right → Fresh texts (left ++ right)
 Fresh-append texts [] right one two = subst (λ t. Fresh t right) (append-nil texts) two
-Fresh-append texts (text ∷ left) right one two = (one.0, Fresh-append (texts ++ text ∷ []) left right one.1 (subst (λ t. Fresh t right) (sym (append_assoc texts (text ∷ []) left)) two))
+Fresh-append texts (text ∷ left) right one two =
+    (one.0, Fresh-append (texts ++ text ∷ []) left right one.1 (subst (λ t. Fresh t right) (sym (append_assoc texts (text ∷ []) left)) two))
 
-Fresh-behind : (front : List ℕ) (texts backs : Texts) (n : ℕ) → AreDistinct n backs → ((back : List ℕ) → IsIn back backs → IsIn (front ++ back) texts → ⊥) → Fresh texts (map (λ back. front ++ back) backs)
+Fresh-behind : (front : List ℕ) (texts backs : Texts) (n : ℕ) → AreDistinct n backs
+    → ((back : List ℕ) → IsIn back backs → IsIn (front ++ back) texts → ⊥) → Fresh texts (map (λ back. front ++ back) backs)
 Fresh-behind front texts [] n h none = tt
 Fresh-behind front texts (back ∷ backs) n h none = (
   none back (inl refl),
@@ -53,17 +55,28 @@ length_in (first ∷ texts) n text h (inl e) = ap length (sym e) ∙ h.0
 length_in (first ∷ texts) n text h (inr later) = length_in texts n text h.2 later
 
 same_front : (one other back last : List ℕ) → length one ≡ length other → one ++ back ≡ other ++ last → one ≡ other
-same_front one other back last size e = sym (take-append_seam one back) ∙ ap (take (length one)) e ∙ ap (λ n. take n (other ++ last)) size ∙ take-append_seam other last
+same_front one other back last size e =
+    sym (take-append_seam one back) ∙ ap (take (length one)) e ∙ ap (λ n. take n (other ++ last)) size ∙ take-append_seam other last
 
-Fresh-joins : (texts left right : Texts) (n m : ℕ) → AreDistinct n left → AreDistinct m right → ((front back : List ℕ) → IsIn front left → IsIn back right → IsIn (front ++ back) texts → ⊥) → Fresh texts (flat_map (λ front. map (λ back. front ++ back) right) left)
+Fresh-joins : (texts left right : Texts) (n m : ℕ) → AreDistinct n left → AreDistinct m right
+    → ((front back : List ℕ) → IsIn front left → IsIn back right → IsIn (front ++ back) texts → ⊥)
+    → Fresh texts (flat_map (λ front. map (λ back. front ++ back) right) left)
 Fresh-joins texts [] right n m l r none = tt
 Fresh-joins texts (front ∷ left) right n m l r none =
-    Fresh-append texts (map (λ back. front ++ back) right) (flat_map (λ front. map (λ back. front ++ back) right) left) (Fresh-behind front texts right m r (λ back held old. none front back (inl refl) held old))
+    Fresh-append texts (map (λ back. front ++ back) right) (flat_map (λ front. map (λ back. front ++ back) right) left)
+    (Fresh-behind front texts right m r (λ back held old. none front back (inl refl) held old))
     (Fresh-joins (texts ++ map (λ back. front ++ back) right) left right n m l.2 r (λ other back later held joined.
-    ⊎_elim (λ old. none other back (inr later) held old) (λ new. let p = IsIn-from_map (λ b. front ++ b) right (other ++ back) new in same other back later p.0 p.2) (IsIn-append_cases texts (map (λ back. front ++ back) right) (other ++ back) joined)))
+    ⊎_elim (λ old. none other back (inr later) held old)
+    (λ new. let p = IsIn-from_map (λ b. front ++ b) right (other ++ back) new in same other back later p.0 p.2)
+    (IsIn-append_cases texts (map (λ back. front ++ back) right) (other ++ back) joined)))
   where
     same : (other back : List ℕ) → IsIn other left → (text : List ℕ) → other ++ back ≡ front ++ text → ⊥
-    same other back later text e = there left front l.1 (subst (λ t. IsIn t left) (same_front other front back text (length_in left n other l.2 later ∙ sym l.0) e) later)
+    same other back later text e =
+        there left front l.1
+        (subst (λ t. IsIn t left) (same_front other front back text (length_in left n other l.2 later ∙ sym l.0) e) later)
 
-pub joins_of_distinct : (left right : Texts) (n m : ℕ) → AreDistinct n left → AreDistinct m right → joins left right ≡ flat_map (λ front. map (λ back. front ++ back) right) left
-joins_of_distinct left right n m l r = all_fresh [] (flat_map (λ front. map (λ back. front ++ back) right) left) (Fresh-joins [] left right n m l r (λ front back one two held. held))
+pub joins_of_distinct : (left right : Texts) (n m : ℕ) → AreDistinct n left → AreDistinct m right
+    → joins left right ≡ flat_map (λ front. map (λ back. front ++ back) right) left
+joins_of_distinct left right n m l r =
+    all_fresh [] (flat_map (λ front. map (λ back. front ++ back) right) left)
+    (Fresh-joins [] left right n m l r (λ front back one two held. held))

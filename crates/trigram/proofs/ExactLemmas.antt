@@ -1,5 +1,6 @@
 -- Known texts are words: each operation, over arbitrary sets of words.
-use Rattle.std.proofs.Common.{◌≡◌, ℕ, zero, suc, ◌+◌, ◌-◌, ◌<◌, ◌≤◌, Bool, true, false, cond, ◌==◌, List, [], ◌++◌, refl, sym, ap, subst, ◌∙◌, arith, inl, inr, ⊎_elim, Some, None}
+use Rattle.std.proofs.Common.{◌≡◌, ℕ, zero, suc, ◌+◌, ◌-◌, ◌<◌, ◌≤◌, Bool, true, false, cond, ◌==◌, List, [], ◌++◌, refl, sym, ap, subst}
+use Rattle.std.proofs.Common.{◌∙◌, arith, inl, inr, ⊎_elim, Some, None}
 use Rattle.std.proofs.lemmas.Bool.Decides.{nat_tests}
 use Rattle.std.proofs.lemmas.List.{append_assoc, append-nil}
 use Rattle.ere.proofs.Words.{WordSet, IsPower}
@@ -29,13 +30,15 @@ exact_settle_known texts words h = go (are_kept texts)
     go false = tt
 
 pub exact_either : (a b : Analysis) (words others : WordSet) → IsExact a words → IsExact b others → IsExact (either a b) (Either words others)
-exact_either (known x) (known y) words others h k = exact_settle_known (union x y) (Either words others) (λ w i. ⊎_elim (λ j. inl (h w j)) (λ j. inr (k w j)) (IsIn-union_cases x y w i))
+exact_either (known x) (known y) words others h k =
+    exact_settle_known (union x y) (Either words others) (λ w i. ⊎_elim (λ j. inl (h w j)) (λ j. inr (k w j)) (IsIn-union_cases x y w i))
 exact_either (known x) (loose m q t d) words others h k = tt
 exact_either (loose n p s c) (known y) words others h k = tt
 exact_either (loose n p s c) (loose m q t d) words others h k = tt
 
 pub exact_both : (a b : Analysis) (words others : WordSet) → IsExact a words → IsExact b others → IsExact (both a b) (Concat words others)
-exact_both (known x) (known y) words others h k = exact_settle_known (joins x y) (Concat words others) (λ w i. let r = IsIn-from_joins x y w i in (r.0, r.1, r.2, h r.0 r.3, k r.1 r.4))
+exact_both (known x) (known y) words others h k =
+    exact_settle_known (joins x y) (Concat words others) (λ w i. let r = IsIn-from_joins x y w i in (r.0, r.1, r.2, h r.0 r.3, k r.1 r.4))
 exact_both (known x) (loose m q t d) words others h k = tt
 exact_both (loose n p s c) (known y) words others h k = tt
 exact_both (loose n p s c) (loose m q t d) words others h k = tt
@@ -60,7 +63,10 @@ unfolding IsPower
 no_power words w e = e
 
 exact_at_most_one : (a : Analysis) (words : WordSet) → IsExact a words → IsExact (optional a 1) (AtMost words 1)
-exact_at_most_one (known x) words h = exact_settle_known (union x just_empty) (AtMost words 1) (λ w i. ⊎_elim (λ j. (1, omega arith, one_power words w (h w j))) (λ j. ⊎_elim (λ e. (0, omega arith, no_power words w (sym e))) (λ none. absurd none) j) (IsIn-union_cases x just_empty w i))
+exact_at_most_one (known x) words h =
+    exact_settle_known (union x just_empty) (AtMost words 1) (λ w i.
+    ⊎_elim (λ j. (1, omega arith, one_power words w (h w j)))
+    (λ j. ⊎_elim (λ e. (0, omega arith, no_power words w (sym e))) (λ none. absurd none) j) (IsIn-union_cases x just_empty w i))
 exact_at_most_one (loose n p s c) words h = tt
 
 pub exact_optional : (a : Analysis) (words : WordSet) → IsExact a words → (most : ℕ) → IsExact (optional a most) (AtMost words most)
@@ -99,22 +105,41 @@ power_join words m zero n w e h =
 power_join words m (suc k) n w e h =
     let same : suc (m + k) ≡ n = omega arith in
     let last = h.4 in
-    subst (λ j. IsPower words j w) same (h.0 ++ last.0, last.1, h.2 ∙ ap (λ t. h.0 ++ t) last.2 ∙ sym (append_assoc h.0 last.0 last.1), power_join words m k (m + k) (h.0 ++ last.0) refl (h.0, last.0, refl, h.3, last.3), last.4)
+    subst (λ j. IsPower words j w) same (
+      h.0 ++ last.0,
+      last.1,
+      h.2 ∙ ap (λ t. h.0 ++ t) last.2 ∙ sym (append_assoc h.0 last.0 last.1),
+      power_join words m k (m + k) (h.0 ++ last.0) refl (h.0, last.0, refl, h.3, last.3),
+      last.4,
+    )
 
-exact_exactly : (a : Analysis) (words : WordSet) → IsExact a words → (least most : ℕ) → 0 < least → least ≡ most → IsExact (copies_of a (least - 1)) (Repeated words least (Some most))
+exact_exactly : (a : Analysis) (words : WordSet) → IsExact a words → (least most : ℕ) → 0 < least → least ≡ most
+    → IsExact (copies_of a (least - 1)) (Repeated words least (Some most))
 exact_exactly a words h least most some same =
     exact_wider (copies_of a (least - 1)) (IsPower words (suc (least - 1))) (Repeated words least (Some most))
     (λ w i. let is : suc (least - 1) ≡ least = omega (arith, some) in (least, omega arith, omega (arith, same), subst (λ j. IsPower words j w) is i))
     (exact_copies a words h (least - 1))
 
-exact_range : (a : Analysis) (words : WordSet) → IsExact a words → (least most : ℕ) → 0 < least → least ≤ most → IsExact (both (copies_of a (least - 1)) (optional a (most - least))) (Repeated words least (Some most))
+exact_range : (a : Analysis) (words : WordSet) → IsExact a words → (least most : ℕ) → 0 < least → least ≤ most
+    → IsExact (both (copies_of a (least - 1)) (optional a (most - least))) (Repeated words least (Some most))
 exact_range a words h least most some below =
-    exact_wider (both (copies_of a (least - 1)) (optional a (most - least))) (Concat (IsPower words (suc (least - 1))) (AtMost words (most - least))) (Repeated words least (Some most))
-    (λ w i. let last = i.4 in (least + last.0, omega arith, omega (arith, last.1, below), power_join words (suc (least - 1)) last.0 (least + last.0) w (omega (arith, some)) (i.0, i.1, i.2, i.3, last.2)))
-    (exact_both (copies_of a (least - 1)) (optional a (most - least)) (IsPower words (suc (least - 1))) (AtMost words (most - least)) (exact_copies a words h (least - 1)) (exact_optional a words h (most - least)))
+    exact_wider (both (copies_of a (least - 1)) (optional a (most - least)))
+    (Concat (IsPower words (suc (least - 1))) (AtMost words (most - least))) (Repeated words least (Some most))
+    (λ w i.
+    let last = i.4 in (
+      least + last.0,
+      omega arith,
+      omega (arith, last.1, below),
+      power_join words (suc (least - 1)) last.0 (least + last.0) w (omega (arith, some)) (i.0, i.1, i.2, i.3, last.2),
+    ))
+    (exact_both (copies_of a (least - 1)) (optional a (most - least)) (IsPower words (suc (least - 1))) (AtMost words (most - least))
+    (exact_copies a words h (least - 1)) (exact_optional a words h (most - least)))
 
-pub exact_between : (a : Analysis) (words : WordSet) → IsExact a words → (least most : ℕ) → least ≤ most → IsExact (repeated a least (Some most)) (Repeated words least (Some most))
-exact_between a words h zero most below = exact_wider (optional a most) (AtMost words most) (Repeated words 0 (Some most)) (λ w i. (i.0, omega arith, i.1, i.2)) (exact_optional a words h most)
+pub exact_between : (a : Analysis) (words : WordSet) → IsExact a words → (least most : ℕ) → least ≤ most
+    → IsExact (repeated a least (Some most)) (Repeated words least (Some most))
+exact_between a words h zero most below =
+    exact_wider (optional a most) (AtMost words most) (Repeated words 0 (Some most)) (λ w i. (i.0, omega arith, i.1, i.2))
+    (exact_optional a words h most)
 exact_between a words h (suc k) most below = go (suc k == most) refl
   where
     not_zero : (suc k == 0) ≡ false

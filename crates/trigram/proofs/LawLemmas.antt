@@ -1,5 +1,7 @@
 -- The laws of the analysis, by induction on trees.
-use Rattle.std.proofs.Common.{◌≡◌, ℕ, zero, suc, ◌+◌, ◌<◌, ◌≤◌, Bool, true, false, cond, ◌==◌, nat_lt, nat_le, IsTrue, List, [], ◌∷◌, ◌++◌, length, map, filter, refl, sym, ap, subst, ◌∙◌, arith, ◌⊎◌, inl, inr, ⊎_elim, Option, Some, None, IfSome, Contains, IsFalse}
+use Rattle.std.proofs.Common.{◌≡◌, ℕ, zero, suc, ◌+◌, ◌<◌, ◌≤◌, Bool, true, false, cond, ◌==◌, nat_lt, nat_le, IsTrue, List, [], ◌∷◌, ◌++◌}
+use Rattle.std.proofs.Common.{length, map, filter, refl, sym, ap, subst, ◌∙◌, arith, ◌⊎◌, inl, inr, ⊎_elim, Option, Some, None, IfSome}
+use Rattle.std.proofs.Common.{Contains, IsFalse}
 use Rattle.std.specs.List.{range_with_len}
 use Rattle.std.proofs.lemmas.Bool.{or_cases, or_left, or_right, and_parts, and_from, false≢true, true≢false, cases_eq, cases_Bool}
 use Rattle.std.proofs.lemmas.Bool.Decides.{nat_tests}
@@ -13,31 +15,43 @@ use Rattle.ere.proofs.Words.{WordSet, IsWord, IsWordOfEach, IsWordOfSome, IsWord
 use Rattle.ere.specs.Lines.{lines_of}
 use Rattle.query.specs.Trigrams.{TrigramSet, trigram_of, front_trigram, holds_front, trigrams_of_text, trigrams_of_body, has_all_trigrams}
 use Rattle.trigram.specs.Texts.{Texts, has_text, with_text, with_texts, distinct}
-use Rattle.trigram.specs.Analysis.{Analysis, known, loose, either, both, repeated, bytes_in, one_byte, just_empty, analysis_of, both_all, either_all, condition_of}
+use Rattle.trigram.specs.Analysis.{Analysis, known, loose, either, both, repeated, bytes_in, one_byte, just_empty, analysis_of, both_all}
+use Rattle.trigram.specs.Analysis.{either_all, condition_of}
 use Rattle.trigram.specs.Laws.{KnownTextsAreTheWords, MatchingLineMeetsCondition, TrigramsAreHeld, HasEachOnce, SetsHaveEachTextOnce}
 use Rattle.trigram.proofs.MemberLemmas.{IsIn, IsIn-has_text, has_text-IsIn, IsIn-distinct, IsIn-from_distinct, IsIn-append_cases}
-use Rattle.trigram.proofs.CoverLemmas.{Covers, Concat, Either, Repeated, covers_weaker, covers_either, covers_both, covers_at_least, covers_between, some_held, held_by_front, held_by_back}
+use Rattle.trigram.proofs.CoverLemmas.{Covers, Concat, Either, Repeated, covers_weaker, covers_either, covers_both, covers_at_least}
+use Rattle.trigram.proofs.CoverLemmas.{covers_between, some_held, held_by_front, held_by_back}
 use Rattle.trigram.proofs.ExactLemmas.{IsExact, exact_wider, exact_either, exact_both, exact_at_least, exact_between}
 
 abbrev single_texts : List ℕ → Texts
 single_texts bytes = map (λ b. b ∷ []) bytes
 
-IsIn-single : (test : ℕ → Bool) (from count b : ℕ) → from ≤ b → b < from + count → test b ≡ true → IsIn (b ∷ []) (single_texts (filter test (range_with_len from count)))
+IsIn-single : (test : ℕ → Bool) (from count b : ℕ) → from ≤ b → b < from + count → test b ≡ true
+    → IsIn (b ∷ []) (single_texts (filter test (range_with_len from count)))
 IsIn-single test from zero b low high e = absurd (omega arith)
-IsIn-single test from (suc count) b low high e = here (test from) refl (⊎_elim inl (λ next. inr (IsIn-single test (from + 1) count b (omega arith) (omega arith) e)) (first_or_later from b low))
+IsIn-single test from (suc count) b low high e =
+    here (test from) refl
+    (⊎_elim inl (λ next. inr (IsIn-single test (from + 1) count b (omega arith) (omega arith) e)) (first_or_later from b low))
   where
     first_or_later : (from b : ℕ) → from ≤ b → (from ≡ b) ⊎ (from + 1 ≤ b)
     first_or_later from b low = ⊎_elim inl (λ other. inr (omega arith)) (cases_eq from b)
 
-    here : (t : Bool) → test from ≡ t → (from ≡ b) ⊎ IsIn (b ∷ []) (single_texts (filter test (range_with_len (from + 1) count))) → IsIn (b ∷ []) (single_texts (cond t (from ∷ filter test (range_with_len (from + 1) count)) (filter test (range_with_len (from + 1) count))))
+    here : (t : Bool) → test from ≡ t → (from ≡ b) ⊎ IsIn (b ∷ []) (single_texts (filter test (range_with_len (from + 1) count)))
+        → IsIn (b ∷ [])
+        (single_texts (cond t (from ∷ filter test (range_with_len (from + 1) count)) (filter test (range_with_len (from + 1) count))))
     here true is i = ⊎_elim (λ same. inl (ap (λ n. n ∷ []) same)) inr i
     here false is i = ⊎_elim (λ same. absurd (true≢false (sym e ∙ ap test (sym same) ∙ is))) (λ later. later) i
 
-IsIn-from_single : (test : ℕ → Bool) (from count : ℕ) (w : List ℕ) → IsIn w (single_texts (filter test (range_with_len from count))) → (b : ℕ) × (w ≡ b ∷ []) × IsTrue (test b)
+IsIn-from_single : (test : ℕ → Bool) (from count : ℕ) (w : List ℕ) → IsIn w (single_texts (filter test (range_with_len from count)))
+    → (b : ℕ) × (w ≡ b ∷ []) × IsTrue (test b)
 IsIn-from_single test from zero w i = absurd i
 IsIn-from_single test from (suc count) w i = here (test from) refl i (IsIn-from_single test (from + 1) count w)
   where
-    here : (t : Bool) → test from ≡ t → IsIn w (single_texts (cond t (from ∷ filter test (range_with_len (from + 1) count)) (filter test (range_with_len (from + 1) count)))) → (IsIn w (single_texts (filter test (range_with_len (from + 1) count))) → (b : ℕ) × (w ≡ b ∷ []) × IsTrue (test b)) → (b : ℕ) × (w ≡ b ∷ []) × IsTrue (test b)
+    here : (t : Bool) → test from ≡ t
+        → IsIn w
+        (single_texts (cond t (from ∷ filter test (range_with_len (from + 1) count)) (filter test (range_with_len (from + 1) count))))
+        → (IsIn w (single_texts (filter test (range_with_len (from + 1) count))) → (b : ℕ) × (w ≡ b ∷ []) × IsTrue (test b))
+        → (b : ℕ) × (w ≡ b ∷ []) × IsTrue (test b)
     here true is j again = ⊎_elim (λ same. (from, sym same, is)) again j
     here false is j again = again j
 
@@ -54,8 +68,13 @@ covers_one_byte members = go (nat_le (length (bytes_in members)) 16)
     not_empty : (w : List ℕ) (b : ℕ) → w ≡ b ∷ [] → w ≡ [] → ⊥
     not_empty w b e n = cc
 
-    go : (t : Bool) → Covers (cond t (known (single_texts (bytes_in members))) (loose false just_empty just_empty (λ _. true))) (λ word. (b : ℕ) × (word ≡ b ∷ []) × IsTrue (has members b))
-    go true = λ w i. subst (λ v. IsIn v (single_texts (bytes_in members))) (sym i.1) (IsIn-single (has members) 0 256 i.0 (omega arith) (omega (arith, byte_below members i.0 i.2)) i.2)
+    go : (t : Bool)
+        → Covers (cond t (known (single_texts (bytes_in members))) (loose false just_empty just_empty (λ _. true)))
+        (λ word. (b : ℕ) × (word ≡ b ∷ []) × IsTrue (has members b))
+    go true =
+        λ w i.
+        subst (λ v. IsIn v (single_texts (bytes_in members))) (sym i.1)
+        (IsIn-single (has members) 0 256 i.0 (omega arith) (omega (arith, byte_below members i.0 i.2)) i.2)
     go false = λ w i. record {
       empty = λ e. absurd (not_empty w i.0 i.1 e);
       front = ([], inl refl, (w, refl));
@@ -67,7 +86,9 @@ exact_one_byte : (members : List Bool) → IsExact (one_byte members) (λ word. 
 unfolding bytes_in
 exact_one_byte members = go (nat_le (length (bytes_in members)) 16)
   where
-    go : (t : Bool) → IsExact (cond t (known (single_texts (bytes_in members))) (loose false just_empty just_empty (λ _. true))) (λ word. (b : ℕ) × (word ≡ b ∷ []) × IsTrue (has members b))
+    go : (t : Bool)
+        → IsExact (cond t (known (single_texts (bytes_in members))) (loose false just_empty just_empty (λ _. true)))
+        (λ word. (b : ℕ) × (word ≡ b ∷ []) × IsTrue (has members b))
     go true = λ w i. IsIn-from_single (has members) 0 256 w i
     go false = tt
 
@@ -87,11 +108,13 @@ nothing_after words w h = subst words (sym (h.2 ∙ ap (λ t. h.0 ++ t) h.4 ∙ 
 nothing_added : (words : WordSet) (w : List ℕ) → words w → Concat words (λ v. v ≡ []) w
 nothing_added words w h = (w, [], sym (append-nil w), h, refl)
 
-covers_repeat : (a : Analysis) (words : WordSet) → Covers a words → (least : ℕ) (greatest : Option ℕ) → Covers (repeated a least greatest) (Repeated words least greatest)
+covers_repeat : (a : Analysis) (words : WordSet) → Covers a words → (least : ℕ) (greatest : Option ℕ)
+    → Covers (repeated a least greatest) (Repeated words least greatest)
 covers_repeat a words h least None = covers_at_least a words h least
 covers_repeat a words h least (Some most) = covers_between a words h least most
 
-exact_repeat : (a : Analysis) (words : WordSet) → IsExact a words → (least : ℕ) (greatest : Option ℕ) → IfSome greatest (λ most. least ≤ most) → IsExact (repeated a least greatest) (Repeated words least greatest)
+exact_repeat : (a : Analysis) (words : WordSet) → IsExact a words → (least : ℕ) (greatest : Option ℕ)
+    → IfSome greatest (λ most. least ≤ most) → IsExact (repeated a least greatest) (Repeated words least greatest)
 exact_repeat a words h least None below = exact_at_least a words least
 exact_repeat a words h least (Some most) below = exact_between a words h least most below
 
@@ -112,11 +135,19 @@ mutual
 
   covers_each : (ts : Trees) (a : Analysis) (words : WordSet) → Covers a words → Covers (both_all a ts) (Concat words (IsWordOfEach ts))
   covers_each tree.none a words h = covers_weaker a words (Concat words (IsWordOfEach tree.none)) (nothing_after words) h
-  covers_each (tree.more t ts) a words h = covers_weaker (both_all (both a (analysis_of t)) ts) (Concat (Concat words (IsWord t)) (IsWordOfEach ts)) (Concat words (IsWordOfEach (tree.more t ts))) (regroup words (IsWord t) (IsWordOfEach ts)) (covers_each ts (both a (analysis_of t)) (Concat words (IsWord t)) (covers_both a (analysis_of t) words (IsWord t) h (covers_tree t words)))
+  covers_each (tree.more t ts) a words h =
+      covers_weaker (both_all (both a (analysis_of t)) ts) (Concat (Concat words (IsWord t)) (IsWordOfEach ts))
+      (Concat words (IsWordOfEach (tree.more t ts))) (regroup words (IsWord t) (IsWordOfEach ts))
+      (covers_each ts (both a (analysis_of t)) (Concat words (IsWord t))
+      (covers_both a (analysis_of t) words (IsWord t) h (covers_tree t words)))
 
   covers_some : (ts : Trees) (a : Analysis) (words : WordSet) → Covers a words → Covers (either_all a ts) (Either words (IsWordOfSome ts))
   covers_some tree.none a words h = covers_weaker a words (Either words (IsWordOfSome tree.none)) (λ w i. ⊎_elim (λ j. j) (λ none. absurd none) i) h
-  covers_some (tree.more t ts) a words h = covers_weaker (either_all (either a (analysis_of t)) ts) (Either (Either words (IsWord t)) (IsWordOfSome ts)) (Either words (IsWordOfSome (tree.more t ts))) (λ w i. ⊎_elim (λ j. inl (inl j)) (λ r. ⊎_elim (λ j. inl (inr j)) inr r) i) (covers_some ts (either a (analysis_of t)) (Either words (IsWord t)) (covers_either a (analysis_of t) words (IsWord t) h (covers_tree t words)))
+  covers_some (tree.more t ts) a words h =
+      covers_weaker (either_all (either a (analysis_of t)) ts) (Either (Either words (IsWord t)) (IsWordOfSome ts))
+      (Either words (IsWordOfSome (tree.more t ts))) (λ w i. ⊎_elim (λ j. inl (inl j)) (λ r. ⊎_elim (λ j. inl (inr j)) inr r) i)
+      (covers_some ts (either a (analysis_of t)) (Either words (IsWord t))
+      (covers_either a (analysis_of t) words (IsWord t) h (covers_tree t words)))
 
 mutual
   unfolding analysis_of IsWord IsProper
@@ -134,11 +165,20 @@ mutual
 
   exact_each : (ts : Trees) (a : Analysis) (words : WordSet) → AreProper ts → IsExact a words → IsExact (both_all a ts) (Concat words (IsWordOfEach ts))
   exact_each tree.none a words p h = exact_wider a words (Concat words (IsWordOfEach tree.none)) (nothing_added words) h
-  exact_each (tree.more t ts) a words p h = exact_wider (both_all (both a (analysis_of t)) ts) (Concat (Concat words (IsWord t)) (IsWordOfEach ts)) (Concat words (IsWordOfEach (tree.more t ts))) (regroup_back words (IsWord t) (IsWordOfEach ts)) (exact_each ts (both a (analysis_of t)) (Concat words (IsWord t)) p.1 (exact_both a (analysis_of t) words (IsWord t) h (exact_tree t words p.0)))
+  exact_each (tree.more t ts) a words p h =
+      exact_wider (both_all (both a (analysis_of t)) ts) (Concat (Concat words (IsWord t)) (IsWordOfEach ts))
+      (Concat words (IsWordOfEach (tree.more t ts))) (regroup_back words (IsWord t) (IsWordOfEach ts))
+      (exact_each ts (both a (analysis_of t)) (Concat words (IsWord t)) p.1
+      (exact_both a (analysis_of t) words (IsWord t) h (exact_tree t words p.0)))
 
   exact_some : (ts : Trees) (a : Analysis) (words : WordSet) → AreProper ts → IsExact a words → IsExact (either_all a ts) (Either words (IsWordOfSome ts))
   exact_some tree.none a words p h = exact_wider a words (Either words (IsWordOfSome tree.none)) (λ w i. inl i) h
-  exact_some (tree.more t ts) a words p h = exact_wider (either_all (either a (analysis_of t)) ts) (Either (Either words (IsWord t)) (IsWordOfSome ts)) (Either words (IsWordOfSome (tree.more t ts))) (λ w i. ⊎_elim (λ l. ⊎_elim (λ j. inl j) (λ j. inr (inl j)) l) (λ j. inr (inr j)) i) (exact_some ts (either a (analysis_of t)) (Either words (IsWord t)) p.1 (exact_either a (analysis_of t) words (IsWord t) h (exact_tree t words p.0)))
+  exact_some (tree.more t ts) a words p h =
+      exact_wider (either_all (either a (analysis_of t)) ts) (Either (Either words (IsWord t)) (IsWordOfSome ts))
+      (Either words (IsWordOfSome (tree.more t ts)))
+      (λ w i. ⊎_elim (λ l. ⊎_elim (λ j. inl j) (λ j. inr (inl j)) l) (λ j. inr (inr j)) i)
+      (exact_some ts (either a (analysis_of t)) (Either words (IsWord t)) p.1
+      (exact_either a (analysis_of t) words (IsWord t) h (exact_tree t words p.0)))
 
 pub known_texts : KnownTextsAreTheWords
 known_texts t texts proper is before word after = (
@@ -146,7 +186,8 @@ known_texts t texts proper is before word after = (
   λ h. has_text-IsIn texts word (subst (λ a. Covers a (IsWord t)) is (covers_tree t (IsWord t)) word (IsWord-from_without_anchors t before word after h)),
 )
 
-meets_condition : (a : Analysis) (words : WordSet) → Covers a words → (w : List ℕ) → words w → (set : TrigramSet) → IsTrue (has_all_trigrams w set) → IsTrue (condition_of a set)
+meets_condition : (a : Analysis) (words : WordSet) → Covers a words → (w : List ℕ) → words w → (set : TrigramSet)
+    → IsTrue (has_all_trigrams w set) → IsTrue (condition_of a set)
 meets_condition (known texts) words h w i set all = some_held texts w set (h w i) all
 meets_condition (loose n p s c) words h w i set all = (h w i).held set all
 
@@ -179,7 +220,8 @@ unfolding has_all_trigrams trigrams_of_text
 members_from_held [] set h g i = absurd (false≢true i)
 members_from_held (b ∷ text) set h g i =
     let parts = and_parts (holds_front (b ∷ text) set) (has_all_trigrams text set) h in
-    ⊎_elim (λ front. set_has_front (b ∷ text) set g parts.0 front) (λ later. members_from_held text set parts.1 g later) (or_cases (front_trigram (b ∷ text) g) (trigrams_of_text text g) i)
+    ⊎_elim (λ front. set_has_front (b ∷ text) set g parts.0 front) (λ later. members_from_held text set parts.1 g later)
+    (or_cases (front_trigram (b ∷ text) g) (trigrams_of_text text g) i)
 
 pub trigrams_held : TrigramsAreHeld
 trigrams_held text set = (members_from_held text set, held_from_members text set)
@@ -193,7 +235,8 @@ matching_line t body line there hit =
     let all = held_from_members line (trigrams_of_body body) (in_body body line there) in
     let whole = subst (λ l. IsTrue (has_all_trigrams l (trigrams_of_body body))) hit.is_line all in
     let word = held_by_front hit.word hit.after (trigrams_of_body body) (held_by_back hit.before (hit.word ++ hit.after) (trigrams_of_body body) whole) in
-    meets_condition (analysis_of t) (IsWord t) (covers_tree t (IsWord t)) hit.word (IsWord-from_language t hit.before hit.word hit.after hit.in_language) (trigrams_of_body body) word
+    meets_condition (analysis_of t) (IsWord t) (covers_tree t (IsWord t)) hit.word
+    (IsWord-from_language t hit.before hit.word hit.after hit.in_language) (trigrams_of_body body) word
 
 not_in : (texts : Texts) (word : List ℕ) → (IsIn word texts → ⊥) → IsFalse (has_text texts word)
 not_in texts word n = ⊎_elim (λ yes. absurd (n (IsIn-has_text texts word yes))) (λ f. f) (cases_Bool (has_text texts word))
@@ -201,7 +244,9 @@ not_in texts word n = ⊎_elim (λ yes. absurd (n (IsIn-has_text texts word yes)
 once_push : (texts : Texts) (text : List ℕ) → HasEachOnce texts → (IsIn text texts → ⊥) → HasEachOnce (texts ++ text ∷ [])
 once_push [] text h n = (refl, tt)
 once_push (t ∷ texts) text h n = (
-  not_in (texts ++ text ∷ []) t (λ i. ⊎_elim (λ later. true≢false (sym (has_text-IsIn texts t later) ∙ h.0)) (λ last. ⊎_elim (λ same. n (inl (sym same))) (λ none. absurd none) last) (IsIn-append_cases texts (text ∷ []) t i)),
+  not_in (texts ++ text ∷ []) t (λ i.
+      ⊎_elim (λ later. true≢false (sym (has_text-IsIn texts t later) ∙ h.0))
+      (λ last. ⊎_elim (λ same. n (inl (sym same))) (λ none. absurd none) last) (IsIn-append_cases texts (text ∷ []) t i)),
   once_push texts text h.1 (λ i. n (inr i)),
 )
 
@@ -218,5 +263,11 @@ once_with_texts texts [] h = h
 once_with_texts texts (text ∷ others) h = once_with_texts (with_text texts text) others (once_with_text texts text h)
 
 pub sets_once : SetsHaveEachTextOnce
-sets_once texts =
-    (once_with_texts [] texts tt, λ word. (λ h. has_text-IsIn texts word (IsIn-from_distinct texts word (IsIn-has_text (distinct texts) word h)), λ h. has_text-IsIn (distinct texts) word (IsIn-distinct texts word (IsIn-has_text texts word h))))
+sets_once texts = (
+  once_with_texts [] texts tt,
+  λ word. (
+    λ h.
+        has_text-IsIn texts word (IsIn-from_distinct texts word (IsIn-has_text (distinct texts) word h)),
+    λ h. has_text-IsIn (distinct texts) word (IsIn-distinct texts word (IsIn-has_text texts word h)),
+  ),
+)

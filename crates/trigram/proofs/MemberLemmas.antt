@@ -1,12 +1,14 @@
 -- Membership in sets of texts: what union, joining and cutting keep.
-use Rattle.std.proofs.Common.{◌≡◌, ℕ, zero, suc, ◌-◌, ◌<◌, Bool, true, false, not, cond, nat_lt, IsTrue, List, [], ◌∷◌, ◌++◌, length, map, filter, take, drop, refl, sym, ap, subst, ◌∙◌, arith, ◌⊎◌, inl, inr, ⊎_elim}
+use Rattle.std.proofs.Common.{◌≡◌, ℕ, zero, suc, ◌-◌, ◌<◌, Bool, true, false, not, cond, nat_lt, IsTrue, List, [], ◌∷◌, ◌++◌, length, map}
+use Rattle.std.proofs.Common.{filter, take, drop, refl, sym, ap, subst, ◌∙◌, arith, ◌⊎◌, inl, inr, ⊎_elim}
 use Rattle.std.specs.List.{list_any, flat_map}
 use Rattle.std.specs.Str.{bytes_eq}
 use Rattle.std.proofs.lemmas.Bool.{or_cases, or_left, or_right, and_parts, false≢true, true≢false}
 use Rattle.std.proofs.lemmas.Bool.Decides.{nat_tests}
 use Rattle.std.proofs.lemmas.Slice.Eq.{bytes_eq-Decides}
 use Rattle.std.proofs.lemmas.List.{append_assoc, append-nil, take-append-drop}
-use Rattle.trigram.specs.Texts.{Texts, Cut, has_text, with_text, with_texts, distinct, union, joins, ending, cuts, kept_bytes, is_shorter_end, has_shorter_end, shortest, kept_ends}
+use Rattle.trigram.specs.Texts.{Texts, Cut, has_text, with_text, with_texts, distinct, union, joins, ending, cuts, kept_bytes}
+use Rattle.trigram.specs.Texts.{is_shorter_end, has_shorter_end, shortest, kept_ends}
 
 -- The text is one of the set.
 abbrev pub IsIn : List ℕ → Texts → Type 0
@@ -15,11 +17,15 @@ IsIn word (text ∷ texts) = (text ≡ word) ⊎ IsIn word texts
 
 pub IsIn-has_text : (texts : Texts) (word : List ℕ) → IsTrue (has_text texts word) → IsIn word texts
 IsIn-has_text [] word h = absurd (false≢true h)
-IsIn-has_text (text ∷ texts) word h = ⊎_elim (λ same. inl ((bytes_eq-Decides text word).0 same)) (λ later. inr (IsIn-has_text texts word later)) (or_cases (bytes_eq text word) (has_text texts word) h)
+IsIn-has_text (text ∷ texts) word h =
+    ⊎_elim (λ same. inl ((bytes_eq-Decides text word).0 same)) (λ later. inr (IsIn-has_text texts word later))
+    (or_cases (bytes_eq text word) (has_text texts word) h)
 
 pub has_text-IsIn : (texts : Texts) (word : List ℕ) → IsIn word texts → IsTrue (has_text texts word)
 has_text-IsIn [] word h = absurd h
-has_text-IsIn (text ∷ texts) word h = ⊎_elim (λ same. or_left (bytes_eq text word) (has_text texts word) ((bytes_eq-Decides text word).1 same)) (λ later. or_right (bytes_eq text word) (has_text texts word) (has_text-IsIn texts word later)) h
+has_text-IsIn (text ∷ texts) word h =
+    ⊎_elim (λ same. or_left (bytes_eq text word) (has_text texts word) ((bytes_eq-Decides text word).1 same))
+    (λ later. or_right (bytes_eq text word) (has_text texts word) (has_text-IsIn texts word later)) h
 
 pub IsIn-append_left : (left right : Texts) (word : List ℕ) → IsIn word left → IsIn word (left ++ right)
 IsIn-append_left [] right word h = absurd h
@@ -31,7 +37,8 @@ IsIn-append_right (text ∷ left) right word h = inr (IsIn-append_right left rig
 
 pub IsIn-append_cases : (left right : Texts) (word : List ℕ) → IsIn word (left ++ right) → IsIn word left ⊎ IsIn word right
 IsIn-append_cases [] right word h = inr h
-IsIn-append_cases (text ∷ left) right word h = ⊎_elim (λ same. inl (inl same)) (λ later. ⊎_elim (λ l. inl (inr l)) inr (IsIn-append_cases left right word later)) h
+IsIn-append_cases (text ∷ left) right word h =
+    ⊎_elim (λ same. inl (inl same)) (λ later. ⊎_elim (λ l. inl (inr l)) inr (IsIn-append_cases left right word later)) h
 
 with_text_stays : (texts : Texts) (text word : List ℕ) → IsIn word texts → IsIn word (with_text texts text)
 with_text_stays texts text word h = go (has_text texts text)
@@ -63,13 +70,16 @@ with_texts_has : (texts others : Texts) (word : List ℕ) → IsIn word others �
 unfolding with_texts
 with_texts_has texts [] word h = absurd h
 with_texts_has texts (text ∷ others) word h =
-    ⊎_elim (λ same. with_texts_stays (with_text texts text) others word (subst (λ w. IsIn w (with_text texts text)) same (with_text_has texts text))) (λ later. with_texts_has (with_text texts text) others word later) h
+    ⊎_elim (λ same.
+    with_texts_stays (with_text texts text) others word (subst (λ w. IsIn w (with_text texts text)) same (with_text_has texts text)))
+    (λ later. with_texts_has (with_text texts text) others word later) h
 
 with_texts_cases : (texts others : Texts) (word : List ℕ) → IsIn word (with_texts texts others) → IsIn word texts ⊎ IsIn word others
 unfolding with_texts
 with_texts_cases texts [] word h = inl h
 with_texts_cases texts (text ∷ others) word h =
-    ⊎_elim (λ one. ⊎_elim inl (λ same. inr (inl same)) (with_text_cases texts text word one)) (λ later. inr (inr later)) (with_texts_cases (with_text texts text) others word h)
+    ⊎_elim (λ one. ⊎_elim inl (λ same. inr (inl same)) (with_text_cases texts text word one)) (λ later. inr (inr later))
+    (with_texts_cases (with_text texts text) others word h)
 
 pub IsIn-distinct : (texts : Texts) (word : List ℕ) → IsIn word texts → IsIn word (distinct texts)
 IsIn-distinct texts word h = with_texts_has [] texts word h
@@ -102,11 +112,14 @@ unfolding all_joins
 IsIn-all_joins [] right front back l r = absurd l
 IsIn-all_joins (text ∷ left) right front back l r =
     ⊎_elim
-    (λ same. IsIn-append_left (map (λ b. text ++ b) right) (all_joins left right) (front ++ back) (subst (λ t. IsIn (t ++ back) (map (λ b. text ++ b) right)) same (IsIn-map (λ b. text ++ b) right back r)))
+    (λ same.
+    IsIn-append_left (map (λ b. text ++ b) right) (all_joins left right) (front ++ back)
+    (subst (λ t. IsIn (t ++ back) (map (λ b. text ++ b) right)) same (IsIn-map (λ b. text ++ b) right back r)))
     (λ later. IsIn-append_right (map (λ b. text ++ b) right) (all_joins left right) (front ++ back) (IsIn-all_joins left right front back later r))
     l
 
-IsIn-from_all_joins : (left right : Texts) (word : List ℕ) → IsIn word (all_joins left right) → (front back : List ℕ) × (word ≡ front ++ back) × IsIn front left × IsIn back right
+IsIn-from_all_joins : (left right : Texts) (word : List ℕ) → IsIn word (all_joins left right)
+    → (front back : List ℕ) × (word ≡ front ++ back) × IsIn front left × IsIn back right
 unfolding all_joins
 IsIn-from_all_joins [] right word h = absurd h
 IsIn-from_all_joins (text ∷ left) right word h =
@@ -119,28 +132,35 @@ pub IsIn-joins : (left right : Texts) (front back : List ℕ) → IsIn front lef
 unfolding all_joins
 IsIn-joins left right front back l r = IsIn-distinct (all_joins left right) (front ++ back) (IsIn-all_joins left right front back l r)
 
-pub IsIn-from_joins : (left right : Texts) (word : List ℕ) → IsIn word (joins left right) → (front back : List ℕ) × (word ≡ front ++ back) × IsIn front left × IsIn back right
+pub IsIn-from_joins : (left right : Texts) (word : List ℕ) → IsIn word (joins left right)
+    → (front back : List ℕ) × (word ≡ front ++ back) × IsIn front left × IsIn back right
 unfolding all_joins
 IsIn-from_joins left right word h = IsIn-from_all_joins left right word (IsIn-from_distinct (all_joins left right) word h)
 
 pub list_any-IsIn : (test : List ℕ → Bool) (texts : Texts) (text : List ℕ) → IsIn text texts → test text ≡ true → list_any test texts ≡ true
 list_any-IsIn test [] text h e = absurd h
-list_any-IsIn test (t ∷ texts) text h e = ⊎_elim (λ same. or_left (test t) (list_any test texts) (ap test same ∙ e)) (λ later. or_right (test t) (list_any test texts) (list_any-IsIn test texts text later e)) h
+list_any-IsIn test (t ∷ texts) text h e =
+    ⊎_elim (λ same. or_left (test t) (list_any test texts) (ap test same ∙ e))
+    (λ later. or_right (test t) (list_any test texts) (list_any-IsIn test texts text later e)) h
 
 pub IsIn-list_any : (test : List ℕ → Bool) (texts : Texts) → list_any test texts ≡ true → (text : List ℕ) × IsIn text texts × (test text ≡ true)
 IsIn-list_any test [] e = absurd (false≢true e)
-IsIn-list_any test (t ∷ texts) e = ⊎_elim (λ here. (t, inl refl, here)) (λ later. let r = IsIn-list_any test texts later in (r.0, inr r.1, r.2)) (or_cases (test t) (list_any test texts) e)
+IsIn-list_any test (t ∷ texts) e =
+    ⊎_elim (λ here. (t, inl refl, here)) (λ later. let r = IsIn-list_any test texts later in (r.0, inr r.1, r.2))
+    (or_cases (test t) (list_any test texts) e)
 
 IsIn-filter : (test : List ℕ → Bool) (texts : Texts) (text : List ℕ) → IsIn text texts → test text ≡ true → IsIn text (filter test texts)
 IsIn-filter test [] text h e = absurd h
 IsIn-filter test (t ∷ texts) text h e = filtered test t texts text e (test t) refl (⊎_elim inl (λ later. inr (IsIn-filter test texts text later e)) h)
   where
-    filtered : (test : List ℕ → Bool) (t : List ℕ) (texts : Texts) (text : List ℕ) → test text ≡ true → (b : Bool) → test t ≡ b → (t ≡ text) ⊎ IsIn text (filter test texts) → IsIn text (cond b (t ∷ filter test texts) (filter test texts))
+    filtered : (test : List ℕ → Bool) (t : List ℕ) (texts : Texts) (text : List ℕ) → test text ≡ true → (b : Bool) → test t ≡ b
+        → (t ≡ text) ⊎ IsIn text (filter test texts) → IsIn text (cond b (t ∷ filter test texts) (filter test texts))
     filtered test t texts text e true is i = i
     filtered test t texts text e false is i = ⊎_elim (λ same. absurd (true≢false (sym e ∙ ap test (sym same) ∙ is))) (λ later. later) i
 
 -- Each text has an end among those that are kept, for each way to cut ends.
-module _ (cut : Cut) (IsEnd : List ℕ → List ℕ → Type 0) (itself : (t : List ℕ) → IsEnd t t) (within : (a b c : List ℕ) → IsEnd a b → IsEnd b c → IsEnd a c) (is_end : (k : ℕ) (t : List ℕ) → IsEnd (cut k t) t) where
+module _ (cut : Cut) (IsEnd : List ℕ → List ℕ → Type 0) (itself : (t : List ℕ) → IsEnd t t)
+    (within : (a b c : List ℕ) → IsEnd a b → IsEnd b c → IsEnd a c) (is_end : (k : ℕ) (t : List ℕ) → IsEnd (cut k t) t) where
   end_of_shorter : (part text : List ℕ) → IsTrue (is_shorter_end cut part text) → IsEnd part text
   end_of_shorter part text h =
       let parts = and_parts (nat_lt (length part) (length text)) (bytes_eq (cut (length part) text) part) h in
@@ -152,11 +172,13 @@ module _ (cut : Cut) (IsEnd : List ℕ → List ℕ → Type 0) (itself : (t : L
       let lt : nat_lt (length part) (length text) ≡ true = parts.0 in
       grind (arith, nat_tests)
 
-  shortest_end : (texts : Texts) (fuel : ℕ) (text : List ℕ) → length text < fuel → IsIn text texts → (end : List ℕ) × IsIn end (shortest cut texts) × IsEnd end text
+  shortest_end : (texts : Texts) (fuel : ℕ) (text : List ℕ) → length text < fuel → IsIn text texts
+      → (end : List ℕ) × IsIn end (shortest cut texts) × IsEnd end text
   shortest_end texts zero text below h = absurd (omega arith)
   shortest_end texts (suc fuel) text below h = go (shortest_end texts fuel) (has_shorter_end cut texts text) refl
     where
-      go : ((t : List ℕ) → length t < fuel → IsIn t texts → (end : List ℕ) × IsIn end (shortest cut texts) × IsEnd end t) → (b : Bool) → has_shorter_end cut texts text ≡ b → (end : List ℕ) × IsIn end (shortest cut texts) × IsEnd end text
+      go : ((t : List ℕ) → length t < fuel → IsIn t texts → (end : List ℕ) × IsIn end (shortest cut texts) × IsEnd end t) → (b : Bool)
+          → has_shorter_end cut texts text ≡ b → (end : List ℕ) × IsIn end (shortest cut texts) × IsEnd end text
       go again false e = (text, IsIn-filter (λ t. not (has_shorter_end cut texts t)) texts text h (ap not e), itself text)
       go again true e =
           let found = IsIn-list_any (λ part. is_shorter_end cut part text) texts e in
@@ -188,4 +210,6 @@ pub kept_front : (texts : Texts) (text : List ℕ) → IsIn text texts → (end 
 kept_front texts text h = kept_end take IsFront (λ t. ([], sym (append-nil t))) IsFront-trans (λ k t. (drop k t, sym (take-append-drop k t))) texts text h
 
 pub kept_back : (texts : Texts) (text : List ℕ) → IsIn text texts → (end : List ℕ) × IsIn end (kept_ends ending texts) × IsBack end text
-kept_back texts text h = kept_end ending IsBack (λ t. ([], refl)) IsBack-trans (λ k t. (take (length t - k) t, sym (take-append-drop (length t - k) t))) texts text h
+kept_back texts text h =
+    kept_end ending IsBack (λ t. ([], refl)) IsBack-trans (λ k t. (take (length t - k) t, sym (take-append-drop (length t - k) t))) texts
+    text h

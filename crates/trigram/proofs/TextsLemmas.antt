@@ -1,5 +1,6 @@
 -- Sets of texts: one more text of a list, and queries for texts.
-use Rattle.std.proofs.Common.{◌≡◌, ℕ, ◌+◌, ◌<◌, ◌≤◌, Bool, true, false, cond, ◌&&◌, ◌||◌, List, [], ◌∷◌, ◌++◌, length, map, drop, get_or, refl, sym, ap, ◌∙◌, arith}
+use Rattle.std.proofs.Common.{◌≡◌, ℕ, ◌+◌, ◌<◌, ◌≤◌, Bool, true, false, cond, ◌&&◌, ◌||◌, List, [], ◌∷◌, ◌++◌, length, map, drop, get_or}
+use Rattle.std.proofs.Common.{refl, sym, ap, ◌∙◌, arith}
 use Rattle.std.specs.declared.alloc.Global.{Global}
 use Rattle.std.specs.declared.vec.Vec.{Vec}
 use Rattle.std.proofs.Math.Nat.{le_trans}
@@ -12,7 +13,8 @@ use Rattle.query.specs.Query.{Formula, always, never, has, is_met, joined, IsPla
 use Rattle.trigram.specs.Texts.{Texts, has_text, with_text, with_texts}
 use Rattle.trigram.specs.Private.Values.{texts_of}
 
-pub next_text : (texts : List (Vec ℕ Global)) (i : ℕ) (x : Vec ℕ Global) → i < length texts → x ≡ get_or texts i x → texts_of (drop i texts) ≡ x.items ∷ texts_of (drop (i + 1) texts)
+pub next_text : (texts : List (Vec ℕ Global)) (i : ℕ) (x : Vec ℕ Global) → i < length texts → x ≡ get_or texts i x
+    → texts_of (drop i texts) ≡ x.items ∷ texts_of (drop (i + 1) texts)
 next_text texts i x below read = ap texts_of (drop_more texts i x below ∙ ap (λ y. y ∷ drop (i + 1) texts) (sym read))
 
 pub no_texts : (texts : List (Vec ℕ Global)) (i : ℕ) → length texts ≤ i → texts_of (drop i texts) ≡ []
@@ -48,7 +50,9 @@ joined_assoc : (k : Connective) (a b c : Bool) → joined k (joined k a b) c ≡
 joined_assoc And a b c = and_assoc a b c
 joined_assoc Or a b c = or_assoc a b c
 
-pub IsQuerySoFar-more : (k : Connective) (rest now later whole : TrigramSet → Bool) (query next longer : Formula) → IsQuerySoFar k rest whole query → ((set : TrigramSet) → rest set ≡ joined k (now set) (later set)) → IsPlainFor now next → IsJoin k query next longer → IsQuerySoFar k later whole longer
+pub IsQuerySoFar-more : (k : Connective) (rest now later whole : TrigramSet → Bool) (query next longer : Formula)
+    → IsQuerySoFar k rest whole query → ((set : TrigramSet) → rest set ≡ joined k (now set) (later set)) → IsPlainFor now next
+    → IsJoin k query next longer → IsQuerySoFar k later whole longer
 IsQuerySoFar-more k rest now later whole query next longer h split p j = record {
   plain = j.plain;
   met = λ set.
@@ -66,13 +70,15 @@ or_false : (b : Bool) → (b || false) ≡ b
 or_false true = refl
 or_false false = refl
 
-pub IsPlainFor-and : (rest whole : TrigramSet → Bool) (query : Formula) → IsQuerySoFar And rest whole query → ((set : TrigramSet) → rest set ≡ true) → IsPlainFor whole query
+pub IsPlainFor-and : (rest whole : TrigramSet → Bool) (query : Formula) → IsQuerySoFar And rest whole query
+    → ((set : TrigramSet) → rest set ≡ true) → IsPlainFor whole query
 IsPlainFor-and rest whole query h none = record {
   plain = h.plain;
   met = λ set. sym (ap (λ b. is_met query set && b) (none set) ∙ and_true (is_met query set)) ∙ h.met set;
 }
 
-pub IsPlainFor-or : (rest whole : TrigramSet → Bool) (query : Formula) → IsQuerySoFar Or rest whole query → ((set : TrigramSet) → rest set ≡ false) → IsPlainFor whole query
+pub IsPlainFor-or : (rest whole : TrigramSet → Bool) (query : Formula) → IsQuerySoFar Or rest whole query
+    → ((set : TrigramSet) → rest set ≡ false) → IsPlainFor whole query
 IsPlainFor-or rest whole query h none = record {
   plain = h.plain;
   met = λ set. sym (ap (λ b. is_met query set || b) (none set) ∙ or_false (is_met query set)) ∙ h.met set;
@@ -83,7 +89,9 @@ unfolding is_met
 IsPlainFor-has trigram = record { plain = tt; met = λ set. refl }
 
 -- the trigram at a place of a text, and the rest
-pub trigrams_step : (text : List ℕ) (i : ℕ) → i + 2 < length text → (set : TrigramSet) → has_all_trigrams (drop i text) set ≡ (set (trigram_of (get_or text i 0) (get_or text (i + 1) 0) (get_or text (i + 2) 0)) && has_all_trigrams (drop (i + 1) text) set)
+pub trigrams_step : (text : List ℕ) (i : ℕ) → i + 2 < length text → (set : TrigramSet)
+    → has_all_trigrams (drop i text) set
+    ≡ (set (trigram_of (get_or text i 0) (get_or text (i + 1) 0) (get_or text (i + 2) 0)) && has_all_trigrams (drop (i + 1) text) set)
 unfolding has_all_trigrams
 trigrams_step text i inside set =
     let one : i + 1 + 1 ≡ i + 2 = omega arith in
@@ -114,7 +122,9 @@ with_texts-longer texts [] = omega arith
 with_texts-longer texts (text ∷ others) = le_trans (with_text-longer texts text) (with_texts-longer (with_text texts text) others)
 
 -- where one text of a list makes the ends more than so many, all of them are
-pub many_ends : (end : List ℕ → List ℕ) (texts : List (Vec ℕ Global)) (i : ℕ) (x : Vec ℕ Global) (before now whole : Texts) (n : ℕ) → i < length texts → x ≡ get_or texts i x → with_texts before (map end (texts_of (drop i texts))) ≡ whole → now ≡ with_text before (end x.items) → n < length now → n < length whole
+pub many_ends : (end : List ℕ → List ℕ) (texts : List (Vec ℕ Global)) (i : ℕ) (x : Vec ℕ Global) (before now whole : Texts) (n : ℕ)
+    → i < length texts → x ≡ get_or texts i x → with_texts before (map end (texts_of (drop i texts))) ≡ whole
+    → now ≡ with_text before (end x.items) → n < length now → n < length whole
 many_ends end texts i x before now whole n below read is one many =
     let rest = map end (texts_of (drop (i + 1) texts)) in
     let split : with_texts now rest ≡ whole =

@@ -2,7 +2,8 @@
 -- Trigram Index", 2012). The rows for the empty text, one byte, `e?`, `e*`, `e+`, alternation and
 -- concatenation are his; the limits 16 and 64, the cutting to two bytes, the term for two loose neighbours,
 -- byte sets and intervals are this program's.
-use Rattle.std.specs.Prelude.{ℕ, zero, suc, ◌-◌, Bool, true, false, ◌&&◌, ◌||◌, ◌==◌, nat_le, IsTrue, List, [], ◌∷◌, length, map, filter, take, Option, Some, None, if◌then◌else◌}
+use Rattle.std.specs.Prelude.{ℕ, zero, suc, ◌-◌, Bool, true, false, ◌&&◌, ◌||◌, ◌==◌, nat_le, IsTrue, List, [], ◌∷◌, length, map, filter}
+use Rattle.std.specs.Prelude.{take, Option, Some, None, if◌then◌else◌}
 use Rattle.std.specs.List.{list_all, range_with_len}
 use Rattle.ere.specs.ByteSet.{has}
 use Rattle.ere.specs.Tree.{Tree, Trees}
@@ -75,7 +76,9 @@ either (known left) (known right) = settle_known (union left right)
 either left right = either_loose (loosen left) (loosen right)
   where
     either_loose : Analysis → Analysis → Analysis
-    either_loose l r = settle_loose (is_nullable l || is_nullable r) (union (fronts_of l) (fronts_of r)) (union (backs_of l) (backs_of r)) (λ set. condition_beside l set || condition_beside r set)
+    either_loose l r =
+        settle_loose (is_nullable l || is_nullable r) (union (fronts_of l) (fronts_of r)) (union (backs_of l) (backs_of r))
+        (λ set. condition_beside l set || condition_beside r set)
 
 -- the fronts of two neighbours together
 abbrev pub joined_fronts : Analysis → Analysis → Texts

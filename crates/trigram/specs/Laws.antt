@@ -12,7 +12,8 @@ use Rattle.trigram.specs.Analysis.{known, analysis_of, Condition}
 -- A known set is exactly the words of the tree with the empty text for each anchor.
 abbrev pub KnownTextsAreTheWords : Type 0
 KnownTextsAreTheWords =
-    (tree : Tree) (texts : Texts) → IsProper tree → analysis_of tree ≡ known texts → (before word after : List ℕ) → IsTrue (has_text texts word) ↔ InLanguage (without_anchors tree) before word after
+    (tree : Tree) (texts : Texts) → IsProper tree → analysis_of tree ≡ known texts → (before word after : List ℕ)
+    → IsTrue (has_text texts word) ↔ InLanguage (without_anchors tree) before word after
 
 -- The trigrams of a body with a line that contains a word of the tree meet the condition of the tree.
 abbrev pub MatchingLineMeetsCondition : Type 0
@@ -31,4 +32,6 @@ HasEachOnce (text ∷ texts) = IsFalse (has_text texts text) × HasEachOnce text
 -- A set that is made of a list has its texts and no others, each once: so its length is their number,
 -- whatever their order and however often the list has them.
 abbrev pub SetsHaveEachTextOnce : Type 0
-SetsHaveEachTextOnce = (texts : Texts) → HasEachOnce (distinct texts) × ((word : List ℕ) → IsTrue (has_text (distinct texts) word) ↔ IsTrue (has_text texts word))
+SetsHaveEachTextOnce =
+    (texts : Texts)
+    → HasEachOnce (distinct texts) × ((word : List ℕ) → IsTrue (has_text (distinct texts) word) ↔ IsTrue (has_text texts word))

@@ -37,7 +37,8 @@ pub record Moves (relation : Relation) (from to : List ℕ) : Type 0 where
 -- it leads from positions that are done.
 pub record MovesPast (relation : Relation) (done from to : List ℕ) : Type 0 where
   pub sound : (end : ℕ) → IsTrue (has_position to end) → (start : ℕ) × IsTrue (has_position from start) × relation start end
-  pub complete : (start end : ℕ) → IsTrue (has_position from start) → relation start end → IsTrue (has_position to end) ⊎ ((before : ℕ) × IsTrue (has_position done before) × relation before end)
+  pub complete : (start end : ℕ) → IsTrue (has_position from start) → relation start end
+      → IsTrue (has_position to end) ⊎ ((before : ℕ) × IsTrue (has_position done before) × relation before end)
 
 -- at the front of a repeat's body, and elsewhere
 abbrev pub MovesIf : Bool → Relation → List ℕ → List ℕ → List ℕ → Type 0

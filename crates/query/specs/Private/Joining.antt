@@ -3,7 +3,8 @@ use Rattle.std.specs.Prelude.{◌≡◌, ◌<◌, ◌≤◌, length, Bool, true,
 use Rattle.query.specs.declared.query.Connective.{Connective}
 use Rattle.query.specs.declared.query.Connective.TheVariants.{And, Or}
 use Rattle.query.specs.Trigrams.{TrigramSet}
-use Rattle.query.specs.Query.{Formula, Formulas, always, never, formulas_of, is_met, are_all_met, is_one_met, is_all_of, is_one_of, AreReducedParts, IsPlain, joined}
+use Rattle.query.specs.Query.{Formula, Formulas, always, never, formulas_of, is_met, are_all_met, is_one_met, is_all_of, is_one_of}
+use Rattle.query.specs.Query.{AreReducedParts, IsPlain, joined}
 
 abbrev pub are_met : Connective → Formulas → TrigramSet → Bool
 are_met And members set = are_all_met members set
@@ -34,7 +35,9 @@ pub record AreMembersOf (connective : Connective) (formula : Formula) (members :
 pub record HasTakenIn (connective : Connective) (old further new : List Formula) : Type 0 where
   pub parts : AreReducedParts (is_of connective) (formulas_of new)
   pub more : length old ≤ length new
-  pub met : (set : TrigramSet) → are_met connective (formulas_of new) set ≡ joined connective (are_met connective (formulas_of old) set) (are_met connective (formulas_of further) set)
+  pub met : (set : TrigramSet)
+      → are_met connective (formulas_of new) set
+      ≡ joined connective (are_met connective (formulas_of old) set) (are_met connective (formulas_of further) set)
 
 -- It is plain, and a set meets it where it meets the members as the connective says.
 pub record IsCompound (connective : Connective) (members : List Formula) (whole : Formula) : Type 0 where

@@ -9,4 +9,5 @@ use Rattle.finder.proofs.translate.+translate.Given as goal
 -- With what stands for the members that are left, what there is stands for all.
 abbrev pub invariant-patterns_for-loop-member : goal.invariant-patterns_for-loop-member
 invariant-patterns_for-loop-member l =
-    (more : List Re) → StandForEach (trees_of (map form (drop l.member-index l.members))) more → StandForEach (trees_of (map form l.members)) (map meaning l.hirs.items ++ more)
+    (more : List Re) → StandForEach (trees_of (map form (drop l.member-index l.members))) more
+    → StandForEach (trees_of (map form l.members)) (map meaning l.hirs.items ++ more)

@@ -9,7 +9,9 @@ returns-then-end-gt-MAX_LINE c =
 
 pub loop-end-preserved : goal.loop-end-preserved
 loop-end-preserved c =
-    c.loop-end.invariant ∙ ((long-first c.loop-end.rest.now c.in-Some.end c.in-Some.ensures).1 (omega arith) ∙ ap has_long_line (sym (rest-after c.loop-end.rest.now c.in-Some.end)))
+    c.loop-end.invariant
+    ∙ ((long-first c.loop-end.rest.now c.in-Some.end c.in-Some.ensures).1 (omega arith)
+    ∙ ap has_long_line (sym (rest-after c.loop-end.rest.now c.in-Some.end)))
 
 pub returns : goal.returns
 returns c = sym (c.loop-end.invariant ∙ long-last c.loop-end.rest.now c.in_default.ensures)

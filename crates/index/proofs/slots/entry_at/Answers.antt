@@ -21,4 +21,5 @@ returns-in-Some c =
     let slot = c.index-slots-place.result in
     let at = slice_get_read slots _ c.in-Some.place slot refl c.in-Some.ensures.some.0 c.index-slots-place.is in
     let number = ap (λ s. s.number) c.index-slots-place.is ∙ c.in-Some.ensures.some.1 slot in
-    shown c.as_ref.result ∙ ap (option_map texts_of) (c.as_ref.ensures.value ∙ ap (λ s. s.entry) (sym c.index-slots-place.is)) ∙ sym (document_at-here c.args.number slots c.in-Some.place slot (rising c.requires.0 slots c.requires.1) at number)
+    shown c.as_ref.result ∙ ap (option_map texts_of) (c.as_ref.ensures.value ∙ ap (λ s. s.entry) (sym c.index-slots-place.is))
+    ∙ sym (document_at-here c.args.number slots c.in-Some.place slot (rising c.requires.0 slots c.requires.1) at number)

@@ -8,33 +8,43 @@ use Rattle.index.proofs.SlotLemmas.{Others, document_at-absent, without-absent, 
 use Rattle.index.proofs.slots.take.Goals as goal
 
 pub returns-in-None-clause-entry : goal.returns-in-None-clause-entry
-returns-in-None-clause-entry c = sym (document_at-absent c.args.number c.args.slots.now.items (subst (Others c.args.number) c.deref.ensures.value c.in-None.ensures.none))
+returns-in-None-clause-entry c =
+    sym (document_at-absent c.args.number c.args.slots.now.items
+    (subst (Others c.args.number) c.deref.ensures.value c.in-None.ensures.none))
 
 pub returns-in-None-clause-documents : goal.returns-in-None-clause-documents
-returns-in-None-clause-documents c = without-absent c.args.number c.args.slots.now.items (subst (Others c.args.number) c.deref.ensures.value c.in-None.ensures.none)
+returns-in-None-clause-documents c =
+    without-absent c.args.number c.args.slots.now.items (subst (Others c.args.number) c.deref.ensures.value c.in-None.ensures.none)
 
 pub returns-in-Some-clause-entry : goal.returns-in-Some-clause-entry
 returns-in-Some-clause-entry c =
     let slots = c.args.slots.now.items in
     let slot = c.index_mut-slot.result.now in
-    let found = subst (λ xs. (c.in-Some.place < length xs) × ((s : Slot) → (get_or xs c.in-Some.place s).number ≡ c.args.number)) c.deref.ensures.value c.in-Some.ensures.some in
+    let found =
+    subst (λ xs. (c.in-Some.place < length xs) × ((s : Slot) → (get_or xs c.in-Some.place s).number ≡ c.args.number))
+    c.deref.ensures.value c.in-Some.ensures.some in
     let read = c.index_mut-slot.ensures.value in
     let at = slice_get_read slots _ c.in-Some.place slot refl found.0 read in
     let number = ap (λ s. s.number) read ∙ found.1 slot in
-    ap (option_map texts_of) c.take.ensures.value ∙ sym (document_at-here c.args.number slots c.in-Some.place slot (rising c.requires.0 slots c.requires.1) at number)
+    ap (option_map texts_of) c.take.ensures.value
+    ∙ sym (document_at-here c.args.number slots c.in-Some.place slot (rising c.requires.0 slots c.requires.1) at number)
 
 pub returns-in-Some-clause-documents : goal.returns-in-Some-clause-documents
 returns-in-Some-clause-documents c =
     let slots = c.args.slots.now.items in
     let slot = c.index_mut-slot.result.now in
-    let found = subst (λ xs. (c.in-Some.place < length xs) × ((s : Slot) → (get_or xs c.in-Some.place s).number ≡ c.args.number)) c.deref.ensures.value c.in-Some.ensures.some in
+    let found =
+    subst (λ xs. (c.in-Some.place < length xs) × ((s : Slot) → (get_or xs c.in-Some.place s).number ≡ c.args.number))
+    c.deref.ensures.value c.in-Some.ensures.some in
     let read = c.index_mut-slot.ensures.value in
     let at = slice_get_read slots _ c.in-Some.place slot refl found.0 read in
     let number = ap (λ s. s.number) read ∙ found.1 slot in
-    ap (λ entry. documents_in (set slots c.in-Some.place (record { number = slot.number; entry = entry }))) c.take.ensures.after ∙ documents_in-emptied c.args.number slots c.in-Some.place slot (rising c.requires.0 slots c.requires.1) at number
+    ap (λ entry. documents_in (set slots c.in-Some.place (record { number = slot.number; entry = entry }))) c.take.ensures.after
+    ∙ documents_in-emptied c.args.number slots c.in-Some.place slot (rising c.requires.0 slots c.requires.1) at number
 
 pub returns-in-Some-clause-numbers : goal.returns-in-Some-clause-numbers
 returns-in-Some-clause-numbers c =
     let slots = c.args.slots.now.items in
     let slot = c.index_mut-slot.result.now in
-    map-set_same (λ s. s.number) slots c.in-Some.place (record { number = slot.number; entry = c.take.new.self }) slot (ap (λ s. s.number) c.index_mut-slot.ensures.value)
+    map-set_same (λ s. s.number) slots c.in-Some.place (record { number = slot.number; entry = c.take.new.self }) slot
+    (ap (λ s. s.number) c.index_mut-slot.ensures.value)

@@ -9,27 +9,39 @@ use Rattle.matcher.proofs.walk.+walk.Given as goal
 -- Where the members that are left lead to, all members lead from the start.
 abbrev pub invariant-advance_each-loop-member : goal.invariant-advance_each-loop-member
 invariant-advance_each-loop-member g l =
-    (to : List ℕ) → Moves (SpansEach l.line (trees_of (map form (drop l.member-index l.members)))) (g.S.PositionSet.words l.at) to → Moves (SpansEach l.line (trees_of (map form l.members))) (g.S.PositionSet.words l.initial.at) to
+    (to : List ℕ) → Moves (SpansEach l.line (trees_of (map form (drop l.member-index l.members)))) (g.S.PositionSet.words l.at) to
+    → Moves (SpansEach l.line (trees_of (map form l.members))) (g.S.PositionSet.words l.initial.at) to
 
 abbrev pub invariant-advance_some-loop-i : goal.invariant-advance_some-loop-i
-invariant-advance_some-loop-i g l = Moves (SpansSome l.line (trees_of (map form (drop l.i l.members)))) (g.S.PositionSet.words l.at) (g.S.PositionSet.words l.found)
+invariant-advance_some-loop-i g l =
+    Moves (SpansSome l.line (trees_of (map form (drop l.i l.members)))) (g.S.PositionSet.words l.at) (g.S.PositionSet.words l.found)
 
 abbrev pub invariant-advance_exactly-loop-word : goal.invariant-advance_exactly-loop-word
 invariant-advance_exactly-loop-word g l = Moves (Steps (Spans l.line (form l.body)) l._word) (g.S.PositionSet.words l.initial.at) (g.S.PositionSet.words l.at)
 
 abbrev pub invariant-advance_at_most-loop-round : goal.invariant-advance_at_most-loop-round
-invariant-advance_at_most-loop-round g l = IsWidenedBy (Spans l.line (form l.body)) l._round (g.S.PositionSet.words l.initial.at) (g.S.PositionSet.words l.found) (g.S.PositionSet.words l.at)
+invariant-advance_at_most-loop-round g l =
+    IsWidenedBy (Spans l.line (form l.body)) l._round (g.S.PositionSet.words l.initial.at) (g.S.PositionSet.words l.found)
+    (g.S.PositionSet.words l.at)
 
 -- The same, of the members that are left at the front or behind it.
 abbrev pub invariant-each_past-loop-member : goal.invariant-each_past-loop-member
 invariant-each_past-loop-member g l =
-    (to : List ℕ) → MovesIf l.leads (SpansEach l.line (trees_of (map form (drop l.member-index l.members)))) (g.S.PositionSet.words l.done) (g.S.PositionSet.words l.at) to → MovesPast (SpansEach l.line (trees_of (map form l.members))) (g.S.PositionSet.words l.done) (g.S.PositionSet.words l.initial.at) to
+    (to : List ℕ)
+    → MovesIf l.leads (SpansEach l.line (trees_of (map form (drop l.member-index l.members)))) (g.S.PositionSet.words l.done)
+    (g.S.PositionSet.words l.at) to
+    → MovesPast (SpansEach l.line (trees_of (map form l.members))) (g.S.PositionSet.words l.done) (g.S.PositionSet.words l.initial.at)
+    to
 
 abbrev pub invariant-some_past-loop-place : goal.invariant-some_past-loop-place
-invariant-some_past-loop-place g l = MovesPast (SpansSome l.line (trees_of (map form (drop l.place l.members)))) (g.S.PositionSet.words l.done) (g.S.PositionSet.words l.at) (g.S.PositionSet.words l.found)
+invariant-some_past-loop-place g l =
+    MovesPast (SpansSome l.line (trees_of (map form (drop l.place l.members)))) (g.S.PositionSet.words l.done) (g.S.PositionSet.words l.at)
+    (g.S.PositionSet.words l.found)
 
 abbrev pub invariant-more_past-loop-grown : goal.invariant-more_past-loop-grown
-invariant-more_past-loop-grown g l = IsRounded (Spans l.line (form l.body)) (g.S.PositionSet.words l.done) (g.S.PositionSet.words l.fn.at) (g.S.PositionSet.words l.found) (g.S.PositionSet.words l.over) (g.S.PositionSet.words l.known) (g.S.PositionSet.words l.at)
+invariant-more_past-loop-grown g l =
+    IsRounded (Spans l.line (form l.body)) (g.S.PositionSet.words l.done) (g.S.PositionSet.words l.fn.at) (g.S.PositionSet.words l.found)
+    (g.S.PositionSet.words l.over) (g.S.PositionSet.words l.known) (g.S.PositionSet.words l.at)
 
 abbrev pub decreases-more_past-loop-grown : goal.decreases-more_past-loop-grown
 decreases-more_past-loop-grown g l = absent (g.S.PositionSet.words l.known)

@@ -11,4 +11,5 @@ returns-in-Empty c = λ held line place. rw (ap form c.in-Empty.is ∙ form-Empt
 pub returns-in-Repeat : goal.returns-in-Repeat
 returns-in-Repeat c = λ held line place.
     let none : c.in-Repeat.least ≡ 0 = grind (arith, nat_tests) in
-    empty_if line (form c.in-Repeat._body.value) (form c.args.tree.now) c.in-Repeat.least c.in-Repeat._greatest (ap form c.in-Repeat.is ∙ form-Repeat c.in-Repeat._body c.in-Repeat.least c.in-Repeat._greatest) none place
+    empty_if line (form c.in-Repeat._body.value) (form c.args.tree.now) c.in-Repeat.least c.in-Repeat._greatest
+    (ap form c.in-Repeat.is ∙ form-Repeat c.in-Repeat._body c.in-Repeat.least c.in-Repeat._greatest) none place

@@ -5,4 +5,8 @@ use Rattle.matcher.proofs.Walks.{joins_if}
 use Rattle.matcher.proofs.walk.joins_words.Goals as goal
 
 pub returns-in-Repeat : goal.returns-in-Repeat
-returns-in-Repeat c = λ joins line. joins_if line (form c.in-Repeat._body.value) (form c.args.tree.now) c.in-Repeat._least c.in-Repeat.greatest (ap form c.in-Repeat.is ∙ form-Repeat c.in-Repeat._body c.in-Repeat._least c.in-Repeat.greatest) c.is_none.result c.is_none.ensures joins
+returns-in-Repeat c =
+    λ joins line.
+    joins_if line (form c.in-Repeat._body.value) (form c.args.tree.now) c.in-Repeat._least c.in-Repeat.greatest
+    (ap form c.in-Repeat.is ∙ form-Repeat c.in-Repeat._body c.in-Repeat._least c.in-Repeat.greatest) c.is_none.result
+    c.is_none.ensures joins

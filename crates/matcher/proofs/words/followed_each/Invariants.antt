@@ -6,7 +6,9 @@ use Rattle.matcher.proofs.words.followed_each.Given as goal
 -- What was found, and what of the rest passes, is all that passes.
 abbrev pub invariant-loop-rest : goal.invariant-loop-rest
 invariant-loop-rest l =
-    (b : ℕ) → b < 64 → (has_bit l.found b || (has_bit l.rest b && passes l.members l.line (l.base + b))) ≡ (has_bit l.word b && passes l.members l.line (l.base + b))
+    (b : ℕ) → b < 64
+    → (has_bit l.found b || (has_bit l.rest b && passes l.members l.line (l.base + b)))
+    ≡ (has_bit l.word b && passes l.members l.line (l.base + b))
 
 abbrev pub decreases-loop-rest : goal.decreases-loop-rest
 decreases-loop-rest l = l.rest

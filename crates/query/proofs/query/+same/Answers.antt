@@ -4,7 +4,17 @@ use Rattle.query.proofs.QueryLemmas.{and_same, or_same}
 use Rattle.query.proofs.query.+same.Goals as goal
 
 pub is_same-returns-in-And-And : goal.is_same-returns-in-And-And
-is_same-returns-in-And-And t c = λ same. rw (c.in-And-And.is-0, c.in-And-And.is-1) (and_same c.in-And-And.ones c.in-And-And.others (sym (ap (map formula_of) c.as_slice.ensures.value) ∙ c.are_same.ensures same ∙ ap (map formula_of) c.as_slice-in-And-And.ensures.value))
+is_same-returns-in-And-And t c =
+    λ same.
+    rw (c.in-And-And.is-0, c.in-And-And.is-1)
+    (and_same c.in-And-And.ones c.in-And-And.others
+    (sym (ap (map formula_of) c.as_slice.ensures.value) ∙ c.are_same.ensures same
+    ∙ ap (map formula_of) c.as_slice-in-And-And.ensures.value))
 
 pub is_same-returns-in-Or-Or : goal.is_same-returns-in-Or-Or
-is_same-returns-in-Or-Or t c = λ same. rw (c.in-Or-Or.is-0, c.in-Or-Or.is-1) (or_same c.in-Or-Or.ones c.in-Or-Or.others (sym (ap (map formula_of) c.as_slice-in-Or-Or.ensures.value) ∙ c.are_same-in-Or-Or.ensures same ∙ ap (map formula_of) c.as_slice-in-Or-Or-2.ensures.value))
+is_same-returns-in-Or-Or t c =
+    λ same.
+    rw (c.in-Or-Or.is-0, c.in-Or-Or.is-1)
+    (or_same c.in-Or-Or.ones c.in-Or-Or.others
+    (sym (ap (map formula_of) c.as_slice-in-Or-Or.ensures.value) ∙ c.are_same-in-Or-Or.ensures same
+    ∙ ap (map formula_of) c.as_slice-in-Or-Or-2.ensures.value))

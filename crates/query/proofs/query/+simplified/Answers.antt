@@ -16,18 +16,33 @@ pub simplified-returns-in-Has : goal.simplified-returns-in-Has
 simplified-returns-in-Has t c = rw (c.in-Has.is, formula_of-Has c.in-Has.trigram) (simple_itself (has c.in-Has.trigram) tt)
 
 pub simplified-returns-in-And : goal.simplified-returns-in-And
-simplified-returns-in-And t c = rw (c.in-And.is, formula_of-And c.in-And.members) (IfOk-weaker c.all_simplified.result _ _ (λ whole h. simple_all (map formula_of c.in-And.members.items) (formula_of whole) (rw c.as_slice.ensures.value at h)) c.all_simplified.ensures)
+simplified-returns-in-And t c =
+    rw (c.in-And.is, formula_of-And c.in-And.members)
+    (IfOk-weaker c.all_simplified.result _ _
+    (λ whole h. simple_all (map formula_of c.in-And.members.items) (formula_of whole) (rw c.as_slice.ensures.value at h))
+    c.all_simplified.ensures)
 
 pub simplified-returns-in-Or : goal.simplified-returns-in-Or
-simplified-returns-in-Or t c = rw (c.in-Or.is, formula_of-Or c.in-Or.members) (IfOk-weaker c.all_simplified-in-Or.result _ _ (λ whole h. simple_one (map formula_of c.in-Or.members.items) (formula_of whole) (rw c.as_slice-in-Or.ensures.value at h)) c.all_simplified-in-Or.ensures)
+simplified-returns-in-Or t c =
+    rw (c.in-Or.is, formula_of-Or c.in-Or.members)
+    (IfOk-weaker c.all_simplified-in-Or.result _ _
+    (λ whole h. simple_one (map formula_of c.in-Or.members.items) (formula_of whole) (rw c.as_slice-in-Or.ensures.value at h))
+    c.all_simplified-in-Or.ensures)
 
 pub all_simplified-loop-member-init : goal.all_simplified-loop-member-init
-all_simplified-loop-member-init t c = IsJoinedSoFar-none c.args.connective (map formula_of c.args.members.now) (formula_of c.constant-whole.result) (c.constant-whole.ensures ∙ ap Some c.idle.ensures)
+all_simplified-loop-member-init t c =
+    IsJoinedSoFar-none c.args.connective (map formula_of c.args.members.now) (formula_of c.constant-whole.result)
+    (c.constant-whole.ensures ∙ ap Some c.idle.ensures)
 
 pub all_simplified-loop-member-preserved : goal.all_simplified-loop-member-preserved
 all_simplified-loop-member-preserved t c =
-    let rest = ap (map formula_of) (drop_more c.args.members.now c.loop-member.member-index c.member-item.result c.loop-member-test.true) ∙ ap (λ q. formula_of q ∷ map formula_of (drop (c.loop-member.member-index + 1) c.args.members.now)) (sym c.member-item.is) in
-    IsJoinedSoFar-more c.args.connective (map formula_of c.args.members.now) (map formula_of (drop (c.loop-member.member-index + 1) c.args.members.now)) (formula_of c.loop-member.whole) (formula_of c.member-item.result) (formula_of c.in_ok-simplified.field-0) (formula_of c.in_ok-whole.whole) (rw rest at c.loop-member.invariant) c.in_ok-simplified.ensures c.in_ok-whole.ensures
+    let rest =
+    ap (map formula_of) (drop_more c.args.members.now c.loop-member.member-index c.member-item.result c.loop-member-test.true)
+    ∙ ap (λ q. formula_of q ∷ map formula_of (drop (c.loop-member.member-index + 1) c.args.members.now)) (sym c.member-item.is) in
+    IsJoinedSoFar-more c.args.connective (map formula_of c.args.members.now)
+    (map formula_of (drop (c.loop-member.member-index + 1) c.args.members.now)) (formula_of c.loop-member.whole)
+    (formula_of c.member-item.result) (formula_of c.in_ok-simplified.field-0) (formula_of c.in_ok-whole.whole)
+    (rw rest at c.loop-member.invariant) c.in_ok-simplified.ensures c.in_ok-whole.ensures
 
 pub all_simplified-returns : goal.all_simplified-returns
 all_simplified-returns t c =

@@ -36,7 +36,11 @@ pub returns-in-Has : goal.returns-in-Has
 returns-in-Has c = rw (c.in-Has.is, formula_of-Has c.in-Has.field-0) (not_has c.args.connective c.in-Has.field-0)
 
 pub returns-in-And : goal.returns-in-And
-returns-in-And c = rw (c.in-And.is, formula_of-And c.in-And.field-0) (c.idle.ensures ∙ of_all c.args.connective (formulas_of (map formula_of c.in-And.field-0.items)))
+returns-in-And c =
+    rw (c.in-And.is, formula_of-And c.in-And.field-0)
+    (c.idle.ensures ∙ of_all c.args.connective (formulas_of (map formula_of c.in-And.field-0.items)))
 
 pub returns-in-Or : goal.returns-in-Or
-returns-in-Or c = rw (c.in-Or.is, formula_of-Or c.in-Or.field-0) (ap not c.idle-in-Or.ensures ∙ of_one c.args.connective (formulas_of (map formula_of c.in-Or.field-0.items)))
+returns-in-Or c =
+    rw (c.in-Or.is, formula_of-Or c.in-Or.field-0)
+    (ap not c.idle-in-Or.ensures ∙ of_one c.args.connective (formulas_of (map formula_of c.in-Or.field-0.items)))

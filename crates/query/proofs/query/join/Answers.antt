@@ -24,13 +24,27 @@ pub members_of-requires-2 : goal.members_of-requires-2
 members_of-requires-2 c = reduced_from_plain (formula_of c.args.right) (sym c.constant_of-2.ensures ∙ c.in_default-constant_of.is) c.requires.right
 
 pub returns-then-met-idle : goal.returns-then-met-idle
-returns-then-met-idle c = join_idle_left c.args.connective (formula_of c.args.left) (formula_of c.args.right) c.in-Some.met (sym c.in-Some.is ∙ c.constant_of.ensures) (same_truth c.in-Some.met c.idle.result c.if-met-idle.true ∙ c.idle.ensures) c.requires.right
+returns-then-met-idle c =
+    join_idle_left c.args.connective (formula_of c.args.left) (formula_of c.args.right) c.in-Some.met
+    (sym c.in-Some.is ∙ c.constant_of.ensures) (same_truth c.in-Some.met c.idle.result c.if-met-idle.true ∙ c.idle.ensures)
+    c.requires.right
 
 pub returns-in-Some : goal.returns-in-Some
-returns-in-Some c = join_settled_left c.args.connective (formula_of c.args.left) (formula_of c.args.right) c.in-Some.met (sym c.in-Some.is ∙ c.constant_of.ensures) (λ same. other_truth c.in-Some.met c.idle.result c.if-met-idle.false (same ∙ sym c.idle.ensures)) c.requires.left
+returns-in-Some c =
+    join_settled_left c.args.connective (formula_of c.args.left) (formula_of c.args.right) c.in-Some.met
+    (sym c.in-Some.is ∙ c.constant_of.ensures)
+    (λ same. other_truth c.in-Some.met c.idle.result c.if-met-idle.false (same ∙ sym c.idle.ensures)) c.requires.left
 
 pub returns-then-met-idle-2 : goal.returns-then-met-idle-2
-returns-then-met-idle-2 c = join_idle_right c.args.connective (formula_of c.args.left) (formula_of c.args.right) c.in-Some-constant_of.met (sym c.in-Some-constant_of.is ∙ c.constant_of-2.ensures) (same_truth c.in-Some-constant_of.met c.idle-in-Some-constant_of.result c.if-met-idle-2.true ∙ c.idle-in-Some-constant_of.ensures) c.requires.left
+returns-then-met-idle-2 c =
+    join_idle_right c.args.connective (formula_of c.args.left) (formula_of c.args.right) c.in-Some-constant_of.met
+    (sym c.in-Some-constant_of.is ∙ c.constant_of-2.ensures)
+    (same_truth c.in-Some-constant_of.met c.idle-in-Some-constant_of.result c.if-met-idle-2.true ∙ c.idle-in-Some-constant_of.ensures)
+    c.requires.left
 
 pub returns-in-Some-constant_of : goal.returns-in-Some-constant_of
-returns-in-Some-constant_of c = join_settled_right c.args.connective (formula_of c.args.left) (formula_of c.args.right) c.in-Some-constant_of.met (sym c.in-Some-constant_of.is ∙ c.constant_of-2.ensures) (λ same. other_truth c.in-Some-constant_of.met c.idle-in-Some-constant_of.result c.if-met-idle-2.false (same ∙ sym c.idle-in-Some-constant_of.ensures)) c.requires.right
+returns-in-Some-constant_of c =
+    join_settled_right c.args.connective (formula_of c.args.left) (formula_of c.args.right) c.in-Some-constant_of.met
+    (sym c.in-Some-constant_of.is ∙ c.constant_of-2.ensures) (λ same.
+    other_truth c.in-Some-constant_of.met c.idle-in-Some-constant_of.result c.if-met-idle-2.false
+    (same ∙ sym c.idle-in-Some-constant_of.ensures)) c.requires.right

@@ -10,5 +10,7 @@ use Rattle.trigram.proofs.analysis.anything.Goals as goal
 pub returns : goal.returns
 returns c = record {
   plain = rw formula_of-Any tt;
-  is = loose_same true (texts_of c.in_ok-just_empty.field-0.items) just_empty (texts_of c.in_ok-just_empty-2.field-0.items) just_empty (is_met (formula_of query.Any)) (λ _. true) c.in_ok-just_empty.ensures c.in_ok-just_empty-2.ensures any_is_met;
+  is =
+      loose_same true (texts_of c.in_ok-just_empty.field-0.items) just_empty (texts_of c.in_ok-just_empty-2.field-0.items) just_empty
+      (is_met (formula_of query.Any)) (λ _. true) c.in_ok-just_empty.ensures c.in_ok-just_empty-2.ensures any_is_met;
 }

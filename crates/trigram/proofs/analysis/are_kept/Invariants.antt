@@ -5,4 +5,6 @@ use Rattle.trigram.specs.Analysis.{longest_text}
 use Rattle.trigram.proofs.analysis.are_kept.Given as goal
 
 abbrev pub invariant-loop-text : goal.invariant-loop-text
-invariant-loop-text l = list_all (λ text. nat_le (length text) longest_text) (texts_of (drop l.text-index l.texts)) ≡ list_all (λ text. nat_le (length text) longest_text) (texts_of l.texts)
+invariant-loop-text l =
+    list_all (λ text. nat_le (length text) longest_text) (texts_of (drop l.text-index l.texts))
+    ≡ list_all (λ text. nat_le (length text) longest_text) (texts_of l.texts)

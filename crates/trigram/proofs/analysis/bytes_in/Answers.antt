@@ -12,8 +12,12 @@ loop-i-init c = ap (λ r. r ++ filter (has c.args.set.now) (range_with_len 0 256
 pub loop-i-preserved : goal.loop-i-preserved
 loop-i-preserved c =
     elim c.if-has.branch [
-      | then-has+in_ok-push w ↦ rw (w.bytes-is, w.in_ok-push.ensures.items) (bytes_held (has c.args.set.now) c.loop-i.bytes.items (bytes_in c.args.set.now) c.loop-i.i (omega arith) (sym c.has.ensures ∙ w.if-has.true) c.loop-i.invariant)
-      | else-has w ↦ rw w.bytes-is (bytes_passed (has c.args.set.now) c.loop-i.bytes.items (bytes_in c.args.set.now) c.loop-i.i (omega arith) (sym c.has.ensures ∙ w.if-has.false) c.loop-i.invariant)
+      | then-has+in_ok-push w ↦ rw (w.bytes-is, w.in_ok-push.ensures.items)
+          (bytes_held (has c.args.set.now) c.loop-i.bytes.items (bytes_in c.args.set.now) c.loop-i.i (omega arith)
+          (sym c.has.ensures ∙ w.if-has.true) c.loop-i.invariant)
+      | else-has w ↦ rw w.bytes-is
+          (bytes_passed (has c.args.set.now) c.loop-i.bytes.items (bytes_in c.args.set.now) c.loop-i.i (omega arith)
+          (sym c.has.ensures ∙ w.if-has.false) c.loop-i.invariant)
     ]
 
 pub returns : goal.returns

@@ -3,4 +3,6 @@ use Rattle.trigram.specs.Private.Values.{texts_of}
 use Rattle.trigram.proofs.texts.push_joins.Given as goal
 
 abbrev pub invariant-loop-back : goal.invariant-loop-back
-invariant-loop-back l = texts_of l.whole.items ++ map (λ back. l.front ++ back) (texts_of (drop l.back-index l.backs)) ≡ texts_of l.fn.whole.items ++ map (λ back. l.front ++ back) (texts_of l.backs)
+invariant-loop-back l =
+    texts_of l.whole.items ++ map (λ back. l.front ++ back) (texts_of (drop l.back-index l.backs))
+    ≡ texts_of l.fn.whole.items ++ map (λ back. l.front ++ back) (texts_of l.backs)

@@ -16,4 +16,8 @@ returns c =
     let ds = stored store in
     let is = c.self.invariant in
     let shown = ap (λ s. map (λ d. d.number) (filter (meets formula) s.documents)) c.self.view_is in
-    IfOk-weaker c.select.result (λ chosen. chosen.members ≡ filter (λ n. is_met formula (trigrams_with store.sets.postings n)) store.sets.live.members) (λ chosen. chosen.members ≡ map (λ d. d.number) (filter (meets formula) c.args.self.now.documents)) (λ chosen e. e ∙ (candidates_are ds (numbered c.self.inside.version ds is.is_state) store.sets formula is.kept.sets ∙ shown)) c.select.ensures
+    IfOk-weaker c.select.result
+    (λ chosen. chosen.members ≡ filter (λ n. is_met formula (trigrams_with store.sets.postings n)) store.sets.live.members)
+    (λ chosen. chosen.members ≡ map (λ d. d.number) (filter (meets formula) c.args.self.now.documents))
+    (λ chosen e. e ∙ (candidates_are ds (numbered c.self.inside.version ds is.is_state) store.sets formula is.kept.sets ∙ shown))
+    c.select.ensures

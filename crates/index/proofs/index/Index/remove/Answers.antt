@@ -11,8 +11,13 @@ invariant_of-self c =
     let few : version + 1 < 2 ^ 32 = omega (arith, c.requires, ap (λ s. s.version) c.self.view_is) in
     let removed = changed_at c.self.inside.numbers c.remove.new.self c.args.name.now None c.remove.ensures.updates.0 in
     elim c.match-remove.branch [
-      | in-Some w ↦ rw w.self-inside-is (IsIndex-remove version c.self.inside.numbers c.remove.new.self c.self.inside.store w.take_out.new.self c.args.name.now (Some w.in-Some.number) c.self.invariant few (sym w.in-Some.is ∙ c.remove.ensures.value) removed w.take_out.ensures.documents (w.take_out.ensures.store version c.self.invariant.kept))
-      | in_default w ↦ rw w.self-inside-is (IsIndex-remove version c.self.inside.numbers c.remove.new.self c.self.inside.store c.self.inside.store c.args.name.now None c.self.invariant few (sym w.in_default.is ∙ c.remove.ensures.value) removed refl c.self.invariant.kept)
+      | in-Some w ↦ rw w.self-inside-is
+          (IsIndex-remove version c.self.inside.numbers c.remove.new.self c.self.inside.store w.take_out.new.self c.args.name.now
+          (Some w.in-Some.number) c.self.invariant few (sym w.in-Some.is ∙ c.remove.ensures.value) removed w.take_out.ensures.documents
+          (w.take_out.ensures.store version c.self.invariant.kept))
+      | in_default w ↦ rw w.self-inside-is
+          (IsIndex-remove version c.self.inside.numbers c.remove.new.self c.self.inside.store c.self.inside.store c.args.name.now None
+          c.self.invariant few (sym w.in_default.is ∙ c.remove.ensures.value) removed refl c.self.invariant.kept)
     ]
 
 pub returns-clause-ok : goal.returns-clause-ok
@@ -20,6 +25,10 @@ returns-clause-ok c =
     let version = c.self.inside.version in
     let shown = ap (applied (Remove c.args.name.now)) c.self.view_is in
     elim c.match-remove.branch [
-      | in-Some w ↦ rw w.self-inside-is (remove_documents version c.self.inside.numbers c.self.inside.store w.take_out.new.self c.args.name.now (Some w.in-Some.number) c.self.invariant (sym w.in-Some.is ∙ c.remove.ensures.value) w.take_out.ensures.documents ∙ shown)
-      | in_default w ↦ rw w.self-inside-is (remove_documents version c.self.inside.numbers c.self.inside.store c.self.inside.store c.args.name.now None c.self.invariant (sym w.in_default.is ∙ c.remove.ensures.value) refl ∙ shown)
+      | in-Some w ↦ rw w.self-inside-is
+          (remove_documents version c.self.inside.numbers c.self.inside.store w.take_out.new.self c.args.name.now (Some w.in-Some.number)
+          c.self.invariant (sym w.in-Some.is ∙ c.remove.ensures.value) w.take_out.ensures.documents ∙ shown)
+      | in_default w ↦ rw w.self-inside-is
+          (remove_documents version c.self.inside.numbers c.self.inside.store c.self.inside.store c.args.name.now None c.self.invariant
+          (sym w.in_default.is ∙ c.remove.ensures.value) refl ∙ shown)
     ]

@@ -14,6 +14,8 @@ pub returns-clause-store : goal.returns-clause-store
 unfolding documents_in document_at
 returns-clause-store c = record {
   slots = subst (RiseTo 0) (sym c.new.ensures.items) RiseTo-none;
-  sets = subst (λ xs. AreSetsOf (documents_in xs) c.new-2.result) (sym c.new.ensures.items) (record { live = c.new-2.ensures.live; postings = c.new-2.ensures.postings });
+  sets =
+      subst (λ xs. AreSetsOf (documents_in xs) c.new-2.result) (sym c.new.ensures.items)
+      (record { live = c.new-2.ensures.live; postings = c.new-2.ensures.postings });
   bytes = ap (λ xs. body_bytes (documents_in xs)) (sym c.new.ensures.items);
 }

@@ -11,7 +11,10 @@ pub returns-else-old-number-clause-documents : goal.returns-else-old-number-clau
 returns-else-old-number-clause-documents c =
     let old = c.args.self.now in
     let kept = c.requires.store.1 in
-    let absent = document_at-above c.args.number c.requires.store.0 (stored old) (numbers_at_most c.requires.store.0 old.slots.items kept.slots) c.requires.store.2 in
+    let absent =
+    document_at-above c.args.number c.requires.store.0 (stored old) (numbers_at_most c.requires.store.0 old.slots.items kept.slots)
+    c.requires.store.2 in
     let same = without-absent_number c.args.number (stored old) absent in
     c.put_in.ensures.documents
-    ∙ ap (λ ds. ds ++ document c.args.number c.args.entry.name c.args.entry.held ∷ []) (sym (ap (λ n. left_after n (stored old)) (c.in-Some.is ∙ ap Some c.if-old-number.false) ∙ same))
+    ∙ ap (λ ds. ds ++ document c.args.number c.args.entry.name c.args.entry.held ∷ [])
+    (sym (ap (λ n. left_after n (stored old)) (c.in-Some.is ∙ ap Some c.if-old-number.false) ∙ same))

@@ -12,7 +12,9 @@ overflow_sub-self c =
     let old = c.args.self.now in
     let kept = c.requires.1 in
     let size : length c.as_bytes.result.now ≡ length c.in-Some.entry.held = ap length (c.as_bytes.ensures.bytes ∙ c.body.ensures) in
-    let bytes = body_bytes-without c.args.number (stored old) c.in-Some.entry.name c.in-Some.entry.held (Numbered-stored c.requires.0 old.slots.items kept.slots) (sym c.in-Some.ensures.entry) in
+    let bytes =
+    body_bytes-without c.args.number (stored old) c.in-Some.entry.name c.in-Some.entry.held
+    (Numbered-stored c.requires.0 old.slots.items kept.slots) (sym c.in-Some.ensures.entry) in
     omega (arith, size, bytes, kept.bytes)
 
 pub returns-in-Some-clause-store : goal.returns-in-Some-clause-store
@@ -21,11 +23,15 @@ returns-in-Some-clause-store c = λ last kept.
     let at = sym c.in-Some.ensures.entry in
     let size : length c.as_bytes.result.now ≡ length c.in-Some.entry.held = ap length (c.as_bytes.ensures.bytes ∙ c.body.ensures) in
     let bytes = body_bytes-without c.args.number (stored old) c.in-Some.entry.name c.in-Some.entry.held (Numbered-stored last old.slots.items kept.slots) at in
-    let documents : documents_in c.compact.new.slots.items ≡ without_number c.args.number (stored old) = c.compact.ensures.documents ∙ c.take.ensures.documents in
+    let documents : documents_in c.compact.new.slots.items ≡ without_number c.args.number (stored old) =
+    c.compact.ensures.documents ∙ c.take.ensures.documents in
     let left : body_bytes (documents_in c.compact.new.slots.items) ≡ body_bytes (without_number c.args.number (stored old)) = ap body_bytes documents in
     record {
       slots = c.compact.ensures.numbers last (RiseTo-same last old.slots.items c.take.new.slots.items c.take.ensures.numbers kept.slots);
-      sets = subst (λ ds. AreSetsOf ds c.take_out.new.self) (sym documents) (AreSetsOf-take (stored old) c.args.number c.in-Some.entry.name c.in-Some.entry.held c.trigrams.result.now old.sets c.take_out.new.self kept.sets at c.trigrams.ensures.trigrams c.take_out.ensures.live c.take_out.ensures.postings);
+      sets =
+          subst (λ ds. AreSetsOf ds c.take_out.new.self) (sym documents)
+          (AreSetsOf-take (stored old) c.args.number c.in-Some.entry.name c.in-Some.entry.held c.trigrams.result.now old.sets
+          c.take_out.new.self kept.sets at c.trigrams.ensures.trigrams c.take_out.ensures.live c.take_out.ensures.postings);
       bytes = omega (arith, size, bytes, left, kept.bytes);
     }
 

@@ -7,5 +7,8 @@ use Rattle.shared.proofs.history.Front.begins.Goals as goal
 pub returns : goal.returns
 returns c =
     let both = c.learn.new.self.log in
-    let this : IsPrefix c.self.inside.seen.log both = subst (λ (l : List (List Command)). IsPrefix l both) (ap (λ s. s.log) c.again-both.ensures) c.learn.ensures.2 in
-    rw (← c.self.view_is, ← c.other.view_is) (begins_by c.self.inside.seen.log c.other.inside.seen.log both c.self.inside.version c.other.inside.version this c.learn.ensures.3 c.self.invariant.0 c.other.invariant.0 _ refl)
+    let this : IsPrefix c.self.inside.seen.log both =
+    subst (λ (l : List (List Command)). IsPrefix l both) (ap (λ s. s.log) c.again-both.ensures) c.learn.ensures.2 in
+    rw (← c.self.view_is, ← c.other.view_is)
+    (begins_by c.self.inside.seen.log c.other.inside.seen.log both c.self.inside.version c.other.inside.version this c.learn.ensures.3
+    c.self.invariant.0 c.other.invariant.0 _ refl)

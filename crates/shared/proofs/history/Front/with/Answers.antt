@@ -15,5 +15,7 @@ compare_exchange-found-requires g c =
       ap (λ s. s.book) seen ∙ sym book,
       pen.0 ∙ (ap (λ s. s.book) seen ∙ sym book),
       offer.0,
-      rw (ap (λ w. w.key) h, pen.1) (adds_moves c.again-seen.result.log c.plain-offer.result.ask c.plain-offer.result.state c.self.inside.batches c.in_ok-batches.batches len next),
+      rw (ap (λ w. w.key) h, pen.1)
+          (adds_moves c.again-seen.result.log c.plain-offer.result.ask c.plain-offer.result.state c.self.inside.batches
+          c.in_ok-batches.batches len next),
     )
