@@ -1,4 +1,4 @@
--- Where the lines of a text stand in it.
+-- Where the lines of a text are in it.
 use Rattle.std.proofs.Common.{◌≡◌, ◌≢◌, ℕ, zero, suc, ◌+◌, ◌≤◌, ◌<◌, ◌⊎◌, Bool, true, false, cond, inl, inr, refl, sym, ap, subst, ◌∙◌}
 use Rattle.std.proofs.Common.{arith, List, [], ◌∷◌, ◌++◌, length, Some, None, slice_get, slice_index, append_assoc, length-append, ◌==◌}
 use Rattle.std.proofs.Common.{eq-eqb}
@@ -113,7 +113,7 @@ whole_tail (b ∷ front) back (inr (x ∷ text, e)) = whole_tail front back (inr
     tail [] = []
     tail (x ∷ xs) = xs
 
--- A line stands in the text, and ends below a position.
+-- A line is in the text, and ends below a position.
 pub record IsLocated (hay : List ℕ) (most : ℕ) (line : List ℕ) : Type 0 where
   pub at : ℕ
   pub is : IsLineAt hay at line
@@ -228,7 +228,7 @@ nothing_first : (back : List ℕ) → lines_of back ≡ lines_of [] ++ lines_of 
 unfolding lines_of
 nothing_first back = refl
 
--- after a whole_lines the lines begin anew
+-- after whole lines the lines begin anew
 pub lines-append : (back front part : List ℕ) → NoFeed part → IsWholeLines (part ++ front)
     → lines_of ((part ++ front) ++ back) ≡ lines_of (part ++ front) ++ lines_of back
 lines-append back [] [] none whole_lines = nothing_first back

@@ -29,7 +29,7 @@ module _ (tree : Tree) (re : Re) (stands : StandsFor tree re) where
       let t = (stands hay line at is).there s.0 s.1 s.2 s.3 in
       (at + s.0, at + s.1, omega (arith, s.2), t.1)
 
-  -- where the engine finds nothing, no line is a hit
+  -- if the engine finds nothing, no line is a hit
   pub no_match : (text : List ℕ) → find re text 0 ≡ None → AllByRecursion (λ line. ContainsMatch tree line → ⊥) (lines_of text)
   no_match text nothing =
       all_weaker (lines_of text) (λ line place hit.
@@ -62,7 +62,7 @@ module _ (tree : Tree) (re : Re) (stands : StandsFor tree re) where
       m.trace.end inside (subst (λ i. Matches (front ++ (line ++ after)) re i m.trace.end) from found) in
       hit_of_spans line tree (m.start - length front) b.0 inside b.3
 
-  -- where a line by itself contains a match, the engine finds one
+  -- if a line by itself contains a match, the engine finds one
   pub found_in : (line : List ℕ) → NoFeed line → ContainsMatch tree line → is_some (find re line 0) ≡ true
   found_in line none c =
       let m = engine_match line line 0 (line_at line [] line [] (sym (append-nil line)) (inl refl) none (inl refl)) c in

@@ -21,7 +21,7 @@ use Rattle.finder.proofs.RelationLemmas.{agrees_as, agrees_stay, agrees_nowhere,
 use Rattle.finder.proofs.RelationLemmas.{agrees_next_copy, agrees_no_copy, Few-steps, few_none, few_stay, few_split, few_more, Many-steps}
 use Rattle.finder.proofs.RelationLemmas.{many_split, many_apart, many_of, many_none, few_apart, few_of, steps_append}
 
--- ---- what stands round a position
+-- ---- what is around a position
 
 feed_of_end : (hay : List ℕ) (i b : ℕ) → holds EndLf hay i ≡ true → slice_get hay i ≡ Some b → b ≡ 10
 unfolding holds holds_between
@@ -133,13 +133,13 @@ repeat_stands body re least (Some most) greedy low h hay line at is =
 -- ---- leaves
 
 module _ (hay line : List ℕ) (at : ℕ) (is : IsLineAt hay at line) where
-  -- what stands at a position of the line
+  -- which byte follows a position of the line
   inner : (k b : ℕ) → k < length line → slice_get hay (at + k) ≡ Some b → (b ≡ slice_index line k) × (b ≢ 10)
   inner k b low e =
       let same : slice_index line k ≡ b = same_Some (slice_index line k) b (sym (is.same k low) ∙ e) in
       (sym same, λ feed. is.no_feed k low (same ∙ feed))
 
-  -- no byte that is in a set stands after the line
+  -- the byte after the line, if there is one, is a line feed
   outer : (b : ℕ) → slice_get hay (at + length line) ≡ Some b → b ≡ 10
   outer b e = feed_of_end hay (at + length line) b is.ends e
 

@@ -97,7 +97,7 @@ agrees_rounds size at relation round h = record { there = λ i k low s. there s.
         let b = h.back front.0 e front.2 (subst (λ m. round m e) front.1 r) in
         (b.0, b.1, b.2, (suc front.3.0, (front.0, front.3.1, b.3)))
 
--- so many steps, and then another relation
+-- this many steps, and then another relation
 pub agrees_next_copy : (size at : ℕ) (relation rest : Relation) (count : ℕ) (one others : Relation) → Agrees size at relation one
     → Agrees size at (Then (Steps relation count) rest) others → Agrees size at (Then (Steps relation (suc count)) rest) (Then one others)
 agrees_next_copy size at relation rest count one others h g =
@@ -111,7 +111,7 @@ unfolding Steps
 agrees_no_copy size at relation rest others g =
     agrees_as size at rest (Then (Steps relation 0) rest) others (λ i k r. subst (λ x. rest x k) (sym r.1) r.2) (λ i k r. (i, refl, r)) g
 
--- at most so many steps
+-- at most this many steps
 abbrev pub Few-steps : Relation → ℕ → Relation
 Few-steps relation most i k = (count : ℕ) × (count ≤ most) × Steps relation count i k
 
@@ -132,7 +132,7 @@ few_split relation most i k (suc count, low, s) = let f = front_of_steps relatio
 pub few_more : (relation : Relation) (most i k : ℕ) → Then relation (Few-steps relation most) i k → Few-steps relation (suc most) i k
 few_more relation most i k r = (suc r.2.0, omega (arith, r.2.1), steps_in_front relation r.2.0 i r.0 k r.1 r.2.2)
 
--- at least so many steps
+-- at least this many steps
 abbrev pub Many-steps : Relation → ℕ → Relation
 Many-steps relation least i k = (count : ℕ) × (least ≤ count) × Steps relation count i k
 
@@ -176,7 +176,7 @@ steps_split relation first (suc rest) i k s =
     let f = steps_split relation first rest i t.0 t.1 in
     (f.0, f.1, (t.0, f.2, t.2))
 
--- so many steps, and at most so many more
+-- this many steps, and at most that many more
 pub few_apart : (relation : Relation) (least most i k : ℕ) → least ≤ most
     → (count : ℕ) × (least ≤ count) × (count ≤ most) × Steps relation count i k
     → Then (Steps relation least) (Few-steps relation (most - least)) i k

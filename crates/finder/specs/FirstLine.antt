@@ -6,11 +6,11 @@ use Rattle.ere.specs.Language.{ContainsMatch}
 use Rattle.ere.specs.Lines.{lines_of}
 use Rattle.finder.specs.declared.finding.FirstLine.{FirstLine}
 
--- The text is nothing, or ends with a line feed: a line begins after it.
+-- The text is empty, or ends with a line feed: a line begins after it.
 abbrev pub IsWholeLines : List ℕ → Type 0
 IsWholeLines text = (text ≡ []) ⊎ ((front : List ℕ) × (text ≡ front ++ 10 ∷ []))
 
--- The text is nothing, or begins with a line feed: a line ends before it.
+-- The text is empty, or begins with a line feed: a line ends before it.
 abbrev pub EndsLine : List ℕ → Type 0
 EndsLine text = (text ≡ []) ⊎ ((back : List ℕ) × (text ≡ 10 ∷ back))
 
@@ -19,7 +19,7 @@ unfoldable pub line_feeds : List ℕ → ℕ
 line_feeds [] = 0
 line_feeds (b ∷ text) = if b == 10 then suc (line_feeds text) else line_feeds text
 
--- no line feed is from one position up to another
+-- there is no line feed between the two positions
 abbrev pub HasNoFeed : List ℕ → ℕ → ℕ → Type 0
 HasNoFeed text from to = (k : ℕ) → from ≤ k → k < to → slice_index text k ≢ 10
 

@@ -1,4 +1,4 @@
--- What it means that a pattern of the kit's engine stands for a tree: at each line of each text it matches from
+-- What it means that a pattern of the toolchain's engine stands for a tree: in each line of each text it matches from
 -- where to where the tree's words lead.
 use Rattle.std.specs.Prelude.{◌≡◌, ◌≢◌, ℕ, ◌+◌, ◌<◌, ◌≤◌, true, List, [], ◌∷◌, length, Some, slice_get, slice_index}
 use Rattle.regex_hir.specs.Looks.{holds}
@@ -16,7 +16,7 @@ pub record IsLineAt (text : List ℕ) (at : ℕ) (line : List ℕ) : Type 0 wher
   pub begins : holds StartLf text at ≡ true
   pub ends : holds EndLf text (at + length line) ≡ true
 
--- A relation of a line's positions, and one of the text's, lead to the same places: from each position of a line
+-- A relation on a line's positions, and one on the text's, lead to the same places from each position of a line
 -- of this size, which is at `at` in the text.
 pub record Agrees (size at : ℕ) (of_line of_text : Relation) : Type 0 where
   pub there : (from to : ℕ) → from ≤ size → of_line from to → (to ≤ size) × of_text (at + from) (at + to)

@@ -31,7 +31,7 @@ document_at-below number place (Put name body ∷ later) h = go (names later nam
         let apart : (place == number) ≡ false = grind (arith, nat_tests) in
         rw apart deeper
 
--- the document of the command at a place, which has these commands behind it
+-- the document of the command at a place, with these commands after it
 abbrev pub left_by : Option Command → List Command → Option (List ℕ × List ℕ)
 left_by None later = None
 left_by (Some (Remove name)) later = None

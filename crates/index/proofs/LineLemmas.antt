@@ -8,7 +8,7 @@ use Rattle.index.specs.Text.{has_byte_0, has_long_line}
 use Rattle.ere.specs.Lines.{lines_of, with_byte_in_front}
 use Rattle.memchr.specs.Find.{IsFirstByte, is_byte, Nowhere, NoneBefore, Passes}
 
--- Up to the first line feed, which stands at a place, it is the first line.
+-- The text up to its first line feed, which is at the place, is the first line.
 pub lines_of-first : (place : ℕ) (text : List ℕ) → place < length text → get_or text place 0 ≡ 10
     → ((k : ℕ) → k < place → get_or text k 0 ≢ 10) → lines_of text ≡ take place text ∷ lines_of (drop (suc place) text)
 unfolding lines_of
@@ -21,7 +21,7 @@ lines_of-first (suc place) (b ∷ text) below found before =
     let apart : (b == 10) ≡ false = grind (arith, nat_tests) in
     rw apart (ap (with_byte_in_front b) (lines_of-first place text (omega arith) found (λ k h. before (suc k) (omega arith))))
 
--- the line that a text without a line feed is
+-- the lines of a text without a line feed: itself, unless it is empty
 abbrev pub only_line : List ℕ → List (List ℕ)
 only_line [] = []
 only_line (b ∷ text) = (b ∷ text) ∷ []

@@ -83,7 +83,7 @@ Contains-slice_get : (documents : List Document) (i : ℕ) (d : Document) → sl
 Contains-slice_get documents i d e = (i, slice_get_within documents i d e, get_or_from_slice_get documents i d d e)
 
 module _ {K : Type 0} (name_in : K → List ℕ) where
-  -- the document that stands under an entry
+  -- the document of an entry
   abbrev shown : List Document → K × ℕ → Document
   shown documents entry = document entry.1 (name_in entry.0) (body_of (document_at entry.1 documents))
 
@@ -109,7 +109,7 @@ module _ {K : Type 0} (name_in : K → List ℕ) where
   slice_get-shown documents (first ∷ entries) zero entry e = let same : first ≡ entry = cc in ap (λ x. Some (shown documents x)) same
   slice_get-shown documents (first ∷ entries) (suc i) entry e = slice_get-shown documents entries i entry e
 
-  -- an entry that stands at a place, behind a document that is shown there
+  -- the entry at the place of a document that is shown
   shown-Contains : (documents : List Document) (entries : List (K × ℕ)) (d : Document) (k : ℕ) → k < length (map (shown documents) entries)
       → get_or (map (shown documents) entries) k d ≡ d → (entry : K × ℕ) × (slice_get entries k ≡ Some entry) × (shown documents entry ≡ d)
   shown-Contains documents [] d k below e = absurd (omega arith)
@@ -246,7 +246,7 @@ by_name ds numbered named numbers kept ordered items e =
     (chosen_in_order ds numbered named (λ k. k) (λ name. name) (λ name. refl) (λ _. true) numbers
     (λ name. kept name ∙ kept_all (number_of name ds)) ordered items e)
 
--- those of all documents that pass, in the same order
+-- those of all documents that pass the test, in the same order
 pub among_by_name : (ds : List Document) → Numbered ds → Named ds → (test : ℕ → Bool) (numbers : BTreeMap (List ℕ) ℕ)
     → ((name : List ℕ) → get (slice_cmp nat_cmp) numbers name ≡ number_of name ds) → IsOrdered (slice_cmp nat_cmp) numbers
     → (items : List ℕ) → items ≡ filter test (values numbers)
@@ -275,7 +275,7 @@ named_is_shown ds numbered name number found absent =
 
 -- ---- a map of the chosen documents, one more of which goes in
 
--- a list of which some were passed, and one more is
+-- a list of which some numbers were passed, and then one more
 pub passed-more : (all done left new : List ℕ) (number : ℕ) → all ≡ done ++ left → left ≡ number ∷ new → all ≡ (done ++ number ∷ []) ++ new
 passed-more all done left new number e h = e ∙ (ap (λ xs. done ++ xs) h ∙ sym (append_assoc done (number ∷ []) new))
 
@@ -294,7 +294,7 @@ or_no : (a : Bool) → (a || false) ≡ a
 or_no true = refl
 or_no false = refl
 
--- the number is that of no document with this name
+-- no document with this name has the number
 not_named : (ds : List Document) (numbered : Numbered ds) (named : Named ds) (number : ℕ) (q : List ℕ) (m : ℕ)
     → (number_of q ds ≡ Some number → ⊥) → number_of q ds ≡ Some m → (t : Bool) → (number == m) ≡ t → t ≡ false
 not_named ds numbered named number q m other e false h = refl

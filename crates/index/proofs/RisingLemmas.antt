@@ -24,6 +24,6 @@ module _ {X : Type 0} (n : X → ℕ) where
       let step = less k (k + 1) x (omega arith) within in
       omega arith
 
-  -- they rise still where some are left out
+  -- they still rise if some are left out
   pub rise-filter : (p : X → Bool) (xs : List X) → IsStrictlyIncreasing (map n xs) → IsStrictlyIncreasing (map n (filter p xs))
   rise-filter p xs rise = increasing (filter p xs) (AllPairs-filter (λ x y. n x < n y) p xs (λ i j d before inside. below_later xs rise i j d before inside))

@@ -184,7 +184,7 @@ numbers-kept gone (d ∷ ds) = go (not (d.number == gone)) (numbers-kept gone ds
     go true e = ap (λ xs. d.number ∷ xs) e
     go false e = e
 
--- the sets after a document went
+-- the sets after a document is taken out
 pub AreSetsOf-take : (ds : List Document) (gone : ℕ) (name body trigrams : List ℕ) (old new : Sets) → AreSetsOf ds old
     → document_at gone ds ≡ Some (name, body) → ListsTrigrams body trigrams → new.live.members ≡ without gone old.live.members
     → ((trigram n : ℕ) → holds new.postings trigram n ≡ (holds old.postings trigram n && not (has trigrams trigram && n == gone)))
@@ -209,7 +209,7 @@ AreSetsOf-take ds gone name body trigrams old new kept at lists live sets = reco
         rw e (rw was (rw (listed body trigrams lists trigram) (and_same (trigrams_of_body body trigram))))
     left_over trigram number false e = rw e (and_none (holds old.postings trigram number) (has trigrams trigram) ∙ kept.postings trigram number)
 
--- the sets after a document came
+-- the sets after a document is put in
 pub AreSetsOf-put : (ds : List Document) (number : ℕ) (name body trigrams : List ℕ) (old new : Sets) → AreSetsOf ds old
     → document_at number ds ≡ None → ListsTrigrams body trigrams → new.live.members ≡ old.live.members ++ number ∷ []
     → ((trigram n : ℕ) → holds new.postings trigram n ≡ (holds old.postings trigram n || (has trigrams trigram && number == n)))
@@ -249,7 +249,7 @@ document_at-found_in number (first ∷ others) d e = go (first.number == number)
     go true same deeper h = (first, (0, omega arith, refl), grind (arith, nat_tests))
     go false same deeper h = let rest = deeper h in (rest.0, (suc rest.1.0, omega (arith, rest.1.1), rest.1.2), rest.2)
 
--- a number above all is new to the sets
+-- a number above all others is new to the sets
 pub IsNew-above : (ds : List Document) (last number : ℕ) (body trigrams : List ℕ) (sets : Sets) → AreSetsOf ds sets
     → All (λ d. d.number ≤ last) ds → last < number → ListsTrigrams body trigrams → IsNew sets number trigrams
 IsNew-above ds last number body trigrams sets kept low above lists = record {

@@ -23,12 +23,12 @@ abbrev pub name_of : Command → List ℕ
 name_of (Put name body) = name
 name_of (Remove name) = name
 
--- whether some of the commands names it
+-- whether one of the commands names it
 unfoldable pub names : List Command → List ℕ → Bool
 names [] name = false
 names (command ∷ later) name = bytes_eq (name_of command) name || names later name
 
--- A Put is a document where no later command names its name. The first command has the given number.
+-- A Put is a document if no later command names its name. The first command has the given number.
 unfoldable pub documents_from : ℕ → List Command → List Document
 documents_from number [] = []
 documents_from number (Put name body ∷ later) =
@@ -50,7 +50,7 @@ unfoldable pub number_of : List ℕ → List Document → Option ℕ
 number_of name [] = None
 number_of name (first ∷ others) = if bytes_eq first.name name then Some first.number else number_of name others
 
--- whether the trigrams of the document's body satisfy the formula
+-- whether the trigrams of the document's body meet the formula
 abbrev pub meets : Formula → Document → Bool
 meets formula d = is_met formula (trigrams_of_body d.body)
 

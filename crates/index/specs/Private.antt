@@ -1,4 +1,4 @@
--- What only private items cite. A clause cites `pub` modules alone.
+-- What only private items cite. A clause can cite only `pub` modules.
 pub mod Analysis
 pub mod Slots
 pub mod Sets

@@ -27,7 +27,7 @@ abbrev pub documents_after : ℕ → Command → List Document → List Document
 documents_after place (Put name body) documents = without name documents ++ document place name body ∷ []
 documents_after place (Remove name) documents = without name documents
 
--- The state after one more command. It depends on the state and the command alone.
+-- The state after one more command. It depends only on the state and the command.
 abbrev pub applied : Command → State → State
 applied command s = state (s.version + 1) (documents_after (s.version + 1) command s.documents)
 
@@ -38,7 +38,7 @@ body_bytes documents = sum (map (λ d. length d.body) documents)
 abbrev pub IsGoodDocument : ℕ → Document → Type 0
 IsGoodDocument version d = (0 < d.number) × (d.number ≤ version) × IsName d.name × IsBody d.body
 
--- Numbers rise, each from 1 to the version. No two documents have one name.
+-- Numbers rise, each from 1 to the version. No two documents have the same name.
 pub record IsState (s : State) : Type 0 where
   pub rise : IsStrictlyIncreasing (map (λ d. d.number) s.documents)
   pub good : All (λ d. IsGoodDocument s.version d) s.documents

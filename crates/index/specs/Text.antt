@@ -23,7 +23,7 @@ pub record IsName (bytes : List ℕ) : Type 0 where
   pub short : length bytes ≤ greatest_name
   pub printable : has_bad_byte bytes ≡ false
 
--- The first cause for which bytes are no name; at the last they are one.
+-- The first cause for which bytes are no name. If memory runs out they are one.
 unfoldable pub IsNameFault : NameError → List ℕ → Type 0
 IsNameFault name_error.Empty bytes = length bytes ≡ 0
 IsNameFault name_error.TooLong bytes = greatest_name < length bytes

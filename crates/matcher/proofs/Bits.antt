@@ -92,7 +92,7 @@ highest_is word = ap (λ n. n == 1) (bit_at_lowest (word / 2 ^ 63))
 pub highest_small : (word : ℕ) → word < 2 ^ 64 → word / 2 ^ 63 < 2
 highest_small word small = omega arith
 
--- from a bit on there is none
+-- no bit from one on
 pub none_from : (word bit b : ℕ) → word / 2 ^ bit ≡ 0 → bit ≤ b → has_bit word b ≡ false
 none_from word bit b none far =
     let sum : bit + (b - bit) ≡ b = omega arith in

@@ -1,4 +1,4 @@
--- The carries of a sum are where the bits of a word lead over bits that pass.
+-- The carries of a sum are the places to which the bits of a word lead over bits that pass.
 use Rattle.std.proofs.Common.{◌≡◌, ℕ, zero, suc, ◌+◌, ◌*◌, ◌/◌, ◌%◌, ◌^◌, ◌<◌, min, ◌&&◌, ◌||◌, ◌==◌, refl, sym, ap, ◌∙◌, arith}
 use Rattle.std.proofs.lemmas.Nat.Bits.{bit_at-lt, bit_at-suc, bit_at_lowest, bit_at_and, bit_at_xor, bit_at_cat_low}
 use Rattle.std.specs.Prelude.{bit_and, bit_or, bit_xor}
@@ -7,7 +7,7 @@ use Rattle.ere.specs.Bits.{has_bit}
 use Rattle.matcher.specs.Private.Moving.{comes, flood}
 use Rattle.ere.proofs.Bits.{has_or}
 
--- what is carried into a place of a sum, of which `carried` comes into the lowest
+-- what is carried into a place of a sum; `carried` comes into the lowest place
 abbrev carry : ℕ → ℕ → ℕ → ℕ → ℕ
 carry a b carried zero = carried
 carry a b carried (suc k) = carry (a / 2) (b / 2) ((a % 2 + b % 2 + carried) / 2) k
@@ -31,7 +31,7 @@ carry_next a b carried (suc k) =
     ∙ ap (λ n. (n + bit_at (b / 2) k + carry (a / 2) (b / 2) ((a % 2 + b % 2 + carried) / 2) k) / 2) (sym (bit_at-suc a k))
     ∙ ap (λ n. (bit_at a (suc k) + n + carry (a / 2) (b / 2) ((a % 2 + b % 2 + carried) / 2) k) / 2) (sym (bit_at-suc b k))
 
--- one place: of a word's bit, a bit that passes, and what is carried there
+-- one place: a word's bit, a bit that passes, and what is carried there
 next_place : (w p c : ℕ) → w < 2 → p < 2 → c < 2 → ((min w p + p + c) / 2 < 2) × (((min w p + p + c) / 2 == 1) ≡ (((w == 1) || (c == 1)) && (p == 1)))
 next_place zero zero zero x y z = (omega arith, refl)
 next_place zero zero (suc zero) x y z = (omega arith, refl)

@@ -14,7 +14,7 @@ use Rattle.matcher.specs.Private.Moves.{more_unless, absent_below, absent, HasNo
 use Rattle.matcher.proofs.Bits.{false≢true, some_bit, position_in, same_word, empty_word, none_held, position_set_same, position_set_other}
 use Rattle.matcher.proofs.Shifting.{none_before, none_after}
 
--- positions that there is room for
+-- positions for which there is room
 pub in_room : (position size : ℕ) → position < room_of size → (size ≤ WORDS) × (position < 64 * size)
 in_room position size held = go (nat_le size WORDS) refl held
   where
@@ -75,7 +75,7 @@ none_still words at none here i inside = go (i == at) refl
     go true e = let same : i ≡ at = grind (arith, nat_tests) in rw same here
     go false e = let apart : i ≢ at = grind (arith, nat_tests) in none i (omega arith)
 
--- words of which none has a position
+-- words that have no position
 pub empty_words : {size : ℕ} (words : List ℕ) → length words ≡ size → ((i : ℕ) → i < size → get_or words i 0 ≡ 0) → (i : ℕ) → get_or words i 0 ≡ 0
 empty_words {size} words whole none i = go (nat_lt i size) refl
   where
@@ -183,7 +183,7 @@ filled_bounded words at word few h inside = record {
   high = λ i l. get_or-set_other words at i word 0 (omega arith) ∙ h.above i (omega arith);
 }
 
--- one position put back into no positions
+-- one position put back into an empty set
 and_none : (a b : Bool) → a ≡ false → (a && b) ≡ false
 and_none a b e = rw e refl
 
@@ -236,7 +236,7 @@ kept_bounded words at word few none whole inside = record {
   high = λ i l. get_or-set_other words at i word 0 (omega arith) ∙ none i;
 }
 
--- The words are copied up to one.
+-- The words before `at` are copied, and the others are empty.
 pub record IsCopied (size : ℕ) (words other : List ℕ) (at : ℕ) : Type 0 where
   pub whole : length words ≡ size
   pub below : (i : ℕ) → i < at → get_or words i 0 ≡ get_or other i 0
@@ -268,7 +268,7 @@ copied_all words other at first end h bounds far = same_number_lists words other
         go true e = h.below i (grind (arith, nat_tests))
         go false e = let past : at ≤ i = grind (arith, nat_tests) in h.above i past ∙ sym (bounds.high i (omega arith))
 
--- The words of the fresh positions are added up to one.
+-- The words of the fresh positions before `at` are added.
 pub record IsAddedTo (size : ℕ) (old_found old_fresh found fresh : List ℕ) (first at : ℕ) : Type 0 where
   pub found_whole : length found ≡ size
   pub fresh_whole : length fresh ≡ size

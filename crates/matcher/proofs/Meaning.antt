@@ -8,7 +8,7 @@ use Rattle.ere.specs.Tree.{Tree, empty, set, at_start, at_end, cat, alt, repeat,
 use Rattle.ere.specs.Language.{Language, InCopies, InLanguage, InEach, InSome, ContainsMatch}
 use Rattle.matcher.specs.Spans.{Relation, Steps, Spans, SpansEach, SpansSome}
 
--- ends of a text behind another
+-- where a text ends that comes after another
 end_of_nothing : (x w : List ℕ) → w ≡ [] → length x ≡ length (x ++ w)
 end_of_nothing x w e = rw e (ap length (sym (append-nil x)))
 
@@ -65,7 +65,7 @@ mutual
   spans_of_some line (more tree trees) x w y whole (inl h) = inl (spans_of_language line tree x w y whole h)
   spans_of_some line (more tree trees) x w y whole (inr h) = inr (spans_of_some line trees x w y whole h)
 
--- Behind x, in z, a word leads to the position.
+-- After x, in z, a word leads to the position.
 record Leads (language : Language) (x z : List ℕ) (to : ℕ) : Type 0 where
   word : List ℕ
   after : List ℕ
@@ -76,7 +76,7 @@ record Leads (language : Language) (x z : List ℕ) (to : ℕ) : Type 0 where
 leads_nowhere : (language : Language) (x z : List ℕ) (to : ℕ) → length x ≡ to → language x [] z → Leads language x z to
 leads_nowhere language x z to e h = record { word = []; after = z; is_rest = refl; is_end = sym e ∙ ap length (sym (append-nil x)); in_language = h }
 
--- a word, and another behind it
+-- a word, and another after it
 leads_on : (first second both : Language) (line x z : List ℕ) (to middle : ℕ) → line ≡ x ++ z → Leads first x z middle
     → ((x' z' : List ℕ) → line ≡ x' ++ z' → length x' ≡ middle → Leads second x' z' to)
     → ((u v y : List ℕ) → first x u (v ++ y) → second (x ++ u) v y → both x (u ++ v) y) → Leads both x z to
@@ -105,7 +105,7 @@ no_bytes : (x : List ℕ) → length x ≡ 0 → x ≡ []
 no_bytes [] e = refl
 no_bytes (b ∷ x) e = absurd (omega arith)
 
--- the byte behind x
+-- the byte after x
 next_byte : (line x z : List ℕ) → line ≡ x ++ z → length x < length line → (y : List ℕ) × (z ≡ get_or line (length x) 0 ∷ y)
 next_byte line x [] whole inside = absurd (omega (arith, ap length whole, length-append {A = ℕ} x []))
 next_byte line x (b ∷ y) whole inside = (y, ap (λ t. t ∷ y) (seam line x y b whole))

@@ -36,7 +36,7 @@ pub passing_at : (members : List Bool) (line : List ℕ) (word at other count as
     → IsPassing members line word at count → IsPassing members line word other as_many
 passing_at members line word at other count as_many same many h = rw (← same, ← many) h
 
--- Of the positions of a word those that were looked at, and the rest, are all that pass.
+-- The positions of a word that were found, and those of the rest that pass, are all that pass.
 pub picked_first : (pass : ℕ → Bool) (word b : ℕ) → (has_bit 0 b || (has_bit word b && pass b)) ≡ (has_bit word b && pass b)
 picked_first pass word b = ap (λ t. t || (has_bit word b && pass b)) (has_zero b)
 
@@ -121,7 +121,7 @@ module _ (members : List Bool) (line : List ℕ) (found held moved both base at 
           let far : at + 16 ≤ b = grind (arith, nat_tests) in
           rw (e, past, has_no_more held (b - at) small (omega arith)) (rest (passes members line (base + b)))
 
--- from the word's last position that a byte follows, there is none
+-- after the word's last position that a byte follows, no position passes
 pub from_end : (members : List Bool) (line : List ℕ) (base end : ℕ) → ((bit : ℕ) → end ≤ bit → bit < 64 → length line ≤ base + bit)
     → IsPassingFrom members line 0 base end
 from_end members line base end past = record { each = λ b inside. has_zero b ∙ go b inside (nat_le end b) refl }

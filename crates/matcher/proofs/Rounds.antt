@@ -1,4 +1,4 @@
--- Rounds of a repeat, of which each goes on from new positions alone, and passes over those that are done.
+-- Rounds of a repeat: each goes on from new positions alone, and passes over those that are done.
 use Rattle.std.proofs.Common.{◌≡◌, ℕ, zero, suc, ◌+◌, ◌-◌, ◌≤◌, ◌<◌, Bool, true, false, not, ◌&&◌, IsTrue, List, length, get_or, drop, map}
 use Rattle.std.proofs.Common.{Option, Some, None, ◌⊎◌, inl, inr, refl, sym, subst, ◌∙◌, arith}
 use Rattle.ere.specs.declared.tree.Ere.{Ere}
@@ -87,7 +87,7 @@ moves_some_more_words line body least before from middle to e one two =
           both.complete i k h (parts.0, parts.1, (r.0 - suc before, parts.2));
     }
 
--- where the start is added to what one word or more lead to
+-- the start added to what one word or more lead to
 pub past_any : (relation : Relation) (done from moved to : List ℕ) → MovesPast (MoreSteps relation) done from moved → IsEither moved from to
     → MovesPast (AnySteps relation) done from to
 unfolding Steps
@@ -151,7 +151,7 @@ moves_more relation from middle to one two = record {
       two.complete parts.0 k (one.complete i parts.0 held first) (r.0, parts.2);
 }
 
--- Members one behind the other: the next stands at the front too, where this one can be empty.
+-- Members one after the other: the next one is at the front too if this one can be empty.
 pub past_each_more : (line : List ℕ) (tree : Tree) (trees : Trees) (done from middle to : List ℕ) (leads next : Bool)
     → MovesIf leads (Spans line tree) done from middle → (IsTrue next → IsTrue leads × ((place : ℕ) → Spans line tree place place))
     → MovesIf next (SpansEach line trees) done middle to → MovesIf leads (SpansEach line (more tree trees)) done from to
@@ -202,7 +202,7 @@ pub past_if : (leads : Bool) (relation : Relation) (done from to : List ℕ) →
 past_if true relation done from to h = past_of_moves relation done from to h
 past_if false relation done from to h = h
 
--- one member more of which a word may lead on
+-- one more member whose words may lead on
 pub past_some_more : (line : List ℕ) (tree : Tree) (trees : Trees) (done from one rest both : List ℕ)
     → MovesPast (Spans line tree) done from one → MovesPast (SpansSome line trees) done from rest → IsEither rest one both
     → MovesPast (SpansSome line (more tree trees)) done from both
@@ -239,7 +239,8 @@ past_by_member line members i member done from one rest both inside e first othe
     subst (λ trees. MovesPast (SpansSome line trees) done from both) (sym (trees_from members i member inside e))
     (past_some_more line (form member) (trees_of (map form (drop (i + 1) members))) done from one rest both first others either)
 
--- What rounds have found. From each position that is known all is found or covered, but from the fresh ones; from those that are over, all.
+-- What rounds have found. Whatever a known position leads to is found or covered, unless the position is fresh; whatever a position
+-- that is over leads to is found or covered.
 pub record IsRounded (relation : Relation) (done start found over known fresh : List ℕ) : Type 0 where
   pub sound : (k : ℕ) → IsTrue (has_position found k) → (i : ℕ) × IsTrue (has_position start i) × MoreSteps relation i k
   pub begun : (k : ℕ) → IsTrue (has_position fresh k) → IsTrue (has_position start k) ⊎ IsTrue (has_position found k)

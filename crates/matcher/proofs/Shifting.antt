@@ -30,7 +30,7 @@ none_before {size} {words} bounds k low = empty_word words k (bounds.low (k / 64
 pub none_after : {size : ℕ} {words : List ℕ} {first end : ℕ} → IsBounded size words first end → (k : ℕ) → end * 64 ≤ k → has_position words k ≡ false
 none_after {size} {words} bounds k far = empty_word words k (bounds.high (k / 64) (omega arith))
 
--- The step is made up to the word `i`.
+-- The step is made for the words before `i`.
 pub record IsShifted (size : ℕ) (members : List Bool) (line old new : List ℕ) (first i carried : ℕ) : Type 0 where
   pub whole : length new ≡ size
   pub low : (j : ℕ) → j < first → get_or new j 0 ≡ 0
@@ -96,7 +96,7 @@ shifted_more members line old new first i carried passing moved next h begun ins
         subst (λ n. has_position (set new i moved) n ≡ arrives members line old n) place
         (position_set_same new i moved (k - i * 64) within bit ∙ at (k - i * 64) bit)
 
--- What is carried out of the last word lies in the next, or there is none.
+-- What is carried out of the last word goes into the next, or there is no next.
 module _ {size : ℕ} (members : List Bool) (line old new : List ℕ) (first end carried : ℕ)
     (h : IsShifted size members line old new first end carried) (bounds : IsBounded size old first end) where
   arrives_after : (k : ℕ) → end * 64 < k → arrives members line old k ≡ false
@@ -180,7 +180,7 @@ none_carried members line old end short = go (end * 64) refl
     go zero e = refl
     go (suc k) e = and_false (has_position old k) (passes members line k) (none_passes members line k (omega arith))
 
--- The sweep is made up to the word `i`.
+-- The sweep is made for the words before `i`.
 pub record IsSwept (size : ℕ) (members : List Bool) (line old new : List ℕ) (first i carried : ℕ) : Type 0 where
   pub whole : length new ≡ size
   pub low : (j : ℕ) → j < first → get_or new j 0 ≡ 0
@@ -189,7 +189,7 @@ pub record IsSwept (size : ℕ) (members : List Bool) (line old new : List ℕ) 
   pub is_bit : carried < 2
   pub carry : has_bit carried 0 ≡ comes (has_position old) (passes members line) (i * 64)
 
--- where nothing is held, nothing comes
+-- if nothing is held, nothing comes
 comes_none : (held pass : ℕ → Bool) (start k : ℕ) → comes held pass start ≡ false → ((j : ℕ) → start ≤ j → j < k → held j ≡ false)
     → start ≤ k → comes held pass k ≡ false
 comes_none held pass start zero none empty far = refl
@@ -279,7 +279,7 @@ swept_more members line old new first i carried joined reached next h begun insi
         subst (λ n. has_position (set new i reached) n ≡ flood (has_position old) (passes members line) n) place
         (position_set_same new i reached (k - i * 64) (omega (arith, h.whole)) bit ∙ at (k - i * 64) bit)
 
--- the whole sweep, where it stops early, and where it has been through all words
+-- the whole sweep, if it stops early, and if it goes through all words
 module _ {size : ℕ} (members : List Bool) (line old new : List ℕ) (first i carried end : ℕ)
     (h : IsSwept size members line old new first i carried) (bounds : IsBounded size old first end) (after : end ≤ i) where
   pub swept_all : has_bit carried 0 ≡ false → (k : ℕ) → has_position new k ≡ flood (has_position old) (passes members line) k
@@ -435,7 +435,7 @@ moves_swept line members old new each = record {
         before test r.2.2) in
         subst (λ n. IsTrue (flood (has_position old) (passes members line) n)) (sym r.2.0) next
 
--- The flood needs the tests only from the first position that is held on.
+-- The flood needs the tests only from the first held position on.
 pub flood_from : (held pass other : ℕ → Bool) (first : ℕ) → ((b : ℕ) → b < first → held b ≡ false)
     → ((b : ℕ) → first ≤ b → b < 64 → other b ≡ pass b) → (b : ℕ) → b < 64 → flood held other b ≡ flood held pass b
 flood_from held pass other first none same b inside = ap (λ t. held b || t) (comes_from b inside)

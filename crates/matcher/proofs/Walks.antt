@@ -77,7 +77,7 @@ pub moves_alt : (line : List ℕ) (members : Trees) (from to : List ℕ) → Mov
 unfolding Spans
 moves_alt line members from to h = record { sound = h.sound; complete = h.complete }
 
--- one relation, and another behind it
+-- one relation, and another after it
 abbrev pub Then : Relation → Relation → Relation
 Then first second from to = (middle : ℕ) × first from middle × second middle to
 
@@ -183,7 +183,7 @@ moves_no_more relation done count from to less moves none_to = record {
       absurd (not_held none_to parts.0 (moves.complete i parts.0 h parts.1));
 }
 
--- What rounds have found: what is found comes from the start by an allowed count, and leads only to what is found, but for what is fresh.
+-- What rounds have found: it comes from the start by an allowed count of steps and, unless it is fresh, leads only to what is found.
 pub record IsWidened (relation : Relation) (allowed : ℕ → Type 0) (start found fresh : List ℕ) : Type 0 where
   pub sound : (k : ℕ) → IsTrue (has_position found k) → (i : ℕ) × (count : ℕ) × IsTrue (has_position start i) × allowed count × Steps relation count i k
   pub begins : (k : ℕ) → IsTrue (has_position start k) → IsTrue (has_position found k)
@@ -264,11 +264,11 @@ moves_any relation start found fresh h none_fresh = record {
   complete = λ i k held r. widened_all relation (λ _. Unit {0}) start found fresh h none_fresh r.0 i k held r.1;
 }
 
--- by at most so many steps
+-- by at most this many steps
 abbrev pub FewSteps : Relation → ℕ → Relation
 FewSteps relation most from to = (words : ℕ) × (words ≤ most) × Steps relation words from to
 
--- after so many rounds all that so few steps lead to is found
+-- after this many rounds, all that at most as many steps lead to is found
 pub record IsWidenedBy (relation : Relation) (rounds : ℕ) (start found fresh : List ℕ) : Type 0 where
   pub widened : IsWidened relation (λ count. count ≤ rounds) start found fresh
   pub reaches : (count i k : ℕ) → count ≤ rounds → IsTrue (has_position start i) → Steps relation count i k → IsTrue (has_position found k)
@@ -325,7 +325,7 @@ unfolding Steps
 steps_stay relation zero i stays = refl
 steps_stay relation (suc count) i stays = (i, steps_stay relation count i stays, stays i)
 
--- Where a step can stay, at most so many are as good as exactly so many.
+-- If a step can stay where it is, at most this many steps lead to the same as exactly this many.
 pub moves_exactly : (relation : Relation) (count : ℕ) (from to : List ℕ) → ((i : ℕ) → relation i i)
     → Moves (FewSteps relation count) from to → Moves (Steps relation count) from to
 moves_exactly relation count from to stays moves = record {
@@ -385,13 +385,13 @@ moves_at_least line body least from middle to one two =
 abbrev pub IsTransitive : Relation → Type 0
 IsTransitive relation = (start middle end : ℕ) → relation start middle → relation middle end → relation start end
 
--- then a step or more are one
+-- so one step or more are one step
 one_step : (relation : Relation) → IsTransitive relation → (count i k : ℕ) → Steps relation (suc count) i k → relation i k
 unfolding Steps
 one_step relation joins zero i k h = subst (λ n. relation n k) (sym h.1) h.2
 one_step relation joins (suc count) i k h = joins i h.0 k (one_step relation joins count i h.0 h.1) h.2
 
--- and a step behind others adds nothing
+-- and a step after others adds nothing
 pub moves_joined : (line : List ℕ) (body : Tree) (least : ℕ) (from to : List ℕ) → IsTransitive (Spans line body) → 0 < least
     → Moves (Steps (Spans line body) least) from to → Moves (Spans line (repeat body least None)) from to
 unfolding Spans Steps

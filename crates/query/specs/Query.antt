@@ -1,4 +1,4 @@
--- Queries over sets of trigrams as plain data, without where they lie in memory, and when a set meets one.
+-- Queries over sets of trigrams as plain data, without their place in memory, and when a set meets one.
 use Rattle.std.specs.Prelude.{◌≡◌, ℕ, Bool, true, false, ◌&&◌, ◌||◌, IsFalse, List, [], ◌∷◌}
 use Rattle.query.specs.declared.query.Query.{Query, Query-F}
 use Rattle.query.specs.declared.query.Query.TheOpen as layer
@@ -31,7 +31,7 @@ formula_step (layer.Has trigram) = has trigram
 formula_step (layer.And members) = all_of (formulas_of members.items)
 formula_step (layer.Or members) = one_of (formulas_of members.items)
 
--- what formula a program's query is
+-- the formula of a program's query
 unfoldable pub formula_of : Query → Formula
 formula_of = fold-Query Formula formula_step
 
@@ -80,7 +80,7 @@ unfoldable mutual
   AreReducedParts kind none = Unit {0}
   AreReducedParts kind (more member members) = IsReduced member × IsFalse (kind member) × AreReducedParts kind members
 
--- It is a constant, or it has none in it and is reduced.
+-- It is a constant, or it contains no constant and is reduced.
 abbrev pub IsPlain : Formula → Type 0
 IsPlain always = Unit {0}
 IsPlain never = Unit {0}
@@ -93,7 +93,7 @@ abbrev pub joined : Connective → Bool → Bool → Bool
 joined And left right = left && right
 joined Or left right = left || right
 
--- It is plain, and a set meets it where it meets the two as the connective says.
+-- It is plain, and a set meets it exactly if it meets the two as the connective says.
 pub record IsJoin (connective : Connective) (left right whole : Formula) : Type 0 where
   pub plain : IsPlain whole
   pub met : (set : TrigramSet) → is_met whole set ≡ joined connective (is_met left set) (is_met right set)
@@ -103,7 +103,7 @@ pub record IsSimplification (formula simple : Formula) : Type 0 where
   pub plain : IsPlain simple
   pub met : (set : TrigramSet) → is_met simple set ≡ is_met formula set
 
--- It is plain, and a set meets it where it passes the test.
+-- It is plain, and a set meets it exactly if it passes the test.
 pub record IsPlainFor (test : TrigramSet → Bool) (formula : Formula) : Type 0 where
   pub plain : IsPlain formula
   pub met : (set : TrigramSet) → is_met formula set ≡ test set

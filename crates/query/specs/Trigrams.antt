@@ -13,7 +13,7 @@ TrigramSet = ℕ → Bool
 abbrev pub trigram_of : ℕ → ℕ → ℕ → ℕ
 trigram_of a b c = 65536 * a + 256 * b + c
 
--- the trigram at the front of the text, where it has three bytes
+-- the trigram at the front of the text, if it has three bytes
 abbrev pub front_trigram : List ℕ → TrigramSet
 front_trigram (a ∷ b ∷ c ∷ text) trigram = trigram == trigram_of a b c
 front_trigram _ trigram = false
@@ -23,7 +23,7 @@ unfoldable pub trigrams_of_text : List ℕ → TrigramSet
 trigrams_of_text [] trigram = false
 trigrams_of_text (b ∷ text) trigram = front_trigram (b ∷ text) trigram || trigrams_of_text text trigram
 
--- the trigrams of the lines of a body, so that none holds a line feed
+-- the trigrams of the lines of a body, so none contains a line feed
 unfoldable pub trigrams_of_body : List ℕ → TrigramSet
 trigrams_of_body body trigram = list_any (λ line. trigrams_of_text line trigram) (lines_of body)
 
@@ -32,7 +32,7 @@ pub record ListsTrigrams (body trigrams : List ℕ) : Type 0 where
   pub rising : IsStrictlyIncreasing trigrams
   pub members : (trigram : ℕ) → Contains trigrams trigram ↔ IsTrue (trigrams_of_body body trigram)
 
--- whether the trigram at the front of the text, where it has three bytes, is in the set
+-- whether the trigram at the front of the text, if it has three bytes, is in the set
 abbrev pub holds_front : List ℕ → TrigramSet → Bool
 holds_front (a ∷ b ∷ c ∷ text) set = set (trigram_of a b c)
 holds_front _ set = true

@@ -10,7 +10,7 @@ use Rattle.shared.specs.History.{Known}
 use Rattle.readers.specs.declared.report.Given.{Given}
 use Rattle.readers.specs.declared.report.Report.{Report}
 
--- The answer is that of the pattern which the searches have under its number, and of commands that begin those seen.
+-- The answer is that of the search with its number, for commands that begin those seen.
 pub record IsGiven (searches : List (Option Prepared)) (seen : List Command) (given : Given) : Type 0 where
   pub prepared : Prepared
   pub numbered : 0 < given.search
@@ -19,7 +19,7 @@ pub record IsGiven (searches : List (Option Prepared)) (seen : List Command) (gi
   pub begins : IsPrefix commands seen
   pub exact : IsAnswerOf (state_of commands) (pattern_of prepared) given.answer
 
--- The reading is still of the opening that it was of before, and has seen at least what it had seen. Each answer is
+-- The reading is of the same opening as before, and has seen at least what it had seen. Each answer is
 -- one of these searches, and of no more than the reading has now seen.
 pub record IsReport (searches : List (Option Prepared)) (before : Known) (report : Report) : Type 0 where
   pub opening : report.reading.opening ≡ before.opening

@@ -45,7 +45,7 @@ accepted_of-change shown pending edit =
 pub accepted_of-stamp : (shown : Shelf) (pending : List Operation) (front : Known) → accepted_of shown (pending ++ Stamp front ∷ []) ≡ accepted_of shown pending
 accepted_of-stamp shown pending front = ap (λ c. shown.front.commands ++ c) (commands_in-append pending (Stamp front ∷ []) ∙ append-nil (commands_in pending))
 
--- what is published where the front has all that is accepted
+-- what is published if the front has all that is accepted
 module _ (shown next : Shelf) (pending : List Operation) (front : Known) (is : next ≡ fold operated shown (pending ++ Stamp front ∷ [])) where
   stamped : next ≡ operated (fold operated shown pending) (Stamp front)
   stamped = is ∙ fold-append operated shown pending (Stamp front ∷ [])

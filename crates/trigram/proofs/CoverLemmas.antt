@@ -18,7 +18,7 @@ front_held a [] v set h = refl
 front_held a (b ∷ []) v set h = refl
 front_held a (b ∷ c ∷ u) v set h = h
 
--- what has all trigrams of a text has all of its front, and all of its back
+-- a set with all trigrams of a text has all of its front's, and all of its back's
 pub held_by_front : (u v : List ℕ) (set : TrigramSet) → IsTrue (has_all_trigrams (u ++ v) set) → IsTrue (has_all_trigrams u set)
 unfolding has_all_trigrams
 held_by_front [] v set h = refl
@@ -47,7 +47,7 @@ pub record IsCovered (nullable : Bool) (fronts backs : Texts) (condition : SetTe
   pub back : (p : List ℕ) × IsIn p backs × IsBack p word
   pub held : (set : TrigramSet) → IsTrue (has_all_trigrams word set) → IsTrue (condition set)
 
--- The analysis tells the truth of each word of a set.
+-- What the analysis says is true of each word of a set.
 abbrev pub Covers : Analysis → WordSet → Type 0
 Covers (known texts) words = (word : List ℕ) → words word → IsIn word texts
 Covers (loose nullable fronts backs condition) words = (word : List ℕ) → words word → IsCovered nullable fronts backs condition word

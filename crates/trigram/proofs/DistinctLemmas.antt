@@ -1,4 +1,4 @@
--- Where texts of one length are all different, so are their joinings.
+-- If texts of one length are all different, so are their joins.
 use Rattle.std.proofs.Common.{◌≡◌, ℕ, Bool, true, false, cond, List, [], ◌∷◌, ◌++◌, length, map, take, refl, sym, ap, subst, ◌∙◌, inl, inr, ⊎_elim}
 use Rattle.std.specs.List.{flat_map}
 use Rattle.std.proofs.Math.Seq.{take-append_seam}
@@ -8,7 +8,7 @@ use Rattle.trigram.specs.Texts.{Texts, has_text, with_texts, joins}
 use Rattle.trigram.specs.Private.Values.{AreDistinct}
 use Rattle.trigram.proofs.MemberLemmas.{IsIn, IsIn-has_text, has_text-IsIn, IsIn-append_cases, IsIn-from_map}
 
--- none of the others is there already, or twice
+-- none of the others is already there, and none comes twice
 abbrev Fresh : Texts → Texts → Type 0
 Fresh texts [] = Unit {0}
 Fresh texts (text ∷ others) = (IsIn text texts → ⊥) × Fresh (texts ++ text ∷ []) others

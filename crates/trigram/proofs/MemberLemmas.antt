@@ -193,7 +193,7 @@ module _ (cut : Cut) (IsEnd : List ℕ → List ℕ → Type 0) (itself : (t : L
       let r = shortest_end (cuts cut k texts) (suc (length (cut k text))) (cut k text) (omega arith) there in
       (r.0, r.1, within r.0 (cut k text) text r.2 (is_end k text))
 
--- The one text is at the front of the other, or at its back.
+-- One text is at the front of the other, or at its back.
 abbrev pub IsFront : List ℕ → List ℕ → Type 0
 IsFront front text = (rest : List ℕ) × (text ≡ front ++ rest)
 

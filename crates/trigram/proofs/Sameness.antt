@@ -1,4 +1,4 @@
--- Two tests of sets of trigrams are the same at every set in one way at most.
+-- That two tests of sets of trigrams are the same at every set has at most one proof.
 use Rattle.std.specs.Prelude.{◌≡◌, Bool}
 use mathlib.Core.Bool.{Bool-set}
 use Rattle.query.specs.Trigrams.{TrigramSet}

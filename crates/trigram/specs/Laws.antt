@@ -20,7 +20,7 @@ abbrev pub MatchingLineMeetsCondition : Type 0
 MatchingLineMeetsCondition =
     (tree : Tree) (body line : List ℕ) → Contains (lines_of body) line → ContainsMatch tree line → Condition tree (trigrams_of_body body)
 
--- A set has all trigrams of a text where it has each of them.
+-- A set has all trigrams of a text exactly if it has each of them.
 abbrev pub TrigramsAreHeld : Type 0
 TrigramsAreHeld =
     (text : List ℕ) (set : TrigramSet) → IsTrue (has_all_trigrams text set) ↔ ((trigram : ℕ) → IsTrue (trigrams_of_text text trigram) → IsTrue (set trigram))
@@ -29,7 +29,7 @@ abbrev pub HasEachOnce : Texts → Type 0
 HasEachOnce [] = Unit {0}
 HasEachOnce (text ∷ texts) = IsFalse (has_text texts text) × HasEachOnce texts
 
--- A set that is made of a list has its texts and no others, each once: so its length is their number,
+-- A set made from a list has the texts of the list and no others, each once. So its length is their number,
 -- whatever their order and however often the list has them.
 abbrev pub SetsHaveEachTextOnce : Type 0
 SetsHaveEachTextOnce =

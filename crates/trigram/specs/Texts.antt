@@ -1,4 +1,4 @@
--- Sets of texts. A set is a list, and what is said of it is said of its members: each set that is made has
+-- Sets of texts. A set is a list, and only its members matter: each set that is made has
 -- each text once, in the order of first appearance.
 use Rattle.std.specs.Prelude.{ℕ, ◌-◌, Bool, not, ◌&&◌, nat_lt, nat_le, List, [], ◌∷◌, ◌++◌, length, map, filter, drop, if◌then◌else◌}
 use Rattle.std.specs.List.{list_any, flat_map}
@@ -11,7 +11,7 @@ Texts = List (List ℕ)
 abbrev pub has_text : Texts → List ℕ → Bool
 has_text texts text = list_any (λ other. bytes_eq other text) texts
 
--- one more text, where it isn't there
+-- one more text, if it is not there yet
 abbrev pub with_text : Texts → List ℕ → Texts
 with_text texts text = if has_text texts text then texts else texts ++ text ∷ []
 
@@ -34,11 +34,11 @@ joins left right = distinct (flat_map (λ front. map (λ back. front ++ back) ri
 abbrev pub has_all_of_one : Texts → TrigramSet → Bool
 has_all_of_one texts set = list_any (λ text. has_all_trigrams text set) texts
 
--- the last bytes of a text, or the whole text where it is shorter
+-- the last bytes of a text, or the whole text if it is shorter
 abbrev pub ending : ℕ → List ℕ → List ℕ
 ending count text = drop (length text - count) text
 
--- how many bytes of a text are cut out at its one end: by `take` from the front, by `ending` from the back
+-- how to cut so many bytes off one end of a text and keep them: `take` for the front, `ending` for the back
 abbrev pub Cut : Type 0
 Cut = ℕ → List ℕ → List ℕ
 
@@ -55,7 +55,7 @@ kept_bytes cut texts =
     if nat_le (length (cuts cut 2 texts)) most_texts then 2
     else (if nat_le (length (cuts cut 1 texts)) most_texts then 1 else 0)
 
--- whether the one text is the end of the other, and shorter
+-- whether one text is the end of the other, and shorter
 abbrev pub is_shorter_end : Cut → List ℕ → List ℕ → Bool
 is_shorter_end cut part text = nat_lt (length part) (length text) && bytes_eq (cut (length part) text) part
 

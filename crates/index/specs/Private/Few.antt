@@ -17,6 +17,6 @@ abbrev pub kept_if : (ℕ → Bool) → Option ℕ → Option ℕ
 kept_if test None = None
 kept_if test (Some number) = if test number then Some number else None
 
--- The numbers of those documents that the list has stand under their names, and nothing else.
+-- The map has the number of each document that the list has, under the document's name, and nothing else.
 abbrev pub AreFew : List ℕ → List Document → BTreeMap (Bor (List ℕ)) ℕ → Type 0
 AreFew chosen documents few = (name : Bor (List ℕ)) → get by_bytes few name ≡ kept_if (has chosen) (number_of name.now documents)

@@ -1,4 +1,4 @@
--- How the sets of an index go with its documents.
+-- How the sets of an index and its documents belong together.
 use Rattle.std.specs.Prelude.{◌≡◌, ℕ, ◌<◌, false, IsTrue, List, All, Option, Some, None, map}
 use Rattle.query.specs.Trigrams.{TrigramSet, trigrams_of_body}
 use Rattle.posting.specs.ListValue.{HasRoom}
@@ -11,7 +11,7 @@ pub record HasRoomFor (sets : Sets) (trigrams : List ℕ) : Type 0 where
   pub live : HasRoom sets.live
   pub postings : IsPrepared sets.postings trigrams
 
--- The number is above all others, and each of the trigrams is there once.
+-- The number is above all others, and the trigrams are all different.
 pub record IsNew (sets : Sets) (number : ℕ) (trigrams : List ℕ) : Type 0 where
   pub live : All (λ m. m < number) sets.live.members
   pub postings : (trigram n : ℕ) → IsTrue (holds sets.postings trigram n) → n < number

@@ -1,11 +1,11 @@
--- The slots in which the documents of an index lie.
+-- The slots that hold the documents of an index.
 use Rattle.std.specs.Prelude.{ℕ, ◌≤◌, not, ◌==◌, List, [], ◌∷◌, ◌++◌, All, map, filter, Option, Some, None}
 use Rattle.std.specs.List.Sorted.{IsStrictlyIncreasing}
 use Rattle.index.specs.declared.slots.Slot.{Slot}
 use Rattle.index.specs.declared.slots.Entry.{Entry}
 use Rattle.index.specs.Documents.{Document, document}
 
--- the document of a number and an entry, where there is one
+-- the document of a number and an entry, if there is one
 abbrev pub documents_of_slot : ℕ → Option Entry → List Document
 documents_of_slot number None = []
 documents_of_slot number (Some entry) = document number entry.name entry.held ∷ []
@@ -27,6 +27,6 @@ pub record RiseTo (last : ℕ) (slots : List Slot) : Type 0 where
 abbrev pub texts_of : Entry → List ℕ × List ℕ
 texts_of entry = (entry.name, entry.held)
 
--- the documents but that with this number
+-- the documents except the one with this number
 abbrev pub without_number : ℕ → List Document → List Document
 without_number number documents = filter (λ d. not (d.number == number)) documents

@@ -29,7 +29,7 @@ pub record HasPlaceFor (store : Store) (body : List ℕ) : Type 0 where
   pub live : HasRoom store.sets.live
   pub postings : (trigram : ℕ) → IsTrue (trigrams_of_body body trigram) → HasRoom (set_of store.sets.postings trigram)
 
--- the documents but that with the number, where there is one
+-- the documents except the one with the number, if there is a number
 abbrev pub left_after : Option ℕ → List Document → List Document
 left_after None documents = documents
 left_after (Some number) documents = without_number number documents

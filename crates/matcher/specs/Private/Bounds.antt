@@ -1,8 +1,8 @@
--- In which words the positions of a set lie.
+-- Which words have the positions of a set.
 use Rattle.std.specs.Prelude.{◌≡◌, ℕ, ◌*◌, ◌≤◌, ◌<◌, nat_le, if◌then◌else◌, List, length, slice_index}
 use Rattle.matcher.specs.declared.words.TheConstants.{WORDS}
 
--- how many positions so many words have room for; of more words than a line ever needs nothing is said
+-- how many positions this many words have room for; 0, which says nothing, if they are more than a line ever needs
 abbrev pub room_of : ℕ → ℕ
 room_of size = if nat_le size WORDS then 64 * size else 0
 

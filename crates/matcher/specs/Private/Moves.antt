@@ -1,4 +1,4 @@
--- Sets of positions, which are seen by `has_position` and `absent` alone, and how they move.
+-- Sets of positions, seen only by `has_position` and `absent`, and how they move.
 use Rattle.std.specs.Prelude.{◌≡◌, ℕ, zero, suc, ◌*◌, Bool, true, false, not, ◌&&◌, ◌||◌, ◌⊎◌, IsTrue, List, length}
 use Rattle.matcher.specs.PositionSets.{has_position}
 use Rattle.matcher.specs.Spans.{Relation}
@@ -33,7 +33,7 @@ pub record Moves (relation : Relation) (from to : List ℕ) : Type 0 where
   pub sound : (end : ℕ) → IsTrue (has_position to end) → (start : ℕ) × IsTrue (has_position from start) × relation start end
   pub complete : (start end : ℕ) → IsTrue (has_position from start) → relation start end → IsTrue (has_position to end)
 
--- The second set has only positions to which the relation leads from the first, and all but some to which
+-- The second set has only positions to which the relation leads from the first, and all of them but some to which
 -- it leads from positions that are done.
 pub record MovesPast (relation : Relation) (done from to : List ℕ) : Type 0 where
   pub sound : (end : ℕ) → IsTrue (has_position to end) → (start : ℕ) × IsTrue (has_position from start) × relation start end

@@ -4,7 +4,7 @@ use Rattle.ere.specs.ByteSet.{has}
 use Rattle.ere.specs.Bits.{has_bit}
 use Rattle.matcher.specs.PositionSets.{has_position}
 
--- whether a byte of the set stands after the position
+-- whether a byte of the set follows the position
 abbrev pub passes : List Bool → List ℕ → ℕ → Bool
 passes members line at = nat_lt at (length line) && has members (slice_index line at)
 
@@ -26,6 +26,6 @@ flood held pass k = held k || comes held pass k
 pub record IsPassing (members : List Bool) (line : List ℕ) (word at count : ℕ) : Type 0 where
   pub each : (bit : ℕ) → bit < count → has_bit word bit ≡ passes members line (at + bit)
 
--- The bits of a word are the positions that pass, counted from a base, but for those before one.
+-- The bits of a word are the positions that pass, counted from a base, without those before `from`.
 pub record IsPassingFrom (members : List Bool) (line : List ℕ) (word base from : ℕ) : Type 0 where
   pub each : (bit : ℕ) → bit < 64 → has_bit word bit ≡ (nat_le from bit && passes members line (base + bit))

@@ -1,4 +1,4 @@
--- What the values of the program that makes the analysis are: sets of texts, and what is known of words.
+-- What the values of the program's analysis mean: sets of texts, and what is known of words.
 use Rattle.std.specs.Prelude.{◌≡◌, ℕ, false, List, [], ◌∷◌, length, map, take}
 use Rattle.std.specs.declared.alloc.Global.{Global}
 use Rattle.std.specs.declared.vec.Vec.{Vec}
@@ -25,7 +25,7 @@ abbrev pub cut_at : Side → Cut
 cut_at Front = take
 cut_at Back = ending
 
--- the analysis that the program's loose ends are
+-- the analysis that the program's loose ends mean
 abbrev pub ends_analysis : Ends → Analysis
 ends_analysis ends = loose ends.nullable (texts_of ends.fronts.items) (texts_of ends.backs.items) (is_met (formula_of ends.condition))
 

@@ -6,7 +6,7 @@ use Rattle.matcher.proofs.Walks.{IsWidenedBy}
 use Rattle.matcher.proofs.Rounds.{IsRounded}
 use Rattle.matcher.proofs.walk.+walk.Given as goal
 
--- Where the members that are left lead to, all members lead from the start.
+-- Whatever the members that are left lead to, all members lead to from the start.
 abbrev pub invariant-advance_each-loop-member : goal.invariant-advance_each-loop-member
 invariant-advance_each-loop-member g l =
     (to : List ℕ) → Moves (SpansEach l.line (trees_of (map form (drop l.member-index l.members)))) (g.S.PositionSet.words l.at) to
@@ -24,7 +24,7 @@ invariant-advance_at_most-loop-round g l =
     IsWidenedBy (Spans l.line (form l.body)) l._round (g.S.PositionSet.words l.initial.at) (g.S.PositionSet.words l.found)
     (g.S.PositionSet.words l.at)
 
--- The same, of the members that are left at the front or behind it.
+-- The same for the members that are left, at the front or after it.
 abbrev pub invariant-each_past-loop-member : goal.invariant-each_past-loop-member
 invariant-each_past-loop-member g l =
     (to : List ℕ)
