@@ -3,7 +3,7 @@
 Both ways over a body of the folder's lines, from 200 bytes to 100 KB, with the pattern compiled anew each time: where they
 cross tells how many bytes of bodies are worth looking at line by line (`FEW_BYTES`). Then what compiling ordinary patterns
 takes, and which of them the greatest size (`MOST_TABLES`) turns away; and the seconds of hard patterns for 1 MiB by either
-way. It writes a small program over the crates into a temporary folder and has `rt` build it there, which takes some minutes.
+way. It writes a small program over the crates into a temporary folder and has `rt` build it there, which takes a few minutes.
 """
 import os
 import random

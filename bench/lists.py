@@ -88,21 +88,7 @@ fn indexed<R: Files + AllocGlobal>(rt: &R, list: &str) -> io::Result<Index> {
     }
     Ok(index)
 }
-
-fn time_selection<R: Clock + Print + AllocGlobal>(rt: &R, index: &Index, rounds: u32, pattern: &[u8]) -> io::Result<()> {
-    let Ok(tree) = parse(rt.alloc(), pattern) else {
-        return println!(rt; "0 refused");
-    };
-    let query = analyse(rt.alloc(), &tree)?;
-    let mut found = 0;
-    let start = Instant::now(rt)?;
-    for _ in 0..rounds {
-        found = index.candidates(rt.alloc(), &query)?.len();
-    }
-    let nanos = start.elapsed(rt)?.as_nanos();
-    println!(rt; "{nanos} {found}")
-}
-"""
+""" + trigrams.SELECTION
 SHARED = {"used": "Held", "keep": "Held::new(body)"}
 PLAIN = {"used": "BodyError", "keep": "keep_body(body)"}
 

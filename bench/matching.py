@@ -5,7 +5,6 @@ minutes, and runs it on lines of the folder's files, beside `grep -E`. With chec
 the crates of each, in one run, so that what was before a change stands beside what is after it.
 """
 import os
-import shutil
 import subprocess
 import sys
 import tempfile
@@ -13,8 +12,9 @@ import tempfile
 sys.path.insert(0, os.path.dirname(os.path.abspath(__file__)))
 import lines
 import timed
+import trigrams
 
-ROOT = os.path.join(os.path.dirname(os.path.abspath(__file__)), "..")
+ROOT = trigrams.ROOT
 
 # The program reads the words FILE ROUNDS PATTERN.
 METER = r"""//! The time of `matches` over the lines of a file.
@@ -65,19 +65,7 @@ fn hits(tree: &Ere, lines: &[&[u8]]) -> u64 {
 
 def build(root, folder, source=METER):
     """The path of a program of this source over the crates `ere` and `matcher` of a checkout."""
-    for name in ("ere", "matcher"):
-        shutil.copytree(os.path.join(root, "crates", name), os.path.join(folder, "crates", name))
-    with open(os.path.join(folder, "crates.txt"), "w") as file:
-        file.write("ere:\nmatcher: ere\nmeter: ere matcher\n")
-    meter = os.path.join(folder, "crates", "meter")
-    os.makedirs(os.path.join(meter, "src"))
-    with open(os.path.join(meter, "src", "main.rt"), "w") as file:
-        file.write(source)
-    subprocess.run(["git", "init", "-q", folder], check=True)
-    built = subprocess.run(["rt", "run"], cwd=meter, capture_output=True, text=True)
-    if built.returncode != 0:
-        sys.exit(built.stdout + built.stderr)
-    return os.path.join(meter, "out", "meter")
+    return trigrams.build(folder, source, ["ere", "matcher"], root)
 
 
 def seconds_of(program, path, pattern):

@@ -3,7 +3,7 @@
 First the time of a publish of one changed document among others, of 5 KiB of the folder's text each, with readings that
 search all the time, and without any. Then the searches a second of readings over the folder's files, with and without a
 writer that publishes all the time. It writes a small program over the crates into a temporary folder and has `rt` build it
-there, which takes some minutes.
+there, which takes a few minutes.
 """
 import os
 import statistics

@@ -2,7 +2,7 @@
 
 For each of several kinds of tree of height 64, and for lines up to the greatest, the least `ulimit -s` with which the answer
 comes, less that of a tree of one set; in brackets with the program as Rattle's own compiler makes it, whose frames are
-larger. It builds a small program of its own over the crates `ere` and `matcher`, in some minutes.
+larger. It builds a small program of its own over the crates `ere` and `matcher`, in a few minutes.
 """
 import os
 import shutil

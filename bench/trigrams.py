@@ -1,6 +1,6 @@
 """How fast the trigrams of bodies are found and patterns are analysed: python3 bench/trigrams.py FOLDER.
 
-Writes a small program over the crates into a temporary folder, has `rt` build it there, which takes some minutes, and runs
+Writes a small program over the crates into a temporary folder, has `rt` build it there, which takes a few minutes, and runs
 it on the text of the folder's files. Crates that are proved already (`./tsearch --help`) are copied with what `rt` keeps of
 them.
 """
@@ -14,6 +14,24 @@ sys.path.insert(0, os.path.dirname(os.path.abspath(__file__)))
 import corpus
 
 ROOT = os.path.join(os.path.dirname(os.path.abspath(__file__)), "..")
+
+# The part of a program that times selections: it writes their nanoseconds, the candidates and the documents.
+SELECTION = r"""
+fn time_selection<R: Clock + Print + AllocGlobal>(rt: &R, index: &Index, rounds: u32, pattern: &[u8]) -> io::Result<()> {
+    let Ok(tree) = parse(rt.alloc(), pattern) else {
+        return println!(rt; "0 refused");
+    };
+    let query = analyse(rt.alloc(), &tree)?;
+    let documents = index.documents();
+    let mut found = 0;
+    let start = Instant::now(rt)?;
+    for _ in 0..rounds {
+        found = index.candidates(rt.alloc(), &query)?.len();
+    }
+    let nanos = start.elapsed(rt)?.as_nanos();
+    println!(rt; "{nanos} {found} {documents}")
+}
+"""
 
 # The program reads the words KIND FILE NUMBER PATTERN.
 METER = r"""//! Times of calls of the libraries.
@@ -40,7 +58,10 @@ fn main(rt: HostRuntime) -> io::Result<()> {
     match words[1].as_str() {
         "trigrams" => time_trigrams(&rt, bytes.as_slice(), number),
         "analyse" => time_analysis(&rt, pattern, number),
-        _ => time_selection(&rt, bytes.as_slice(), number, pattern),
+        _ => {
+            let index = indexed(rt.alloc(), bytes.as_slice(), number)?;
+            time_selection(&rt, &index, 1000, pattern)
+        }
     }
 }
 
@@ -129,23 +150,6 @@ fn all_nodes(members: &[Query]) -> u64 {
     all
 }
 
-// A thousand selections.
-fn time_selection<R: Clock + Print + AllocGlobal>(rt: &R, bytes: &[u8], size: usize, pattern: &[u8]) -> io::Result<()> {
-    let Ok(tree) = parse(rt.alloc(), pattern) else {
-        return println!(rt; "0 refused");
-    };
-    let query = analyse(rt.alloc(), &tree)?;
-    let index = indexed(rt.alloc(), bytes, size)?;
-    let documents = index.documents();
-    let mut found = 0;
-    let start = Instant::now(rt)?;
-    for _ in 0..1000u32 {
-        found = index.candidates(rt.alloc(), &query)?.len();
-    }
-    let nanos = start.elapsed(rt)?.as_nanos();
-    println!(rt; "{nanos} {found} {documents}")
-}
-
 fn indexed(alloc: Global, bytes: &[u8], size: usize) -> Result<Index, AllocError> {
     let mut index = Index::new(alloc);
     let mut rest = bytes;
@@ -163,7 +167,7 @@ fn indexed(alloc: Global, bytes: &[u8], size: usize) -> Result<Index, AllocError
     }
     Ok(index)
 }
-"""
+""" + SELECTION
 
 USES = ["ere", "trigram", "index"]
 BODIES = [("one body of 1 MiB", 1_048_576, 1), ("10,000 bodies of 5 KiB", 5_120, 10_000), ("2,500 bodies of 20 KiB", 20_480, 2_500)]
@@ -205,7 +209,7 @@ def with_those_below(names, uses):
 def build(folder, source=METER, used=USES, root=ROOT):
     """Builds a program over these crates of a checkout in a folder, and returns its path."""
     if not shutil.which("rt"):
-        sys.exit("trigrams.py: the command rt of the Rattle kit, which builds the program, is not on the PATH")
+        sys.exit(os.path.basename(sys.argv[0]) + ": the command rt of the Rattle kit, which builds the program, is not on the PATH")
     uses = lines_of_crates(root)
     crates = with_those_below(used, uses)
     for name in crates:

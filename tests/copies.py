@@ -3,6 +3,7 @@
 import pathlib
 import shutil
 import subprocess
+import sys
 
 TOP = pathlib.Path(__file__).resolve().parent.parent
 
@@ -25,8 +26,8 @@ def with_those_below(names, lines):
 
 
 def copy_crates(folder, names, own="", kept=False):
-    """Copies these crates and those below them into a folder, as a repository with a crate of its own where one is named, which
-    uses them. What `rt` has of crates that are proved already is kept where that is asked for."""
+    """Copies these crates and those below them into a folder, as a repository. If `own` names a crate, the repository has
+    that one too, which uses these. With `kept`, what `rt` has of crates that are proved already is copied as well."""
     lines = lines_of_crates()
     used = with_those_below(names, lines)
     for name in used:
@@ -36,3 +37,18 @@ def copy_crates(folder, names, own="", kept=False):
     pathlib.Path(folder, "crates.txt").write_text("\n".join(written) + "\n", encoding="utf-8")
     shutil.copy(TOP / "HANDLES", folder)
     subprocess.run(["git", "init", "-q", folder], check=True)
+
+
+def build_program(folder, name, uses, wanted):
+    """Builds the program tests/NAME.rt.txt over copies of these crates in a folder, and gives its path. `wanted` is what it
+    writes."""
+    copy_crates(folder, uses, name, kept=True)
+    own = pathlib.Path(folder, "crates", name)
+    (own / "src").mkdir(parents=True)
+    shutil.copy(TOP / "tests" / (name + ".rt.txt"), own / "src/main.rt")
+    (own / "stdout").write_bytes(wanted)
+    built = subprocess.run(["rt", "run"], cwd=own, capture_output=True, text=True, check=False)
+    program = own / "out" / name
+    if built.returncode != 0 or not program.exists():
+        sys.exit("tests/%s.py: the program is not built\n%s%s" % (name, built.stdout, built.stderr))
+    return program

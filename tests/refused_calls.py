@@ -1,20 +1,18 @@
 #!/usr/bin/env python3
-"""Refuses each request for memory of a small program over the libraries in turn, and looks at what the calls answer.
+"""Refuses each request for memory of a small program over the libraries in turn, and checks what the calls answer.
 
-The program, refused_calls.rt.txt, makes the calls of `index`, `search` and `shared` that take memory. Where a call is refused, it
-has to say so by want of memory and by no other word, what it was given has to come back, all has to be as it was before, and the
-same call then has to do its work. The program writes the same whatever is refused, but where something is wrong.
+The program, refused_calls.rt.txt, makes the calls of `index`, `search` and `shared` that take memory. If a call is refused, it must
+say that memory ran out and nothing else, give back what it was given, and leave everything as it was; the same call must then do
+its work. The program writes the same text whatever is refused, unless something is wrong.
 
-The toolchain's tests cannot refuse a request, so this is no test of the gate. `rt` proves and builds the program in a folder of
-its own, in some minutes, with what it keeps of crates that are proved already; the requests are counted by a library of a few
-lines that stands before the C library's, which the command cc builds. The last line counts: N passed, M failed.
+The toolchain's tests cannot refuse a request, so this is not part of `rt ci`. `rt` proves and builds the program in a folder of
+its own, in a few minutes, with what it keeps of crates that are proved already. A library of a few lines, which the command cc
+builds and which is loaded before the C library, counts the requests. The last line counts: N passed, M failed.
 
 Usage: tests/refused_calls.py
 """
 
 import os
-import pathlib
-import shutil
 import subprocess
 import sys
 import tempfile
@@ -24,20 +22,6 @@ from refused_memory import COUNTING
 
 USES = ["ere", "query", "index", "search", "shared"]
 WANTED = b"each call did its work, at once or after a refusal\n"
-
-
-def build(folder):
-    """Builds the program in a folder, and gives its path."""
-    copies.copy_crates(folder, USES, "refused_calls", kept=True)
-    own = pathlib.Path(folder, "crates", "refused_calls")
-    (own / "src").mkdir(parents=True)
-    shutil.copy(copies.TOP / "tests/refused_calls.rt.txt", own / "src/main.rt")
-    (own / "stdout").write_bytes(WANTED)
-    built = subprocess.run(["rt", "run"], cwd=own, capture_output=True, text=True, check=False)
-    program = own / "out" / "refused_calls"
-    if built.returncode != 0 or not program.exists():
-        sys.exit("tests/refused_calls.py: the program is not built\n" + built.stdout + built.stderr)
-    return program
 
 
 def run(folder, program, refused):
@@ -50,7 +34,7 @@ def run(folder, program, refused):
 def main():
     failed = 0
     with tempfile.TemporaryDirectory() as folder:
-        program = build(os.path.join(folder, "copy"))
+        program = copies.build_program(os.path.join(folder, "copy"), "refused_calls", USES, WANTED)
         subprocess.run(["cc", "-O2", "-shared", "-fPIC", "-x", "c", "-", "-o", os.path.join(folder, "counting.so")], input=COUNTING, text=True, check=True)
         _, requests = run(folder, program, 0)
         for refused in range(requests + 1):
