@@ -15,7 +15,6 @@ Usage: tests/refused_runs.py   The last line counts: N passed, M failed.
 import collections
 import itertools
 import os
-import pathlib
 import re
 import subprocess
 import sys

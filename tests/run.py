@@ -15,16 +15,19 @@ some of these files:
     NAME.status       the status; no file: 0
 
 Each case is run in a new folder with each of several numbers of readers, and must give the same. With arguments it is
-run without such a number too. The number stands before the arguments, or is READERS for a bash script. A case whose
-arguments say something of readers or ask for the help, or whose bash script does not use READERS, is run once. An
-example NAME.script of examples/ is run from the top of the repository, as FILE, and must write NAME.stdout and end with
+also run without such a number. The number comes before the arguments, or is READERS for a bash script. A case whose
+arguments set the readers or ask for the help, or whose bash script does not use READERS, is run once. An example
+NAME.script of examples/ is run from the top of the repository, as FILE, and must write NAME.stdout and end with
 NAME.status.
+
+The case `architecture` runs nothing: it compares the examples of docs/ARCHITECTURE.md with the tests that run them.
 
 Usage: tests/run.py [NAME..]   The last line counts: N passed, M failed.
 """
 
 import os
 import pathlib
+import re
 import signal
 import subprocess
 import sys
@@ -34,13 +37,15 @@ TOP = pathlib.Path(__file__).resolve().parent.parent
 PROGRAM = TOP / "crates/program/out/program"
 CASES = TOP / "tests/cases"
 EXAMPLES = TOP / "examples"
+ARCHITECTURE = TOP / "docs/architecture"
+EMBEDDING = "## Using the crates by themselves\n"
 READERS = ["0", "1", "2", "16"]
 SUFFIXES = {".script", ".args", ".run", ".setup", ".stdout", ".stdout-has", ".stderr", ".stderr-has", ".status"}
 SECONDS = 120
 
 
 class Wrong(Exception):
-    """A case gave something else than it should."""
+    """A case did not give what it should."""
 
 
 def read_bytes(path):
@@ -137,6 +142,27 @@ def run_example(base):
             raise Wrong(f"with {readers} readers {wrong}") from None
 
 
+def lines_of_function(path, name):
+    """The lines of a function's body, without their indentation."""
+    found = re.search(rf"^fn {name}\b.*?^{{\n(.*?)^}}\n", path.read_text(), re.DOTALL | re.MULTILINE)
+    if not found:
+        raise Wrong(f"{path.relative_to(TOP)} has no function {name}")
+    return [line.strip() for line in found[1].splitlines()]
+
+
+def compare_embedding(base):
+    """Compares each example of the section on embedding with the function that the next paragraph names first."""
+    section = base.with_name("ARCHITECTURE.md").read_text().split(EMBEDDING)[1].split("\n## ")[0]
+    examples = re.findall(r"\n\n((?:    .*\n)+)\n`(\w+)` in `([\w/.]+)`", section)
+    if not examples or len(examples) != len(re.findall(r"\n\n    ", section)):
+        raise Wrong("an example is not followed by the function that has its lines")
+    for text, name, path in examples:
+        lines = [line.strip() for line in text.splitlines()]
+        body = lines_of_function(TOP / path, name)
+        if not any(body[at : at + len(lines)] == lines for at in range(len(body))):
+            raise Wrong(f"{name} in {path} does not have the lines {lines}")
+
+
 def cases_of_folders():
     """The cases of all folders, as paths without a suffix."""
     files = [path for path in CASES.rglob("*") if path.is_file()]
@@ -158,6 +184,7 @@ def main():
         sys.exit("tests/run.py: build the program first: ./tsearch --help")
     examples = sorted(path.with_suffix("") for path in EXAMPLES.glob("*.script"))
     jobs = [(run_case, base) for base in cases_of_folders()] + [(run_example, base) for base in examples]
+    jobs.append((compare_embedding, ARCHITECTURE))
     wanted = sys.argv[1:]
     missing = sorted(set(wanted) - {base.name for _, base in jobs})
     if missing:
