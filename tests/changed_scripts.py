@@ -1,9 +1,9 @@
 #!/usr/bin/env python3
 """Runs every beginning of the scripts of examples/ and every change of one byte of them, and judges what is written.
 
-Each byte is left out, doubled, and replaced by the bytes of a list, or by all others with --all. Each run has to end within ten
-seconds with a status of the program and no message, and its text has to be legal by transcripts.py. Where a change makes a pattern
-that is not plain, the text is not judged. This takes some minutes, with --all about ten times as long, so it is no part of ./test.
+Each byte is left out, doubled, and replaced by each byte of a list or, with --all, by each other byte. Each run must end within ten
+seconds with one of the program's statuses and no message, and its text must be legal by transcripts.py. If a change makes a pattern
+that is not plain, the text is not judged. This takes a few minutes, with --all about ten times as long, so it is not part of ./test.
 
 Usage: tests/changed_scripts.py [--all] [NAME..]   The last line counts: N passed, M failed.
 """
@@ -28,7 +28,7 @@ TABLE = {
 
 
 def changed(script, every):
-    """The beginnings of a script and its changes, each with what it is."""
+    """The beginnings and the changes of a script, each with a description."""
     for at in range(len(script) + 1):
         yield "the first %d bytes" % at, script[:at]
     for at in range(len(script)):
@@ -54,7 +54,7 @@ class Files:
 
 
 def judge(script, readers):
-    """Runs a script: whether its text was judged, and what is wrong, or None."""
+    """Runs a script, and returns whether its text was judged, and what is wrong or None."""
     try:
         done = subprocess.run([PROGRAM, "--readers", str(readers)], input=script, cwd=TOP, capture_output=True, check=False, timeout=SECONDS)
     except subprocess.TimeoutExpired:

@@ -1,10 +1,9 @@
 #!/usr/bin/env python3
 """Judges texts of the built program by the plain conditions of transcripts.py.
 
-First the judge itself: it has to take the texts of tests/cases and examples that are written by hand, and to refuse each text of
-a table, which is wrong by one thing. Then every beginning of a script with a replacement, a put that is pending, and syncs is run
-with several numbers of readers, and so are random scripts, in which few syncs part searches from later publishes; every text has
-to be legal.
+First the judge itself is tested: it must accept the texts of tests/cases and examples, which are written by hand, and refuse each
+text of a table, each wrong in one thing. Then every beginning of a script with a replacement, a pending put and syncs is run with
+several numbers of readers. So are random scripts, with few syncs between searches and later publishes. Every text must be legal.
 
 Usage: tests/check_transcripts.py   The last line counts: N passed, M failed.
 """
@@ -25,7 +24,7 @@ REPLACEMENT = b"put f 3\nold\npublish\nsearch old\nsync\nput f 3\nnew\nsearch ol
 OLD, OLD_AGAIN = b"search 1 version 1 lines 1\nf:1:old\n", b"search 2 version 1 lines 1\nf:1:old\n"
 NO_OLD, NEW = b"search 3 version 2 lines 0\n", b"search 4 version 2 lines 1\nf:1:new\n"
 
-# Two publishes beside three searches of two readers, so that the first two searches may be answered at two versions.
+# Two publishes and three searches of two readers: the first two searches may be answered at two versions.
 BESIDE = b"put a 1\nx\nput b 1\nx\npublish\nsearch x\nsearch x\nsearch x\nput a 1\ny\npublish\n"
 BOTH = b"search %d version 2 lines 2\na:1:x\nb:1:x\n"
 ONE = b"search %d version 3 lines 1\nb:1:x\n"
@@ -44,7 +43,7 @@ REFUSED = [
     b"line 16 refused: truncated\n",
 ]
 
-# The one file that is there without a case's own folder.
+# The one file that exists outside a case's own folder.
 ENDLESS = {b"/dev/zero": bytes(transcripts.MAX_BODY + 1)}
 
 # Scripts with their options, a text, and its status.
@@ -72,14 +71,14 @@ WRONG = [
     (REPLACEMENT, {}, (OLD + OLD_AGAIN + NO_OLD + NEW)[:-1], 0),
     (REPLACEMENT, {}, (OLD + OLD_AGAIN + NO_OLD + NEW)[:-8], 0),
     (REPLACEMENT, {}, OLD + OLD_AGAIN + NO_OLD + NEW + b"\n", 0),
-    # a version that is not published, older than what was published before, or from behind a sync
+    # a version that is not published, is older than what was published before, or is from after a sync
     (REPLACEMENT, {}, OLD + b"search 2 version 2 lines 0\n" + NO_OLD + NEW, 0),
     (REPLACEMENT, {}, b"search 1 version 2 lines 0\n" + OLD_AGAIN + NO_OLD + NEW, 0),
     (REPLACEMENT, {}, b"search 1 version 0 lines 0\n" + OLD_AGAIN + NO_OLD + NEW, 0),
     (REPLACEMENT, {}, OLD + OLD_AGAIN + b"search 3 version 1 lines 1\nf:1:old\n" + NEW, 0),
     (REPLACEMENT, {}, OLD + OLD_AGAIN + NO_OLD + b"search 4 version 3 lines 1\nf:1:new\n", 0),
     (BESIDE, {}, b"search 1 version 1 lines 1\na:1:x\n" + BOTH % 2 + BOTH % 3, 0),
-    # a publish from behind the search, with no readers
+    # a publish from after the search, with no readers
     (BESIDE, {"readers": 0}, BOTH % 1 + BOTH % 2 + ONE % 3, 0),
     # older than what its reader was answered at
     (BESIDE, {}, ONE % 1 + BOTH % 2 + BOTH % 3, 0),
@@ -92,11 +91,11 @@ WRONG = [
     (BESIDE, {}, b"search 1 version 2 lines 2\na:1:x\nb:2:x\n" + BOTH % 2 + BOTH % 3, 0),
     (BESIDE, {}, b"search 1 version 2 lines 2\na:1:x\nc:1:x\n" + BOTH % 2 + BOTH % 3, 0),
     (BESIDE, {}, b"search 1 version 2 lines 2\na:1:x\nb:1:xx\n" + BOTH % 2 + BOTH % 3, 0),
-    # want of memory where there is enough, or where it has no place
+    # "out of memory" although there is enough, or for an item that cannot have it
     (REPLACEMENT, {}, OLD + b"search 2 refused: out of memory\n" + NO_OLD + NEW, 2),
     (REPLACEMENT, {}, OLD + b"line 6 refused: out of memory\n" + OLD_AGAIN + b"search 3 version 1 lines 1\nf:1:old\nsearch 4 version 1 lines 0\n", 2),
     (REPLACEMENT, {"scarce": True}, OLD + b"line 5 refused: out of memory\n" + OLD_AGAIN + NO_OLD + NEW, 2),
-    # what is refused for memory is done all the same, or what is done is called refused
+    # what is refused for memory is done nevertheless, or what is done is said to be refused
     (REPLACEMENT, {"scarce": True}, OLD + b"line 6 refused: out of memory\n" + OLD_AGAIN + NO_OLD + NEW, 2),
     (REPLACEMENT, {"scarce": True}, OLD + OLD_AGAIN + b"line 10 refused: out of memory\n" + NO_OLD + NEW, 2),
     # a good line, or a good pattern, is refused
@@ -107,7 +106,7 @@ WRONG = [
     # another status
     (REPLACEMENT, {}, OLD + OLD_AGAIN + NO_OLD + NEW, 1),
     (REFUSALS, {"max_commands": 1}, b"".join(REFUSED), 0),
-    # a refusal is left out, in another place, with another reason, or all refusals stand before the answers
+    # a refusal is left out, in another place or with another reason, or all refusals come before the answers
     (REFUSALS, {"max_commands": 1}, b"".join(REFUSED[:8] + REFUSED[9:8:-1] + REFUSED[8:9]), 2),
     (REFUSALS, {"max_commands": 2}, b"".join(REFUSED), 2),
     (REFUSALS, {"max_commands": 1, "files": {b"p": b"x"}}, b"".join(REFUSED), 2),
@@ -115,7 +114,7 @@ WRONG = [
 
 
 def judged_by_hand():
-    """The texts of the tables and of tests/cases that the judge takes where it should not, or does not take; and how many there are."""
+    """The texts of the tables and of tests/cases that the judge accepts or refuses wrongly, and how many texts there are."""
     wrong = ["refuses %r: %s" % (text, fault) for script, options, text, status in LEGAL if (fault := transcripts.fault_of(script, text, status, **options))]
     wrong += ["takes %r of %r" % (text, script) for script, options, text, status in WRONG if not transcripts.fault_of(script, text, status, **options)]
     count = len(LEGAL) + len(WRONG)
@@ -135,7 +134,7 @@ def judged_by_hand():
 
 
 def fault_of_run(script, readers, **options):
-    """What is wrong of a run of the program, or None."""
+    """What is wrong with a run of the program, or None."""
     words = [b"--max-commands", b"%d" % options["max_commands"]] if "max_commands" in options else []
     done = subprocess.run([PROGRAM, "--readers", str(readers)] + words, input=script, capture_output=True, check=False, timeout=60)
     return repr(done.stderr) if done.stderr else transcripts.fault_of(script, done.stdout, done.returncode, readers=readers, **options)

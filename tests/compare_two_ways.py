@@ -1,10 +1,10 @@
 #!/usr/bin/env python3
 """Compares the two ways in which the built program finds lines, on random patterns and lines.
 
-Each pattern is searched in two documents with the same lines: a small one, which is looked at line by line, and one that
-has them several times and is so large that the pattern is compiled and goes over it from match to match. (Patterns that
-are too large to compile, and those with stars inside stars, go one way in both.) The two are implementations of one
-contract: any difference ends the comparison with status 1.
+Each pattern is searched in two documents with the same lines: a small one, which is matched line by line, and one that
+repeats them and is so large that the pattern is compiled and searched from match to match. (Patterns that are too large
+to compile, and those with stars inside stars, go one way in both.) Both ways implement one contract, so any difference
+ends the comparison with status 1.
 
 Usage: tests/compare_two_ways.py [--patterns N] [--lines N] [--seed N]
 """
@@ -19,13 +19,13 @@ import sys
 sys.path.insert(0, str(pathlib.Path(__file__).resolve().parent))
 import compare_with_grep as grep
 
-# The first so many bytes of candidates are looked at line by line.
+# This many bytes of the first candidates are matched line by line.
 FEW_BYTES = 8192
 SEARCHES_OF_A_RUN = 500
 
 
 def small_body(chance, count):
-    """Random lines, all in less than half of the bytes that are looked at line by line."""
+    """Random lines, in less than half of the bytes that are matched line by line."""
     lines = []
     for _ in range(count):
         length = chance.choice([0, 1, 2, 3, 5, 8, 20, 60])
@@ -36,7 +36,7 @@ def small_body(chance, count):
 
 
 def hits_of(output):
-    """For each search, its hits by document, as pairs of a line's number and its text; None where it was refused."""
+    """For each search, its hits by document, as pairs of a line's number and its text; None if it was refused."""
     hits, now = [], None
     for row in output.split(b"\n"):
         if row.startswith(b"search ") and re.match(rb"search \d+ version \d+ lines \d+$", row):
@@ -51,7 +51,7 @@ def hits_of(output):
 
 
 def differs(found, count, times):
-    """Whether the large document's hits are not those of the small one, as often as it has its lines."""
+    """Whether the large document's hits differ from those of the small one, repeated as often as its lines."""
     want = [(line + count * time, text) for time in range(times) for line, text in found[b"a"]]
     return found[b"b"] != want
 

@@ -2,8 +2,8 @@
 """Compares the built program with GNU grep -E in the C locale, on random patterns and lines.
 
 All patterns are searches of a few scripts, over one document of random lines; grep is run once for each
-pattern. Differences are counted by kind. The kinds that are known are those of docs/PATTERNS.md, "How this
-differs from grep -E"; any other difference ends the comparison with status 1.
+pattern. Differences are counted by kind. The known kinds are those of docs/PATTERNS.md, "How this differs from
+grep -E"; any other difference ends the comparison with status 1.
 
 Usage: tests/compare_with_grep.py [--patterns N] [--lines N] [--seed N] [--show N]
 """
@@ -22,10 +22,10 @@ import tempfile
 TOP = pathlib.Path(__file__).resolve().parent.parent
 PROGRAM = TOP / "crates/program/out/program"
 SEARCHES_OF_A_RUN = 1000
-# Some patterns keep grep busy for minutes, or make it take all memory; those are counted and passed over.
+# Some patterns keep grep busy for minutes or make it take all memory. They are counted and skipped.
 SECONDS_OF_GREP = 10
 BYTES_OF_GREP = 2_000_000_000
-# What a thousand searches may take here.
+# How many seconds a thousand searches may take here.
 SECONDS_OF_A_RUN = 600
 CLASSES = "upper lower alpha digit alnum xdigit punct graph print blank space cntrl".split()
 BYTES = b"aaabbbccAB01 .-]^$_\t\xff"
@@ -36,11 +36,11 @@ PIECES += [b"[:", b":]", b"[.", b".]", b"[=a=]", b"\xff", b" "]
 
 
 class TooSlow(Exception):
-    """grep did not end in its time or its memory."""
+    """grep did not end within its time or memory."""
 
 
 class Patterns:
-    """Random patterns that spell a tree, and whether an anchor is in a repeated group of them."""
+    """Random patterns that spell a tree, each with whether it has an anchor in a repeated group."""
 
     def __init__(self, chance):
         self.chance = chance
@@ -63,7 +63,7 @@ class Patterns:
         return b"[" + self.chance.choice([b"", b"^"]) + first + b"".join(items) + last + b"]"
 
     def atom(self, depth):
-        """The text of an atom, and whether it holds an anchor, and whether one is repeated."""
+        """The text of an atom, whether it contains an anchor, and whether one is repeated."""
         kind = self.chance.randrange(10)
         if kind < 5 or (depth == 0 and kind >= 8):
             return bytes([self.chance.choice(b"abcAB01 ")]), False, False
@@ -94,7 +94,7 @@ class Patterns:
         return b"|".join(b[0] for b in branches), any(b[1] for b in branches), any(b[2] for b in branches)
 
     def pattern(self):
-        """A pattern, and whether an anchor may be in a repeated group of it."""
+        """A pattern, and whether it may have an anchor in a repeated group."""
         if self.chance.randrange(4) > 0:
             text, _, repeated = self.alternatives(3)
             return text, repeated
@@ -114,7 +114,7 @@ def answers(lines, patterns):
     if done.stderr:
         sys.exit(f"the program wrote {done.stderr!r}")
     found = []
-    # A line of the text may begin like a search's first line, so the count of lines leads.
+    # A line of the text may begin like a search's first line, so lines are counted.
     rest = done.stdout.split(b"\n")
     at = 0
     for number in range(1, len(patterns) + 1):
@@ -134,13 +134,13 @@ def answers(lines, patterns):
 
 
 def limit_grep():
-    """Ends a grep by the system where this script's own clock would not, and keeps its memory small."""
+    """Lets the system end a grep that this script's own clock would not end, and limits its memory."""
     resource.setrlimit(resource.RLIMIT_CPU, (SECONDS_OF_GREP, SECONDS_OF_GREP + 1))
     resource.setrlimit(resource.RLIMIT_AS, (BYTES_OF_GREP, BYTES_OF_GREP))
 
 
 def grep(path, pattern):
-    """grep's answer: a set of line numbers, or None where it refuses the pattern."""
+    """grep's answer: a set of line numbers, or None if it refuses the pattern."""
     try:
         done = subprocess.run(
             ["grep", "-E", "-a", "-n", "-e", pattern, str(path)],

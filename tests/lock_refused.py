@@ -1,9 +1,9 @@
 #!/usr/bin/env python3
-"""Shows that a search cannot take a lock: a body of `Reading::take` with a lock round the index does not compile.
+"""Shows that a search cannot take a lock: `Reading::take` with a lock around the index does not compile.
 
-A call that may wait for another thread takes a handle with the bound `Wait`. `Reading::search`, `take`, `learn` and `seen` are
-given none, and nothing that they are given is one. The compiler refuses such a body before the prover sees it, so it cannot be
-an edit of must-fail. The last line counts: N passed, M failed.
+A call that may wait for another thread takes a handle with the bound `Wait`. `Reading::search`, `take`, `learn` and `seen` get
+no such handle. The compiler refuses the code before the prover sees it, so it cannot be an edit of must-fail. The last line
+counts: N passed, M failed.
 
 Usage: tests/lock_refused.py
 """

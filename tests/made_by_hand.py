@@ -1,15 +1,15 @@
 #!/usr/bin/env python3
 """Finds the places of the sources that make the error of refused memory by hand.
 
-A contract cannot say that memory is there: a body that answers "out of memory" where nothing was refused is
-proved too. So each place that makes such an error (`AllocError`, `AllocFailed` or an `OutOfMemory`), in place
-of passing one on by `?`, is listed in made_by_hand.txt with its reason. Any other place is a fault, and so is
-a listed place that is there no more.
+A contract cannot say that memory is there: code that answers "out of memory" although nothing was refused is
+proved too. So each place that makes such an error (`AllocError`, `AllocFailed` or an `OutOfMemory`) instead of
+passing one on with `?` is listed in made_by_hand.txt with its reason. Any other place is a fault, and so is a
+listed place that no longer exists.
 
 A place is a file, a function, and the statement or match arm that makes the error, after the heads of the
-blocks round it in that function; so a changed condition is a new place. Tests (`#[cfg(test)]`, and crates
-whose names end in `_tests`) and contracts are passed over, and so are patterns, comparisons and types. What
-the check cannot see is a growth that asks for more memory than there can be.
+blocks around it in that function. So a changed condition is a new place. Tests (`#[cfg(test)]`, and crates
+whose names end in `_tests`) and contracts are skipped, and so are patterns, comparisons and types. The check
+cannot see a growth that asks for more memory than there can be.
 
 Usage: tests/made_by_hand.py           checks the list
        tests/made_by_hand.py --print   prints the places as the list has them, for copying
@@ -54,7 +54,7 @@ class Place:
 
 
 def without_block_comments(text):
-    """The text with spaces in the place of block comments, which may be nested."""
+    """The text with spaces in place of block comments, which may be nested."""
     parts, depth, at = [], 0, 0
     for mark in re.finditer(r'"(?:\\.|[^"\\])*"|//[^\n]*|/\*|\*/', text, re.DOTALL):
         found = mark.group()
@@ -96,7 +96,7 @@ class Source:
         self.path = path
         self.tokens = tokens_of(text)
         self.ends = ends_of_brackets(self.tokens)
-        # tokens that no value is made by: contracts, tests, imports, types, patterns
+        # tokens that make no value: contracts, tests, imports, types, patterns
         self.dead = [False] * len(self.tokens)
         self.test_modules = []
         # the bodies of the functions: where each begins, and the function's name
@@ -115,7 +115,7 @@ class Source:
             self.dead[at] = True
 
     def next_of(self, start, marks):
-        """The place of the first of these marks outside brackets, or the end of what is round it."""
+        """The place of the first of these marks outside brackets, or the end of what is around it."""
         at = start
         while at < len(self.tokens):
             text = self.text(at)
@@ -149,7 +149,7 @@ class Source:
             self.kill(self.next_of(at + 3, {","}), self.ends.get(at + 2, at))
 
     def mark_attribute(self, at):
-        """An attribute, and for that of tests the item after it too."""
+        """An attribute and, if it is that of tests, the item after it."""
         end = self.ends.get(at + 1, at + 1) + 1
         self.kill(at, end)
         if self.texts(at + 2, 4) != ["cfg", "(", "test", ")"]:
@@ -163,7 +163,7 @@ class Source:
         self.kill(at, self.ends.get(stop, stop) + 1)
 
     def mark_import(self, start, end):
-        """An import or a ghost item. An error under another name would be seen no more, so that is told."""
+        """An import or a ghost item. An error under another name would not be seen, so that is reported."""
         for at in range(start, end):
             if self.text(start) == "use" and self.text(at) in ERRORS and self.text(at + 1) == "as":
                 continue
@@ -219,7 +219,7 @@ class Source:
         return True
 
     def openings(self, at):
-        """The brackets round a token, from the outermost."""
+        """The brackets around a token, from the outermost."""
         return [start for start, end in sorted(self.ends.items()) if start < at < end]
 
     def start_of_part(self, at, least):
@@ -236,7 +236,7 @@ class Source:
         return at + 1
 
     def place(self, at):
-        """The function that makes the error, and how: the statement or arm after the heads of the blocks round it."""
+        """The function that makes the error, and how: the statement or arm after the heads of the blocks around it."""
         openings = self.openings(at)
         function, heads, last = "-", [], -1
         for block in openings:
@@ -247,7 +247,7 @@ class Source:
             else:
                 heads.append(self.joined(self.start_of_part(block, last + 1), block))
             last = block
-        # the brackets of calls round the error are part of its statement
+        # the brackets of calls around the error are part of its statement
         outer = next((start for start in openings if start > last), at)
         start = self.start_of_part(outer, last + 1)
         end = self.next_of(start, {";", ","}) if outer == at else self.next_of(outer, {";", ","})
@@ -255,7 +255,7 @@ class Source:
         return function, " / ".join(heads + [made])
 
     def joined(self, start, end):
-        """Tokens as one line, with a space between words alone."""
+        """Tokens as one line, with spaces only between words."""
         line = ""
         for at in range(start, end):
             text = self.text(at)
@@ -269,7 +269,7 @@ class Source:
 
 
 def test_files(crate):
-    """The files that are read for tests alone: those of modules under `#[cfg(test)]`."""
+    """The files that are read only for tests: those of modules under `#[cfg(test)]`."""
     found = set()
     for path in crate.rglob("*.rt"):
         for name in Source(path, path.read_text()).test_modules:

@@ -1,11 +1,11 @@
 #!/usr/bin/env python3
-"""Refuses each request for memory of a run of the built program in turn, and looks at what the run answers.
+"""Refuses each request for memory of a run of the built program in turn, and checks what the run answers.
 
 The script puts a small document and one of 19 KB, and searches them line by line, by the compiled pattern, with stars inside
 stars, and with a pattern that is too large to be compiled. With the Nth request refused, each search's answer is the same or
-`refused: out of memory`, each other line does its work or is refused by the same words, or the program says that memory ran
-out. Anything else ends the comparison with status 1. The requests are counted by a library of a few lines that stands before
-the C library's; the command cc builds it. A program that may start threads ends by `_exit`, so the count is told there too.
+`refused: out of memory`, each other line does its work or is refused with the same words, or the program says that memory ran
+out. Anything else ends the comparison with status 1. A library of a few lines, which the command cc builds and which is loaded
+before the C library, counts the requests. A program that may start threads ends by `_exit`, so the count is printed there too.
 
 Usage: tests/refused_memory.py
 """
@@ -63,7 +63,7 @@ def answers(output):
 
 
 def outcome(want, status, output, messages):
-    """What became of a run, or None where it is none of what may be."""
+    """What became of a run, or None if that is not allowed."""
     if (status, output, messages) == (0, want, b""):
         return "the same"
     if status != 2 or b"refused: " in re.sub(MEMORY, b"", output):

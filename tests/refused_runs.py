@@ -1,12 +1,12 @@
 #!/usr/bin/env python3
 """Refuses each request for memory of runs of the built program in turn, and judges what they write.
 
-The script has a replacement, a put that is pending, and syncs; it is run with no readers and with two. With the Nth request
-refused a run ends with the program's word that memory ran out or that a reader has no place, or it writes a text that is legal
-(transcripts.py) where memory may be refused to any item. The requests are counted by the library of refused_memory.py.
-With readers the requests of two threads come in another order each time, so these runs are made several times.
+The script has a replacement, a pending put and syncs; it is run with no readers and with two. With the Nth request refused, a run
+says that memory ran out or that a reader has no place, or it writes a text that is legal (transcripts.py) if any item may be
+refused for memory. The library of refused_memory.py counts the requests. With readers, the requests of two threads come in a
+different order each time, so these runs are repeated.
 
-Then a body is searched that is so large that the pattern is compiled, which takes some hundreds of requests in a row. Where one of
+Then a body is searched that is so large that the pattern is compiled, which takes some hundreds of requests in a row. If one of
 them is refused, the body is searched line by line and the answer stays the same; with stars inside stars the search is refused.
 
 Usage: tests/refused_runs.py   The last line counts: N passed, M failed.
@@ -28,8 +28,8 @@ WANTED = OLD + OLD_AGAIN + NO_OLD + NEW
 WORDS = [b"tsearch: out of memory\n", b"tsearch: no place for a reader\n"]
 TIMES = {0: 1, 2: 5}
 
-# A body that is too large to be looked at line by line, and patterns over it, with what comes of it where no memory is there to
-# compile them.
+# A body that is too large to be matched line by line, and patterns for it, with the outcome if there is no memory to compile
+# them.
 LARGE = b"".join(b"line %d of the body, int x = 0x%08x;\n" % (number, number * 7919) for number in range(450))
 PATTERNS = {b"line 44[0-3] .* 0x00": "the same", b"((a*|b)*|c)*0x0034[0-3]": "the search refused"}
 IN_A_ROW = 400
@@ -51,7 +51,7 @@ def run(library, script, readers, refused):
 
 
 def outcome(readers, status, text, messages):
-    """What became of a run of the script with a replacement, and why that may not be, or None."""
+    """What became of a run of the script with a replacement, and why that is not allowed, or None."""
     if messages in WORDS:
         good = status == 2 and WANTED.startswith(text)
         return messages.decode().strip(), None if good else "status %d, and %r is written" % (status, text)
@@ -65,7 +65,7 @@ def outcome(readers, status, text, messages):
 
 
 def each_request(library, readers):
-    """Refuses each request in turn until a run makes fewer. The outcomes, with what is wrong of them."""
+    """Refuses each request in turn until a run makes fewer. The outcomes, with what is wrong with them."""
     refused, seen = 0, []
     while True:
         status, text, messages, count = run(library, REPLACEMENT, readers, refused)

@@ -1,14 +1,14 @@
-"""Tells by plain conditions whether a text is what the program may write for a script, for some timing of its readers.
+"""Says by plain conditions whether the program may write a text for a script, for some timing of its readers.
 
 The conditions are those of docs/SCRIPT.md, written by hand and apart from the program's own definitions: every item is accepted,
 or refused with the first reason that fits, in its place; each search has one answer, at a version that was published in the run,
 no older than what its reader knew, and with exactly the lines that match, in order of names and lines.
 
-Lines are matched by Python's `re`, for plain patterns alone: bytes, `.`, sets of letters and digits, `*`, `+`, `?`, groups in which
-no other group is, `|`, `^`, `$`, and a backslash before one of these marks. There `re` and an extended regular expression mean the
-same, since nothing is asked but whether a line has a match: which match is found does not matter, a line holds no line feed, so
-`.` and `[^a]` mean what they mean here and `$` holds at the line's end alone, and both take an anchor in a group as what it is.
-All other patterns are those of a table with what they are to the program, which the caller writes by hand.
+Lines are matched by Python's `re`, but only for plain patterns: bytes, `.`, sets of letters and digits, `*`, `+`, `?`, groups that
+contain no other group, `|`, `^`, `$`, and a backslash before one of these marks. For these, `re` and an extended regular expression
+mean the same, since the only question is whether a line has a match: which match is found does not matter; a line contains no line
+feed, so `.` and `[^a]` mean the same and `$` matches only at the end of the line; and both take an anchor in a group as an anchor.
+All other patterns must be in a table, written by hand by the caller, that says what the program makes of them.
 """
 
 import re
@@ -29,11 +29,11 @@ class NotPlain(Exception):
 
 
 class Illegal(Exception):
-    """Why a text is none that the program may write."""
+    """Why the program may not write a text."""
 
 
 class Item:
-    """A line of a script that asks for something, with its words. A search has its number, all else its line."""
+    """A line of a script that asks for something, with its words. A search has its number, anything else its line."""
 
     def __init__(self, kind, number, **words):
         self.kind, self.number, self.words = kind, number, words
@@ -79,7 +79,7 @@ def items_of(script):
 
 
 def entries_of(text):
-    """The entries of a text in their order, as (of what, its number, the reason or None, the version or None, all its bytes)."""
+    """The entries of a text in order, as (what it is for, its number, the reason or None, the version or None, all its bytes)."""
     entries, at = [], 0
     while at < len(text):
         refused, head = REFUSED.match(text, at), HEAD.match(text, at)
@@ -114,7 +114,7 @@ def fault_of_body(body):
 
 
 def fault_of_pattern(pattern, table):
-    """The reason that the program has to refuse a pattern with, or None."""
+    """The reason with which the program must refuse a pattern, or None."""
     if len(pattern) > MAX_PATTERN:
         return "pattern too long at %d" % MAX_PATTERN
     if 0 in pattern:
@@ -127,12 +127,12 @@ def fault_of_pattern(pattern, table):
 
 
 def test_of(pattern, table):
-    """The test whether a line has a match of a pattern without a fault."""
+    """The test whether a line has a match of a pattern that has no fault."""
     return table[pattern] if pattern in table else re.compile(pattern).search
 
 
 class Run:
-    """What is known of a run at one of its items: what is accepted so far, and which versions were published where."""
+    """What is known of a run at one of its items: what is accepted so far, and which versions were published and where."""
 
     def __init__(self, files, max_commands, scarce):
         self.files, self.max_commands, self.scarce = files, max_commands, scarce
@@ -140,7 +140,7 @@ class Run:
         self.published = []  # pairs of a place among the items and a version
 
     def reasons(self, item):
-        """The reasons one of which must be given for this item, none of a search; None is that it is accepted."""
+        """The reasons, one of which must be given for this item, which is no search; None means that it is accepted."""
         kind, words, now = item.kind, item.words, self.states[-1]
         if kind in ("bad", "sync"):
             return [words.get("reason")]
@@ -209,7 +209,7 @@ def check_answer(item, entry, documents, stats, table):
 
 
 def reason_of_search(item, table):
-    """The reason that a search has to be refused with, or None. The name pattern is looked at first."""
+    """The reason with which a search must be refused, or None. The name pattern is looked at first."""
     if item.words["name"] is not None:
         reason = fault_of_pattern(item.words["name"], table)
         if reason:
@@ -218,7 +218,7 @@ def reason_of_search(item, table):
 
 
 def pair(items, text):
-    """The entry of each item, or None where it has none."""
+    """The entry of each item, or None if it has none."""
     places = {("search" if item.is_search() else "line", item.number): place for place, item in enumerate(items)}
     entries, last = [None] * len(items), -1
     for entry in entries_of(text):
@@ -230,7 +230,7 @@ def pair(items, text):
 
 
 def check(script, text, readers=2, max_commands=65_536, stats=False, files=None, table=None, scarce=False):
-    """Comes back where the text is legal, and gives the status that the run then has to end with. `files` are the bytes by
+    """Returns if the text is legal, and gives the status with which the run must then end. `files` are the bytes by
     their paths, `table` the patterns that are not plain, each with the reason of its refusal or the test of a line. Where memory
     is scarce, it may be refused to each item, and any reader may answer a search."""
     items, table = items_of(script), table or {}
