@@ -1,4 +1,4 @@
-"""Makes a corpus that every tool sees alike: the files of a folder that tsearch takes, copied, and their script."""
+"""Makes a corpus that is the same for every tool: a copy of those files of a folder that tsearch takes, and their script."""
 import os
 import sys
 

@@ -1,10 +1,10 @@
 """How time and memory grow with the number of documents: python3 bench/growth.py [FOLDER].
 
 Scripts of 2,000, 10,000 and 20,000 documents of about 2 KB, all of the same words: the time to the first publish, of
-one search, and of one document added, removed or replaced after each publish. What the changes are measured against has
-two publishes with a command between them, so that both of the program's indexes hold all documents before the first
-change. Then the memory after one document was replaced 1,000 and 100,000 times. With a FOLDER, the changes for its files
-too, and the resident memory for each byte of them before and after the second publish.
+one search, and of one document added, removed or replaced after each publish. The run that changes are compared with has
+two publishes with a command between them, so both of the program's indexes hold all documents before the first change.
+Then the memory after one document was replaced 1,000 and 100,000 times. With a FOLDER, also the changes for its files,
+and the resident memory for each byte of them before and after the second publish.
 """
 import os
 import random

@@ -1,9 +1,9 @@
 """Where the two ways of finding lines meet: python3 bench/limits.py FOLDER.
 
-Both ways over a body of the folder's lines, from 200 bytes to 100 KB, with the pattern compiled anew each time: where they
-cross tells how many bytes of bodies are worth looking at line by line (`FEW_BYTES`). Then what compiling ordinary patterns
-takes, and which of them the greatest size (`MOST_TABLES`) turns away; and the seconds of hard patterns for 1 MiB by either
-way. It writes a small program over the crates into a temporary folder and has `rt` build it there, which takes a few minutes.
+Both ways over a body of the folder's lines, from 200 bytes to 100 KB, with the pattern compiled anew each time: the size at
+which they cross tells how many bytes of bodies are worth matching line by line (`FEW_BYTES`). Then what compiling ordinary
+patterns takes, and which of them are over the greatest size (`MOST_TABLES`); and the time of hard patterns over 1 MiB both
+ways. It writes a small program over the crates into a temporary folder and has `rt` build it, which takes a few minutes.
 """
 import os
 import random

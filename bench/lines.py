@@ -1,4 +1,4 @@
-"""Matching of lines beside `grep -E`, and how its time grows: python3 bench/lines.py FOLDER.
+"""Matching lines, compared with `grep -E`, and how its time grows: python3 bench/lines.py FOLDER.
 
 One document of the folder's lines, ten patterns of different kinds; then one line that grows, and a pattern that grows.
 """

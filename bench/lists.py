@@ -1,9 +1,9 @@
-"""What posting lists take, and what a selection by them takes: python3 bench/lists.py FOLDER [CHECKOUT..].
+"""The memory of posting lists, and the time of a selection by them: python3 bench/lists.py FOLDER [CHECKOUT..].
 
 Over the files of a folder: the memory of an index without its documents, for each posting (a document in the list of one
-trigram), and the time of the selection of the candidates of a rare literal, of a literal whose four trigrams are common, and of
-256 texts. It writes a small program over the crates into a temporary folder and has `rt` build it there, which takes some
-minutes. With checkouts of the repository named it does so for the crates of each, in one run.
+trigram), and the time to select the candidates of a rare literal, of a literal whose four trigrams are common, and of 256
+texts. It writes a small program over the crates into a temporary folder and has `rt` build it, which takes a few minutes. If
+checkouts of the repository are named, it does so for the crates of each, in one run.
 """
 import os
 import statistics
@@ -16,7 +16,7 @@ import corpus
 import timed
 import trigrams
 
-# The program reads the words KIND LIST ROUNDS PATTERN. Of KEPT, the first is for an index that shares its documents.
+# The program reads the words KIND LIST ROUNDS PATTERN. SHARED is for checkouts whose index shares its documents.
 METER = r"""//! Memory and times of an index over files.
 #![tactic(auto)]
 

@@ -1,8 +1,8 @@
 """How fast `matches` is, a line at a time: python3 bench/matching.py FOLDER [CHECKOUT..].
 
-Writes a small program over the crates `ere` and `matcher` into a temporary folder, has `rt` build it there, which takes some
-minutes, and runs it on lines of the folder's files, beside `grep -E`. With checkouts of the repository named it does so for
-the crates of each, in one run, so that what was before a change stands beside what is after it.
+Writes a small program over the crates `ere` and `matcher` into a temporary folder, has `rt` build it, which takes a few
+minutes, and runs it on lines of the folder's files, next to `grep -E`. If checkouts of the repository are named, it does so
+for the crates of each, in one run: for example one from before a change and one from after it.
 """
 import os
 import subprocess

@@ -1,8 +1,8 @@
 """What more readers bring: python3 bench/readers.py FOLDER.
 
-One script over the folder's files: 200 searches that match much, all sent before the first answer is waited for. Prints the
-seconds with 0, 1, 2 and 4 readers, the least and the median of five runs, with the time to the first publish taken off
-and the output in a file; and how many times as fast as with one reader that is.
+One script over the folder's files: 200 searches with many matches, all sent before the script waits for an answer. Prints
+the seconds with 0, 1, 2 and 4 readers, the least and the median of five runs, without the time to the first publish and
+with the output in a file; and how many times as fast as with one reader that is.
 """
 import os
 import statistics

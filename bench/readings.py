@@ -1,9 +1,9 @@
-"""What a publish costs, and what readings answer beside one another: python3 bench/readings.py FOLDER.
+"""What a publish costs, and how many searches readings answer at the same time: python3 bench/readings.py FOLDER.
 
-First the time of a publish of one changed document among others, of 5 KiB of the folder's text each, with readings that
-search all the time, and without any. Then the searches a second of readings over the folder's files, with and without a
-writer that publishes all the time. It writes a small program over the crates into a temporary folder and has `rt` build it
-there, which takes a few minutes.
+First the time of a publish of one changed document among others, each of 5 KiB of the folder's text, with readings that
+search all the time and without any. Then the searches a second of readings over the folder's files, with and without a
+writer that publishes all the time. It writes a small program over the crates into a temporary folder and has `rt` build
+it, which takes a few minutes.
 """
 import os
 import statistics

@@ -1,6 +1,6 @@
 """Which files of folders are refused as documents, and why: python3 bench/refused.py FOLDER..
 
-Of the files with a long line it counts those over the limit of today, and those over the limit of before, 4,096 bytes.
+Of the files with a long line it counts those over the limit, and those over the former limit of 4,096 bytes.
 """
 import os
 import sys

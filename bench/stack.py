@@ -1,8 +1,8 @@
 """How much stack `matches` takes for the highest trees: python3 bench/stack.py [CHECKOUT..].
 
-For each of several kinds of tree of height 64, and for lines up to the greatest, the least `ulimit -s` with which the answer
-comes, less that of a tree of one set; in brackets with the program as Rattle's own compiler makes it, whose frames are
-larger. It builds a small program of its own over the crates `ere` and `matcher`, in a few minutes.
+For several kinds of trees of height 64, and for lines up to the greatest length: the least `ulimit -s` with which the
+program answers, less that for a tree of one set. In brackets the same for the program that Rattle's own compiler makes,
+whose frames are larger. It builds a small program of its own over the crates `ere` and `matcher`, in a few minutes.
 """
 import os
 import shutil
@@ -13,7 +13,7 @@ import tempfile
 sys.path.insert(0, os.path.dirname(os.path.abspath(__file__)))
 import matching
 
-# The program reads the words PATTERN LENGTH. The line is so many bytes `a`.
+# The program reads the words PATTERN LENGTH. The line is LENGTH bytes `a`.
 METER = r"""//! Whether a line of so many bytes contains a match.
 #![tactic(auto)]
 

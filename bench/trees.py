@@ -1,8 +1,8 @@
-"""tsearch beside `csearch`, `rg` and `grep -rE` on the same files: python3 bench/trees.py FOLDER.
+"""tsearch, `csearch`, `rg` and `grep -rE` on the same files: python3 bench/trees.py FOLDER.
 
-Prints the time from the script's first byte to the first publish, beside what `cindex` takes, the resident memory, and
-for each pattern the lines found, the candidates, and what a search takes in tsearch and in the other tools, all on one
-thread and with their output in a file: the least and the median of five runs, in milliseconds. Nothing is asserted.
+Prints the time from the script's first byte to the first publish, that of `cindex`, the resident memory, and for each
+pattern the lines found, the candidates, and the time of a search by tsearch and by the other tools, all on one thread and
+with their output in a file: the least and the median of five runs, in milliseconds. Nothing is asserted.
 """
 import os
 import re
@@ -73,7 +73,7 @@ def words_of(path):
 
 
 def runs_of(target, search, count):
-    """The least and the median seconds of so many copies of a search, and what the first one printed. Each run is beside one
+    """The least and the median seconds of so many copies of a search, and what the first one printed. Each run is next to one
     without the search, since the machine's speed changes."""
     plain, whole = script_with(target, [], "plain"), script_with(target, [search] * count)
     pairs = [(timed.run(words_of(plain))["seconds"], timed.run(words_of(whole))) for _ in range(RUNS)]
@@ -83,7 +83,7 @@ def runs_of(target, search, count):
 
 
 def search_times(target, search, base):
-    """The least and the median seconds of one search, of so many copies of it that they are above the noise."""
+    """The least and the median seconds of one search, measured with so many copies of it that they are above the noise."""
     count, most, wanted = 1, 4096, max(0.3, base / 2)
     while True:
         once = timed.run(words_of(script_with(target, [search] * count)))["seconds"] - base

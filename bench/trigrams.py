@@ -1,8 +1,7 @@
 """How fast the trigrams of bodies are found and patterns are analysed: python3 bench/trigrams.py FOLDER.
 
-Writes a small program over the crates into a temporary folder, has `rt` build it there, which takes a few minutes, and runs
-it on the text of the folder's files. Crates that are proved already (`./tsearch --help`) are copied with what `rt` keeps of
-them.
+Writes a small program over the crates into a temporary folder, has `rt` build it, which takes a few minutes, and runs it on
+the text of the folder's files. Crates that are already proved (`./tsearch --help`) are copied with what `rt` keeps of them.
 """
 import os
 import shutil
@@ -209,7 +208,7 @@ def with_those_below(names, uses):
 def build(folder, source=METER, used=USES, root=ROOT):
     """Builds a program over these crates of a checkout in a folder, and returns its path."""
     if not shutil.which("rt"):
-        sys.exit(os.path.basename(sys.argv[0]) + ": the command rt of the Rattle kit, which builds the program, is not on the PATH")
+        sys.exit(os.path.basename(sys.argv[0]) + ": the command rt of the Rattle toolchain, which builds the program, is not on the PATH")
     uses = lines_of_crates(root)
     crates = with_those_below(used, uses)
     for name in crates:
@@ -234,7 +233,7 @@ def ask(program, kind, path, number, pattern=""):
 
 
 def text_of(folder, length):
-    """So many bytes of the folder's files, which begin again where there are too few."""
+    """This many bytes of the folder's files, which begin again if there are too few."""
     parts, held = [], 0
     for path in corpus.files_below(folder):
         with open(path, "rb") as file:
