@@ -20,7 +20,8 @@ arguments set the readers or ask for the help, or whose bash script does not use
 NAME.script of examples/ is run from the top of the repository, as FILE, and must write NAME.stdout and end with
 NAME.status.
 
-The case `architecture` runs nothing: it compares the examples of docs/ARCHITECTURE.md with the tests that run them.
+The case `architecture` runs nothing: it compares docs/ARCHITECTURE.md with the sources. Each line of an example must be in
+the test that the document names, and each function of its tables in one of the files that are named next to it.
 
 Usage: tests/run.py [NAME..]   The last line counts: N passed, M failed.
 """
@@ -150,9 +151,22 @@ def lines_of_function(path, name):
     return [line.strip() for line in found[1].splitlines()]
 
 
-def compare_embedding(base):
+def compare_stops(text):
+    """Compares each row of the ways of a put and a search, which names files and functions, with the files."""
+    rows = re.findall(r"^\| (`[\w/]+\.rt`(?:, `[\w/]+\.rt`)*) \| (`\w+`(?:, `\w+`)*) \|", text, re.MULTILINE)
+    if not rows:
+        raise Wrong("no row names a file and a function")
+    for files, functions in rows:
+        sources = [TOP / "crates" / path for path in re.findall(r"[\w/]+\.rt", files)]
+        found = {name for path in sources if path.exists() for name in re.findall(r"\bfn (\w+)", path.read_text())}
+        missing = set(re.findall(r"\w+", functions)) - found
+        if missing:
+            raise Wrong(f"{files} has no {', '.join(sorted(missing))}")
+
+
+def compare_examples(text):
     """Compares each example of the section on embedding with the function that the next paragraph names first."""
-    section = base.with_name("ARCHITECTURE.md").read_text().split(EMBEDDING)[1].split("\n## ")[0]
+    section = text.split(EMBEDDING)[1].split("\n## ")[0]
     examples = re.findall(r"\n\n((?:    .*\n)+)\n`(\w+)` in `([\w/.]+)`", section)
     if not examples or len(examples) != len(re.findall(r"\n\n    ", section)):
         raise Wrong("an example is not followed by the function that has its lines")
@@ -161,6 +175,12 @@ def compare_embedding(base):
         body = lines_of_function(TOP / path, name)
         if not any(body[at : at + len(lines)] == lines for at in range(len(body))):
             raise Wrong(f"{name} in {path} does not have the lines {lines}")
+
+
+def compare_architecture(base):
+    text = base.with_name("ARCHITECTURE.md").read_text()
+    compare_stops(text)
+    compare_examples(text)
 
 
 def cases_of_folders():
@@ -184,7 +204,7 @@ def main():
         sys.exit("tests/run.py: build the program first: ./tsearch --help")
     examples = sorted(path.with_suffix("") for path in EXAMPLES.glob("*.script"))
     jobs = [(run_case, base) for base in cases_of_folders()] + [(run_example, base) for base in examples]
-    jobs.append((compare_embedding, ARCHITECTURE))
+    jobs.append((compare_architecture, ARCHITECTURE))
     wanted = sys.argv[1:]
     missing = sorted(set(wanted) - {base.name for _, base in jobs})
     if missing:
