@@ -1,10 +1,10 @@
 #!/usr/bin/env python3
 """Compares the two ways in which the built program finds lines, on random patterns and lines.
 
-Each pattern is searched in two documents with the same lines: a small one, which is looked at line by line, and one that
-has them several times and is so large that the pattern is compiled and goes over it from match to match. (Patterns that
-are too large to compile, and those with stars inside stars, go one way in both.) The two are implementations of one
-contract: any difference ends the comparison with status 1.
+Each pattern is searched, with its case or with case ignored, in two documents with the same lines: a small one, which is
+looked at line by line, and one that has them several times and is so large that the pattern is compiled and goes over it
+from match to match. (Patterns that are too large to compile, and those with stars inside stars, go one way in both.) The
+two are implementations of one contract: any difference ends the comparison with status 1.
 
 Usage: tests/compare_two_ways.py [--patterns N] [--lines N] [--seed N]
 """
@@ -63,7 +63,7 @@ def compare(chance, patterns, lines):
     times = FEW_BYTES // len(small) + 1
     script = b"put a %d\n%s\nput b %d\n%s\npublish\n" % (len(small), small, len(small) * times, small * times)
     made = [pattern for pattern in patterns if b"\n" not in pattern and b"\0" not in pattern]
-    script += b"".join(b"search " + pattern + b"\n" for pattern in made)
+    script += b"".join(chance.choice([b"search ", b"isearch "]) + pattern + b"\n" for pattern in made)
     run = subprocess.run([grep.PROGRAM, "--readers", "0"], input=script, stdout=subprocess.PIPE, check=False)
     hits = hits_of(run.stdout)
     assert len(hits) == len(made), "%d answers to %d searches" % (len(hits), len(made))
