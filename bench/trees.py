@@ -44,6 +44,9 @@ PATTERNS = [
     ("nested repeats", "^(([a-z]+_)+[a-z]+ )+=$"),
 ]
 
+# Searches that ignore case, by `isearch` and by -i; the first is searched with its case too.
+IGNORED = ["deadlock", "gnu_gettext_require", "ERROR", "todo", "return", "static.*inline", "[a-z]+_max"]
+
 # A name pattern, the file names as a glob, and the pattern.
 NAMED = [
     ("\\.h$", "*.h", "return"),
@@ -112,23 +115,23 @@ def index_times(files, env):
     return seconds
 
 
-def others(files, env, pattern, name=None, glob=None):
+def others(files, env, pattern, name=None, glob=None, ignoring=()):
     """What the other tools take. csearch takes names as a regular expression, and the others as a glob."""
     named = {"csearch": ["-f", name] if name else [], "rg": ["-g", glob] if glob else [], "grep": ["--include=" + glob] if glob else []}
     words = {
-        "csearch": ["csearch", "-n"] + named["csearch"] + [pattern],
-        "rg": ["rg", "-j1", "-uuu", "-a", "--no-unicode", "-n", "--no-heading"] + named["rg"] + ["-e", pattern, files],
-        "grep": ["grep", "-rnE"] + named["grep"] + ["-e", pattern, files],
+        "csearch": ["csearch", "-n", *ignoring] + named["csearch"] + [pattern],
+        "rg": ["rg", "-j1", "-uuu", "-a", "--no-unicode", "-n", "--no-heading", *ignoring] + named["rg"] + ["-e", pattern, files],
+        "grep": ["grep", "-rnE", *ignoring] + named["grep"] + ["-e", pattern, files],
     }
     return [shown(spent(words[tool], env)) if shutil.which(tool) else "-" for tool in ("csearch", "rg", "grep")]
 
 
-def row(target, files, env, base, what, search, pattern, name=None, glob=None):
+def row(target, files, env, base, what, search, pattern, name=None, glob=None, ignoring=()):
     seconds, head = search_times(target, search, base)
     lines, candidates = (head[1].decode(), head[2].decode()) if head else ("?", "?")
     ours = "%.2f / %.2f" % tuple(1000 * second for second in seconds)
     cells = [what, "`%s`" % (pattern if name is None else name + " " + pattern).replace("|", "\\|"), lines, candidates, ours]
-    print("| " + " | ".join(cells + others(files, env, pattern, name, glob)) + " |", flush=True)
+    print("| " + " | ".join(cells + others(files, env, pattern, name, glob, ignoring)) + " |", flush=True)
 
 
 def main():
@@ -148,6 +151,9 @@ def main():
         print("| kind | pattern | lines | candidates | tsearch | csearch | rg -j1 | grep -rE |\n|---|---|---|---|---|---|---|---|")
         for what, pattern in PATTERNS:
             row(target, files, env, base, what, "search " + pattern, pattern)
+        row(target, files, env, base, "case counts", "search " + IGNORED[0], IGNORED[0])
+        for pattern in IGNORED:
+            row(target, files, env, base, "case ignored", "isearch " + pattern, pattern, ignoring=["-i"])
         for name, glob, pattern in NAMED:
             row(target, files, env, base, "by name", "searchin %s %s" % (name, pattern), pattern, name, glob)
 

@@ -21,7 +21,7 @@ SECONDS = 10
 
 # The patterns of the examples that are not plain, with what they are to the program.
 TABLE = {
-    rb"^[[:space:]]+(if|while|for) .*\{$": transcripts.re.compile(rb"^[\t\v\f\r ]+(if|while|for) .*\{$").search,
+    rb"^[[:space:]]+(if|while|for) .*\{$": rb"^[\t\v\f\r ]+(if|while|for) .*\{$",
     b"[z-a]": "bad range at 2",
     b"*.c": "nothing to repeat at 0",
 }

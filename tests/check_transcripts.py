@@ -43,8 +43,28 @@ REFUSED = [
     b"line 16 refused: truncated\n",
 ]
 
+# Searches that ignore case, in the pattern alone and not in names.
+CASES = b"put a 2\nXy\nput A 1\nx\npublish\nisearch xY\nisearch ^[^x]\nisearchin a X\nsearchin A X\n"
+CASES_ANSWERED = [
+    b"search 1 version 2 lines 1\na:1:Xy\n",
+    b"search 2 version 2 lines 0\n",
+    b"search 3 version 2 lines 1\na:1:Xy\n",
+    b"search 4 version 2 lines 0\n",
+]
+
 # The one file that exists outside a case's own folder.
 ENDLESS = {b"/dev/zero": bytes(transcripts.MAX_BODY + 1)}
+
+# The patterns of tests/cases that are judged and not plain, with what they are to `re`, or the reason of their refusal.
+TABLE = {
+    b"[[:upper:]]1": b"[A-Z]1",
+    b"^[Mm]AIN": b"^(M|m)AIN",
+    b"[a-Z]": "bad range at 2",
+    b"[z-A]": "bad range at 2",
+    b"[b-A]": "bad range at 2",
+    b"a{2,1}": "bad interval at 1",
+    b"x{300}": "bad interval at 1",
+}
 
 # Scripts with their options, a text, and its status.
 LEGAL = [
@@ -58,6 +78,7 @@ LEGAL = [
     (BESIDE, {}, BOTH % 1 + ONE % 2 + BOTH % 3, 0),
     (BESIDE, {"scarce": True}, ONE % 1 + BOTH % 2 + BOTH % 3, 0),
     (REFUSALS, {"max_commands": 1}, b"".join(REFUSED), 2),
+    (CASES, {}, b"".join(CASES_ANSWERED), 0),
 ]
 
 WRONG = [
@@ -91,6 +112,11 @@ WRONG = [
     (BESIDE, {}, b"search 1 version 2 lines 2\na:1:x\nb:2:x\n" + BOTH % 2 + BOTH % 3, 0),
     (BESIDE, {}, b"search 1 version 2 lines 2\na:1:x\nc:1:x\n" + BOTH % 2 + BOTH % 3, 0),
     (BESIDE, {}, b"search 1 version 2 lines 2\na:1:x\nb:1:xx\n" + BOTH % 2 + BOTH % 3, 0),
+    # case counted in a pattern that ignores it, or ignored in one that does not, in a set that leaves out letters, or in a name
+    (CASES, {}, b"search 1 version 2 lines 0\n" + b"".join(CASES_ANSWERED[1:]), 0),
+    (CASES, {}, CASES_ANSWERED[0] + b"search 2 version 2 lines 1\na:1:Xy\n" + b"".join(CASES_ANSWERED[2:]), 0),
+    (CASES, {}, b"".join(CASES_ANSWERED[:2]) + b"search 3 version 2 lines 2\nA:1:x\na:1:Xy\n" + CASES_ANSWERED[3], 0),
+    (CASES, {}, b"".join(CASES_ANSWERED[:3]) + b"search 4 version 2 lines 1\nA:1:x\n", 0),
     # "out of memory" although there is enough, or for an item that cannot have it
     (REPLACEMENT, {}, OLD + b"search 2 refused: out of memory\n" + NO_OLD + NEW, 2),
     (REPLACEMENT, {}, OLD + b"line 6 refused: out of memory\n" + OLD_AGAIN + b"search 3 version 1 lines 1\nf:1:old\nsearch 4 version 1 lines 0\n", 2),
@@ -125,7 +151,7 @@ def judged_by_hand():
         text = path.with_suffix(".stdout").read_bytes() if path.with_suffix(".stdout").exists() else b""
         status = int(path.with_suffix(".status").read_text()) if path.with_suffix(".status").exists() else 0
         try:
-            fault = transcripts.fault_of(path.read_bytes(), text, status, stats="--stats" in words, files=ENDLESS)
+            fault = transcripts.fault_of(path.read_bytes(), text, status, stats="--stats" in words, files=ENDLESS, table=TABLE)
         except transcripts.NotPlain:
             continue
         count += 1
@@ -151,13 +177,15 @@ def beginnings():
 
 
 def random_item(chance):
-    name, text = chance.choice([b"a", b"b", b"c", b"a/b"]), b"\n".join(chance.choices([b"ab", b"b", b"", b"abab"], k=chance.randrange(3)))
+    name, text = chance.choice([b"a", b"A", b"c", b"a/b"]), b"\n".join(chance.choices([b"ab", b"b", b"", b"aBAb"], k=chance.randrange(3)))
     return chance.choice(
         [b"put %s %d\n%s" % (name, len(text), text)] * 4
         + [b"remove " + name] * 2
         + [b"publish"] * 3
         + [b"search " + chance.choice([b"ab", b"^b|a$", b"b+$", b"(ab)*", b"zz"])] * 8
         + [b"searchin %s b" % chance.choice([b"^a", b"b$|c"])]
+        + [b"isearch " + chance.choice([b"aB", b"^B|A$", b"[^b]", b"B+$"])] * 2
+        + [b"isearchin %s B" % chance.choice([b"^a", b"^A|c"])]
         + [b"sync", b"load a /nothing/here", b"pull"]
     )
 

@@ -1,8 +1,8 @@
 #!/usr/bin/env python3
 """Compares the two ways in which the built program finds lines, on random patterns and lines.
 
-Each pattern is searched in two documents with the same lines: a small one, which is matched line by line, and one that
-repeats them and is so large that the pattern is compiled and searched from match to match. (Patterns that are too large
+Each pattern is searched, with its case or with case ignored, in two documents with the same lines: a small one, which is
+matched line by line, and one that repeats them and is so large that the pattern is compiled and searched from match to match. (Patterns that are too large
 to compile, and those with stars inside stars, go one way in both.) Both ways implement one contract, so any difference
 ends the comparison with status 1.
 
@@ -63,7 +63,7 @@ def compare(chance, patterns, lines):
     times = FEW_BYTES // len(small) + 1
     script = b"put a %d\n%s\nput b %d\n%s\npublish\n" % (len(small), small, len(small) * times, small * times)
     made = [pattern for pattern in patterns if b"\n" not in pattern and b"\0" not in pattern]
-    script += b"".join(b"search " + pattern + b"\n" for pattern in made)
+    script += b"".join(chance.choice([b"search ", b"isearch "]) + pattern + b"\n" for pattern in made)
     run = subprocess.run([grep.PROGRAM, "--readers", "0"], input=script, stdout=subprocess.PIPE, check=False)
     hits = hits_of(run.stdout)
     assert len(hits) == len(made), "%d answers to %d searches" % (len(hits), len(made))

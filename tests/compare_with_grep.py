@@ -2,10 +2,10 @@
 """Compares the built program with GNU grep -E in the C locale, on random patterns and lines.
 
 All patterns are searches of a few scripts, over one document of random lines; grep is run once for each
-pattern. Differences are counted by kind. The known kinds are those of docs/PATTERNS.md, "How this differs from
+pattern. With -i case is ignored, by isearch and by grep -i. Differences are counted by kind. The known kinds are those of docs/PATTERNS.md, "How this differs from
 grep -E"; any other difference ends the comparison with status 1.
 
-Usage: tests/compare_with_grep.py [--patterns N] [--lines N] [--seed N] [--show N]
+Usage: tests/compare_with_grep.py [-i] [--patterns N] [--lines N] [--seed N] [--show N]
 """
 
 import argparse
@@ -102,11 +102,11 @@ class Patterns:
         return text, re.search(rb"\(.*[$^].*\)[*+?{]", text) is not None
 
 
-def answers(lines, patterns):
-    """The program's answer to each pattern: a set of line numbers, or the reason of its refusal."""
+def answers(lines, patterns, word):
+    """The program's answer to a search with this word for each pattern: a set of line numbers, or the reason of its refusal."""
     body = b"\n".join(lines)
     script = b"put f %d\n%s\npublish\n" % (len(body), body)
-    script += b"".join(b"search " + pattern + b"\n" for pattern in patterns)
+    script += b"".join(word + b" " + pattern + b"\n" for pattern in patterns)
     try:
         done = subprocess.run([str(PROGRAM)], input=script, capture_output=True, timeout=SECONDS_OF_A_RUN)
     except subprocess.TimeoutExpired:
@@ -139,11 +139,11 @@ def limit_grep():
     resource.setrlimit(resource.RLIMIT_AS, (BYTES_OF_GREP, BYTES_OF_GREP))
 
 
-def grep(path, pattern):
-    """grep's answer: a set of line numbers, or None if it refuses the pattern."""
+def grep(path, pattern, words):
+    """grep's answer with these words: a set of line numbers, or None if it refuses the pattern."""
     try:
         done = subprocess.run(
-            ["grep", "-E", "-a", "-n", "-e", pattern, str(path)],
+            ["grep", "-E", "-a", "-n", *words, "-e", pattern, str(path)],
             capture_output=True,
             timeout=SECONDS_OF_GREP,
             env=dict(os.environ, LC_ALL="C"),
@@ -158,12 +158,19 @@ def grep(path, pattern):
     return {int(line.split(b":", 1)[0]) for line in done.stdout.splitlines()}
 
 
-def kind_of(pattern, repeated, ours, theirs):
+def is_backwards_in_capitals(pattern):
+    """Whether the pattern may have a range that runs backwards once its ends are capitals, and does not as it is written."""
+    return any(low <= high and low.upper() > high.upper() for low, high in re.findall(rb"(?=(.)-(.))", pattern))
+
+
+def kind_of(pattern, repeated, ours, theirs, ignoring):
     """The kind of a pair of answers, and whether it is known."""
     if isinstance(ours, str):
         if theirs is None:
             return "refused by both", True
         return f"refused here alone: {ours}", ours != "out of memory"
+    if theirs is None and ignoring and is_backwards_in_capitals(pattern):
+        return "refused by grep alone: a range that runs backwards in capitals", True
     if theirs is None:
         return "refused by grep alone", re.search(rb"\[:|\[\.|\[=|\{", pattern) is not None
     if ours == theirs:
@@ -179,6 +186,7 @@ def main():
     if not PROGRAM.exists():
         sys.exit("tests/compare_with_grep.py: build the program first: ./tsearch --help")
     options = argparse.ArgumentParser(description="Compares the program with grep -E.")
+    options.add_argument("-i", "--ignore-case", action="store_true", help="isearch beside grep -i")
     options.add_argument("--patterns", type=int, default=4000)
     options.add_argument("--lines", type=int, default=400)
     options.add_argument("--seed", type=int, default=1)
@@ -190,18 +198,19 @@ def main():
     lines.append(b"the last line")
     kinds = collections.defaultdict(list)
     unknown = 0
+    word, words = (b"isearch", ["-i"]) if options.ignore_case else (b"search", [])
     with tempfile.TemporaryDirectory() as folder:
         path = pathlib.Path(folder) / "f"
         path.write_bytes(b"\n".join(lines) + b"\n")
         for start in range(0, len(patterns), SEARCHES_OF_A_RUN):
             part = patterns[start : start + SEARCHES_OF_A_RUN]
-            for (pattern, repeated), ours in zip(part, answers(lines, [p[0] for p in part])):
+            for (pattern, repeated), ours in zip(part, answers(lines, [p[0] for p in part], word)):
                 try:
-                    theirs = grep(path, pattern)
+                    theirs = grep(path, pattern, words)
                 except TooSlow:
                     kinds["grep took too long"].append((pattern, ours, None))
                     continue
-                kind, known = kind_of(pattern, repeated, ours, theirs)
+                kind, known = kind_of(pattern, repeated, ours, theirs, options.ignore_case)
                 unknown += not known
                 kinds[kind].append((pattern, ours, theirs))
     for kind, found in sorted(kinds.items(), key=lambda item: -len(item[1])):

@@ -28,10 +28,14 @@ WANTED = OLD + OLD_AGAIN + NO_OLD + NEW
 WORDS = [b"tsearch: out of memory\n", b"tsearch: no place for a reader\n"]
 TIMES = {0: 1, 2: 5}
 
-# A body that is too large to be matched line by line, and patterns for it, with the outcome if there is no memory to compile
+# A body that is too large to be matched line by line, and searches of it, with the outcome if there is no memory to compile
 # them.
 LARGE = b"".join(b"line %d of the body, int x = 0x%08x;\n" % (number, number * 7919) for number in range(450))
-PATTERNS = {b"line 44[0-3] .* 0x00": "the same", b"((a*|b)*|c)*0x0034[0-3]": "the search refused"}
+SEARCHES = {
+    b"search line 44[0-3] .* 0x00": "the same",
+    b"isearch LINE 44[0-3] .* 0X00": "the same",
+    b"search ((a*|b)*|c)*0x0034[0-3]": "the search refused",
+}
 IN_A_ROW = 400
 
 
@@ -78,11 +82,13 @@ def each_request(library, readers):
         refused += 1
 
 
-def each_request_of_a_search(library, pattern):
+def each_request_of_a_search(library, search):
     """Refuses each request of a search of the large body in turn. The outcomes, in order."""
-    lines = [b"b:%d:%s\n" % (number, line) for number, line in enumerate(LARGE.split(b"\n"), 1) if re.search(pattern, line)]
+    word, _, pattern = search.partition(b" ")
+    flags = re.IGNORECASE if word == b"isearch" else 0
+    lines = [b"b:%d:%s\n" % (number, line) for number, line in enumerate(LARGE.split(b"\n"), 1) if re.search(pattern, line, flags)]
     wanted = b"search 1 version 1 lines %d\n%s" % (len(lines), b"".join(lines))
-    script = b"put b %d\n%s\npublish\nsearch %s\n" % (len(LARGE), LARGE, pattern)
+    script = b"put b %d\n%s\npublish\n%s\n" % (len(LARGE), LARGE, search)
     seen, count = [], 0
     while len(seen) <= count:
         status, text, messages, count = run(library, script, 0, len(seen) + 1)
@@ -109,13 +115,13 @@ def main():
             for fault in wrong:
                 print("FAILED %s" % fault)
             passed, failed = passed + len(seen) - len(wrong), failed + len(wrong)
-        for pattern, wanted in PATTERNS.items():
-            seen = each_request_of_a_search(library, pattern)
+        for search, wanted in SEARCHES.items():
+            seen = each_request_of_a_search(library, search)
             length, what = max((len(list(group)), what) for what, group in itertools.groupby(seen))
-            print("%s: %s, %d of them in a row" % (pattern.decode(), wanted, length))
+            print("%s: %s, %d of them in a row" % (search.decode(), wanted, length))
             wrong = seen.count("wrong") + (what != wanted or length < IN_A_ROW)
             if wrong:
-                print("FAILED %s: %d times %s in a row, %d wrong" % (pattern.decode(), length, what, seen.count("wrong")))
+                print("FAILED %s: %d times %s in a row, %d wrong" % (search.decode(), length, what, seen.count("wrong")))
             passed, failed = passed + len(seen) + 1 - wrong, failed + wrong
     print("%d passed, %d failed" % (passed, failed))
     sys.exit(1 if failed else 0)

@@ -24,6 +24,10 @@ HEAD = re.compile(rb"search (\d+) version (\d+) lines (\d+)( candidates (\d+) of
 REFUSED = re.compile(rb"(search|line) (\d+) refused: ([^\n]*)\n")
 
 
+# The words of a search: whether it has a name pattern, and whether it ignores case in its pattern.
+SEARCHES = {"search": (False, False), "searchin": (True, False), "isearch": (False, True), "isearchin": (True, True)}
+
+
 class NotPlain(Exception):
     """A pattern that is neither plain nor in the table."""
 
@@ -39,7 +43,7 @@ class Item:
         self.kind, self.number, self.words = kind, number, words
 
     def is_search(self):
-        return self.kind in ("search", "searchin")
+        return self.kind in SEARCHES
 
 
 def items_of(script):
@@ -54,10 +58,11 @@ def items_of(script):
             continue
         if line in (b"publish", b"sync"):
             items.append(Item(line.decode(), line_number))
-        elif word == b"search" or word == b"searchin" and b" " in rest:
+        elif word in (b"search", b"isearch") or word in (b"searchin", b"isearchin") and b" " in rest:
             searches += 1
-            name, _, pattern = rest.partition(b" ") if word == b"searchin" else (None, None, rest)
-            items.append(Item(word.decode(), searches, name=name, pattern=pattern))
+            named, ignores_case = SEARCHES[word.decode()]
+            name, _, pattern = rest.partition(b" ") if named else (None, None, rest)
+            items.append(Item(word.decode(), searches, name=name, pattern=pattern, ignores_case=ignores_case))
         elif word == b"load" and re.fullmatch(rb"[^ ]* .+", rest):
             name, _, path = rest.partition(b" ")
             items.append(Item("load", line_number, name=name, path=path))
@@ -120,15 +125,16 @@ def fault_of_pattern(pattern, table):
     if 0 in pattern:
         return "bad byte at %d" % pattern.index(0)
     if pattern in table:
-        return None if callable(table[pattern]) else table[pattern]
+        return table[pattern] if isinstance(table[pattern], str) else None
     if not PLAIN.fullmatch(pattern):
         raise NotPlain(pattern)
     return None
 
 
-def test_of(pattern, table):
-    """The test whether a line has a match of a pattern that has no fault."""
-    return table[pattern] if pattern in table else re.compile(pattern).search
+def test_of(pattern, table, ignores_case=False):
+    """The test whether a line has a match of a pattern that has no fault. In bytes `re` ignores the case of the ASCII letters alone,
+    and `[^a]` then has neither case of `a`, as here."""
+    return re.compile(table.get(pattern, pattern), re.IGNORECASE if ignores_case else 0).search
 
 
 class Run:
@@ -183,7 +189,7 @@ class Run:
 def answer(item, documents, version, table):
     """The lines of a search's answer as they are written, and the names of the documents that have them."""
     lines, names = [], set()
-    test, test_name = test_of(item.words["pattern"], table), item.words["name"]
+    test, test_name = test_of(item.words["pattern"], table, item.words["ignores_case"]), item.words["name"]
     for name in sorted(documents):
         if test_name is not None and not test_of(test_name, table)(name):
             continue
@@ -231,7 +237,7 @@ def pair(items, text):
 
 def check(script, text, readers=2, max_commands=65_536, stats=False, files=None, table=None, scarce=False):
     """Returns if the text is legal, and gives the status with which the run must then end. `files` are the bytes by
-    their paths, `table` the patterns that are not plain, each with the reason of its refusal or the test of a line. Where memory
+    their paths, `table` the patterns that are not plain, each with the reason of its refusal or what it is to `re`. Where memory
     is scarce, it may be refused to each item, and any reader may answer a search."""
     items, table = items_of(script), table or {}
     entries = pair(items, text)

@@ -25,6 +25,8 @@ A script is a list of lines:
   publish             lets searches see all puts, loads and removes so far
   search ERE          lists the lines with a match of the expression ERE
   searchin NAMES ERE  does so in the texts whose names match the expression NAMES
+  isearch ERE, isearchin NAMES ERE
+                      do the same with the case of letters ignored in ERE
   sync                waits until the searches before it are answered
   # REMARK            does nothing, and neither does an empty line
 

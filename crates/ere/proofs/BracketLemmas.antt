@@ -6,6 +6,8 @@ use Rattle.std.proofs.lemmas.Slice.Eq.{bytes_eq-Decides}
 use Rattle.std.proofs.lemmas.Bool.Decides.{nat_tests}
 use Rattle.ere.specs.ByteSet.{has, single, bytes_between, union, complement, is_line_byte}
 use Rattle.ere.specs.Classes.{class_named}
+use Rattle.ere.specs.declared.case.Case.{Case}
+use Rattle.ere.specs.Letters.{read_in}
 use Rattle.ere.specs.Brackets.{begins_with, range_ahead, opens_symbol, IsEquivalenceClass, IsCharacterClass, IsRangeStart, IsRangeEnd, SpellsItem, SpellsItems, SpellsBracket}
 use Rattle.ere.specs.Brackets.{IsRangeStart as range_start}
 use Rattle.ere.specs.Brackets.{IsRangeEnd as range_end}
@@ -202,14 +204,16 @@ one_items first from r q s t a b = go (items_left first from (93 ∷ r) q s t a 
 no_hat : (items : List ℕ) → IsFalse (begins_with 94 (94 ∷ items)) → ⊥
 no_hat items h = absurd (cc)
 
-pub one_bracket : (from r q : List ℕ) (s t : List Bool) → SpellsBracket from r s → SpellsBracket from q t → (r ≡ q) × (s ≡ t)
-one_bracket from r q s t (brackets.matching h a) (brackets.matching k b) = one_items true from r q s t a b
-one_bracket from r q s t (brackets.matching h a) (brackets.non_matching i o e b is) = absurd (no_hat i (subst (λ v. IsFalse (begins_with 94 v)) e h))
-one_bracket from r q s t (brackets.non_matching i o e b is) (brackets.matching h a) = absurd (no_hat i (subst (λ v. IsFalse (begins_with 94 v)) e h))
-one_bracket from r q s t (brackets.non_matching i o e b is) (brackets.non_matching j p f c is2) =
+pub one_bracket : {case : Case} → (from r q : List ℕ) (s t : List Bool) → SpellsBracket case from r s → SpellsBracket case from q t → (r ≡ q) × (s ≡ t)
+one_bracket {case} from r q s t (brackets.matching m h a is) (brackets.matching n k b is2) =
+    let found = one_items true from r q m n a b in
+    (found.0, is ∙ ap (read_in case) found.1 ∙ sym is2)
+one_bracket from r q s t (brackets.matching m h a is0) (brackets.non_matching i o e b is) = absurd (no_hat i (subst (λ v. IsFalse (begins_with 94 v)) e h))
+one_bracket from r q s t (brackets.non_matching i o e b is) (brackets.matching m h a is0) = absurd (no_hat i (subst (λ v. IsFalse (begins_with 94 v)) e h))
+one_bracket {case} from r q s t (brackets.non_matching i o e b is) (brackets.non_matching j p f c is2) =
     let same : i ≡ j = cc in
     let found = one_items true i r q o p b (subst (λ v. SpellsItems true v (93 ∷ q) p) (sym same) c) in
-    (found.0, is ∙ ap complement found.1 ∙ sym is2)
+    (found.0, is ∙ ap (λ v. complement (read_in case v)) found.1 ∙ sym is2)
 
 pub ends_plain : (from : List ℕ) (high : ℕ) (rest : List ℕ) → IsRangeEnd from high rest → IsPlain from
 ends_plain from high rest (range_end.byte e a b) = subst IsPlain (sym e) (plain_byte high rest b)

@@ -3,6 +3,7 @@ use Rattle.std.proofs.Common.{◌≡◌, ◌≢◌, ℕ, zero, suc, ◌+◌, ◌
 use Rattle.std.proofs.lemmas.List.{take-append-drop, drop-drop, drop_all, take_at}
 use Rattle.std.proofs.lemmas.Bool.Decides.{nat_tests}
 use native.Mathlib.Decide.{dec_lt}
+use Rattle.ere.specs.declared.case.Case.{Case}
 use Rattle.ere.specs.ByteSet.{single, bytes_between}
 use Rattle.ere.specs.Classes.{class_named}
 use Rattle.ere.specs.Brackets.{begins_with, range_ahead, IsCharacterClass, IsRangeEnd, SpellsItem, SpellsItems, SpellsBracket}
@@ -262,12 +263,12 @@ first_fails from none rest t (items.last a) = none (93 ∷ rest) t a
 first_fails from none rest t (items.more {middle = m} {set = s} a b) = none m s a
 
 -- behind a `^`
-pub hat_fails : (from after : List ℕ) → from ≡ 94 ∷ after → ((rest : List ℕ) (t : List Bool) → SpellsItems true after (93 ∷ rest) t → ⊥) → (rest : List ℕ) (t : List Bool) → SpellsBracket from rest t → ⊥
-hat_fails from after e none rest t (brackets.matching h a) = absurd (let hat : IsTrue (begins_with 94 from) = rw e (first_begins 94 after) in cc)
+pub hat_fails : {case : Case} → (from after : List ℕ) → from ≡ 94 ∷ after → ((rest : List ℕ) (t : List Bool) → SpellsItems true after (93 ∷ rest) t → ⊥) → (rest : List ℕ) (t : List Bool) → SpellsBracket case from rest t → ⊥
+hat_fails from after e none rest t (brackets.matching m h a is) = absurd (let hat : IsTrue (begins_with 94 from) = rw e (first_begins 94 after) in cc)
 hat_fails from after e none rest t (brackets.non_matching items others f a is) = none rest others (subst (λ v. SpellsItems true v (93 ∷ rest) others) (tail_of (sym f ∙ e)) a)
 
-pub no_hat_fails : (from : List ℕ) → IsFalse (begins_with 94 from) → ((rest : List ℕ) (t : List Bool) → SpellsItems true from (93 ∷ rest) t → ⊥) → (rest : List ℕ) (t : List Bool) → SpellsBracket from rest t → ⊥
-no_hat_fails from h none rest t (brackets.matching k a) = none rest t a
+pub no_hat_fails : {case : Case} → (from : List ℕ) → IsFalse (begins_with 94 from) → ((rest : List ℕ) (t : List Bool) → SpellsItems true from (93 ∷ rest) t → ⊥) → (rest : List ℕ) (t : List Bool) → SpellsBracket case from rest t → ⊥
+no_hat_fails from h none rest t (brackets.matching m k a is) = none rest m a
 no_hat_fails from h none rest t (brackets.non_matching items others f a is) = absurd (let hat : IsTrue (begins_with 94 from) = rw f (first_begins 94 items) in cc)
 
 pub eqb_differs : (a b : ℕ) → a ≢ b → (a == b) ≡ false

@@ -1,5 +1,5 @@
 -- Vectors of sixteen bytes, and the bits of words in them.
-use Rattle.std.proofs.Common.{◌≡◌, ℕ, zero, suc, ◌+◌, ◌-◌, ◌*◌, ◌/◌, ◌%◌, ◌^◌, ◌<◌, ◌≤◌, List, [], ◌∷◌, Bool, true, false, cond, ◌==◌, nat_lt, eqb, ltb, length, get_or, map, replicate, refl, sym, ap, ◌∙◌, arith, w8, bit_and, Fits, shr-shr}
+use Rattle.std.proofs.Common.{◌≡◌, ℕ, zero, suc, ◌+◌, ◌*◌, ◌/◌, ◌%◌, ◌^◌, ◌<◌, ◌≤◌, List, [], ◌∷◌, Bool, true, false, cond, ◌==◌, eqb, ltb, length, get_or, map, replicate, refl, sym, ap, ◌∙◌, arith, w8, bit_and, Fits, shr-shr}
 use Rattle.std.specs.Int.{bit_at}
 use Rattle.std.specs.Simd.Lanes.{zip2, sel_l, mask_l, top, Each1}
 use Rattle.std.proofs.lemmas.Nat.{pow_pos}

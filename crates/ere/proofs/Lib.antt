@@ -1,6 +1,7 @@
 pub mod Forms
 pub mod Words
 mod SetLemmas
+mod LetterLemmas
 pub mod Bits
 pub mod SetWords
 mod LaneLemmas

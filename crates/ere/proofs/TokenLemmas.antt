@@ -2,8 +2,10 @@
 use Rattle.std.proofs.Common.{◌≡◌, ℕ, ◌≤◌, true, IsTrue, IsFalse, List, [], ◌∷◌, ◌++◌, length, drop, Option, Some, None, refl, sym, ap, ◌∙◌, subst, arith}
 use Rattle.std.specs.List.{AllPass, AllByRecursion}
 use Rattle.std.proofs.lemmas.List.Elements.{recursion_from_All}
+use Rattle.ere.specs.declared.case.Case.{Case}
 use Rattle.ere.specs.ByteSet.{single}
 use Rattle.ere.specs.Classes.{is_digit}
+use Rattle.ere.specs.Letters.{read_in}
 use Rattle.ere.specs.Brackets.{SpellsBracket}
 use Rattle.ere.specs.Tokens.{Token, set, times, Tokens, SpellsToken, SpellsInterval, SpellsCount, digit_ahead, token_of_byte}
 use Rattle.ere.specs.Tokens.{SpellsToken as spelled, SpellsInterval as interval, Tokens as tokens}
@@ -79,64 +81,64 @@ one_interval from r q l m g h (interval.between digits high most e count count2 
     one_interval_view digits (44 ∷ (high ++ 125 ∷ r)) r q l m g h (between high most refl count count2 order is) (interval_view from digits (44 ∷ (high ++ 125 ∷ r)) q m h e count.decimal refl b)
 
 -- a byte that begins a longer token is none by itself
-pub no_bracket_byte : (text : List ℕ) (t : Token) → token_of_byte 91 text ≡ Some t → ⊥
+pub no_bracket_byte : (case : Case) → (text : List ℕ) (t : Token) → token_of_byte case 91 text ≡ Some t → ⊥
 unfolding token_of_byte
-no_bracket_byte text t e = absurd (cc)
+no_bracket_byte case text t e = absurd (cc)
 
-pub no_escape_byte : (text : List ℕ) (t : Token) → token_of_byte 92 text ≡ Some t → ⊥
+pub no_escape_byte : (case : Case) → (text : List ℕ) (t : Token) → token_of_byte case 92 text ≡ Some t → ⊥
 unfolding token_of_byte
-no_escape_byte text t e = absurd (cc)
+no_escape_byte case text t e = absurd (cc)
 
-pub no_brace_byte : (text : List ℕ) (t : Token) → IsTrue (digit_ahead text) → token_of_byte 123 text ≡ Some t → ⊥
+pub no_brace_byte : (case : Case) → (text : List ℕ) (t : Token) → IsTrue (digit_ahead text) → token_of_byte case 123 text ≡ Some t → ⊥
 unfolding token_of_byte
-no_brace_byte text t h e = let none : token_of_byte 123 text ≡ None = rw h refl in absurd (cc)
+no_brace_byte case text t h e = let none : token_of_byte case 123 text ≡ None = rw h refl in absurd (cc)
 
-pub at_byte : (from : List ℕ) (b c : ℕ) (rest more : List ℕ) (t : Token) → from ≡ b ∷ rest → from ≡ c ∷ more → token_of_byte b rest ≡ Some t → token_of_byte c more ≡ Some t
-at_byte from b c rest more t e f h = subst (λ v. token_of_byte v more ≡ Some t) (head_of (sym e ∙ f)) (subst (λ v. token_of_byte b v ≡ Some t) (tail_of (sym e ∙ f)) h)
+pub at_byte : (case : Case) → (from : List ℕ) (b c : ℕ) (rest more : List ℕ) (t : Token) → from ≡ b ∷ rest → from ≡ c ∷ more → token_of_byte case b rest ≡ Some t → token_of_byte case c more ≡ Some t
+at_byte case from b c rest more t e f h = subst (λ v. token_of_byte case v more ≡ Some t) (head_of (sym e ∙ f)) (subst (λ v. token_of_byte case b v ≡ Some t) (tail_of (sym e ∙ f)) h)
 
-pub one_token : (from r q : List ℕ) (s t : Token) → SpellsToken from r s → SpellsToken from q t → (r ≡ q) × (s ≡ t)
+pub one_token : {case : Case} → (from r q : List ℕ) (s t : Token) → SpellsToken case from r s → SpellsToken case from q t → (r ≡ q) × (s ≡ t)
 one_token from r q s t (spelled.byte b e h) (spelled.byte c f k) =
-    let same = at_byte from b c r q s e f h in
+    let same = at_byte _ from b c r q s e f h in
     (tail_of (sym e ∙ f), let both : Some s ≡ Some t = sym same ∙ k in cc)
-one_token from r q s t (spelled.byte b e h) (spelled.escaped c f k is) = absurd (no_escape_byte (c ∷ q) s (at_byte from b 92 r (c ∷ q) s e f h))
-one_token from r q s t (spelled.byte b e h) (spelled.bracket items m f k is) = absurd (no_bracket_byte items s (at_byte from b 91 r items s e f h))
-one_token from r q s t (spelled.byte b e h) (spelled.interval counts l g f d k is) = absurd (no_brace_byte counts s d (at_byte from b 123 r counts s e f h))
-one_token from r q s t (spelled.escaped c f k is) (spelled.byte b e h) = absurd (no_escape_byte (c ∷ r) t (at_byte from b 92 q (c ∷ r) t e f h))
-one_token from r q s t (spelled.escaped c f k is) (spelled.escaped b e h is2) = let same : c ≡ b = head_of (tail_of (sym f ∙ e)) in (tail_of (tail_of (sym f ∙ e)), is ∙ ap (λ v. set (single v)) same ∙ sym is2)
+one_token from r q s t (spelled.byte b e h) (spelled.escaped c f k is) = absurd (no_escape_byte _ (c ∷ q) s (at_byte _ from b 92 r (c ∷ q) s e f h))
+one_token from r q s t (spelled.byte b e h) (spelled.bracket items m f k is) = absurd (no_bracket_byte _ items s (at_byte _ from b 91 r items s e f h))
+one_token from r q s t (spelled.byte b e h) (spelled.interval counts l g f d k is) = absurd (no_brace_byte _ counts s d (at_byte _ from b 123 r counts s e f h))
+one_token from r q s t (spelled.escaped c f k is) (spelled.byte b e h) = absurd (no_escape_byte _ (c ∷ r) t (at_byte _ from b 92 q (c ∷ r) t e f h))
+one_token {case} from r q s t (spelled.escaped c f k is) (spelled.escaped b e h is2) = let same : c ≡ b = head_of (tail_of (sym f ∙ e)) in (tail_of (tail_of (sym f ∙ e)), is ∙ ap (λ v. set (read_in case (single v))) same ∙ sym is2)
 one_token from r q s t (spelled.escaped c f k is) (spelled.bracket items m e h is2) = absurd (omega (arith, head_of (sym f ∙ e)))
 one_token from r q s t (spelled.escaped c f k is) (spelled.interval counts l g e d h is2) = absurd (omega (arith, head_of (sym f ∙ e)))
-one_token from r q s t (spelled.bracket items m f k is) (spelled.byte b e h) = absurd (no_bracket_byte items t (at_byte from b 91 q items t e f h))
+one_token from r q s t (spelled.bracket items m f k is) (spelled.byte b e h) = absurd (no_bracket_byte _ items t (at_byte _ from b 91 q items t e f h))
 one_token from r q s t (spelled.bracket items m e h is2) (spelled.escaped c f k is) = absurd (omega (arith, head_of (sym f ∙ e)))
-one_token from r q s t (spelled.bracket items m e h is) (spelled.bracket others n f k is2) =
-    let found = one_bracket items r q m n h (subst (λ v. SpellsBracket v q n) (tail_of (sym f ∙ e)) k) in
+one_token {case} from r q s t (spelled.bracket items m e h is) (spelled.bracket others n f k is2) =
+    let found = one_bracket items r q m n h (subst (λ v. SpellsBracket case v q n) (tail_of (sym f ∙ e)) k) in
     (found.0, is ∙ ap set found.1 ∙ sym is2)
 one_token from r q s t (spelled.bracket items m e h is2) (spelled.interval counts l g f d k is) = absurd (omega (arith, head_of (sym f ∙ e)))
-one_token from r q s t (spelled.interval counts l g f d k is) (spelled.byte b e h) = absurd (no_brace_byte counts t d (at_byte from b 123 q counts t e f h))
+one_token from r q s t (spelled.interval counts l g f d k is) (spelled.byte b e h) = absurd (no_brace_byte _ counts t d (at_byte _ from b 123 q counts t e f h))
 one_token from r q s t (spelled.interval counts l g e d h is2) (spelled.escaped c f k is) = absurd (omega (arith, head_of (sym f ∙ e)))
 one_token from r q s t (spelled.interval counts l g f d k is) (spelled.bracket items m e h is2) = absurd (omega (arith, head_of (sym f ∙ e)))
 one_token from r q s t (spelled.interval counts l g e d h is) (spelled.interval others m k f c j is2) =
     let found = one_interval counts r q l m g k h (subst (λ v. SpellsInterval v q m k) (tail_of (sym f ∙ e)) j) in
     (found.0, is ∙ ap (λ v. times v g) found.1 ∙ ap (times m) found.2 ∙ sym is2)
 
-pub no_token : (r : List ℕ) (t : Token) → SpellsToken [] r t → ⊥
+pub no_token : {case : Case} → (r : List ℕ) (t : Token) → SpellsToken case [] r t → ⊥
 no_token r t (spelled.byte b e h) = absurd (cc)
 no_token r t (spelled.escaped b e h is) = absurd (cc)
 no_token r t (spelled.bracket items m e h is) = absurd (cc)
 no_token r t (spelled.interval counts l g e d h is) = absurd (cc)
 
 -- A text is made of tokens in one way at most.
-pub one_tokens : (from : List ℕ) (ts us : List Token) → Tokens from ts → Tokens from us → ts ≡ us
+pub one_tokens : {case : Case} → (from : List ℕ) (ts us : List Token) → Tokens case from ts → Tokens case from us → ts ≡ us
 one_tokens from [] [] a b = refl
-one_tokens from [] (u ∷ us) a b = absurd (some_of from u us a b)
+one_tokens {case} from [] (u ∷ us) a b = absurd (some_of from u us a b)
   where
-    some_of : (from : List ℕ) (u : Token) (us : List Token) → Tokens from [] → Tokens from (u ∷ us) → ⊥
+    some_of : (from : List ℕ) (u : Token) (us : List Token) → Tokens case from [] → Tokens case from (u ∷ us) → ⊥
     some_of from u us tokens.none (tokens.more {rest = r} s b) = no_token r u s
-one_tokens from (t ∷ ts) [] a b = absurd (none_of from t ts a b)
+one_tokens {case} from (t ∷ ts) [] a b = absurd (none_of from t ts a b)
   where
-    none_of : (from : List ℕ) (u : Token) (us : List Token) → Tokens from (u ∷ us) → Tokens from [] → ⊥
+    none_of : (from : List ℕ) (u : Token) (us : List Token) → Tokens case from (u ∷ us) → Tokens case from [] → ⊥
     none_of from u us (tokens.more {rest = r} s b) tokens.none = no_token r u s
-one_tokens from (t ∷ ts) (u ∷ us) (tokens.more {rest = r} s a) (tokens.more {rest = q} v b) =
+one_tokens {case} from (t ∷ ts) (u ∷ us) (tokens.more {rest = r} s a) (tokens.more {rest = q} v b) =
     let first = one_token from r q t u s v in
-    let others = one_tokens r ts us a (subst (λ w. Tokens w us) (sym first.0) b) in
+    let others = one_tokens r ts us a (subst (λ w. Tokens case w us) (sym first.0) b) in
     let same = first.1 in
     cc

@@ -5,8 +5,10 @@ use Rattle.std.proofs.lemmas.List.Elements.{All-push, All-nil}
 use Rattle.std.proofs.lemmas.List.Sums.{fold-append}
 use Rattle.std.proofs.lemmas.List.{drop_all}
 use native.Mathlib.Decide.{dec_lt}
+use Rattle.ere.specs.declared.case.Case.{Case}
 use Rattle.ere.specs.ByteSet.{single}
 use Rattle.ere.specs.Classes.{is_digit}
+use Rattle.ere.specs.Letters.{read_in}
 use Rattle.ere.specs.Brackets.{begins_with, SpellsBracket}
 use Rattle.ere.specs.Tokens.{Token, set, times, SpellsToken, SpellsInterval, SpellsCount, digit_ahead, decimal_value, token_of_byte, is_escapable}
 use Rattle.ere.specs.Tokens.{SpellsToken as spelled, SpellsInterval as interval}
@@ -17,23 +19,23 @@ use Rattle.ere.proofs.Texts.{first_begins, front}
 use Rattle.ere.proofs.TokenLemmas.{tail_of, at_byte, no_bracket_byte, no_escape_byte, no_brace_byte, no_token, one_token, IntervalView, IntervalView as view, interval_view, one_run, all_digits, one_count}
 
 -- No token stands at the front.
-abbrev pub NoToken : List ℕ → Type 0
-NoToken from = (rest : List ℕ) (t : Token) → SpellsToken from rest t → ⊥
+abbrev pub NoToken : Case → List ℕ → Type 0
+NoToken case from = (rest : List ℕ) (t : Token) → SpellsToken case from rest t → ⊥
 
-pub escape_fails : (from tail : List ℕ) → from ≡ 92 ∷ tail → ((b : ℕ) (r : List ℕ) → tail ≡ b ∷ r → IsTrue (is_escapable b) → ⊥) → NoToken from
-escape_fails from tail e none rest t (spelled.byte b f h) = no_escape_byte tail t (at_byte from b 92 rest tail t f e h)
+pub escape_fails : {case : Case} → (from tail : List ℕ) → from ≡ 92 ∷ tail → ((b : ℕ) (r : List ℕ) → tail ≡ b ∷ r → IsTrue (is_escapable b) → ⊥) → NoToken case from
+escape_fails from tail e none rest t (spelled.byte b f h) = no_escape_byte _ tail t (at_byte _ from b 92 rest tail t f e h)
 escape_fails from tail e none rest t (spelled.escaped b f h is) = none b rest (tail_of (sym e ∙ f)) h
 escape_fails from tail e none rest t (spelled.bracket items m f h is) = absurd (omega (arith, head_of (sym f ∙ e)))
 escape_fails from tail e none rest t (spelled.interval counts l g f d h is) = absurd (omega (arith, head_of (sym f ∙ e)))
 
-pub bracket_fails : (from tail : List ℕ) → from ≡ 91 ∷ tail → ((rest : List ℕ) (m : List Bool) → SpellsBracket tail rest m → ⊥) → NoToken from
-bracket_fails from tail e none rest t (spelled.byte b f h) = no_bracket_byte tail t (at_byte from b 91 rest tail t f e h)
+pub bracket_fails : {case : Case} → (from tail : List ℕ) → from ≡ 91 ∷ tail → ((rest : List ℕ) (m : List Bool) → SpellsBracket case tail rest m → ⊥) → NoToken case from
+bracket_fails from tail e none rest t (spelled.byte b f h) = no_bracket_byte _ tail t (at_byte _ from b 91 rest tail t f e h)
 bracket_fails from tail e none rest t (spelled.escaped b f h is) = absurd (omega (arith, head_of (sym f ∙ e)))
-bracket_fails from tail e none rest t (spelled.bracket items m f h is) = none rest m (subst (λ v. SpellsBracket v rest m) (tail_of (sym f ∙ e)) h)
+bracket_fails {case} from tail e none rest t (spelled.bracket items m f h is) = none rest m (subst (λ v. SpellsBracket case v rest m) (tail_of (sym f ∙ e)) h)
 bracket_fails from tail e none rest t (spelled.interval counts l g f d h is) = absurd (omega (arith, head_of (sym f ∙ e)))
 
-pub interval_fails : (from tail : List ℕ) → from ≡ 123 ∷ tail → IsTrue (digit_ahead tail) → ((rest : List ℕ) (l : ℕ) (g : Option ℕ) → SpellsInterval tail rest l g → ⊥) → NoToken from
-interval_fails from tail e digit none rest t (spelled.byte b f h) = no_brace_byte tail t digit (at_byte from b 123 rest tail t f e h)
+pub interval_fails : {case : Case} → (from tail : List ℕ) → from ≡ 123 ∷ tail → IsTrue (digit_ahead tail) → ((rest : List ℕ) (l : ℕ) (g : Option ℕ) → SpellsInterval tail rest l g → ⊥) → NoToken case from
+interval_fails from tail e digit none rest t (spelled.byte b f h) = no_brace_byte _ tail t digit (at_byte _ from b 123 rest tail t f e h)
 interval_fails from tail e digit none rest t (spelled.escaped b f h is) = absurd (omega (arith, head_of (sym f ∙ e)))
 interval_fails from tail e digit none rest t (spelled.bracket items m f h is) = absurd (omega (arith, head_of (sym f ∙ e)))
 interval_fails from tail e digit none rest t (spelled.interval counts l g f d h is) = none rest l g (subst (λ v. SpellsInterval v rest l g) (tail_of (sym f ∙ e)) h)
@@ -43,9 +45,9 @@ chosen true x y z e = inl (refl, e)
 chosen false x y z e = inr (refl, e)
 
 -- the duplications of one byte
-times_byte : (b : ℕ) (text : List ℕ) (l : ℕ) (g : Option ℕ) → token_of_byte b text ≡ Some (times l g) → b ≢ 42 → b ≢ 43 → b ≢ 63 → ⊥
+times_byte : (case : Case) → (b : ℕ) (text : List ℕ) (l : ℕ) (g : Option ℕ) → token_of_byte case b text ≡ Some (times l g) → b ≢ 42 → b ≢ 43 → b ≢ 63 → ⊥
 unfolding token_of_byte
-times_byte b text l g e no_star no_plus no_question =
+times_byte case b text l g e no_star no_plus no_question =
     skip (b == 46) _ _ (λ f. cc) (skip (b == 40) _ _ (λ f. cc) (skip (b == 41) _ _ (λ f. cc) (skip (b == 124) _ _ (λ f. cc) (skip (b == 94) _ _ (λ f. cc) (skip (b == 36) _ _ (λ f. cc)
     (pass (b == 42) _ _ (eqb_differs b 42 no_star) (pass (b == 43) _ _ (eqb_differs b 43 no_plus) (pass (b == 63) _ _ (eqb_differs b 63 no_question)
     (skip (b == 91 || (b == 92 || (b == 123 && digit_ahead text))) _ _ (λ f. cc) (λ f. cc)))))))))) e
@@ -58,22 +60,22 @@ times_byte b text l g e no_star no_plus no_question =
     pass true x y f h e = absurd (cc)
     pass false x y f h e = h e
 
-pub no_duplication : (from : List ℕ) (b : ℕ) (rest : List ℕ) → from ≡ b ∷ rest → b ≢ 42 → b ≢ 43 → b ≢ 63 → b ≢ 123 → NoDuplication from
-no_duplication from b rest e star plus question brace r l g (spelled.byte c f h) = times_byte b rest l g (at_byte from c b r rest (times l g) f e h) star plus question
+pub no_duplication : {case : Case} → (from : List ℕ) (b : ℕ) (rest : List ℕ) → from ≡ b ∷ rest → b ≢ 42 → b ≢ 43 → b ≢ 63 → b ≢ 123 → NoDuplication case from
+no_duplication from b rest e star plus question brace r l g (spelled.byte c f h) = times_byte _ b rest l g (at_byte _ from c b r rest (times l g) f e h) star plus question
 no_duplication from b rest e star plus question brace r l g (spelled.escaped c f h is) = absurd (cc)
 no_duplication from b rest e star plus question brace r l g (spelled.bracket items m f h is) = absurd (cc)
 no_duplication from b rest e star plus question brace r l g (spelled.interval counts m k f d h is) = brace (head_of (sym e ∙ f))
 
-pub no_duplication_end : NoDuplication []
+pub no_duplication_end : {case : Case} → NoDuplication case []
 no_duplication_end r l g h = no_token r (times l g) h
 
 -- another token stands there
-pub no_duplication_other : (from q : List ℕ) (t : Token) → SpellsToken from q t → ((l : ℕ) (g : Option ℕ) → t ≡ times l g → ⊥) → NoDuplication from
+pub no_duplication_other : {case : Case} → (from q : List ℕ) (t : Token) → SpellsToken case from q t → ((l : ℕ) (g : Option ℕ) → t ≡ times l g → ⊥) → NoDuplication case from
 no_duplication_other from q t h other r l g k = other l g (one_token from q r t (times l g) h k).1
 
-pub other_byte : (b : ℕ) (rest : List ℕ) → b ≢ 46 → b ≢ 40 → b ≢ 41 → b ≢ 124 → b ≢ 94 → b ≢ 36 → b ≢ 42 → b ≢ 43 → b ≢ 63 → IsFalse (begins_longer b rest) → token_of_byte b rest ≡ Some (set (single b))
+pub other_byte : (case : Case) → (b : ℕ) (rest : List ℕ) → b ≢ 46 → b ≢ 40 → b ≢ 41 → b ≢ 124 → b ≢ 94 → b ≢ 36 → b ≢ 42 → b ≢ 43 → b ≢ 63 → IsFalse (begins_longer b rest) → token_of_byte case b rest ≡ Some (set (read_in case (single b)))
 unfolding token_of_byte
-other_byte b rest n46 n40 n41 n124 n94 n36 n42 n43 n63 short =
+other_byte case b rest n46 n40 n41 n124 n94 n36 n42 n43 n63 short =
     rw (eqb_differs b 46 n46, eqb_differs b 40 n40, eqb_differs b 41 n41, eqb_differs b 124 n124, eqb_differs b 94 n94, eqb_differs b 36 n36, eqb_differs b 42 n42, eqb_differs b 43 n43, eqb_differs b 63 n63, short) refl
 
 -- the digits read so far, and what they spell up to 256

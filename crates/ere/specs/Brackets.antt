@@ -3,6 +3,8 @@
 use Rattle.std.specs.Prelude.{◌≡◌, ℕ, ◌≤◌, Bool, true, false, not, ◌&&◌, ◌||◌, ◌==◌, IsTrue, IsFalse, List, [], ◌∷◌, ◌++◌, Some}
 use Rattle.ere.specs.ByteSet.{single, bytes_between, union, complement}
 use Rattle.ere.specs.Classes.{class_named}
+use Rattle.ere.specs.declared.case.Case.{Case}
+use Rattle.ere.specs.Letters.{read_in}
 
 -- whether the text begins with this byte
 abbrev pub begins_with : ℕ → List ℕ → Bool
@@ -61,6 +63,7 @@ pub data SpellsItems : Bool → List ℕ → List ℕ → List Bool → Type 0 w
   more : {first : Bool} {from middle rest : List ℕ} {set others : List Bool} → SpellsItem first from middle set → SpellsItems false middle rest others → SpellsItems first from rest (union set others)
 
 -- What follows the opening `[`: `^` or, where the next byte isn't `^`, nothing; then items, then `]`.
-pub data SpellsBracket (from rest : List ℕ) (set : List Bool) : Type 0 where
-  matching : IsFalse (begins_with 94 from) → SpellsItems true from (93 ∷ rest) set → SpellsBracket from rest set
-  non_matching : (items : List ℕ) (others : List Bool) → from ≡ 94 ∷ items → SpellsItems true items (93 ∷ rest) others → set ≡ complement others → SpellsBracket from rest set
+-- Where case is ignored, the bytes of all items get their other case before a `^` takes the others.
+pub data SpellsBracket (case : Case) (from rest : List ℕ) (set : List Bool) : Type 0 where
+  matching : (members : List Bool) → IsFalse (begins_with 94 from) → SpellsItems true from (93 ∷ rest) members → set ≡ read_in case members → SpellsBracket case from rest set
+  non_matching : (items : List ℕ) (members : List Bool) → from ≡ 94 ∷ items → SpellsItems true items (93 ∷ rest) members → set ≡ complement (read_in case members) → SpellsBracket case from rest set

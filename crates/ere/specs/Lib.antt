@@ -1,6 +1,7 @@
 pub mod Bits
 pub mod ByteSet
 pub mod Classes
+pub mod Letters
 pub mod Brackets
 pub mod Tree
 pub mod Tokens

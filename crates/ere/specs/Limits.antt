@@ -2,6 +2,7 @@
 use Rattle.std.specs.Prelude.{◌≢◌, ℕ, ◌+◌, ◌*◌, ◌≤◌, max, List, length, Option, Some, None, IfSome}
 use Rattle.std.specs.List.{AllByRecursion}
 use Rattle.ere.specs.Tree.{Tree, empty, set, at_start, at_end, cat, alt, repeat, Trees, none, more}
+use Rattle.ere.specs.declared.case.Case.{Case}
 use Rattle.ere.specs.Spelling.{Spells}
 
 abbrev pub greatest_pattern : ℕ
@@ -76,14 +77,14 @@ pub record IsWithinLimits (tree : Tree) : Type 0 where
   pub low : height tree ≤ greatest_height
   pub small : leaves tree ≤ greatest_leaves
 
--- The pattern has this tree.
-pub record IsTreeOf (pattern : List ℕ) (tree : Tree) : Type 0 where
+-- The pattern has this tree, read with the case of letters or without it.
+pub record IsTreeOf (case : Case) (pattern : List ℕ) (tree : Tree) : Type 0 where
   pub short : length pattern ≤ greatest_pattern
   pub allowed : AllByRecursion (λ b. (b ≢ 0) × (b ≢ 10)) pattern
-  pub spelled : Spells greatest_open pattern tree
+  pub spelled : Spells case greatest_open pattern tree
   pub low : height tree ≤ greatest_height
   pub small : leaves tree ≤ greatest_leaves
 
 -- The pattern has no tree.
-abbrev pub HasNoTree : List ℕ → Type 0
-HasNoTree pattern = (tree : Tree) → IsTreeOf pattern tree → ⊥
+abbrev pub HasNoTree : Case → List ℕ → Type 0
+HasNoTree case pattern = (tree : Tree) → IsTreeOf case pattern tree → ⊥

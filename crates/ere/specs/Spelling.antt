@@ -5,6 +5,7 @@
 use Rattle.std.specs.Prelude.{◌≡◌, ℕ, zero, suc, ◌<◌, Bool, List, [], ◌∷◌, Option}
 use Rattle.ere.specs.ByteSet.{single}
 use Rattle.ere.specs.Tree.{Tree, empty, set, at_start, at_end, cat, alt, repeat, Trees, none, more}
+use Rattle.ere.specs.declared.case.Case.{Case}
 use Rattle.ere.specs.Tokens.{Token, Tokens}
 use Rattle.ere.specs.Tokens as token
 
@@ -48,9 +49,9 @@ mutual
     lone_close : {rest : List Token} → SpellsAtom limit zero (token.closes ∷ rest) rest (set (single 41))
 
 -- The text spells the tree, with at most `limit` groups open at once.
-pub record Spells (limit : ℕ) (text : List ℕ) (tree : Tree) : Type 0 where
+pub record Spells (case : Case) (limit : ℕ) (text : List ℕ) (tree : Tree) : Type 0 where
   pub tokens : List Token
-  pub are_tokens : Tokens text tokens
+  pub are_tokens : Tokens case text tokens
   pub branches : Trees
   pub spelled : SpellsAlternatives limit zero tokens [] branches
   pub is_tree : tree ≡ alternatives_of branches

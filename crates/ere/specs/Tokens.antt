@@ -4,6 +4,8 @@ use Rattle.std.specs.Prelude.{◌≡◌, ℕ, ◌+◌, ◌*◌, ◌-◌, ◌≤�
 use Rattle.std.specs.List.{AllPass}
 use Rattle.ere.specs.ByteSet.{single, all_line_bytes}
 use Rattle.ere.specs.Classes.{is_digit, is_punct}
+use Rattle.ere.specs.declared.case.Case.{Case}
+use Rattle.ere.specs.Letters.{read_in}
 use Rattle.ere.specs.Brackets.{SpellsBracket}
 
 pub data Token : Type 0 where
@@ -30,8 +32,8 @@ digit_ahead (b ∷ text) = is_digit b
 
 -- The token of a byte that is one by itself, where `text` comes after it. None: `[`, `\` and a `{`
 -- before a digit, which begin a longer token.
-unfoldable pub token_of_byte : ℕ → List ℕ → Option Token
-token_of_byte b text =
+unfoldable pub token_of_byte : Case → ℕ → List ℕ → Option Token
+token_of_byte case b text =
     if b == 46 then Some (set all_line_bytes)
     else (if b == 40 then Some opens
     else (if b == 41 then Some closes
@@ -42,7 +44,7 @@ token_of_byte b text =
     else (if b == 43 then Some (times 1 None)
     else (if b == 63 then Some (times 0 (Some 1))
     else (if b == 91 || (b == 92 || (b == 123 && digit_ahead text)) then None
-    else Some (set (single b)))))))))))
+    else Some (set (read_in case (single b))))))))))))
 
 -- A `\` makes any ASCII punctuation but `<`, `>`, the grave accent and the apostrophe stand for itself.
 abbrev pub is_escapable : ℕ → Bool
@@ -66,13 +68,13 @@ pub data SpellsInterval (from rest : List ℕ) (least : ℕ) (greatest : Option 
   between : (low high : List ℕ) (most : ℕ) → from ≡ low ++ 44 ∷ (high ++ 125 ∷ rest) → SpellsCount low least → SpellsCount high most → least ≤ most → greatest ≡ Some most → SpellsInterval from rest least greatest
 
 -- One token at the front of a text, and the text after it.
-pub data SpellsToken (from rest : List ℕ) (token : Token) : Type 0 where
-  byte : (b : ℕ) → from ≡ b ∷ rest → token_of_byte b rest ≡ Some token → SpellsToken from rest token
-  escaped : (b : ℕ) → from ≡ 92 ∷ b ∷ rest → IsTrue (is_escapable b) → token ≡ set (single b) → SpellsToken from rest token
-  bracket : (items : List ℕ) (members : List Bool) → from ≡ 91 ∷ items → SpellsBracket items rest members → token ≡ set members → SpellsToken from rest token
-  interval : (counts : List ℕ) (least : ℕ) (greatest : Option ℕ) → from ≡ 123 ∷ counts → IsTrue (digit_ahead counts) → SpellsInterval counts rest least greatest → token ≡ times least greatest → SpellsToken from rest token
+pub data SpellsToken (case : Case) (from rest : List ℕ) (token : Token) : Type 0 where
+  byte : (b : ℕ) → from ≡ b ∷ rest → token_of_byte case b rest ≡ Some token → SpellsToken case from rest token
+  escaped : (b : ℕ) → from ≡ 92 ∷ b ∷ rest → IsTrue (is_escapable b) → token ≡ set (read_in case (single b)) → SpellsToken case from rest token
+  bracket : (items : List ℕ) (members : List Bool) → from ≡ 91 ∷ items → SpellsBracket case items rest members → token ≡ set members → SpellsToken case from rest token
+  interval : (counts : List ℕ) (least : ℕ) (greatest : Option ℕ) → from ≡ 123 ∷ counts → IsTrue (digit_ahead counts) → SpellsInterval counts rest least greatest → token ≡ times least greatest → SpellsToken case from rest token
 
 -- The text is the joining of the texts of these tokens.
-pub data Tokens : List ℕ → List Token → Type 0 where
-  none : Tokens [] []
-  more : {from rest : List ℕ} {token : Token} {tokens : List Token} → SpellsToken from rest token → Tokens rest tokens → Tokens from (token ∷ tokens)
+pub data Tokens (case : Case) : List ℕ → List Token → Type 0 where
+  none : Tokens case [] []
+  more : {from rest : List ℕ} {token : Token} {tokens : List Token} → SpellsToken case from rest token → Tokens case rest tokens → Tokens case from (token ∷ tokens)

@@ -7,8 +7,10 @@ ghost use Rattle.ere.specs.Classes.{class_named};
 ghost use Rattle.ere.specs.Private.Reading.{IsSymbol, opens_with, IsByteOrSymbol, IsSymbolEnd};
 
 use crate::byte_set::ByteSet;
+use crate::case::Case;
 use crate::classes::class_named;
 use crate::error::{EreError, EreErrorKind};
+use crate::letters::read_in;
 
 /// Whether this byte is at `at`.
 pub fn stands_at(text: &[u8], at: usize, byte: u8) -> bool
@@ -25,18 +27,19 @@ fn opens(text: &[u8], at: usize, mark: u8) -> bool
 }
 
 /// The bracket expression whose `[` is at `opening`: its set, and the offset after its `]`.
-pub fn bracket_at(text: &[u8], opening: usize) -> Result<(ByteSet, usize), EreError>
+pub fn bracket_at(case: Case, text: &[u8], opening: usize) -> Result<(ByteSet, usize), EreError>
     requires { opening < length text.now }
-    ensures ok { IfOk result (λ r. SpellsBracket (drop (opening + 1) text.now) (drop r.1 text.now) r.0) }
+    ensures ok { IfOk result (λ r. SpellsBracket case (drop (opening + 1) text.now) (drop r.1 text.now) r.0) }
     ensures after { IfOk result (λ r. (opening < r.1) × (r.1 ≤ length text.now)) }
-    ensures err { IfErr result (λ e. (rest : List ℕ) (members : List Bool) → SpellsBracket (drop (opening + 1) text.now) rest members → ⊥) }
+    ensures err { IfErr result (λ e. (rest : List ℕ) (members : List Bool) → SpellsBracket case (drop (opening + 1) text.now) rest members → ⊥) }
 {
     let start = opening + 1;
     if stands_at(text, start, b'^') {
         let (items, after) = items_at(text, start + 1, opening)?;
-        return Ok((items.complement(), after));
+        return Ok((read_in(case, items).complement(), after));
     }
-    items_at(text, start, opening)
+    let (items, after) = items_at(text, start, opening)?;
+    Ok((read_in(case, items), after))
 }
 
 /// One or more items and the closing `]`: the union of the items' sets, and the offset after the `]`.

@@ -38,13 +38,15 @@ pub fn class_named(name: &[u8]) -> Option<ByteSet>
     }
 }
 
-fn is_upper(b: u8) -> bool
+/// Whether the byte is a capital letter.
+pub fn is_upper(b: u8) -> bool
     ensures { result ≡ is_upper b }
 {
     65 <= b && b <= 90
 }
 
-fn is_lower(b: u8) -> bool
+/// Whether the byte is a small letter.
+pub fn is_lower(b: u8) -> bool
     ensures { result ≡ is_lower b }
 {
     97 <= b && b <= 122

@@ -9,6 +9,7 @@ ghost use Rattle.ere.specs.Limits.{IsTreeOf, IsWithinLimits};
 ghost use Rattle.ere.specs.Spelling.{Spells};
 ghost use Rattle.ere.specs.Tree.{at_end, at_start, cat, empty, more, none, repeat, set, Tree};
 
+use crate::case::Case;
 use crate::tree::MAX_LINE;
 
 /// The greatest length of a line is that of the definitions.
@@ -16,14 +17,14 @@ pub fn line_limit()
     ensures { MAX_LINE ≡ greatest_line }
 {}
 
-/// A text spells at most one tree, however many groups may be open.
+/// A text spells at most one tree in each case, however many groups may be open.
 pub fn one_tree()
-    ensures { (limit other : ℕ) (text : List ℕ) (left right : Tree) → Spells limit text left → Spells other text right → left ≡ right }
+    ensures { (case : Case) (limit other : ℕ) (text : List ℕ) (left right : Tree) → Spells case limit text left → Spells case other text right → left ≡ right }
 {}
 
 /// The tree of a pattern is within the limits.
 pub fn tree_within_limits()
-    ensures { (pattern : List ℕ) (tree : Tree) → IsTreeOf pattern tree → IsWithinLimits tree }
+    ensures { (case : Case) (pattern : List ℕ) (tree : Tree) → IsTreeOf case pattern tree → IsWithinLimits tree }
 {}
 
 /// The language of the empty tree is only the empty word, in any surroundings.

@@ -6,9 +6,11 @@
 
 mod brackets;
 mod byte_set;
+mod case;
 mod classes;
 mod error;
 pub mod laws;
+mod letters;
 mod limits;
 mod parts;
 mod reader;
@@ -17,6 +19,7 @@ mod token;
 mod tree;
 
 pub use byte_set::ByteSet;
+pub use case::Case;
 pub use error::{EreError, EreErrorKind};
-pub use reader::parse;
+pub use reader::{parse, parse_with};
 pub use tree::{Ere, MAX_LINE};

@@ -9,6 +9,7 @@ ghost use Rattle.ere.specs.Tree.{form, Tree};
 
 use crate::brackets::stands_at;
 use crate::byte_set::{ByteSet, is_line_byte};
+use crate::case::Case;
 use crate::error::{EreError, EreErrorKind};
 use crate::limits::{MAX_LEAVES, capped_leaves};
 use crate::parts::{Part, alternatives_of, branch_of, leaf, no_members, repeat_of, with_member};
@@ -22,18 +23,27 @@ pub const MAX_PATTERN: usize = 1024;
 /// The greatest number of groups that may be open at once.
 pub const MAX_OPEN: u8 = 64;
 
-/// Reads a pattern.
-///
-/// An `Ok` holds the one tree of the pattern, which is within the limits. An `Err` says which fault a
-/// reading from left to right meets first, and where (`EreErrorKind`). Length and bytes are checked
-/// first, and height and leaves last. (POSIX.1-2017 XBD 9.4 and 9.3.5; the limits are this program's.)
+/// Reads a pattern in which each byte is only itself, as `parse_with` does with `Case::Exact`.
 pub fn parse(alloc: Global, pattern: &[u8]) -> Result<Ere, EreError>
-    ensures tree { IfOk result (λ e. IsTreeOf pattern.now (form e)) }
+    ensures tree { IfOk result (λ e. IsTreeOf Case.Exact pattern.now (form e)) }
     ensures limits { IfOk result (λ e. IsWithinLimits (form e)) }
-    ensures refused { IfErr result (λ e. e.kind ≢ EreErrorKind.OutOfMemory → HasNoTree pattern.now) }
+    ensures refused { IfErr result (λ e. e.kind ≢ EreErrorKind.OutOfMemory → HasNoTree Case.Exact pattern.now) }
+{
+    parse_with(alloc, pattern, Case::Exact)
+}
+
+/// Reads a pattern, with the case of letters or without it.
+///
+/// An `Ok` holds the one tree of the pattern in this case, which is within the limits. An `Err` says which
+/// fault a reading from left to right meets first, and where (`EreErrorKind`). Length and bytes are checked
+/// first, and height and leaves last. (POSIX.1-2017 XBD 9.4 and 9.3.5; the limits are this program's.)
+pub fn parse_with(alloc: Global, pattern: &[u8], case: Case) -> Result<Ere, EreError>
+    ensures tree { IfOk result (λ e. IsTreeOf case pattern.now (form e)) }
+    ensures limits { IfOk result (λ e. IsWithinLimits (form e)) }
+    ensures refused { IfErr result (λ e. e.kind ≢ EreErrorKind.OutOfMemory → HasNoTree case pattern.now) }
 {
     check_bytes(pattern)?;
-    let (part, _end) = alternatives(alloc, pattern, 0, 0)?;
+    let (part, _end) = alternatives(alloc, case, pattern, 0, 0)?;
     let Some(part) = part else {
         return Err(EreError::new(EreErrorKind::TooDeep, 0));
     };
@@ -47,7 +57,7 @@ pub fn parse(alloc: Global, pattern: &[u8]) -> Result<Ere, EreError>
 fn check_bytes(pattern: &[u8]) -> Result<(), EreError>
     ensures short { OnOk result (length pattern.now ≤ greatest_pattern) }
     ensures allowed { OnOk result (AllByRecursion (λ b. (b ≢ 0) × (b ≢ 10)) pattern.now) }
-    ensures err { OnErr result (HasNoTree pattern.now) }
+    ensures err { OnErr result ((case : Case) → HasNoTree case pattern.now) }
 {
     if pattern.len() > MAX_PATTERN {
         return Err(EreError::new(EreErrorKind::TooLong, MAX_PATTERN));
@@ -64,20 +74,21 @@ fn check_bytes(pattern: &[u8]) -> Result<(), EreError>
 #[cycle(reader)]
 fn alternatives(
     alloc: Global,
+    case: Case,
     text: &[u8],
     start: usize,
     depth: u8,
 ) -> Result<(Option<Part>, usize), EreError>
     requires within { start ≤ length text.now }
     requires open_groups { depth ≤ greatest_open }
-    ensures ok { IfOk result (λ r. ReadsAlternatives depth (drop start text.now) (drop r.1 text.now) r.0) }
+    ensures ok { IfOk result (λ r. ReadsAlternatives case depth (drop start text.now) (drop r.1 text.now) r.0) }
     ensures after { IfOk result (λ r. (start ≤ r.1) × (r.1 ≤ length text.now)) }
-    ensures err { IfErr result (λ e. e.kind ≢ EreErrorKind.OutOfMemory → NoAlternatives depth (drop start text.now)) }
+    ensures err { IfErr result (λ e. e.kind ≢ EreErrorKind.OutOfMemory → NoAlternatives case depth (drop start text.now)) }
 {
-    let (first, mut at) = branch(alloc, text, start, depth)?;
+    let (first, mut at) = branch(alloc, case, text, start, depth)?;
     let mut branches = with_member(no_members(alloc), first)?;
     while stands_at(text, at, b'|') {
-        let (next, after) = branch(alloc, text, at + 1, depth)?;
+        let (next, after) = branch(alloc, case, text, at + 1, depth)?;
         branches = with_member(branches, next)?;
         at = after;
     }
@@ -88,20 +99,21 @@ fn alternatives(
 #[cycle(reader)]
 fn branch(
     alloc: Global,
+    case: Case,
     text: &[u8],
     start: usize,
     depth: u8,
 ) -> Result<(Option<Part>, usize), EreError>
     requires within { start ≤ length text.now }
     requires open_groups { depth ≤ greatest_open }
-    ensures ok { IfOk result (λ r. ReadsBranch depth (drop start text.now) (drop r.1 text.now) r.0) }
+    ensures ok { IfOk result (λ r. ReadsBranch case depth (drop start text.now) (drop r.1 text.now) r.0) }
     ensures after { IfOk result (λ r. (start ≤ r.1) × (r.1 ≤ length text.now)) }
-    ensures err { IfErr result (λ e. e.kind ≢ EreErrorKind.OutOfMemory → NoBranch depth (drop start text.now)) }
+    ensures err { IfErr result (λ e. e.kind ≢ EreErrorKind.OutOfMemory → NoBranch case depth (drop start text.now)) }
 {
     let mut pieces = no_members(alloc);
     let mut at = start;
     while !is_branch_end(text, at, depth) {
-        let (next, after) = piece(alloc, text, at, depth)?;
+        let (next, after) = piece(alloc, case, text, at, depth)?;
         pieces = with_member(pieces, next)?;
         at = after;
     }
@@ -120,6 +132,7 @@ fn is_branch_end(text: &[u8], at: usize, depth: u8) -> bool
 #[cycle(reader)]
 fn piece(
     alloc: Global,
+    case: Case,
     text: &[u8],
     at: usize,
     depth: u8,
@@ -127,23 +140,23 @@ fn piece(
     requires begins { IsFalse (ends_branch depth (drop at text.now)) }
     requires within { at < length text.now }
     requires open_groups { depth ≤ greatest_open }
-    ensures ok { IfOk result (λ r. ReadsPiece depth (drop at text.now) (drop r.1 text.now) r.0) }
+    ensures ok { IfOk result (λ r. ReadsPiece case depth (drop at text.now) (drop r.1 text.now) r.0) }
     ensures after { IfOk result (λ r. (at < r.1) × (r.1 ≤ length text.now)) }
-    ensures err { IfErr result (λ e. e.kind ≢ EreErrorKind.OutOfMemory → NoPiece depth (drop at text.now)) }
+    ensures err { IfErr result (λ e. e.kind ≢ EreErrorKind.OutOfMemory → NoPiece case depth (drop at text.now)) }
 {
-    let (token, after) = token_at(text, at)?;
+    let (token, after) = token_at(case, text, at)?;
     match token {
         Token::Times(_, _) => Err(EreError::new(EreErrorKind::NothingToRepeat, at)),
-        Token::AtStart => anchor(text, after, Ere::Start),
-        Token::AtEnd => anchor(text, after, Ere::End),
-        Token::Set(members) => repeated(alloc, text, after, Some(leaf(Ere::Set(members)))),
+        Token::AtStart => anchor(case, text, after, Ere::Start),
+        Token::AtEnd => anchor(case, text, after, Ere::End),
+        Token::Set(members) => repeated(alloc, case, text, after, Some(leaf(Ere::Set(members)))),
         Token::Opens => {
-            let (part, end) = group(alloc, text, at, after, depth)?;
-            repeated(alloc, text, end, part)
+            let (part, end) = group(alloc, case, text, at, after, depth)?;
+            repeated(alloc, case, text, end, part)
         }
         Token::Closes => {
             let members = ByteSet::single(b')');
-            repeated(alloc, text, after, Some(leaf(Ere::Set(members))))
+            repeated(alloc, case, text, after, Some(leaf(Ere::Set(members))))
         }
         Token::Bar => unreachable!(),
     }
@@ -153,23 +166,24 @@ fn piece(
 #[cycle(reader)]
 fn group(
     alloc: Global,
+    case: Case,
     text: &[u8],
     opening: usize,
     start: usize,
     depth: u8,
 ) -> Result<(Option<Part>, usize), EreError>
-    requires opens { SpellsToken (drop opening text.now) (drop start text.now) opens }
+    requires opens { SpellsToken case (drop opening text.now) (drop start text.now) opens }
     requires after_it { opening < start }
     requires within { start ≤ length text.now }
     requires open_groups { depth ≤ greatest_open }
-    ensures ok { IfOk result (λ r. ReadsAtom depth (drop opening text.now) (drop r.1 text.now) r.0) }
+    ensures ok { IfOk result (λ r. ReadsAtom case depth (drop opening text.now) (drop r.1 text.now) r.0) }
     ensures after { IfOk result (λ r. (opening < r.1) × (r.1 ≤ length text.now)) }
-    ensures err { IfErr result (λ e. e.kind ≢ EreErrorKind.OutOfMemory → NoAtom depth (drop opening text.now)) }
+    ensures err { IfErr result (λ e. e.kind ≢ EreErrorKind.OutOfMemory → NoAtom case depth (drop opening text.now)) }
 {
     if depth == MAX_OPEN {
         return Err(EreError::new(EreErrorKind::TooDeep, opening));
     }
-    let (part, end) = alternatives(alloc, text, start, depth + 1)?;
+    let (part, end) = alternatives(alloc, case, text, start, depth + 1)?;
     if end == text.len() {
         return Err(EreError::new(EreErrorKind::Unclosed, opening));
     }
@@ -177,13 +191,18 @@ fn group(
 }
 
 /// An anchor, which takes no duplication.
-fn anchor(text: &[u8], after: usize, tree: Ere) -> Result<(Option<Part>, usize), EreError>
+fn anchor(
+    case: Case,
+    text: &[u8],
+    after: usize,
+    tree: Ere,
+) -> Result<(Option<Part>, usize), EreError>
     requires { after ≤ length text.now }
-    ensures ok { IfOk result (λ r. (r.1 ≡ after) × NoDuplication (drop after text.now)) }
+    ensures ok { IfOk result (λ r. (r.1 ≡ after) × NoDuplication case (drop after text.now)) }
     ensures built { IfOk result (λ r. (plain : Tree) → form tree ≡ plain → height plain ≡ 1 → IsBuilt r.0 plain) }
-    ensures err { OnErr result ((all : List AnyToken) → Tokens (drop after text.now) all → NoTimes all → ⊥) }
+    ensures err { OnErr result ((all : List AnyToken) → Tokens case (drop after text.now) all → NoTimes all → ⊥) }
 {
-    match duplication_at(text, after)? {
+    match duplication_at(case, text, after)? {
         Some(_) => Err(EreError::new(EreErrorKind::NothingToRepeat, after)),
         None => Ok((Some(leaf(tree)), after)),
     }
@@ -192,19 +211,20 @@ fn anchor(text: &[u8], after: usize, tree: Ere) -> Result<(Option<Part>, usize),
 /// The duplications from `start` on, which apply to the part before them.
 fn repeated(
     alloc: Global,
+    case: Case,
     text: &[u8],
     start: usize,
     atom: Option<Part>,
 ) -> Result<(Option<Part>, usize), EreError>
     requires { start ≤ length text.now }
-    ensures ok { IfOk result (λ r. (tree : Tree) → IsBuilt atom tree → ReadsDuplications (drop start text.now) (drop r.1 text.now) tree r.0) }
+    ensures ok { IfOk result (λ r. (tree : Tree) → IsBuilt atom tree → ReadsDuplications case (drop start text.now) (drop r.1 text.now) tree r.0) }
     ensures after { IfOk result (λ r. (start ≤ r.1) × (r.1 ≤ length text.now)) }
-    ensures err { IfErr result (λ e. e.kind ≢ EreErrorKind.OutOfMemory → HasNoTokens (drop start text.now)) }
+    ensures err { IfErr result (λ e. e.kind ≢ EreErrorKind.OutOfMemory → HasNoTokens case (drop start text.now)) }
 {
     let mut part = atom;
     let mut at = start;
     loop {
-        let Some((least, greatest, after)) = duplication_at(text, at)? else {
+        let Some((least, greatest, after)) = duplication_at(case, text, at)? else {
             return Ok((part, at));
         };
         part = repeat_of(alloc, part, least, greatest)?;

@@ -8,8 +8,10 @@ ghost use Rattle.ere.specs.Tokens.{Token as AnyToken, times};
 
 use crate::brackets::{bracket_at, stands_at};
 use crate::byte_set::ByteSet;
+use crate::case::Case;
 use crate::classes::{is_digit, is_punct};
 use crate::error::{EreError, EreErrorKind};
+use crate::letters::single_in;
 
 /// A token of a pattern.
 #[derive(Clone, Copy, Debug, PartialEq, Eq)]
@@ -31,39 +33,43 @@ pub enum Token {
 }
 
 /// The token at `at`, and the offset after it.
-pub fn token_at(text: &[u8], at: usize) -> Result<(Token, usize), EreError>
+pub fn token_at(case: Case, text: &[u8], at: usize) -> Result<(Token, usize), EreError>
     requires { at < length text.now }
-    ensures ok { IfOk result (λ r. SpellsToken (drop at text.now) (drop r.1 text.now) (meaning r.0)) }
+    ensures ok { IfOk result (λ r. SpellsToken case (drop at text.now) (drop r.1 text.now) (meaning r.0)) }
     ensures after { IfOk result (λ r. (at < r.1) × (r.1 ≤ length text.now)) }
-    ensures err { IfErr result (λ e. (rest : List ℕ) (t : AnyToken) → SpellsToken (drop at text.now) rest t → ⊥) }
+    ensures err { IfErr result (λ e. (rest : List ℕ) (t : AnyToken) → SpellsToken case (drop at text.now) rest t → ⊥) }
 {
     let byte = text[at];
     if byte == b'[' {
-        let (members, after) = bracket_at(text, at)?;
+        let (members, after) = bracket_at(case, text, at)?;
         return Ok((Token::Set(members), after));
     }
     if byte == b'\\' {
-        return escape_at(text, at);
+        return escape_at(case, text, at);
     }
     if byte == b'{' && is_digit_at(text, at + 1) {
         let (least, greatest, after) = interval_at(text, at)?;
         return Ok((Token::Times(least, greatest), after));
     }
-    Ok((token_of_byte(byte), at + 1))
+    Ok((token_of_byte(case, byte), at + 1))
 }
 
 /// The duplication at `at`, if there is one, and the offset after it.
-pub fn duplication_at(text: &[u8], at: usize) -> Result<Option<(u8, Option<u8>, usize)>, EreError>
+pub fn duplication_at(
+    case: Case,
+    text: &[u8],
+    at: usize,
+) -> Result<Option<(u8, Option<u8>, usize)>, EreError>
     requires { at ≤ length text.now }
-    ensures ok { IfOk result (λ found. IfSome found (λ d. SpellsToken (drop at text.now) (drop d.2 text.now) (times d.0 d.1))) }
+    ensures ok { IfOk result (λ found. IfSome found (λ d. SpellsToken case (drop at text.now) (drop d.2 text.now) (times d.0 d.1))) }
     ensures after { IfOk result (λ found. IfSome found (λ d. (at < d.2) × (d.2 ≤ length text.now))) }
-    ensures none { IfOk result (λ found. IfNone found (NoDuplication (drop at text.now))) }
-    ensures err { IfErr result (λ e. (at < length text.now) × ((rest : List ℕ) (t : AnyToken) → SpellsToken (drop at text.now) rest t → ⊥)) }
+    ensures none { IfOk result (λ found. IfNone found (NoDuplication case (drop at text.now))) }
+    ensures err { IfErr result (λ e. (at < length text.now) × ((rest : List ℕ) (t : AnyToken) → SpellsToken case (drop at text.now) rest t → ⊥)) }
 {
     if !begins_duplication(text, at) {
         return Ok(None);
     }
-    let (token, after) = token_at(text, at)?;
+    let (token, after) = token_at(case, text, at)?;
     match token {
         Token::Times(least, greatest) => Ok(Some((least, greatest, after))),
         _ => Ok(None),
@@ -74,14 +80,14 @@ pub fn duplication_at(text: &[u8], at: usize) -> Result<Option<(u8, Option<u8>, 
 fn begins_duplication(text: &[u8], at: usize) -> bool
     requires { at ≤ length text.now }
     ensures may { IsTrue result → at < length text.now }
-    ensures none { IsFalse result → NoDuplication (drop at text.now) }
+    ensures none { (case : Case) → IsFalse result → NoDuplication case (drop at text.now) }
 {
     at < text.len() && b"*+?{".contains(&text[at])
 }
 
 /// The token of a byte that is a token by itself.
-fn token_of_byte(byte: u8) -> Token
-    ensures { (rest : List ℕ) → IsFalse (begins_longer byte rest) → token_of_byte byte rest ≡ Some (meaning result) }
+fn token_of_byte(case: Case, byte: u8) -> Token
+    ensures { (rest : List ℕ) → IsFalse (begins_longer byte rest) → token_of_byte case byte rest ≡ Some (meaning result) }
 {
     match byte {
         b'.' => Token::Set(ByteSet::all()),
@@ -93,19 +99,19 @@ fn token_of_byte(byte: u8) -> Token
         b'*' => Token::Times(0, None),
         b'+' => Token::Times(1, None),
         b'?' => Token::Times(0, Some(1)),
-        _ => Token::Set(ByteSet::single(byte)),
+        _ => Token::Set(single_in(case, byte)),
     }
 }
 
 /// The token of the `\` at `at` and the byte after it.
-fn escape_at(text: &[u8], at: usize) -> Result<(Token, usize), EreError>
+fn escape_at(case: Case, text: &[u8], at: usize) -> Result<(Token, usize), EreError>
     requires { IsTrue (begins_with 92 (drop at text.now)) }
-    ensures ok { IfOk result (λ r. SpellsToken (drop at text.now) (drop r.1 text.now) (meaning r.0)) }
+    ensures ok { IfOk result (λ r. SpellsToken case (drop at text.now) (drop r.1 text.now) (meaning r.0)) }
     ensures after { IfOk result (λ r. (at < r.1) × (r.1 ≤ length text.now)) }
-    ensures err { IfErr result (λ e. (rest : List ℕ) (t : AnyToken) → SpellsToken (drop at text.now) rest t → ⊥) }
+    ensures err { IfErr result (λ e. (rest : List ℕ) (t : AnyToken) → SpellsToken case (drop at text.now) rest t → ⊥) }
 {
     if at + 1 < text.len() && is_escapable(text[at + 1]) {
-        return Ok((Token::Set(ByteSet::single(text[at + 1])), at + 2));
+        return Ok((Token::Set(single_in(case, text[at + 1])), at + 2));
     }
     Err(EreError::new(EreErrorKind::BadEscape, at))
 }

@@ -15,7 +15,7 @@ fn analysed(rt: &impl Abort, alloc: Global, pattern: &[u8]) -> Result<Query, Fai
 }
 
 /// Whether a set of trigrams meets the query. The set is a text of trigrams with spaces between them.
-fn meets(query: &Query, held: &[u8]) -> bool {
+pub(crate) fn meets(query: &Query, held: &[u8]) -> bool {
     match query {
         Query::Any => true,
         Query::None => false,

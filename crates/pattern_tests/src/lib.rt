@@ -9,6 +9,8 @@ mod filtering;
 #[cfg(test)]
 mod fixtures;
 #[cfg(test)]
+mod ignored;
+#[cfg(test)]
 mod matching;
 #[cfg(test)]
 mod patterns;

@@ -2,7 +2,7 @@
 //! contract says the fault.
 
 use crate::fixtures::{built, halves};
-use ere::{ByteSet, Ere, EreErrorKind, parse};
+use ere::{ByteSet, Case, Ere, EreErrorKind, parse, parse_with};
 use std::alloc::Global;
 use std::process::Abort;
 use std::simd::prelude::*;
@@ -57,8 +57,12 @@ fn append_members(
 
 /// The pattern's tree in one line, or the fault and its offset.
 fn reading(alloc: Global, pattern: &[u8]) -> Result<Vec<u8>, Fail> {
+    reading_in(alloc, Case::Exact, pattern)
+}
+
+fn reading_in(alloc: Global, case: Case, pattern: &[u8]) -> Result<Vec<u8>, Fail> {
     let mut out = Vec::new(alloc);
-    match parse(alloc, pattern) {
+    match parse_with(alloc, pattern, case) {
         Ok(tree) => append_tree(alloc, &mut out, &tree)?,
         Err(error) => {
             let reason = error.kind.reason();
@@ -70,17 +74,22 @@ fn reading(alloc: Global, pattern: &[u8]) -> Result<Vec<u8>, Fail> {
     Ok(out)
 }
 
-/// Each pattern of a table has its reading. The rows are `PATTERN~READING`.
-fn expect_readings(rt: &impl Abort, alloc: Global, table: &[u8]) -> Result<(), Fail> {
+/// Each pattern of a table has its reading in this case. The rows are `PATTERN~READING`.
+pub(crate) fn expect_readings(
+    rt: &impl Abort,
+    alloc: Global,
+    case: Case,
+    table: &[u8],
+) -> Result<(), Fail> {
     for row in table.split(|b| *b == b'\n') {
         let (pattern, want) = halves(row);
-        let found = reading(alloc, pattern)?;
+        let found = reading_in(alloc, case, pattern)?;
         assert_eq!(rt; found.as_slice(), want, "of {pattern:?}");
     }
     Ok(())
 }
 
-const FAULTS_OF_TOKENS: &[u8] = br"\<~bad escape at 0
+pub(crate) const FAULTS_OF_TOKENS: &[u8] = br"\<~bad escape at 0
 \~bad escape at 0
 ab\w~bad escape at 2
 a\'~bad escape at 1
@@ -114,7 +123,7 @@ a\~bad escape at 1
 [[:alpha:]~bracket not closed at 0";
 
 /// The fault of the leftmost place comes first, whatever its kind.
-const FAULTS_OF_THE_GRAMMAR: &[u8] = br"{2}~nothing to repeat at 0
+pub(crate) const FAULTS_OF_THE_GRAMMAR: &[u8] = br"{2}~nothing to repeat at 0
 $?~nothing to repeat at 1
 *a~nothing to repeat at 0
 ^*~nothing to repeat at 1
@@ -184,7 +193,7 @@ a{1}{2}{3}{0,4}~(repeat 0 4 (repeat 3 3 (repeat 2 2 (repeat 1 1 [a]))))
 #[test]
 fn readings(rt: HostRuntime) -> Result<(), Fail> {
     for table in [FAULTS_OF_TOKENS, FAULTS_OF_THE_GRAMMAR, SETS, TREES] {
-        expect_readings(&rt, rt.alloc(), table)?;
+        expect_readings(&rt, rt.alloc(), Case::Exact, table)?;
     }
     Ok(())
 }

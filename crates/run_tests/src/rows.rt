@@ -56,6 +56,20 @@ const ROWS: &[Case<'static>] = &[
         status: 0,
     },
     Case {
+        script: b"put a 11\nHello World\nput b 5\nHELLO\nput c 4\nhelp\nput d 8\na1\nB1\n11\nput e 3\nA\na\npublish\nisearch hello\nisearch [[:upper:]]1\nisearch ^[^a]$\nsearch hello\n",
+        max_commands: 65_536,
+        stats: true,
+        text: b"search 1 version 5 lines 2 candidates 2 of 5\na:1:Hello World\nb:1:HELLO\nsearch 2 version 5 lines 2 candidates 5 of 5\nd:1:a1\nd:2:B1\nsearch 3 version 5 lines 0 candidates 5 of 5\nsearch 4 version 5 lines 0 candidates 0 of 5\n",
+        status: 0,
+    },
+    Case {
+        script: b"put A 1\nx\nput a 2\nX\n\npublish\nisearchin a X\nisearchin [b-A] X\nisearchin A [b-A]\nisearchin a\n",
+        max_commands: 65_536,
+        stats: false,
+        text: b"search 1 version 2 lines 1\na:1:X\nsearch 2 refused: name pattern: bad range at 2\nsearch 3 refused: bad range at 2\nline 10 refused: bad line\n",
+        status: 2,
+    },
+    Case {
         script: b"put f 7\nabc\ndef\npublish\nsearch abc.def\nsearch cde\n",
         max_commands: 65_536,
         stats: true,

@@ -1,5 +1,6 @@
 //! The items of scripts.
 
+use ere::Case;
 use script::{Item, MAX_SCRIPT, ScriptReader};
 use std::alloc::Global;
 use std::process::Abort;
@@ -29,14 +30,17 @@ fn append_item(out: &mut Vec<u8>, item: Item<'_>) -> Result<(), Fail> {
             out.extend_from_slice(b"remove")?;
             append_words(out, &[name])
         }
-        Item::Search { pattern } => {
+        Item::Search { case, pattern } => {
+            append_case(out, case)?;
             out.extend_from_slice(b"search")?;
             append_words(out, &[pattern])
         }
         Item::SearchIn {
+            case,
             name_pattern,
             pattern,
         } => {
+            append_case(out, case)?;
             out.extend_from_slice(b"searchin")?;
             append_words(out, &[name_pattern, pattern])
         }
@@ -47,6 +51,14 @@ fn append_item(out: &mut Vec<u8>, item: Item<'_>) -> Result<(), Fail> {
         Item::Truncated => Ok(out.extend_from_slice(b"truncated")?),
         Item::BodyNotClosed => Ok(out.extend_from_slice(b"body not closed")?),
     }
+}
+
+/// What a search that ignores case is written with in front.
+fn append_case(out: &mut Vec<u8>, case: Case) -> Result<(), Fail> {
+    if case == Case::Ignore {
+        out.extend_from_slice(b"i-")?;
+    }
+    Ok(())
 }
 
 /// The items of the script are these, each written as its line's number (of one digit), a colon, itself and
@@ -90,6 +102,14 @@ fn lines(rt: HostRuntime) -> Result<(), Fail> {
         (
             b"searchin\nsearchin a\nsearchin a \nsearchin a b c\nsearchin  b".as_slice(),
             b"1:bad line;2:bad line;3:searchin|a|;4:searchin|a|b c;5:searchin||b;".as_slice(),
+        ),
+        (
+            b"isearch\nisearch \nisearch a B \nisearches\nISEARCH".as_slice(),
+            b"1:i-search|;2:i-search|;3:i-search|a B ;4:bad line;5:bad line;".as_slice(),
+        ),
+        (
+            b"isearchin\nisearchin a\nisearchin a \nisearchin A b c\nisearchin  B".as_slice(),
+            b"1:bad line;2:bad line;3:i-searchin|a|;4:i-searchin|A|b c;5:i-searchin||B;".as_slice(),
         ),
         (
             b"load\nload a\nload a \nload a b c\nload  p".as_slice(),

@@ -3,6 +3,8 @@
 use Rattle.std.specs.Prelude.{◌≡◌, ◌≢◌, ℕ, ◌+◌, ◌<◌, ◌==◌, if◌then◌else◌, List, [], ◌∷◌, ◌++◌, length, count_by, Option, Some, None, Bool, true, IsTrue, IsFalse, codes}
 use Rattle.std.specs.List.{AllByRecursion}
 use Rattle.std.specs.Str.{bytes_eq}
+use Rattle.ere.specs.declared.case.Case.{Case}
+use Rattle.ere.specs.declared.case.Case.TheVariants.{Exact, Ignore}
 use Rattle.script.specs.Fields.{fields_of, IsPutHeader}
 
 pub data Item : Type 0 where
@@ -10,8 +12,8 @@ pub data Item : Type 0 where
   load : (name path : List ℕ) → Item
   remove : (name : List ℕ) → Item
   publish : Item
-  search : (pattern : List ℕ) → Item
-  search_in : (name_pattern pattern : List ℕ) → Item
+  search : (case : Case) (pattern : List ℕ) → Item
+  search_in : (case : Case) (name_pattern pattern : List ℕ) → Item
   sync : Item
   -- any other line
   bad_line : Item
@@ -47,26 +49,29 @@ load_of name (Some []) = bad_line
 load_of name (Some (b ∷ path)) = load name (b ∷ path)
 
 -- a name pattern up to the next space, and the rest
-abbrev pub search_in_of : List ℕ → Option (List ℕ) → Item
-search_in_of name_pattern None = bad_line
-search_in_of name_pattern (Some pattern) = search_in name_pattern pattern
+abbrev pub search_in_of : Case → List ℕ → Option (List ℕ) → Item
+search_in_of case name_pattern None = bad_line
+search_in_of case name_pattern (Some pattern) = search_in case name_pattern pattern
 
 -- the item of a line that is a keyword alone
 abbrev pub item_of_keyword : List ℕ → Item
 item_of_keyword keyword =
     if is_keyword keyword (codes "publish") then publish
     else (if is_keyword keyword (codes "sync") then sync
-    else (if is_keyword keyword (codes "search") then search []
-    else bad_line))
+    else (if is_keyword keyword (codes "search") then search Exact []
+    else (if is_keyword keyword (codes "isearch") then search Ignore []
+    else bad_line)))
 
 -- the item of a line with a keyword, a space and more after it
 abbrev pub item_of_keyword_and_others : List ℕ → List ℕ → Item
 item_of_keyword_and_others keyword others =
-    if is_keyword keyword (codes "search") then search others
-    else (if is_keyword keyword (codes "searchin") then search_in_of (fields_of others).first (fields_of others).others
+    if is_keyword keyword (codes "search") then search Exact others
+    else (if is_keyword keyword (codes "isearch") then search Ignore others
+    else (if is_keyword keyword (codes "searchin") then search_in_of Exact (fields_of others).first (fields_of others).others
+    else (if is_keyword keyword (codes "isearchin") then search_in_of Ignore (fields_of others).first (fields_of others).others
     else (if is_keyword keyword (codes "remove") then remove others
     else (if is_keyword keyword (codes "load") then load_of (fields_of others).first (fields_of others).others
-    else bad_line)))
+    else bad_line)))))
 
 -- the item of a line with this keyword, and with what follows the space after it
 abbrev pub item_of : List ℕ → Option (List ℕ) → Item

@@ -1,6 +1,8 @@
 //! The items of a script. The language is this program's own: one space separates fields, and `docs/SCRIPT.md`
 //! has its table of lines.
 
+use ere::Case;
+
 /// An item of a script, with its texts and bodies as they are in the script.
 #[derive(Clone, Copy, Debug)]
 pub enum Item<'a> {
@@ -21,12 +23,15 @@ pub enum Item<'a> {
     },
     /// `publish`.
     Publish,
-    /// `search ERE`. A line with only `search` has the empty pattern.
+    /// `search ERE`, or `isearch ERE`, which ignores case. A line with only `search` or `isearch` has the
+    /// empty pattern.
     Search {
+        case: Case,
         pattern: &'a [u8],
     },
-    /// `searchin NAME-ERE ERE`.
+    /// `searchin NAME-ERE ERE`, or `isearchin NAME-ERE ERE`, which ignores case in the pattern only.
     SearchIn {
+        case: Case,
         name_pattern: &'a [u8],
         pattern: &'a [u8],
     },

@@ -9,6 +9,7 @@ ghost use Rattle.script.specs.Private.Taking.{TakesFrom, FollowsLine, HasHeader,
 
 use crate::cuts::{FirstLine, cut_at_last, cut_at_space, first_line, size_of};
 use crate::item::{Item, Numbered};
+use ere::Case;
 use std::marker::Model;
 
 /// The greatest length of a script, in bytes.
@@ -168,6 +169,12 @@ fn item_of_keyword(keyword: &[u8]) -> Item<'_>
         Item::Sync
     } else if keyword == b"search".as_slice() {
         Item::Search {
+            case: Case::Exact,
+            pattern: &keyword[keyword.len()..],
+        }
+    } else if keyword == b"isearch".as_slice() {
+        Item::Search {
+            case: Case::Ignore,
             pattern: &keyword[keyword.len()..],
         }
     } else {
@@ -179,9 +186,19 @@ fn item_of_keyword_and_others<'a>(keyword: &[u8], others: &'a [u8]) -> Item<'a>
     ensures { shown_item result ≡ item_of_keyword_and_others keyword.now others.now }
 {
     if keyword == b"search".as_slice() {
-        Item::Search { pattern: others }
+        Item::Search {
+            case: Case::Exact,
+            pattern: others,
+        }
+    } else if keyword == b"isearch".as_slice() {
+        Item::Search {
+            case: Case::Ignore,
+            pattern: others,
+        }
     } else if keyword == b"searchin".as_slice() {
-        search_in(others)
+        search_in(Case::Exact, others)
+    } else if keyword == b"isearchin".as_slice() {
+        search_in(Case::Ignore, others)
     } else if keyword == b"remove".as_slice() {
         Item::Remove { name: others }
     } else if keyword == b"load".as_slice() {
@@ -191,11 +208,12 @@ fn item_of_keyword_and_others<'a>(keyword: &[u8], others: &'a [u8]) -> Item<'a>
     }
 }
 
-fn search_in(fields: &[u8]) -> Item<'_>
-    ensures { shown_item result ≡ search_in_of (fields_of fields.now).first (fields_of fields.now).others }
+fn search_in(case: Case, fields: &[u8]) -> Item<'_>
+    ensures { shown_item result ≡ search_in_of case (fields_of fields.now).first (fields_of fields.now).others }
 {
     match cut_at_space(fields) {
         (name_pattern, Some(pattern)) => Item::SearchIn {
+            case,
             name_pattern,
             pattern,
         },

@@ -1,5 +1,7 @@
 -- What a search looks for: the tree of its pattern, and that of its name pattern where it has one.
 use Rattle.std.specs.Prelude.{◌≡◌, List, ℕ, Option, None, IsSomeAnd}
+use Rattle.ere.specs.declared.case.Case.{Case}
+use Rattle.ere.specs.declared.case.Case.TheVariants.{Exact}
 use Rattle.ere.specs.Tree.{Tree}
 use Rattle.ere.specs.Limits.{IsTreeOf}
 
@@ -8,15 +10,16 @@ pub record Pattern : Type 0 where
   pub name_tree : Option Tree
 
 -- the pattern that a text spells, for documents of every name
-pub record IsPatternOf (text : List ℕ) (pattern : Pattern) : Type 0 where
-  pub tree : IsTreeOf text pattern.tree
+pub record IsPatternOf (case : Case) (text : List ℕ) (pattern : Pattern) : Type 0 where
+  pub tree : IsTreeOf case text pattern.tree
   pub every_name : pattern.name_tree ≡ None
 
--- the pattern that a text spells, for documents whose name matches the one that a second text spells
-pub record IsPatternWithin (name_text text : List ℕ) (pattern : Pattern) : Type 0 where
-  pub tree : IsTreeOf text pattern.tree
-  pub name_tree : IsSomeAnd pattern.name_tree (IsTreeOf name_text)
+-- the pattern that a text spells, for documents whose name matches the one that a second text spells; the
+-- case of names always counts
+pub record IsPatternWithin (case : Case) (name_text text : List ℕ) (pattern : Pattern) : Type 0 where
+  pub tree : IsTreeOf case text pattern.tree
+  pub name_tree : IsSomeAnd pattern.name_tree (IsTreeOf Exact name_text)
 
 -- some tree is that of the text
-abbrev pub HasTree : List ℕ → Type 0
-HasTree text = (tree : Tree) × IsTreeOf text tree
+abbrev pub HasTree : Case → List ℕ → Type 0
+HasTree case text = (tree : Tree) × IsTreeOf case text tree

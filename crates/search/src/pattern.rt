@@ -10,7 +10,7 @@ ghost use Rattle.trigram.specs.Analysis.{condition};
 ghost use Rattle.trigram.proofs.Sameness.{same-prop};
 ghost use Rattle.search.specs.Queries.{IsQueryOf};
 
-use ere::{Ere, EreError, EreErrorKind, parse};
+use ere::{Case, Ere, EreError, EreErrorKind, parse, parse_with};
 use std::alloc::Global;
 use trigram::{Query, analyse};
 
@@ -45,10 +45,19 @@ impl Prepared {
 
     /// Reads the pattern of a search. An `Err` gives its fault, or says that memory ran out.
     pub fn new(alloc: Global, pattern: &[u8]) -> Result<Prepared, EreError>
-        ensures pattern { IfOk result (λ p. IsPatternOf pattern.now (pattern_of p)) }
-        ensures refused { IfErr result (λ e. e.kind ≢ EreErrorKind.OutOfMemory → HasNoTree pattern.now) }
+        ensures pattern { IfOk result (λ p. IsPatternOf Case.Exact pattern.now (pattern_of p)) }
+        ensures refused { IfErr result (λ e. e.kind ≢ EreErrorKind.OutOfMemory → HasNoTree Case.Exact pattern.now) }
     {
-        let (tree, query) = analysed(alloc, pattern)?;
+        Prepared::with_case(alloc, pattern, Case::Exact)
+    }
+
+    /// Reads the pattern of a search, with the case of letters or without it. An `Err` gives its fault, or
+    /// says that memory ran out.
+    pub fn with_case(alloc: Global, pattern: &[u8], case: Case) -> Result<Prepared, EreError>
+        ensures pattern { IfOk result (λ p. IsPatternOf case pattern.now (pattern_of p)) }
+        ensures refused { IfErr result (λ e. e.kind ≢ EreErrorKind.OutOfMemory → HasNoTree case pattern.now) }
+    {
+        let (tree, query) = analysed(alloc, pattern, case)?;
         Ok(Prepared {
             tree,
             name_tree: None,
@@ -63,9 +72,23 @@ impl Prepared {
         name_pattern: &[u8],
         pattern: &[u8],
     ) -> Result<Prepared, WithinError>
-        ensures pattern { IfOk result (λ p. IsPatternWithin name_pattern.now pattern.now (pattern_of p)) }
+        ensures pattern { IfOk result (λ p. IsPatternWithin Case.Exact name_pattern.now pattern.now (pattern_of p)) }
         ensures refused { IfErr result (λ e. e.error.kind ≢ EreErrorKind.OutOfMemory →
-            MatchBool e.in_name (HasNoTree name_pattern.now) (HasTree name_pattern.now × HasNoTree pattern.now)) }
+            MatchBool e.in_name (HasNoTree Case.Exact name_pattern.now) (HasTree Case.Exact name_pattern.now × HasNoTree Case.Exact pattern.now)) }
+    {
+        Prepared::within_with_case(alloc, name_pattern, pattern, Case::Exact)
+    }
+
+    /// The same with the case of letters or without it in the pattern. In the name pattern it always counts.
+    pub fn within_with_case(
+        alloc: Global,
+        name_pattern: &[u8],
+        pattern: &[u8],
+        case: Case,
+    ) -> Result<Prepared, WithinError>
+        ensures pattern { IfOk result (λ p. IsPatternWithin case name_pattern.now pattern.now (pattern_of p)) }
+        ensures refused { IfErr result (λ e. e.error.kind ≢ EreErrorKind.OutOfMemory →
+            MatchBool e.in_name (HasNoTree Case.Exact name_pattern.now) (HasTree Case.Exact name_pattern.now × HasNoTree case pattern.now)) }
     {
         let name_tree = match parse(alloc, name_pattern) {
             Ok(name_tree) => name_tree,
@@ -76,7 +99,7 @@ impl Prepared {
                 });
             }
         };
-        match analysed(alloc, pattern) {
+        match analysed(alloc, pattern, case) {
             Ok((tree, query)) => Ok(Prepared {
                 tree,
                 name_tree: Some(name_tree),
@@ -91,13 +114,13 @@ impl Prepared {
 }
 
 // The tree of a pattern, and the query of its condition.
-fn analysed(alloc: Global, pattern: &[u8]) -> Result<(Ere, Query), EreError>
-    ensures tree { IfOk result (λ both. IsTreeOf pattern.now (form both.0)) }
+fn analysed(alloc: Global, pattern: &[u8], case: Case) -> Result<(Ere, Query), EreError>
+    ensures tree { IfOk result (λ both. IsTreeOf case pattern.now (form both.0)) }
     ensures limits { IfOk result (λ both. IsWithinLimits (form both.0)) }
     ensures query { IfOk result (λ both. IsQueryOf both.0 both.1) }
-    ensures refused { IfErr result (λ e. e.kind ≢ EreErrorKind.OutOfMemory → HasNoTree pattern.now) }
+    ensures refused { IfErr result (λ e. e.kind ≢ EreErrorKind.OutOfMemory → HasNoTree case pattern.now) }
 {
-    let tree = parse(alloc, pattern)?;
+    let tree = parse_with(alloc, pattern, case)?;
     match analyse(alloc, &tree) {
         Ok(query) => Ok((tree, query)),
         Err(_) => Err(EreError {

@@ -3,6 +3,7 @@
 ghost use Rattle.std.specs.Prelude.{[], ◌∷◌, IfOk};
 ghost use Rattle.index.specs.declared.command.Command.TheVariants.{Put};
 ghost use Rattle.index.specs.State.{state_of};
+ghost use Rattle.ere.specs.declared.case.Case.TheVariants.{Exact};
 ghost use Rattle.search.specs.Pattern.{Pattern, IsPatternOf};
 ghost use Rattle.search.specs.Scan.{IsAnswerOf};
 
@@ -23,7 +24,7 @@ fn search_left(
     pattern: &[u8],
 ) -> Result<Answer, Fail>
     // The answer is that of the pattern's tree and of the two commands before the removal.
-    ensures { IfOk result (λ answer. (tree : Pattern) × IsPatternOf pattern.now tree
+    ensures { IfOk result (λ answer. (tree : Pattern) × IsPatternOf Exact pattern.now tree
         × IsAnswerOf (state_of (Put first.0 first.1 ∷ Put second.0 second.1 ∷ [])) tree answer) }
 {
     let prepared = Prepared::new(alloc, pattern)?;

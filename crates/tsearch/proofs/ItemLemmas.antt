@@ -4,6 +4,8 @@ use Rattle.ere.specs.declared.error.EreError.{EreError}
 use Rattle.ere.specs.declared.error.EreErrorKind.{EreErrorKind}
 use Rattle.ere.specs.declared.error.EreErrorKind.TheVariants as kind
 use Rattle.ere.specs.Limits.{HasNoTree}
+use Rattle.ere.specs.declared.case.Case.{Case}
+use Rattle.ere.specs.declared.case.Case.TheVariants.{Exact}
 use Rattle.index.specs.State.{State}
 use Rattle.index.specs.declared.error.NameError.{NameError}
 use Rattle.index.specs.declared.error.NameError.TheVariants as name
@@ -80,31 +82,31 @@ reason_in_pattern kind.TooDeep error h = refl
 reason_in_pattern kind.TooLarge error h = refl
 reason_in_pattern kind.OutOfMemory error h = absurd (h refl)
 
-pub search_refused : (text : List ℕ) (error : EreError) → ((error.kind ≡ kind.OutOfMemory → ⊥) → HasNoTree text) → (context : Context) → IsSearch context text (SearchRefused (search_number context) (reason_of_fault false error))
-search_refused text error none context = by_kind (memory_or_not error.kind)
+pub search_refused : (case : Case) (text : List ℕ) (error : EreError) → ((error.kind ≡ kind.OutOfMemory → ⊥) → HasNoTree case text) → (context : Context) → IsSearch context case text (SearchRefused (search_number context) (reason_of_fault false error))
+search_refused case text error none context = by_kind (memory_or_not error.kind)
   where
-    by_kind : (error.kind ≡ kind.OutOfMemory) ⊎ (error.kind ≡ kind.OutOfMemory → ⊥) → IsSearch context text (SearchRefused (search_number context) (reason_of_fault false error))
+    by_kind : (error.kind ≡ kind.OutOfMemory) ⊎ (error.kind ≡ kind.OutOfMemory → ⊥) → IsSearch context case text (SearchRefused (search_number context) (reason_of_fault false error))
     by_kind (inl memory) = legal.searched (legal.no_memory (ap (SearchRefused (search_number context)) (reason_of_memory false error.kind error memory)))
     by_kind (inr fault) = legal.bad_pattern error fault (none fault) (ap (SearchRefused (search_number context)) (reason_in_pattern error.kind error fault))
 
-pub search_in_refused : (name_text text : List ℕ) (in_name : Bool) (error : EreError) → ((error.kind ≡ kind.OutOfMemory → ⊥) → MatchBool in_name (HasNoTree name_text) (HasTree name_text × HasNoTree text)) → (context : Context) → IsSearchIn context name_text text (SearchRefused (search_number context) (reason_of_fault in_name error))
-search_in_refused name_text text true error none context = by_kind (memory_or_not error.kind)
+pub search_in_refused : (case : Case) (name_text text : List ℕ) (in_name : Bool) (error : EreError) → ((error.kind ≡ kind.OutOfMemory → ⊥) → MatchBool in_name (HasNoTree Exact name_text) (HasTree Exact name_text × HasNoTree case text)) → (context : Context) → IsSearchIn context case name_text text (SearchRefused (search_number context) (reason_of_fault in_name error))
+search_in_refused case name_text text true error none context = by_kind (memory_or_not error.kind)
   where
-    by_kind : (error.kind ≡ kind.OutOfMemory) ⊎ (error.kind ≡ kind.OutOfMemory → ⊥) → IsSearchIn context name_text text (SearchRefused (search_number context) (reason_of_fault true error))
+    by_kind : (error.kind ≡ kind.OutOfMemory) ⊎ (error.kind ≡ kind.OutOfMemory → ⊥) → IsSearchIn context case name_text text (SearchRefused (search_number context) (reason_of_fault true error))
     by_kind (inl memory) = legal.searched (legal.no_memory (ap (SearchRefused (search_number context)) (reason_of_memory true error.kind error memory)))
     by_kind (inr fault) = legal.bad_name_pattern error fault (none fault) (ap (SearchRefused (search_number context)) (reason_in_name error.kind error fault))
-search_in_refused name_text text false error none context = by_kind (memory_or_not error.kind)
+search_in_refused case name_text text false error none context = by_kind (memory_or_not error.kind)
   where
-    by_kind : (error.kind ≡ kind.OutOfMemory) ⊎ (error.kind ≡ kind.OutOfMemory → ⊥) → IsSearchIn context name_text text (SearchRefused (search_number context) (reason_of_fault false error))
+    by_kind : (error.kind ≡ kind.OutOfMemory) ⊎ (error.kind ≡ kind.OutOfMemory → ⊥) → IsSearchIn context case name_text text (SearchRefused (search_number context) (reason_of_fault false error))
     by_kind (inl memory) = legal.searched (legal.no_memory (ap (SearchRefused (search_number context)) (reason_of_memory false error.kind error memory)))
     by_kind (inr fault) = legal.bad_pattern error fault (none fault).0 (none fault).1 (ap (SearchRefused (search_number context)) (reason_in_pattern error.kind error fault))
 
 -- memory ran out
-pub search_without_memory : (text : List ℕ) (context : Context) → IsSearch context text (SearchRefused (search_number context) search_reason.OutOfMemory)
-search_without_memory text context = legal.searched (legal.no_memory refl)
+pub search_without_memory : (case : Case) (text : List ℕ) (context : Context) → IsSearch context case text (SearchRefused (search_number context) search_reason.OutOfMemory)
+search_without_memory case text context = legal.searched (legal.no_memory refl)
 
-pub search_in_without_memory : (name_text text : List ℕ) (context : Context) → IsSearchIn context name_text text (SearchRefused (search_number context) search_reason.OutOfMemory)
-search_in_without_memory name_text text context = legal.searched (legal.no_memory refl)
+pub search_in_without_memory : (case : Case) (name_text text : List ℕ) (context : Context) → IsSearchIn context case name_text text (SearchRefused (search_number context) search_reason.OutOfMemory)
+search_in_without_memory case name_text text context = legal.searched (legal.no_memory refl)
 
 pub too_long_body : (bytes : List ℕ) → greatest_body < length bytes → IsBodyFault body.TooLong bytes
 unfolding IsBodyFault

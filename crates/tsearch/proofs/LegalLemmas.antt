@@ -43,8 +43,8 @@ module _ (Holds Holds' : List ℕ → List ℕ → Type 0) (holds : (path body :
   map_entry context (load name path) None h = h
   map_entry context (remove name) None h = h
   map_entry context publish None h = h
-  map_entry context (search text) None h = h
-  map_entry context (search_in name_text text) None h = h
+  map_entry context (search case text) None h = h
+  map_entry context (search_in case name_text text) None h = h
   map_entry context bad_line None h = h
   map_entry context bad_put None h = h
   map_entry context truncated None h = h
@@ -53,8 +53,8 @@ module _ (Holds Holds' : List ℕ → List ℕ → Type 0) (holds : (path body :
   map_entry context (load name path) (Some entry) h = map_named name context.row.numbered.line entry _ _ (map_loaded (legal.state_before context) path context.row.loaded context.row.numbered.line entry) h
   map_entry context (remove name) (Some entry) h = h
   map_entry context publish (Some entry) h = h
-  map_entry context (search text) (Some entry) h = h
-  map_entry context (search_in name_text text) (Some entry) h = h
+  map_entry context (search case text) (Some entry) h = h
+  map_entry context (search_in case name_text text) (Some entry) h = h
   map_entry context bad_line (Some entry) h = h
   map_entry context bad_put (Some entry) h = h
   map_entry context truncated (Some entry) h = h
@@ -70,8 +70,8 @@ legal_sync Holds most context (put name body) is = cc
 legal_sync Holds most context (load name path) is = cc
 legal_sync Holds most context (remove name) is = cc
 legal_sync Holds most context publish is = cc
-legal_sync Holds most context (search text) is = cc
-legal_sync Holds most context (search_in name_text text) is = cc
+legal_sync Holds most context (search case text) is = cc
+legal_sync Holds most context (search_in case name_text text) is = cc
 legal_sync Holds most context bad_line is = cc
 legal_sync Holds most context bad_put is = cc
 legal_sync Holds most context truncated is = cc
@@ -80,8 +80,8 @@ legal_sync Holds most context body_not_closed is = cc
 -- A search may be refused where the refusal is that of its texts.
 pub legal_refusal : (Holds : List ℕ → List ℕ → Type 0) (most : ℕ) (context : Context) (item : Item) (why : SearchReason) → searches_of item ≡ 1 → IsRefusalOf item why → HasEntry Holds most context item (Some (SearchRefused (count_searches context.before + 1) why))
 unfolding IsEntryOf
-legal_refusal Holds most context (search text) why one refusal = refusal context
-legal_refusal Holds most context (search_in name_text text) why one refusal = refusal context
+legal_refusal Holds most context (search case text) why one refusal = refusal context
+legal_refusal Holds most context (search_in case name_text text) why one refusal = refusal context
 legal_refusal Holds most context (put name body) why one refusal = absurd (omega (arith, one))
 legal_refusal Holds most context (load name path) why one refusal = absurd (omega (arith, one))
 legal_refusal Holds most context (remove name) why one refusal = absurd (omega (arith, one))
@@ -94,8 +94,8 @@ legal_refusal Holds most context body_not_closed why one refusal = absurd (omega
 
 -- Memory may run out for each search.
 pub no_memory_refusal : (item : Item) → IsRefusalOf item search_reason.OutOfMemory
-no_memory_refusal (search text) = λ context. legal.searched (legal.no_memory refl)
-no_memory_refusal (search_in name_text text) = λ context. legal.searched (legal.no_memory refl)
+no_memory_refusal (search case text) = λ context. legal.searched (legal.no_memory refl)
+no_memory_refusal (search_in case name_text text) = λ context. legal.searched (legal.no_memory refl)
 no_memory_refusal (put name body) = tt
 no_memory_refusal (load name path) = tt
 no_memory_refusal (remove name) = tt
@@ -107,8 +107,8 @@ no_memory_refusal truncated = tt
 no_memory_refusal body_not_closed = tt
 
 pub search_is_no_sync : (item : Item) → searches_of item ≡ 1 → is_sync item ≡ false
-search_is_no_sync (search text) one = refl
-search_is_no_sync (search_in name_text text) one = refl
+search_is_no_sync (search case text) one = refl
+search_is_no_sync (search_in case name_text text) one = refl
 search_is_no_sync (put name body) one = refl
 search_is_no_sync (load name path) one = refl
 search_is_no_sync (remove name) one = refl
@@ -125,8 +125,8 @@ sync_is_no_search (put name body) is = refl
 sync_is_no_search (load name path) is = refl
 sync_is_no_search (remove name) is = refl
 sync_is_no_search publish is = refl
-sync_is_no_search (search text) is = cc
-sync_is_no_search (search_in name_text text) is = cc
+sync_is_no_search (search case text) is = cc
+sync_is_no_search (search_in case name_text text) is = cc
 sync_is_no_search bad_line is = refl
 sync_is_no_search bad_put is = refl
 sync_is_no_search truncated is = refl
@@ -180,8 +180,8 @@ module _ (Holds : List ℕ → List ℕ → Type 0) (most : ℕ) (searches : Lis
 
   found_item : (item : Item) → searches_of item ≡ 1 → Asks item (pattern_of found.prepared) → HasEntry Holds most (context_of readers before row after) item (Some (Found (count_searches before + 1) found.reader found.turn found.answer))
   unfolding IsEntryOf
-  found_item (search text) one asks = legal.searched (searched_row (IsPatternOf text) asks)
-  found_item (search_in name_text text) one asks = legal.searched (searched_row (IsPatternWithin name_text text) asks)
+  found_item (search case text) one asks = legal.searched (searched_row (IsPatternOf case text) asks)
+  found_item (search_in case name_text text) one asks = legal.searched (searched_row (IsPatternWithin case name_text text) asks)
   found_item (put name body) one asks = absurd (omega (arith, one))
   found_item (load name path) one asks = absurd (omega (arith, one))
   found_item (remove name) one asks = absurd (omega (arith, one))

@@ -1,6 +1,8 @@
 -- Which transcripts are legal for a script: what a run may answer, whatever its readers and their timing.
 use Rattle.std.specs.Prelude.{◌≡◌, ◌≢◌, ℕ, ◌+◌, ◌-◌, ◌^◌, ◌<◌, ◌≤◌, ◌⊎◌, List, ◌∷◌, ◌++◌, take, Option, Some, None, option_map, IfSome, Contains, if◌then◌else◌, ◌==◌}
 use Rattle.ere.specs.Limits.{HasNoTree}
+use Rattle.ere.specs.declared.case.Case.{Case}
+use Rattle.ere.specs.declared.case.Case.TheVariants.{Exact}
 use Rattle.ere.specs.declared.error.EreError.{EreError}
 use Rattle.ere.specs.declared.error.EreErrorKind.TheVariants as kind
 use Rattle.index.specs.declared.error.NameError.{NameError}
@@ -91,15 +93,15 @@ pub data IsSearched (context : Context) (IsIt : Pattern → Type 0) (entry : Ent
   no_memory : entry ≡ SearchRefused (search_number context) search_reason.OutOfMemory → IsSearched context IsIt entry
   found : (pattern : Pattern) (reader turn : ℕ) (answer : Answer) → IsIt pattern → entry ≡ Found (search_number context) reader turn answer → IsAnswered context pattern reader answer → IsSearched context IsIt entry
 
-pub data IsSearch (context : Context) (text : List ℕ) (entry : Entry) : Type 0 where
-  bad_pattern : (fault : EreError) → fault.kind ≢ kind.OutOfMemory → HasNoTree text → entry ≡ SearchRefused (search_number context) (search_reason.Pattern fault) → IsSearch context text entry
-  searched : IsSearched context (IsPatternOf text) entry → IsSearch context text entry
+pub data IsSearch (context : Context) (case : Case) (text : List ℕ) (entry : Entry) : Type 0 where
+  bad_pattern : (fault : EreError) → fault.kind ≢ kind.OutOfMemory → HasNoTree case text → entry ≡ SearchRefused (search_number context) (search_reason.Pattern fault) → IsSearch context case text entry
+  searched : IsSearched context (IsPatternOf case text) entry → IsSearch context case text entry
 
--- The name pattern is looked at first.
-pub data IsSearchIn (context : Context) (name_text text : List ℕ) (entry : Entry) : Type 0 where
-  bad_name_pattern : (fault : EreError) → fault.kind ≢ kind.OutOfMemory → HasNoTree name_text → entry ≡ SearchRefused (search_number context) (search_reason.NamePattern fault) → IsSearchIn context name_text text entry
-  bad_pattern : (fault : EreError) → fault.kind ≢ kind.OutOfMemory → HasTree name_text → HasNoTree text → entry ≡ SearchRefused (search_number context) (search_reason.Pattern fault) → IsSearchIn context name_text text entry
-  searched : IsSearched context (IsPatternWithin name_text text) entry → IsSearchIn context name_text text entry
+-- The name pattern is looked at first. Its case always counts.
+pub data IsSearchIn (context : Context) (case : Case) (name_text text : List ℕ) (entry : Entry) : Type 0 where
+  bad_name_pattern : (fault : EreError) → fault.kind ≢ kind.OutOfMemory → HasNoTree Exact name_text → entry ≡ SearchRefused (search_number context) (search_reason.NamePattern fault) → IsSearchIn context case name_text text entry
+  bad_pattern : (fault : EreError) → fault.kind ≢ kind.OutOfMemory → HasTree Exact name_text → HasNoTree case text → entry ≡ SearchRefused (search_number context) (search_reason.Pattern fault) → IsSearchIn context case name_text text entry
+  searched : IsSearched context (IsPatternWithin case name_text text) entry → IsSearchIn context case name_text text entry
 
 -- The entry of an item among these rows.
 unfoldable pub IsEntryOf : (List ℕ → List ℕ → Type 0) → ℕ → Context → ℕ → Item → Entry → Type 0
@@ -107,8 +109,8 @@ IsEntryOf Holds most context line (put name body) entry = IsPut most (state_befo
 IsEntryOf Holds most context line (load name path) entry = IsNamed name line entry (HasLoaded Holds most (state_before context) path context.row.loaded line entry)
 IsEntryOf Holds most context line (remove name) entry = IsNamed name line entry (IsRemove most (state_before context) name line entry)
 IsEntryOf Holds most context line publish entry = IsPublish (state_before context) line entry
-IsEntryOf Holds most context line (search text) entry = IsSearch context text entry
-IsEntryOf Holds most context line (search_in name_text text) entry = IsSearchIn context name_text text entry
+IsEntryOf Holds most context line (search case text) entry = IsSearch context case text entry
+IsEntryOf Holds most context line (search_in case name_text text) entry = IsSearchIn context case name_text text entry
 IsEntryOf Holds most context line sync entry = ⊥
 IsEntryOf Holds most context line bad_line entry = entry ≡ Refused line reason.BadLine
 IsEntryOf Holds most context line bad_put entry = entry ≡ Refused line reason.BadPut

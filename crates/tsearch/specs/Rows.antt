@@ -68,8 +68,8 @@ before_sync [] = None
 before_sync (row ∷ rows) = if is_sync row.numbered.item then Some [] else option_map (λ front. row ∷ front) (before_sync rows)
 
 abbrev pub searches_of : Item → ℕ
-searches_of (search pattern) = 1
-searches_of (search_in name_pattern pattern) = 1
+searches_of (search case pattern) = 1
+searches_of (search_in case name_pattern pattern) = 1
 searches_of _ = 0
 
 -- how many searches the rows have

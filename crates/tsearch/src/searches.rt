@@ -9,7 +9,7 @@ ghost use Rattle.tsearch.specs.Private.Entries.{reason_of_fault};
 ghost use Rattle.tsearch.specs.Private.Searches.{Asks, IsListed, ArePrepared, IsRefusalOf};
 
 use crate::transcript::SearchReason;
-use ere::{EreError, EreErrorKind};
+use ere::{Case, EreError, EreErrorKind};
 use script::{Item, MAX_SCRIPT, ScriptReader};
 use search::Prepared;
 use std::alloc::{AllocError, Global};
@@ -57,11 +57,12 @@ fn prepare(alloc: Global, item: Item<'_>) -> Option<Prepared>
     ensures { IfSome result (λ prepared. Asks (shown_item item.entry) (pattern_of prepared)) }
 {
     match item {
-        Item::Search { pattern } => Prepared::new(alloc, pattern).ok(),
+        Item::Search { case, pattern } => Prepared::with_case(alloc, pattern, case).ok(),
         Item::SearchIn {
+            case,
             name_pattern,
             pattern,
-        } => Prepared::within(alloc, name_pattern, pattern).ok(),
+        } => Prepared::within_with_case(alloc, name_pattern, pattern, case).ok(),
         _ => None,
     }
 }
@@ -71,28 +72,34 @@ pub fn refusal(alloc: Global, item: Item<'_>) -> SearchReason
     ensures { IsRefusalOf (shown_item item.entry) result }
 {
     match item {
-        Item::Search { pattern } => search_refusal(alloc, pattern),
+        Item::Search { case, pattern } => search_refusal(alloc, case, pattern),
         Item::SearchIn {
+            case,
             name_pattern,
             pattern,
-        } => search_in_refusal(alloc, name_pattern, pattern),
+        } => search_in_refusal(alloc, case, name_pattern, pattern),
         _ => SearchReason::OutOfMemory,
     }
 }
 
-fn search_refusal(alloc: Global, pattern: &[u8]) -> SearchReason
-    ensures { IsRefusalOf (search_item pattern.now) result }
+fn search_refusal(alloc: Global, case: Case, pattern: &[u8]) -> SearchReason
+    ensures { IsRefusalOf (search_item case pattern.now) result }
 {
-    match Prepared::new(alloc, pattern) {
+    match Prepared::with_case(alloc, pattern, case) {
         Ok(_) => SearchReason::OutOfMemory,
         Err(error) => reason_of(false, error),
     }
 }
 
-fn search_in_refusal(alloc: Global, name_pattern: &[u8], pattern: &[u8]) -> SearchReason
-    ensures { IsRefusalOf (search_in_item name_pattern.now pattern.now) result }
+fn search_in_refusal(
+    alloc: Global,
+    case: Case,
+    name_pattern: &[u8],
+    pattern: &[u8],
+) -> SearchReason
+    ensures { IsRefusalOf (search_in_item case name_pattern.now pattern.now) result }
 {
-    match Prepared::within(alloc, name_pattern, pattern) {
+    match Prepared::within_with_case(alloc, name_pattern, pattern, case) {
         Ok(_) => SearchReason::OutOfMemory,
         Err(error) => reason_of(error.in_name, error.error),
     }

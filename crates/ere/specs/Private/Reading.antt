@@ -1,6 +1,7 @@
 -- What the parts of the reader of patterns tell one another.
 use Rattle.std.specs.Prelude.{◌≡◌, ℕ, suc, ◌+◌, ◌<◌, ◌≤◌, Bool, true, false, ◌&&◌, ◌||◌, ◌==◌, nat_lt, IsTrue, IsFalse, List, [], ◌∷◌, ◌++◌, map, Option, Some, None, MatchOption, slice_index}
 use Rattle.std.specs.List.{AllPass}
+use Rattle.ere.specs.declared.case.Case.{Case}
 use Rattle.ere.specs.declared.token.Token.{Token}
 use Rattle.ere.specs.declared.token.Token.TheVariants.{Set, Opens, Closes, Bar, AtStart, AtEnd, Times}
 use Rattle.ere.specs.declared.parts.Part.{Part}
@@ -46,8 +47,8 @@ abbrev pub begins_longer : ℕ → List ℕ → Bool
 begins_longer b text = b == 91 || (b == 92 || (b == 123 && digit_ahead text))
 
 -- No duplication is at the front.
-abbrev pub NoDuplication : List ℕ → Type 0
-NoDuplication from = (rest : List ℕ) (least : ℕ) (greatest : Option ℕ) → SpellsToken from rest (tokens.times least greatest) → ⊥
+abbrev pub NoDuplication : Case → List ℕ → Type 0
+NoDuplication case from = (rest : List ℕ) (least : ℕ) (greatest : Option ℕ) → SpellsToken case from rest (tokens.times least greatest) → ⊥
 
 -- All decimal digits at the front, and the count that they spell, where they spell one.
 pub record ReadsCount (from rest : List ℕ) (count : Option ℕ) : Type 0 where
@@ -87,9 +88,9 @@ ends_branch depth (b ∷ text) = b == 124 || (nat_lt 0 depth && b == 41)
 
 -- What is read from `from` up to `to`: any tokens of the rest follow it in tokens of the whole, and any
 -- tokens of the whole begin with it.
-pub record Reads (from to : List ℕ) (spells : List tokens.Token → List tokens.Token → Type 0) : Type 0 where
-  pub forward : (rest : List tokens.Token) → tokens.Tokens to rest → (all : List tokens.Token) × tokens.Tokens from all × spells all rest
-  pub backward : (all : List tokens.Token) → tokens.Tokens from all → (rest : List tokens.Token) × tokens.Tokens to rest × spells all rest
+pub record Reads (case : Case) (from to : List ℕ) (spells : List tokens.Token → List tokens.Token → Type 0) : Type 0 where
+  pub forward : (rest : List tokens.Token) → tokens.Tokens case to rest → (all : List tokens.Token) × tokens.Tokens case from all × spells all rest
+  pub backward : (all : List tokens.Token) → tokens.Tokens case from all → (rest : List tokens.Token) × tokens.Tokens case to rest × spells all rest
 
 -- The tree as it is kept: a part with its height, or none where it is higher than the limit.
 abbrev pub IsBuilt : Option Part → Tree → Type 0
@@ -101,49 +102,49 @@ abbrev pub AreBuilt : Option Members → Trees → Type 0
 AreBuilt (Some members) trees = (trees_of (map form members.trees.items) ≡ trees) × (highest trees ≡ members.highest) × (members.highest ≤ greatest_height)
 AreBuilt None trees = greatest_height < highest trees
 
-pub record ReadsDuplications (from to : List ℕ) (tree : Tree) (part : Option Part) : Type 0 where
+pub record ReadsDuplications (case : Case) (from to : List ℕ) (tree : Tree) (part : Option Part) : Type 0 where
   pub whole : Tree
   pub built : IsBuilt part whole
-  pub reads : Reads from to (λ all rest. SpellsDuplications all rest tree whole)
-  pub next : NoDuplication to
+  pub reads : Reads case from to (λ all rest. SpellsDuplications all rest tree whole)
+  pub next : NoDuplication case to
 
-pub record ReadsAtom (depth : ℕ) (from to : List ℕ) (part : Option Part) : Type 0 where
+pub record ReadsAtom (case : Case) (depth : ℕ) (from to : List ℕ) (part : Option Part) : Type 0 where
   pub tree : Tree
   pub built : IsBuilt part tree
-  pub reads : Reads from to (λ all rest. SpellsAtom greatest_open depth all rest tree)
+  pub reads : Reads case from to (λ all rest. SpellsAtom greatest_open depth all rest tree)
 
-pub record ReadsPiece (depth : ℕ) (from to : List ℕ) (part : Option Part) : Type 0 where
+pub record ReadsPiece (case : Case) (depth : ℕ) (from to : List ℕ) (part : Option Part) : Type 0 where
   pub tree : Tree
   pub built : IsBuilt part tree
-  pub reads : Reads from to (λ all rest. SpellsPiece greatest_open depth all rest tree)
-  pub next : NoDuplication to
+  pub reads : Reads case from to (λ all rest. SpellsPiece greatest_open depth all rest tree)
+  pub next : NoDuplication case to
 
-pub record ReadsBranch (depth : ℕ) (from to : List ℕ) (part : Option Part) : Type 0 where
+pub record ReadsBranch (case : Case) (depth : ℕ) (from to : List ℕ) (part : Option Part) : Type 0 where
   pub pieces : Trees
   pub built : IsBuilt part (branch_of pieces)
-  pub reads : Reads from to (λ all rest. SpellsBranch greatest_open depth all rest pieces)
+  pub reads : Reads case from to (λ all rest. SpellsBranch greatest_open depth all rest pieces)
   pub ends : IsTrue (ends_branch depth to)
 
-pub record ReadsAlternatives (depth : ℕ) (from to : List ℕ) (part : Option Part) : Type 0 where
+pub record ReadsAlternatives (case : Case) (depth : ℕ) (from to : List ℕ) (part : Option Part) : Type 0 where
   pub branches : Trees
   pub built : IsBuilt part (alternatives_of branches)
-  pub reads : Reads from to (λ all rest. SpellsAlternatives greatest_open depth all rest branches)
+  pub reads : Reads case from to (λ all rest. SpellsAlternatives greatest_open depth all rest branches)
   pub ends : IsTrue (ends_branch depth to)
   pub no_bar : IsFalse (begins_with 124 to)
 
 -- The text has no tokens.
-abbrev pub HasNoTokens : List ℕ → Type 0
-HasNoTokens from = (all : List tokens.Token) → tokens.Tokens from all → ⊥
+abbrev pub HasNoTokens : Case → List ℕ → Type 0
+HasNoTokens case from = (all : List tokens.Token) → tokens.Tokens case from all → ⊥
 
 -- Nothing of the kind is spelled from here on.
-abbrev pub NoAtom : ℕ → List ℕ → Type 0
-NoAtom depth from = (all rest : List tokens.Token) (tree : Tree) → tokens.Tokens from all → SpellsAtom greatest_open depth all rest tree → ⊥
+abbrev pub NoAtom : Case → ℕ → List ℕ → Type 0
+NoAtom case depth from = (all rest : List tokens.Token) (tree : Tree) → tokens.Tokens case from all → SpellsAtom greatest_open depth all rest tree → ⊥
 
-abbrev pub NoPiece : ℕ → List ℕ → Type 0
-NoPiece depth from = (all rest : List tokens.Token) (tree : Tree) → tokens.Tokens from all → SpellsPiece greatest_open depth all rest tree → NoTimes rest → ⊥
+abbrev pub NoPiece : Case → ℕ → List ℕ → Type 0
+NoPiece case depth from = (all rest : List tokens.Token) (tree : Tree) → tokens.Tokens case from all → SpellsPiece greatest_open depth all rest tree → NoTimes rest → ⊥
 
-abbrev pub NoBranch : ℕ → List ℕ → Type 0
-NoBranch depth from = (all rest : List tokens.Token) (pieces : Trees) → tokens.Tokens from all → SpellsBranch greatest_open depth all rest pieces → EndsBranch rest depth → ⊥
+abbrev pub NoBranch : Case → ℕ → List ℕ → Type 0
+NoBranch case depth from = (all rest : List tokens.Token) (pieces : Trees) → tokens.Tokens case from all → SpellsBranch greatest_open depth all rest pieces → EndsBranch rest depth → ⊥
 
-abbrev pub NoAlternatives : ℕ → List ℕ → Type 0
-NoAlternatives depth from = (all rest : List tokens.Token) (branches : Trees) → tokens.Tokens from all → SpellsAlternatives greatest_open depth all rest branches → Ends rest depth → ⊥
+abbrev pub NoAlternatives : Case → ℕ → List ℕ → Type 0
+NoAlternatives case depth from = (all rest : List tokens.Token) (branches : Trees) → tokens.Tokens case from all → SpellsAlternatives greatest_open depth all rest branches → Ends rest depth → ⊥

@@ -11,8 +11,8 @@ use Rattle.tsearch.specs.Legal.{Context, search_number, IsSearch, IsSearchIn}
 
 -- the pattern that a search asks for
 abbrev pub Asks : Item → Pattern → Type 0
-Asks (search text) pattern = IsPatternOf text pattern
-Asks (search_in name_text text) pattern = IsPatternWithin name_text text pattern
+Asks (search case text) pattern = IsPatternOf case text pattern
+Asks (search_in case name_text text) pattern = IsPatternWithin case name_text text pattern
 Asks _ pattern = Unit {0}
 
 -- An item is added to the searches, where it is one: with its pattern, or with nothing.
@@ -42,6 +42,6 @@ pub record ArePrepared (script : List ℕ) (searches : List (Option Prepared)) :
 
 -- The search may be refused so, whatever stands around it.
 abbrev pub IsRefusalOf : Item → SearchReason → Type 0
-IsRefusalOf (search text) why = (context : Context) → IsSearch context text (SearchRefused (search_number context) why)
-IsRefusalOf (search_in name_text text) why = (context : Context) → IsSearchIn context name_text text (SearchRefused (search_number context) why)
+IsRefusalOf (search case text) why = (context : Context) → IsSearch context case text (SearchRefused (search_number context) why)
+IsRefusalOf (search_in case name_text text) why = (context : Context) → IsSearchIn context case name_text text (SearchRefused (search_number context) why)
 IsRefusalOf _ why = Unit {0}

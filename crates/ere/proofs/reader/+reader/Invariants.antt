@@ -16,7 +16,7 @@ decreases-group l = 4 * (length l.text.now - l.start) + 4
 
 abbrev pub invariant-alternatives-loop-alloc : goal.invariant-alternatives-loop-alloc
 invariant-alternatives-loop-alloc l = record {
-  read : AlternativesSoFar l.depth (drop l.start l.text) (drop l.at l.text) l.branches;
+  read : AlternativesSoFar l.case l.depth (drop l.start l.text) (drop l.at l.text) l.branches;
   on : l.start ≤ l.at;
   within : l.at ≤ length l.text;
 }
@@ -26,7 +26,7 @@ decreases-alternatives-loop-alloc l = length l.text - l.at
 
 abbrev pub invariant-branch-loop-alloc : goal.invariant-branch-loop-alloc
 invariant-branch-loop-alloc l = record {
-  read : BranchSoFar l.depth (drop l.start l.text) (drop l.at l.text) l.pieces;
+  read : BranchSoFar l.case l.depth (drop l.start l.text) (drop l.at l.text) l.pieces;
   on : l.start ≤ l.at;
   within : l.at ≤ length l.text;
 }

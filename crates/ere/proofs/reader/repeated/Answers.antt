@@ -23,7 +23,7 @@ returns-in_err-least-clause-err c =
 pub loop-part-preserved : goal.loop-part-preserved
 loop-part-preserved c =
     let text = c.args.text.now in
-    let spelled = subst (λ f. IfSome f (λ d. SpellsToken (drop c.loop-part.at text) (drop d.2 text) (times d.0 d.1))) c.in-Some.is c.in_ok-least.ensures.ok in
+    let spelled = subst (λ f. IfSome f (λ d. SpellsToken c.args.case (drop c.loop-part.at text) (drop d.2 text) (times d.0 d.1))) c.in-Some.is c.in_ok-least.ensures.ok in
     let after = subst (λ f. IfSome f (λ d. (c.loop-part.at < d.2) × (d.2 ≤ length text))) c.in-Some.is c.in_ok-least.ensures.after in
     record {
       read = λ tree built.

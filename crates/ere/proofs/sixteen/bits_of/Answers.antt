@@ -1,4 +1,4 @@
-use Rattle.std.proofs.Common.{◌≡◌, ◌%◌, ◌^◌, [], ◌∷◌, get_or, replicate, ap, ◌∙◌, arith, bit_and}
+use Rattle.std.proofs.Common.{◌%◌, ◌^◌, get_or, replicate, ap, ◌∙◌, arith, bit_and}
 use Rattle.std.specs.Simd.Lanes.{zip2}
 use Rattle.std.proofs.lemmas.Nat.{and_mask}
 use Rattle.ere.proofs.LaneLemmas.{lanes_splat, lanes_are, may_look_up, lanes_looked_up, powers, power_of_bit}

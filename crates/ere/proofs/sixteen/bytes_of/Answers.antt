@@ -1,4 +1,4 @@
-use Rattle.std.proofs.Common.{◌≡◌, ℕ, ◌+◌, ◌*◌, ◌/◌, ◌%◌, ◌^◌, ◌<◌, [], ◌∷◌, get_or, refl, ap, ◌∙◌, arith}
+use Rattle.std.proofs.Common.{◌≡◌, ◌+◌, ◌*◌, ◌/◌, ◌%◌, ◌^◌, [], ◌∷◌, get_or, refl, ap, ◌∙◌, arith}
 use Rattle.std.specs.Simd.Lanes.{digits_l, number_l}
 use Rattle.std.proofs.lemmas.Simd.{get_or_narrower}
 use Rattle.ere.proofs.sixteen.bytes_of.Goals as goal

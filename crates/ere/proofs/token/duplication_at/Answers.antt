@@ -7,10 +7,10 @@ use Rattle.ere.proofs.TokenSteps.{no_duplication_other}
 use Rattle.ere.proofs.token.duplication_at.Goals as goal
 
 pub returns-then-not-begins_duplication-clause-none : goal.returns-then-not-begins_duplication-clause-none
-returns-then-not-begins_duplication-clause-none c = c.if-not-begins_duplication.ensures.none refl
+returns-then-not-begins_duplication-clause-none c = c.if-not-begins_duplication.ensures.none c.args.case refl
 
 pub returns-in-Times-clause-ok : goal.returns-in-Times-clause-ok
-returns-in-Times-clause-ok c = subst (λ t. SpellsToken (drop c.args.at c.args.text.now) (drop c.in_ok-token.after c.args.text.now) (meaning t)) c.in-Times.is c.in_ok-token.ensures.ok
+returns-in-Times-clause-ok c = subst (λ t. SpellsToken c.args.case (drop c.args.at c.args.text.now) (drop c.in_ok-token.after c.args.text.now) (meaning t)) c.in-Times.is c.in_ok-token.ensures.ok
 
 means_times : (t : Token) (l : ℕ) (g : Option ℕ) → meaning t ≡ times l g → t ≡ Times l g
 means_times (Set members) l g e = absurd (cc)

@@ -13,7 +13,7 @@ pub returns-then-is_escapable-clause-ok : goal.returns-then-is_escapable-clause-
 returns-then-is_escapable-clause-ok c =
     spelled.escaped (get_or c.args.text.now (c.args.at + 1) 0)
     ((Stands-begins c.args.text.now c.args.at 92 c.requires).from ∙ ap (λ t. 92 ∷ t) (next c.args.text.now (c.args.at + 1) (c.args.at + 2) (omega arith) (omega arith)))
-    (sym c.if-is_escapable.ensures) (ap set c.single.ensures)
+    (sym c.if-is_escapable.ensures) (ap set c.single_in.ensures)
 
 pub returns-clause-err : goal.returns-clause-err
 returns-clause-err c =

@@ -6,7 +6,7 @@ use Rattle.tsearch.proofs.searches.search_refusal.Goals as goal
 use Rattle.tsearch.proofs.searches.search_refusal.Goals.{in-Ok, in-Err}
 
 pub returns : goal.returns
-returns c = elim c.match-new.branch [
-  | in-Ok w ↦ subst (IsRefusalOf (search c.args.pattern.now)) (sym w.result-is) (search_without_memory c.args.pattern.now)
-  | in-Err w ↦ subst (IsRefusalOf (search c.args.pattern.now)) (sym (w.result-is ∙ w.reason_of.ensures)) (search_refused c.args.pattern.now w.in-Err.error w.in-Err.ensures.refused)
+returns c = elim c.match-with_case.branch [
+  | in-Ok w ↦ subst (IsRefusalOf (search c.args.case c.args.pattern.now)) (sym w.result-is) (search_without_memory c.args.case c.args.pattern.now)
+  | in-Err w ↦ subst (IsRefusalOf (search c.args.case c.args.pattern.now)) (sym (w.result-is ∙ w.reason_of.ensures)) (search_refused c.args.case c.args.pattern.now w.in-Err.error w.in-Err.ensures.refused)
 ]
