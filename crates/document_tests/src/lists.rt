@@ -192,6 +192,76 @@ fn numbers_go_in_any_order(rt: HostRuntime) -> Result<(), Fail> {
     Ok(())
 }
 
+/// 4,000 rising numbers. Most distances take one byte, every 53rd takes two, and every 701st three.
+fn scattered(alloc: Global) -> Result<Vec<u32>, AllocError> {
+    let mut numbers = Vec::new(alloc);
+    let mut number = 0u32;
+    for i in 0..4000u32 {
+        let distance = if i % 701 == 0 {
+            20000
+        } else if i % 53 == 0 {
+            300
+        } else {
+            1
+        };
+        number = number.wrapping_add(distance);
+        numbers.push(number)?;
+    }
+    Ok(numbers)
+}
+
+/// Takes half of the scattered numbers out of a set, in the order of the multiples of a factor, from a first one on,
+/// and asks for each. Returns whether the others stayed.
+fn half_goes(alloc: Global, factor: u32, first: u32) -> Result<bool, AllocError> {
+    let mut held = scattered(alloc)?;
+    let numbers = scattered(alloc)?;
+    let mut set = set_of(alloc, &[&held, &[], &[]])?;
+    for i in 0..2000u32 {
+        let place = factor.wrapping_mul(i).wrapping_add(first) % 4000;
+        if let Some(number) = numbers.get(place as usize) {
+            let was_there = set.has(*number);
+            set.remove(*number);
+            held.retain(|other| *other != *number);
+            if !was_there || set.has(*number) {
+                return Ok(false);
+            }
+        }
+    }
+    lists(alloc, &set, &held)
+}
+
+#[test]
+fn numbers_go_from_the_middle_of_long_sets(rt: HostRuntime) -> Result<(), Fail> {
+    let alloc = rt.alloc();
+    for (factor, first) in [(1, 1000), (3999, 2999), (7, 3), (1237, 2000)] {
+        assert!(rt; half_goes(alloc, factor, first)?, "{factor} from {first}");
+    }
+    Ok(())
+}
+
+/// Whether the scattered numbers and those of them at every so many places share the latter, whichever set is asked.
+fn share_some(alloc: Global, step: usize) -> Result<bool, AllocError> {
+    let numbers = scattered(alloc)?;
+    let mut some = Vec::new(alloc);
+    for (place, number) in numbers.iter().enumerate() {
+        if place % step == step / 2 {
+            some.push(*number)?;
+        }
+    }
+    let all = set_of(alloc, &[&numbers, &[], &[]])?;
+    let few = set_of(alloc, &[&some, &[], &[]])?;
+    Ok(lists(alloc, &all.intersect(&few)?, &some)? && lists(alloc, &few.intersect(&all)?, &some)?)
+}
+
+#[test]
+fn long_sets_meet_short_ones(rt: HostRuntime) -> Result<(), Fail> {
+    let alloc = rt.alloc();
+    for step in [1, 2, 3, 17, 40, 701, 3000] {
+        assert!(rt; share_some(alloc, step)?, "every {step}");
+    }
+    Ok(())
+}
+
 fn abc() -> Trigram
     ensures { result ≡ 6382179 }
 {

@@ -291,12 +291,12 @@ cut_tail (b ∷ tail) front last number h is ends low le =
     (omega (arith, more.0, one.0, sum_is), rw (split, same) (cut_more ((front ++ b ∷ []) ++ tail) number (front ++ b ∷ []) (last - sum tail) front (last - sum tail - b) more.1 one.1))
 
 -- a block at the end: all of it but its first byte, which ends a number
-module _ (bytes : List ℕ) (last total : ℕ) (h : IsSpelled 0 bytes) (is : last ≡ last_of 0 (numbers_after 0 bytes)) (long : 16 ≤ length bytes) (block : IsBlock (drop (length bytes - 16) bytes) total) where
+module _ (bytes : List ℕ) (last total : ℕ) (h : IsSpelled 0 bytes) (is : last ≡ last_of 0 (numbers_after 0 bytes)) (long : 32 ≤ length bytes) (block : IsBlock (drop (length bytes - 32) bytes) total) where
   abbrev from : ℕ
-  from = length bytes - 16
+  from = length bytes - 32
 
-  whole : take 16 (drop from bytes) ≡ drop from bytes
-  whole = take_all 16 (drop from bytes) (omega (arith, length-drop from bytes, long))
+  whole : take 32 (drop from bytes) ≡ drop from bytes
+  whole = take_all 32 (drop from bytes) (omega (arith, length-drop from bytes, long))
 
   parts : drop from bytes ≡ get_or bytes from 0 ∷ drop (from + 1) bytes
   parts = drop_more bytes from 0 (omega (arith, long))

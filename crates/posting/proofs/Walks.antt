@@ -391,19 +391,19 @@ passed_front (b ∷ front) tail at number h low fits =
     rw same (passed_on at (b ∷ (front ++ tail)) number (at + b) (front ++ tail) (at + b + sum front) tail (passed_one at (b ∷ (front ++ tail)) number (at + b) (front ++ tail) h first (omega (arith, below))) more)
 
 -- the numbers of a block
-pub passed_block : (at : ℕ) (bytes : List ℕ) (number total : ℕ) → IsSpelled at bytes → IsBlock bytes total → at + total < number → IsPassed at bytes number (at + total) (drop 16 bytes)
+pub passed_block : (at : ℕ) (bytes : List ℕ) (number total : ℕ) → IsSpelled at bytes → IsBlock bytes total → at + total < number → IsPassed at bytes number (at + total) (drop 32 bytes)
 passed_block at bytes number total h block fits =
-    let whole : take 16 bytes ++ drop 16 bytes ≡ bytes = take-append-drop 16 bytes in
-    rw (block.total_is) (subst (λ xs. IsPassed at xs number (at + sum (take 16 bytes)) (drop 16 bytes)) whole
-    (passed_front (take 16 bytes) (drop 16 bytes) at number (rw whole h) block.low (omega (arith, fits, block.total_is))))
+    let whole : take 32 bytes ++ drop 32 bytes ≡ bytes = take-append-drop 32 bytes in
+    rw (block.total_is) (subst (λ xs. IsPassed at xs number (at + sum (take 32 bytes)) (drop 32 bytes)) whole
+    (passed_front (take 32 bytes) (drop 32 bytes) at number (rw whole h) block.low (omega (arith, fits, block.total_is))))
 
 pub sum_more : (bytes : List ℕ) (i : ℕ) → i < length bytes → sum (take (i + 1) bytes) ≡ sum (take i bytes) + get_or bytes i 0
 sum_more bytes i inside = sum_by_more (λ b. b) bytes i 0 inside
 
-pub block_is : (bytes : List ℕ) (total most : ℕ) → 16 ≤ length bytes → total ≡ sum (take 16 bytes) → ((k : ℕ) → k < 16 → get_or bytes k 0 ≤ most) → most < 128 → IsBlock bytes total
+pub block_is : (bytes : List ℕ) (total most : ℕ) → 32 ≤ length bytes → total ≡ sum (take 32 bytes) → ((k : ℕ) → k < 32 → get_or bytes k 0 ≤ most) → most < 128 → IsBlock bytes total
 block_is bytes total most long total_is below low = record {
   long = long;
-  low = All-from_get_or (λ b. b < 128) (take 16 bytes) 0 (λ k inside. let before : k < 16 = omega (arith, inside, length-take-le 16 bytes long) in omega (arith, get_or-take 16 bytes k 0 before, below k before, low));
+  low = All-from_get_or (λ b. b < 128) (take 32 bytes) 0 (λ k inside. let before : k < 32 = omega (arith, inside, length-take-le 32 bytes long) in omega (arith, get_or-take 32 bytes k 0 before, below k before, low));
   total_is = total_is;
 }
 

@@ -8,7 +8,10 @@ ghost use Rattle.posting.specs.Private.Gaps.{IsSpelled, IsFirstNumber, IsPassed,
 use smallvec::SmallVec;
 
 /// How many bytes are looked at together.
-const BLOCK: usize = 16;
+const BLOCK: usize = 32;
+
+/// How many numbers are gone through one by one before a block is tried again.
+const FEW: usize = 16;
 
 /// The first number of bytes that follow the number `before`, and the bytes after it.
 pub(crate) fn first_number(bytes: &[u8], before: u32) -> (u32, &[u8])
@@ -38,14 +41,14 @@ fn first_gap(bytes: &[u8]) -> (u32, &[u8])
     }
 }
 
-/// The bytes that start at the first number not below this one, and the number before it.
+/// The bytes that start at the first number not below this one, and the number before it. It is often near, so the
+/// first few are gone through one by one.
 pub(crate) fn pass(bytes: &[u8], before: u32, number: u32) -> (&[u8], u32)
     requires { IsSpelled before bytes.now }
     ensures passed { IsPassed before bytes.now number result.1 result.0.now }
     ensures next { All (λ n. number ≤ n) (numbers_after result.1 result.0.now) }
 {
-    let mut rest = bytes;
-    let mut at = before;
+    let (mut rest, mut at) = pass_few(bytes, before, number);
     while !rest.is_empty() {
         match step(rest, at, number) {
             Some((after, next)) => {
@@ -65,17 +68,38 @@ fn step(bytes: &[u8], before: u32, number: u32) -> Option<(&[u8], u32)>
     ensures some { IfSome result (λ s. IsPassed before bytes.now number s.1 s.0.now × (length s.0.now < length bytes.now)) }
     ensures none { IfNone result (All (λ n. number ≤ n) (numbers_after before bytes.now)) }
 {
+    let (next, after) = first_number(bytes, before);
+    if number <= next {
+        return None;
+    }
     if let Some(sum) = sum_of_block(bytes) {
         if sum < number.saturating_sub(before) {
             return Some((&bytes[BLOCK..], before + sum));
         }
     }
-    let (next, after) = first_number(bytes, before);
-    if next < number {
-        Some((after, next))
-    } else {
-        None
+    Some(pass_few(after, next, number))
+}
+
+// Passes the first numbers below this one, but only a few.
+fn pass_few(bytes: &[u8], before: u32, number: u32) -> (&[u8], u32)
+    requires { IsSpelled before bytes.now }
+    ensures passed { IsPassed before bytes.now number result.1 result.0.now }
+    ensures shorter { length result.0.now ≤ length bytes.now }
+{
+    let mut rest = bytes;
+    let mut at = before;
+    for _few in 0..FEW {
+        if rest.is_empty() {
+            return (rest, at);
+        }
+        let (next, after) = first_number(rest, at);
+        if number <= next {
+            return (rest, at);
+        }
+        rest = after;
+        at = next;
     }
+    (rest, at)
 }
 
 /// The bytes that start at the first number not below this one, and the number before it, given the last number of
@@ -131,9 +155,44 @@ fn step_back(bytes: &[u8], last: u32, number: u32) -> Option<(&[u8], u32)>
             return Some((front, before));
         }
     }
+    let (front, before) = cut_number(bytes, last);
+    Some(cut_few(front, before, number))
+}
+
+// Leaves out the last numbers that are not below this one, but only a few.
+fn cut_few(bytes: &[u8], last: u32, number: u32) -> (&[u8], u32)
+    requires spelled { IsSpelled 0 bytes.now }
+    requires last { last ≡ last_of 0 (numbers_after 0 bytes.now) }
+    ensures cut { IsCut bytes.now number result.0.now result.1 }
+    ensures shorter { length result.0.now ≤ length bytes.now }
+{
+    let mut front = bytes;
+    let mut at = last;
+    for _few in 0..FEW {
+        if front.is_empty() {
+            return (front, at);
+        }
+        if at < number {
+            return (front, at);
+        }
+        let (fewer, before) = cut_number(front, at);
+        front = fewer;
+        at = before;
+    }
+    (front, at)
+}
+
+// Leaves out the last number.
+fn cut_number(bytes: &[u8], last: u32) -> (&[u8], u32)
+    requires spelled { IsSpelled 0 bytes.now }
+    requires last { last ≡ last_of 0 (numbers_after 0 bytes.now) }
+    requires some { 0 < length bytes.now }
+    ensures cut { IsCut bytes.now last result.0.now result.1 }
+    ensures shorter { length result.0.now < length bytes.now }
+{
     let place = last_place(bytes);
     let (gap, _) = first_gap(&bytes[place..]);
-    Some((&bytes[..place], last - gap))
+    (&bytes[..place], last - gap)
 }
 
 // Leaves out the last bytes if each of them is a whole number. The byte before them then ends a number.

@@ -57,9 +57,9 @@ pub record IsPassed (before : ℕ) (bytes : List ℕ) (number at : ℕ) (rest : 
 
 -- Each of the first bytes is the whole of a number, and this is their sum.
 pub record IsBlock (bytes : List ℕ) (total : ℕ) : Type 0 where
-  pub long : 16 ≤ length bytes
-  pub low : All (λ b. b < 128) (take 16 bytes)
-  pub total_is : total ≡ sum (take 16 bytes)
+  pub long : 32 ≤ length bytes
+  pub low : All (λ b. b < 128) (take 32 bytes)
+  pub total_is : total ≡ sum (take 32 bytes)
 
 abbrev pub not_below : ℕ → List ℕ → List ℕ
 not_below number numbers = filter (λ n. nat_le number n) numbers

@@ -9,14 +9,14 @@ first bytes from = rw (take_rest bytes from) (get_or-drop from bytes 0 0 ∙ ap 
 
 pub overflow_sub-before-2 : goal.overflow_sub-before-2
 overflow_sub-before-2 c =
-    let block = rw (take_rest c.args.bytes.now (length c.args.bytes.now - 16)) at c.in_ok-sum.ensures in
+    let block = rw (take_rest c.args.bytes.now (length c.args.bytes.now - 32)) at c.in_ok-sum.ensures in
     let cut = cut_block c.args.bytes.now c.args.last c.in_ok-sum.sum c.requires.spelled c.requires.last c.if-bytes-lt-BLOCK.false block in
-    rw (first c.args.bytes.now (length c.args.bytes.now - 16)) cut.0
+    rw (first c.args.bytes.now (length c.args.bytes.now - 32)) cut.0
 
 pub returns : goal.returns
 returns c =
-    let block = rw (take_rest c.args.bytes.now (length c.args.bytes.now - 16)) at c.in_ok-sum.ensures in
+    let block = rw (take_rest c.args.bytes.now (length c.args.bytes.now - 32)) at c.in_ok-sum.ensures in
     let cut = cut_block c.args.bytes.now c.args.last c.in_ok-sum.sum c.requires.spelled c.requires.last c.if-bytes-lt-BLOCK.false block in (
-      rw (first c.args.bytes.now (length c.args.bytes.now - 16)) cut.1,
-      omega (arith, length-take-le (length c.args.bytes.now - 16 + 1) c.args.bytes.now (omega (arith, c.if-bytes-lt-BLOCK.false))),
+      rw (first c.args.bytes.now (length c.args.bytes.now - 32)) cut.1,
+      omega (arith, length-take-le (length c.args.bytes.now - 32 + 1) c.args.bytes.now (omega (arith, c.if-bytes-lt-BLOCK.false))),
     )

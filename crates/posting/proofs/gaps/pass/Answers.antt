@@ -1,10 +1,10 @@
 use Rattle.std.proofs.Common.{◌≡◌, length, arith}
 use Rattle.std.proofs.lemmas.Bool.Decides.{nat_tests}
-use Rattle.posting.proofs.Walks.{passed_none, passed_on, next_end}
+use Rattle.posting.proofs.Walks.{passed_on, next_end}
 use Rattle.posting.proofs.gaps.pass.Goals as goal
 
 pub loop-rest-init : goal.loop-rest-init
-loop-rest-init c = passed_none c.args.before c.args.bytes.now c.args.number c.requires
+loop-rest-init c = c.pass_few-at.ensures.passed
 
 pub loop-rest-preserved : goal.loop-rest-preserved
 loop-rest-preserved c = passed_on c.args.before c.args.bytes.now c.args.number c.loop-rest.at c.loop-rest.rest.now c.in-Some.next c.in-Some.after.now c.loop-rest.invariant c.in-Some.ensures.some.0

@@ -1,16 +1,10 @@
-use Rattle.std.proofs.Common.{arith, ◌∙◌}
-use Rattle.std.proofs.lemmas.List.{length-take-le, take_rest}
-use Rattle.posting.proofs.Cuts.{cut_last, gap_fits}
+use Rattle.std.proofs.Common.{arith}
+use Rattle.posting.proofs.Cuts.{cut_more, cut_weaker}
 use Rattle.posting.proofs.gaps.step_back.Goals as goal
-
-pub overflow_sub-result : goal.overflow_sub-result
-overflow_sub-result c =
-    gap_fits c.args.bytes.now c.args.last c.last_place-place.result c.first_gap-gap.result.0 c.requires.spelled c.requires.last c.last_place-place.ensures
-    (λ more g rest small fits is. (c.first_gap-gap.ensures.gap more g rest small fits (take_rest c.args.bytes.now c.last_place-place.result ∙ is)).0)
 
 pub returns-clause-some : goal.returns-clause-some
 returns-clause-some c = (
-  cut_last c.args.bytes.now c.args.last c.last_place-place.result c.first_gap-gap.result.0 c.requires.spelled c.requires.last c.last_place-place.ensures
-      (λ more g rest small fits is. (c.first_gap-gap.ensures.gap more g rest small fits (take_rest c.args.bytes.now c.last_place-place.result ∙ is)).0) c.args.number c.if-last-number.false,
-  omega (arith, c.last_place-place.ensures.inside, length-take-le c.last_place-place.result c.args.bytes.now (omega (arith, c.last_place-place.ensures.inside))),
+  cut_more c.args.bytes.now c.args.number c.cut_number-before.result.0.now c.cut_number-before.result.1 c.cut_few.result.0.now c.cut_few.result.1
+      (cut_weaker c.args.bytes.now c.args.last c.args.number c.cut_number-before.result.0.now c.cut_number-before.result.1 c.cut_number-before.ensures.cut c.if-last-number.false) c.cut_few.ensures.cut,
+  omega (arith, c.cut_number-before.ensures.shorter, c.cut_few.ensures.shorter),
 )
