@@ -158,9 +158,14 @@ def grep(path, pattern, words):
     return {int(line.split(b":", 1)[0]) for line in done.stdout.splitlines()}
 
 
-def is_backwards_in_capitals(pattern):
-    """Whether the pattern may have a range that runs backwards once its ends are capitals, and does not as it is written."""
-    return any(low <= high and low.upper() > high.upper() for low, high in re.findall(rb"(?=(.)-(.))", pattern))
+def is_other_in_capitals(pattern):
+    """Whether the pattern may have a range that has other bytes, or none, once its ends are capitals."""
+    ranges = [(low, high) for low, high in re.findall(rb"(?=(.)-(.))", pattern) if low <= high]
+    return any(without_case(low, high) != without_case(low.upper(), high.upper()) for low, high in ranges)
+
+
+def without_case(low, high):
+    return {bytes([byte]).upper() for byte in range(low[0], high[0] + 1)}
 
 
 def kind_of(pattern, repeated, ours, theirs, ignoring):
@@ -169,8 +174,8 @@ def kind_of(pattern, repeated, ours, theirs, ignoring):
         if theirs is None:
             return "refused by both", True
         return f"refused here alone: {ours}", ours != "out of memory"
-    if theirs is None and ignoring and is_backwards_in_capitals(pattern):
-        return "refused by grep alone: a range that runs backwards in capitals", True
+    if theirs is None and ignoring and is_other_in_capitals(pattern):
+        return "refused by grep alone, and a range with its ends as capitals", True
     if theirs is None:
         return "refused by grep alone", re.search(rb"\[:|\[\.|\[=|\{", pattern) is not None
     if ours == theirs:
@@ -179,6 +184,8 @@ def kind_of(pattern, repeated, ours, theirs, ignoring):
         return "other lines, and an anchor in a repeated group", True
     if b"{," in pattern:
         return "other lines, and `{,n}`, which is an interval for GNU alone", True
+    if ignoring and is_other_in_capitals(pattern) and re.search(rb"\[[.=]", pattern):
+        return "other lines, and a range with its ends as capitals beside a symbol", True
     return "OTHER LINES", False
 
 

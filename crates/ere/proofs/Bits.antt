@@ -1,5 +1,6 @@
 -- Single bits of words.
-use Rattle.std.proofs.Common.{◌≡◌, ◌≢◌, ℕ, zero, suc, ◌-◌, ◌*◌, ◌/◌, ◌%◌, ◌^◌, ◌<◌, max, min, Bool, true, false, not, ◌&&◌, ◌||◌, ◌==◌, refl, sym, ap, ◌∙◌, arith, w64}
+use Rattle.std.proofs.Common.{◌≡◌, ◌≢◌, ℕ, zero, suc, ◌-◌, ◌*◌, ◌/◌, ◌%◌, ◌^◌, ◌<◌, max, min, Bool, true, false, not, ◌&&◌, ◌||◌, ◌==◌}
+use Rattle.std.proofs.Common.{refl, sym, ap, ◌∙◌, arith, w64}
 use Rattle.std.proofs.lemmas.Bool.Decides.{nat_tests}
 use Rattle.std.proofs.lemmas.Nat.Bits.{bit_at-lt, bit_at_and, bit_at_or, bit_at-zero, shr_and_one, bit_at_not, bit_at_set_same, bit_at_set_other}
 use Rattle.std.specs.Prelude.{bit_and, bit_or}
@@ -46,7 +47,9 @@ tests_bit word bit = ap (λ n. n == 1) (shr_and_one word bit)
 
 -- `1 << bit`
 pub has_one_bit : (bit b : ℕ) → bit < 64 → has_bit (1 * 2 ^ bit % 2 ^ 64) b ≡ (b == bit)
-has_one_bit bit b inside = sym (or_zero (has_bit (1 * 2 ^ bit % 2 ^ 64) b)) ∙ ap (λ t. t || has_bit (1 * 2 ^ bit % 2 ^ 64) b) (sym (has_zero b)) ∙ sym (has_or 0 (1 * 2 ^ bit % 2 ^ 64) b) ∙ go (b == bit) refl
+has_one_bit bit b inside =
+    sym (or_zero (has_bit (1 * 2 ^ bit % 2 ^ 64) b)) ∙ ap (λ t. t || has_bit (1 * 2 ^ bit % 2 ^ 64) b) (sym (has_zero b))
+    ∙ sym (has_or 0 (1 * 2 ^ bit % 2 ^ 64) b) ∙ go (b == bit) refl
   where
     or_zero : (t : Bool) → (false || t) ≡ t
     or_zero t = refl
@@ -65,11 +68,13 @@ and_swap false true = refl
 and_swap false false = refl
 
 pub has_only : (word bit b : ℕ) → bit < 64 → has_bit (bit_and word (1 * 2 ^ bit % 2 ^ 64)) b ≡ (b == bit && has_bit word b)
-has_only word bit b inside = has_and word (1 * 2 ^ bit % 2 ^ 64) b ∙ ap (λ t. has_bit word b && t) (has_one_bit bit b inside) ∙ and_swap (has_bit word b) (b == bit)
+has_only word bit b inside =
+    has_and word (1 * 2 ^ bit % 2 ^ 64) b ∙ ap (λ t. has_bit word b && t) (has_one_bit bit b inside) ∙ and_swap (has_bit word b) (b == bit)
 
 pub has_without : (word other b : ℕ) → other < 2 ^ 64 → b < 64 → has_bit (bit_and word (bit_not w64 other)) b ≡ (has_bit word b && not (has_bit other b))
 has_without word other b small inside = has_and word (bit_not w64 other) b ∙ ap (λ t. has_bit word b && t) (has_not other b small inside)
 
 -- `word & !(1 << bit)`
 pub has_cleared : (word bit b : ℕ) → bit < 64 → b < 64 → has_bit (bit_and word (bit_not w64 (1 * 2 ^ bit % 2 ^ 64))) b ≡ (has_bit word b && not (b == bit))
-has_cleared word bit b inside within = has_without word (1 * 2 ^ bit % 2 ^ 64) b (omega arith) within ∙ ap (λ t. has_bit word b && not t) (has_one_bit bit b inside)
+has_cleared word bit b inside within =
+    has_without word (1 * 2 ^ bit % 2 ^ 64) b (omega arith) within ∙ ap (λ t. has_bit word b && not t) (has_one_bit bit b inside)

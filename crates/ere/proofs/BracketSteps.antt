@@ -1,5 +1,7 @@
 -- What the steps of the reader of bracket expressions find at an offset of a text.
-use Rattle.std.proofs.Common.{◌≡◌, ◌≢◌, ℕ, zero, suc, ◌+◌, ◌-◌, ◌<◌, ◌≤◌, Bool, true, false, not, ◌&&◌, ◌||◌, ◌==◌, IsTrue, IsFalse, List, [], ◌∷◌, ◌++◌, length, get_or, take, drop, Some, None, Result, Ok, Err, IfErr, IfOk, refl, sym, ap, ◌∙◌, subst, arith, inl, inr, ◌⊎◌}
+use Rattle.std.proofs.Common.{◌≡◌, ◌≢◌, ℕ, zero, suc, ◌+◌, ◌-◌, ◌<◌, ◌≤◌, Bool, true, false, not, ◌&&◌, ◌||◌, ◌==◌, IsTrue, IsFalse, List}
+use Rattle.std.proofs.Common.{[], ◌∷◌, ◌++◌, length, get_or, take, drop, Some, None, Result, Ok, Err, IfErr, IfOk, refl, sym, ap, ◌∙◌}
+use Rattle.std.proofs.Common.{subst, arith, inl, inr, ◌⊎◌}
 use Rattle.std.proofs.lemmas.List.{take-append-drop, drop-drop, drop_all, take_at}
 use Rattle.std.proofs.lemmas.Bool.Decides.{nat_tests}
 use native.Mathlib.Decide.{dec_lt}
@@ -11,7 +13,8 @@ use Rattle.ere.specs.Brackets.{IsRangeStart as range_start, IsRangeEnd as range_
 use Rattle.ere.specs.Private.Reading.{opens_with, IsSymbol, IsSymbolEnd, IsByteOrSymbol}
 use Rattle.ere.specs.Private.Reading.{IsByteOrSymbol as byte_or_symbol}
 use Rattle.ere.proofs.Texts.{front, Stands, Stands-read, Stands-begins, read_at, first_begins, eqb_is}
-use Rattle.ere.proofs.BracketLemmas.{head_of, ItemView, ItemView as view, item_view, IsPlain, NoColon, no_colon, one_byte_or_symbol, mark_clash, items_left, ends_plain, plain_opens}
+use Rattle.ere.proofs.BracketLemmas.{head_of, ItemView, ItemView as view, item_view, IsPlain, NoColon, no_colon, one_byte_or_symbol}
+use Rattle.ere.proofs.BracketLemmas.{mark_clash, items_left, ends_plain, plain_opens}
 
 -- what holds whatever the error is
 pub if_err : {T E : Type 0} (r : Result T E) (P : Type 0) → P → IfErr r (λ _. P)
@@ -35,7 +38,9 @@ Opens-opens_with text at mark h = go (dec_lt at (length text))
   where
     go : Dec (at < length text) → Opens text at mark
     go (yes inside) =
-        let parts = and_parts (get_or text at 0 == 91) (begins_with mark (drop (at + 1) text)) (subst (λ t. IsTrue (opens_with mark t)) (front text at inside) h) in
+        let parts =
+        and_parts (get_or text at 0 == 91) (begins_with mark (drop (at + 1) text))
+        (subst (λ t. IsTrue (opens_with mark t)) (front text at inside) h) in
         record { bracket = Stands-read text at 91 inside (eqb_is _ 91 parts.0); marked = Stands-begins text (at + 1) mark parts.1 }
     go (no outside) = absurd (let none : IsTrue (opens_with mark []) = subst (λ t. IsTrue (opens_with mark t)) (drop_all at text (omega arith)) h in cc)
 
@@ -43,12 +48,14 @@ pub opens_then : (text : List ℕ) (at mark : ℕ) → IsTrue (begins_with 91 (d
 opens_then text at mark h = rw (Stands-begins text at 91 h).from refl
 
 -- a symbol of one byte that ends where its end was found
-pub symbol_found : (text : List ℕ) (at mark p : ℕ) → Opens text at mark → p ≡ at + 3 → p + 1 < length text → IsSymbolEnd mark text p → IsSymbol mark (drop at text) (get_or text (at + 2) 0) (drop (p + 2) text)
+pub symbol_found : (text : List ℕ) (at mark p : ℕ) → Opens text at mark → p ≡ at + 3 → p + 1 < length text → IsSymbolEnd mark text p
+    → IsSymbol mark (drop at text) (get_or text (at + 2) 0) (drop (p + 2) text)
 symbol_found text at mark p o e inside ends =
     let e0 = o.bracket.from in
     let e1 : drop (at + 1) text ≡ mark ∷ drop (at + 2) text = o.marked.from ∙ ap (λ k. mark ∷ drop k text) (omega arith) in
     let e2 = next text (at + 2) (at + 3) (omega arith) (omega arith) in
-    let e3 : drop (at + 3) text ≡ mark ∷ drop (p + 1) text = ap (λ k. drop k text) (sym e) ∙ front text p (omega arith) ∙ ap (λ b. b ∷ drop (p + 1) text) ends.0 in
+    let e3 : drop (at + 3) text ≡ mark ∷ drop (p + 1) text =
+    ap (λ k. drop k text) (sym e) ∙ front text p (omega arith) ∙ ap (λ b. b ∷ drop (p + 1) text) ends.0 in
     let e4 : drop (p + 1) text ≡ 93 ∷ drop (p + 2) text = next text (p + 1) (p + 2) inside (omega arith) ∙ ap (λ b. b ∷ drop (p + 2) text) ends.1 in
     cc
 
@@ -57,7 +64,9 @@ pub symbol_ends : (text : List ℕ) (at mark x : ℕ) (rest : List ℕ) → IsSy
 symbol_ends text at mark x rest e =
     (read_at text at 3 _ e, subst (λ k. get_or text k 0 ≡ 93) (omega arith) (read_at text at 4 _ e))
 
-pub symbol_elsewhere : (text : List ℕ) (at mark p : ℕ) → mark ≢ 93 → at + 2 ≤ p → IsSymbolEnd mark text p → ((k : ℕ) → at + 2 ≤ k → k < p → IsSymbolEnd mark text k → ⊥) → p ≢ at + 3 → (x : ℕ) (rest : List ℕ) → IsSymbol mark (drop at text) x rest → ⊥
+pub symbol_elsewhere : (text : List ℕ) (at mark p : ℕ) → mark ≢ 93 → at + 2 ≤ p → IsSymbolEnd mark text p
+    → ((k : ℕ) → at + 2 ≤ k → k < p → IsSymbolEnd mark text k → ⊥) → p ≢ at + 3 → (x : ℕ) (rest : List ℕ)
+    → IsSymbol mark (drop at text) x rest → ⊥
 symbol_elsewhere text at mark p other behind ends first elsewhere x rest e = go (dec_lt p (at + 3))
   where
     go : Dec (p < at + 3) → ⊥
@@ -73,7 +82,8 @@ inside_name [] tail i clean below e = absurd (omega arith)
 inside_name (x ∷ name) tail zero clean below e = clean.0 e
 inside_name (x ∷ name) tail (suc i) clean below e = inside_name name tail i clean.1 (omega arith) e
 
-behind_name : (name : List ℕ) (b c : ℕ) (rest : List ℕ) → (get_or (name ++ b ∷ c ∷ rest) (length name) 0 ≡ b) × (get_or (name ++ b ∷ c ∷ rest) (suc (length name)) 0 ≡ c)
+behind_name : (name : List ℕ) (b c : ℕ) (rest : List ℕ)
+    → (get_or (name ++ b ∷ c ∷ rest) (length name) 0 ≡ b) × (get_or (name ++ b ∷ c ∷ rest) (suc (length name)) 0 ≡ c)
 behind_name [] b c rest = (refl, refl)
 behind_name (x ∷ name) b c rest = behind_name name b c rest
 
@@ -83,23 +93,31 @@ class_text text at name rest e = sym (drop-drop 2 at text) ∙ ap (drop 2) e
 class_ends : (text : List ℕ) (at : ℕ) (name rest : List ℕ) → IsCharacterClass (drop at text) name rest → IsSymbolEnd 58 text (at + 2 + length name)
 class_ends text at name rest e =
     let behind = behind_name name 58 93 rest in
-    let from = class_text text at name rest e in
-    (read_at text (at + 2) (length name) _ from ∙ behind.0, subst (λ k. get_or text k 0 ≡ 93) (omega arith) (read_at text (at + 2) (suc (length name)) _ from ∙ behind.1))
+    let from = class_text text at name rest e in (
+      read_at text (at + 2) (length name) _ from ∙ behind.0,
+      subst (λ k. get_or text k 0 ≡ 93) (omega arith) (read_at text (at + 2) (suc (length name)) _ from ∙ behind.1),
+    )
 
-pub class_nowhere : (text : List ℕ) (at : ℕ) → ((k : ℕ) → at + 2 ≤ k → IsSymbolEnd 58 text k → ⊥) → (name rest : List ℕ) → IsCharacterClass (drop at text) name rest → ⊥
+pub class_nowhere : (text : List ℕ) (at : ℕ) → ((k : ℕ) → at + 2 ≤ k → IsSymbolEnd 58 text k → ⊥) → (name rest : List ℕ)
+    → IsCharacterClass (drop at text) name rest → ⊥
 class_nowhere text at nowhere name rest e = nowhere (at + 2 + length name) (omega arith) (class_ends text at name rest e)
 
-pub class_found : (text : List ℕ) (at p : ℕ) → Opens text at 58 → at + 2 ≤ p → p + 1 < length text → IsSymbolEnd 58 text p → IsCharacterClass (drop at text) (take (p - (at + 2)) (drop (at + 2) text)) (drop (p + 2) text)
+pub class_found : (text : List ℕ) (at p : ℕ) → Opens text at 58 → at + 2 ≤ p → p + 1 < length text → IsSymbolEnd 58 text p
+    → IsCharacterClass (drop at text) (take (p - (at + 2)) (drop (at + 2) text)) (drop (p + 2) text)
 class_found text at p o behind inside ends =
     let name = take (p - (at + 2)) (drop (at + 2) text) in
     let e0 = o.bracket.from in
     let e1 : drop (at + 1) text ≡ 58 ∷ drop (at + 2) text = o.marked.from ∙ ap (λ k. 58 ∷ drop k text) (omega arith) in
-    let e2 : name ++ drop p text ≡ drop (at + 2) text = ap (λ t. name ++ t) (ap (λ k. drop k text) (omega arith) ∙ sym (drop-drop (p - (at + 2)) (at + 2) text)) ∙ take-append-drop (p - (at + 2)) (drop (at + 2) text) in
+    let e2 : name ++ drop p text ≡ drop (at + 2) text =
+    ap (λ t. name ++ t) (ap (λ k. drop k text) (omega arith) ∙ sym (drop-drop (p - (at + 2)) (at + 2) text))
+    ∙ take-append-drop (p - (at + 2)) (drop (at + 2) text) in
     let e3 : drop p text ≡ 58 ∷ drop (p + 1) text = front text p (omega arith) ∙ ap (λ b. b ∷ drop (p + 1) text) ends.0 in
     let e4 : drop (p + 1) text ≡ 93 ∷ drop (p + 2) text = next text (p + 1) (p + 2) inside (omega arith) ∙ ap (λ b. b ∷ drop (p + 2) text) ends.1 in
     cc
 
-pub class_unknown : (text : List ℕ) (at p : ℕ) → at + 2 ≤ p → IsSymbolEnd 58 text p → ((k : ℕ) → at + 2 ≤ k → k < p → IsSymbolEnd 58 text k → ⊥) → None ≡ class_named (take (p - (at + 2)) (drop (at + 2) text)) → (name rest : List ℕ) (set : List Bool) → IsCharacterClass (drop at text) name rest → class_named name ≡ Some set → ⊥
+pub class_unknown : (text : List ℕ) (at p : ℕ) → at + 2 ≤ p → IsSymbolEnd 58 text p
+    → ((k : ℕ) → at + 2 ≤ k → k < p → IsSymbolEnd 58 text k → ⊥) → None ≡ class_named (take (p - (at + 2)) (drop (at + 2) text))
+    → (name rest : List ℕ) (set : List Bool) → IsCharacterClass (drop at text) name rest → class_named name ≡ Some set → ⊥
 class_unknown text at p behind ends first unknown name rest set e known = go (dec_lt p (at + 2 + length name)) (dec_lt (at + 2 + length name) p)
   where
     from : drop (at + 2) text ≡ name ++ 58 ∷ 93 ∷ rest
@@ -112,7 +130,8 @@ class_unknown text at p behind ends first unknown name rest set e known = go (de
         (sym (read_at text (at + 2) i _ from) ∙ ap (λ k. get_or text k 0) (omega arith) ∙ ends.0)
     go (no a) (yes after) = first (at + 2 + length name) (omega arith) after (class_ends text at name rest e)
     go (no a) (no b) =
-        let same : take (p - (at + 2)) (drop (at + 2) text) ≡ name = ap (λ t. take (p - (at + 2)) t) from ∙ take_at name (58 ∷ 93 ∷ rest) (p - (at + 2)) (omega arith) in
+        let same : take (p - (at + 2)) (drop (at + 2) text) ≡ name =
+        ap (λ t. take (p - (at + 2)) t) from ∙ take_at name (58 ∷ 93 ∷ rest) (p - (at + 2)) (omega arith) in
         let found : class_named (take (p - (at + 2)) (drop (at + 2) text)) ≡ Some set = rw same known in
         cc
 
@@ -128,7 +147,8 @@ pub last_dash : (from rest : List ℕ) → from ≡ 45 ∷ rest → IsTrue (begi
 last_dash from [] e h = absurd (cc)
 last_dash from (b ∷ rest) e h =
     let closes : b ≡ 93 = eqb_is b 93 h in
-    item.byte 45 e (record { bracket = λ f. absurd (omega (arith, f)); dash = λ _. h; opening = λ f. absurd (omega (arith, f)) }) (subst (λ x. IsFalse (range_ahead (x ∷ rest))) (sym closes) (no_range_end rest)) refl
+    item.byte 45 e (record { bracket = λ f. absurd (omega (arith, f)); dash = λ _. h; opening = λ f. absurd (omega (arith, f)) })
+    (subst (λ x. IsFalse (range_ahead (x ∷ rest))) (sym closes) (no_range_end rest)) refl
 
 pub no_dash : (from rest : List ℕ) → from ≡ 45 ∷ rest → IsFalse (begins_with 93 rest) → (r : List ℕ) (s : List Bool) → SpellsItem false from r s → ⊥
 no_dash from rest e h r s (item.byte x f stands ahead is) =
@@ -170,7 +190,8 @@ IsAhead-range_ahead text at h = go (dec_lt (at + 1) (length text))
   where
     go : Dec (at + 1 < length text) → IsAhead text at
     go (yes inside) =
-        let two : drop at text ≡ get_or text at 0 ∷ get_or text (at + 1) 0 ∷ drop (at + 1 + 1) text = front text at (omega arith) ∙ ap (λ t. get_or text at 0 ∷ t) (front text (at + 1) inside) in
+        let two : drop at text ≡ get_or text at 0 ∷ get_or text (at + 1) 0 ∷ drop (at + 1 + 1) text =
+        front text at (omega arith) ∙ ap (λ t. get_or text at 0 ∷ t) (front text (at + 1) inside) in
         let parts = and_parts (get_or text at 0 == 45) (not (get_or text (at + 1) 0 == 93)) (subst (λ t. IsTrue (range_ahead t)) two h) in
         record {
           dash = Stands-read text at 45 (omega arith) (eqb_is _ 45 parts.0);
@@ -183,8 +204,10 @@ IsAhead-range_ahead text at h = go (dec_lt (at + 1) (length text))
 pub end_plain : (from : List ℕ) (high : ℕ) (rest : List ℕ) → IsRangeEnd from high rest → IsPlain from
 end_plain from high rest end = ends_plain from high rest end
 
-pub end_found : (from : List ℕ) (high : ℕ) (rest : List ℕ) (closes : IsFalse (begins_with 93 from)) → IsPlain from → IsByteOrSymbol from high rest → IsRangeEnd from high rest
-end_found from high rest closes plain (byte_or_symbol.byte e o) = range_end.byte e (λ f. absurd (let t : IsTrue (begins_with 93 from) = rw (e, f) refl in cc)) (plain_opens from high rest e plain o)
+pub end_found : (from : List ℕ) (high : ℕ) (rest : List ℕ) (closes : IsFalse (begins_with 93 from)) → IsPlain from
+    → IsByteOrSymbol from high rest → IsRangeEnd from high rest
+end_found from high rest closes plain (byte_or_symbol.byte e o) =
+    range_end.byte e (λ f. absurd (let t : IsTrue (begins_with 93 from) = rw (e, f) refl in cc)) (plain_opens from high rest e plain o)
 end_found from high rest closes plain (byte_or_symbol.symbol e) = range_end.symbol e
 
 pub if_ok_map : {T E : Type 0} (r : Result T E) (P Q : T → Type 0) → ((x : T) → P x → Q x) → IfOk r P → IfOk r Q
@@ -210,7 +233,8 @@ pub record MayBegin (first : Bool) (from : List ℕ) : Type 0 where
 begins_of : (from : List ℕ) (x b : ℕ) (rest : List ℕ) → from ≡ x ∷ rest → x ≡ b → IsTrue (begins_with b from)
 begins_of from x b rest e f = rw (e, f) (first_begins b rest)
 
-pub simple_item : (first : Bool) (from : List ℕ) (x : ℕ) (rest : List ℕ) (set : List Bool) → IsByteOrSymbol from x rest → IsPlain from → MayBegin first from → IsFalse (range_ahead rest) → set ≡ single x → SpellsItem first from rest set
+pub simple_item : (first : Bool) (from : List ℕ) (x : ℕ) (rest : List ℕ) (set : List Bool) → IsByteOrSymbol from x rest → IsPlain from
+    → MayBegin first from → IsFalse (range_ahead rest) → set ≡ single x → SpellsItem first from rest set
 simple_item first from x rest set (byte_or_symbol.byte e o) plain may ahead is =
     item.byte x e (record {
       bracket = λ f. may.no_end (begins_of from x 93 rest e f);
@@ -219,12 +243,17 @@ simple_item first from x rest set (byte_or_symbol.byte e o) plain may ahead is =
     }) ahead is
 simple_item first from x rest set (byte_or_symbol.symbol e) plain may ahead is = item.symbol x e ahead is
 
-pub range_item : (first : Bool) (from : List ℕ) (low : ℕ) (after : List ℕ) (high : ℕ) (rest : List ℕ) (set : List Bool) → IsByteOrSymbol from low (45 ∷ after) → MayBegin first from → IsRangeEnd after high rest → low ≤ high → set ≡ bytes_between low high → SpellsItem first from rest set
+pub range_item : (first : Bool) (from : List ℕ) (low : ℕ) (after : List ℕ) (high : ℕ) (rest : List ℕ) (set : List Bool)
+    → IsByteOrSymbol from low (45 ∷ after) → MayBegin first from → IsRangeEnd after high rest → low ≤ high → set ≡ bytes_between low high
+    → SpellsItem first from rest set
 range_item first from low after high rest set (byte_or_symbol.byte e o) may end order is =
-    item.range low high after (range_start.byte e (λ f. may.no_end (begins_of from low 93 (45 ∷ after) e f)) (λ f. may.no_dash (begins_of from low 45 (45 ∷ after) e f))) end order is
+    item.range low high after
+    (range_start.byte e (λ f. may.no_end (begins_of from low 93 (45 ∷ after) e f))
+    (λ f. may.no_dash (begins_of from low 45 (45 ∷ after) e f))) end order is
 range_item first from low after high rest set (byte_or_symbol.symbol e) may end order is = item.range low high after (range_start.symbol e) end order is
 
-pub no_low : (first : Bool) (from : List ℕ) → IsPlain from → ((x : ℕ) (rest : List ℕ) → IsByteOrSymbol from x rest → ⊥) → (r : List ℕ) (s : List Bool) → SpellsItem first from r s → ⊥
+pub no_low : (first : Bool) (from : List ℕ) → IsPlain from → ((x : ℕ) (rest : List ℕ) → IsByteOrSymbol from x rest → ⊥)
+    → (r : List ℕ) (s : List Bool) → SpellsItem first from r s → ⊥
 no_low first from plain none r s found = go (item_view first from r s found)
   where
     go : ItemView from r s → ⊥
@@ -233,7 +262,9 @@ no_low first from plain none r s found = go (item_view first from r s found)
     go (view.equivalence x e is) = mark_clash from 61 0 _ e plain.no_equivalence
     go (view.class name e is) = mark_clash from 58 0 _ e plain.no_class
 
-pub no_range : (first : Bool) (from : List ℕ) (low : ℕ) (after : List ℕ) → IsPlain from → IsByteOrSymbol from low (45 ∷ after) → IsTrue (range_ahead (45 ∷ after)) → ((high : ℕ) (rest : List ℕ) → IsRangeEnd after high rest → low ≤ high → ⊥) → (r : List ℕ) (s : List Bool) → SpellsItem first from r s → ⊥
+pub no_range : (first : Bool) (from : List ℕ) (low : ℕ) (after : List ℕ) → IsPlain from → IsByteOrSymbol from low (45 ∷ after)
+    → IsTrue (range_ahead (45 ∷ after)) → ((high : ℕ) (rest : List ℕ) → IsRangeEnd after high rest → low ≤ high → ⊥)
+    → (r : List ℕ) (s : List Bool) → SpellsItem first from r s → ⊥
 no_range first from low after plain read ahead none r s found = go (item_view first from r s found)
   where
     go : ItemView from r s → ⊥
@@ -246,11 +277,14 @@ no_range first from low after plain read ahead none r s found = go (item_view fi
     go (view.equivalence x e is) = mark_clash from 61 0 _ e plain.no_equivalence
     go (view.class name e is) = mark_clash from 58 0 _ e plain.no_class
 
-pub class_item : (first : Bool) (from rest : List ℕ) (set : List Bool) → (name : List ℕ) × IsCharacterClass from name rest × (class_named name ≡ Some set) → SpellsItem first from rest set
+pub class_item : (first : Bool) (from rest : List ℕ) (set : List Bool)
+    → (name : List ℕ) × IsCharacterClass from name rest × (class_named name ≡ Some set) → SpellsItem first from rest set
 class_item first from rest set (name, e, known) = item.class name e known
 
 -- an item that fails, behind items that were read
-pub items_fail : (from middle : List ℕ) (set : List Bool) → SpellsItems true from middle set → IsFalse (begins_with 93 middle) → ((r : List ℕ) (s : List Bool) → SpellsItem false middle r s → ⊥) → (rest : List ℕ) (t : List Bool) → SpellsItems true from (93 ∷ rest) t → ⊥
+pub items_fail : (from middle : List ℕ) (set : List Bool) → SpellsItems true from middle set → IsFalse (begins_with 93 middle)
+    → ((r : List ℕ) (s : List Bool) → SpellsItem false middle r s → ⊥) → (rest : List ℕ) (t : List Bool)
+    → SpellsItems true from (93 ∷ rest) t → ⊥
 items_fail from middle set read open_end none rest t whole = go (items_left true from middle rest set t read whole)
   where
     go : ((middle ≡ 93 ∷ rest) × (set ≡ t)) ⊎ ((u : List Bool) × SpellsItems false middle (93 ∷ rest) u) → ⊥
@@ -258,18 +292,25 @@ items_fail from middle set read open_end none rest t whole = go (items_left true
     go (inr (u, items.last a)) = none (93 ∷ rest) u a
     go (inr (u, items.more {middle = m} {set = s} a b)) = none m s a
 
-pub first_fails : (from : List ℕ) → ((r : List ℕ) (s : List Bool) → SpellsItem true from r s → ⊥) → (rest : List ℕ) (t : List Bool) → SpellsItems true from (93 ∷ rest) t → ⊥
+pub first_fails : (from : List ℕ) → ((r : List ℕ) (s : List Bool) → SpellsItem true from r s → ⊥) → (rest : List ℕ) (t : List Bool)
+    → SpellsItems true from (93 ∷ rest) t → ⊥
 first_fails from none rest t (items.last a) = none (93 ∷ rest) t a
 first_fails from none rest t (items.more {middle = m} {set = s} a b) = none m s a
 
 -- behind a `^`
-pub hat_fails : {case : Case} → (from after : List ℕ) → from ≡ 94 ∷ after → ((rest : List ℕ) (t : List Bool) → SpellsItems true after (93 ∷ rest) t → ⊥) → (rest : List ℕ) (t : List Bool) → SpellsBracket case from rest t → ⊥
+pub hat_fails : {case : Case} → (from after : List ℕ) → from ≡ 94 ∷ after
+    → ((rest : List ℕ) (t : List Bool) → SpellsItems true after (93 ∷ rest) t → ⊥) → (rest : List ℕ) (t : List Bool)
+    → SpellsBracket case from rest t → ⊥
 hat_fails from after e none rest t (brackets.matching m h a is) = absurd (let hat : IsTrue (begins_with 94 from) = rw e (first_begins 94 after) in cc)
-hat_fails from after e none rest t (brackets.non_matching items others f a is) = none rest others (subst (λ v. SpellsItems true v (93 ∷ rest) others) (tail_of (sym f ∙ e)) a)
+hat_fails from after e none rest t (brackets.non_matching items others f a is) =
+    none rest others (subst (λ v. SpellsItems true v (93 ∷ rest) others) (tail_of (sym f ∙ e)) a)
 
-pub no_hat_fails : {case : Case} → (from : List ℕ) → IsFalse (begins_with 94 from) → ((rest : List ℕ) (t : List Bool) → SpellsItems true from (93 ∷ rest) t → ⊥) → (rest : List ℕ) (t : List Bool) → SpellsBracket case from rest t → ⊥
+pub no_hat_fails : {case : Case} → (from : List ℕ) → IsFalse (begins_with 94 from)
+    → ((rest : List ℕ) (t : List Bool) → SpellsItems true from (93 ∷ rest) t → ⊥) → (rest : List ℕ) (t : List Bool)
+    → SpellsBracket case from rest t → ⊥
 no_hat_fails from h none rest t (brackets.matching m k a is) = none rest m a
-no_hat_fails from h none rest t (brackets.non_matching items others f a is) = absurd (let hat : IsTrue (begins_with 94 from) = rw f (first_begins 94 items) in cc)
+no_hat_fails from h none rest t (brackets.non_matching items others f a is) =
+    absurd (let hat : IsTrue (begins_with 94 from) = rw f (first_begins 94 items) in cc)
 
 pub eqb_differs : (a b : ℕ) → a ≢ b → (a == b) ≡ false
 eqb_differs a b h = grind (arith, nat_tests)
@@ -277,7 +318,8 @@ eqb_differs a b h = grind (arith, nat_tests)
 pub open_end_begins : (text : List ℕ) (at : ℕ) → at < length text → get_or text at 0 ≢ 93 → IsFalse (begins_with 93 (drop at text))
 open_end_begins text at inside other = rw (front text at inside) (eqb_differs (get_or text at 0) 93 other)
 
-pub may_begin_dash : (text : List ℕ) (at : ℕ) (first : Bool) → (IsTrue (begins_with 93 (drop at text)) → IsTrue first) → (first ≡ true) ⊎ (get_or text at 0 ≢ 45) → MayBegin first (drop at text)
+pub may_begin_dash : (text : List ℕ) (at : ℕ) (first : Bool) → (IsTrue (begins_with 93 (drop at text)) → IsTrue first)
+    → (first ≡ true) ⊎ (get_or text at 0 ≢ 45) → MayBegin first (drop at text)
 may_begin_dash text at first no_end (inl is_first) = record { no_end = no_end; no_dash = λ _. is_first }
 may_begin_dash text at first no_end (inr other) = record { no_end = no_end; no_dash = λ h. absurd (other (Stands-begins text at 45 h).is) }
 

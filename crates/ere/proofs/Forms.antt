@@ -6,7 +6,8 @@ use Rattle.std.specs.declared.vec.Vec.{Vec}
 use Rattle.std.specs.declared.boxed.Box.{Box}
 use Rattle.ere.specs.declared.tree.Ere.{Ere}
 use Rattle.ere.specs.declared.tree.Ere.TheOpen as layer
-use Rattle.ere.specs.declared.tree.Ere.TheVariants.{Empty, Set, Start, End, Cat, Alt, Repeat, rolls-Empty, rolls-Set, rolls-Start, rolls-End, rolls-Cat, rolls-Alt, rolls-Repeat}
+use Rattle.ere.specs.declared.tree.Ere.TheVariants.{Empty, Set, Start, End, Cat, Alt, Repeat, rolls-Empty, rolls-Set, rolls-Start}
+use Rattle.ere.specs.declared.tree.Ere.TheVariants.{rolls-End, rolls-Cat, rolls-Alt, rolls-Repeat}
 use Rattle.ere.specs.declared.tree.Ere.TheFolds.{fold-roll-Ere}
 use Rattle.ere.specs.Tree.{Tree, empty, set, at_start, at_end, cat, alt, repeat, trees_of, form, form_step}
 

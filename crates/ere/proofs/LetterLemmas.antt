@@ -69,6 +69,8 @@ both_cases b = set_of-ext _ _ (λ x. ap (λ t. is_line_byte x && (has (single b)
     other : (x : ℕ) → has (single (other_case b)) x ≡ has (single b) (other_case x)
     other x =
         has-set_of (λ y. y == other_case b) x
-        ∙ ap (λ t. is_line_byte x && t) (same_test x (other_case b) (other_case x) b (λ e. ap other_case e ∙ other_case_twice b) (λ e. sym (other_case_twice x) ∙ ap other_case e))
+        ∙ ap (λ t. is_line_byte x && t)
+        (same_test x (other_case b) (other_case x) b (λ e. ap other_case e ∙ other_case_twice b)
+        (λ e. sym (other_case_twice x) ∙ ap other_case e))
         ∙ ap (λ t. t && other_case x == b) (sym (other_case_line x))
         ∙ sym (has-set_of (λ y. y == b) (other_case x))

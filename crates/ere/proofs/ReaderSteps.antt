@@ -1,5 +1,6 @@
 -- The steps of the reader of patterns: what is read together spells so, and what fails is spelled by nothing.
-use Rattle.std.proofs.Common.{◌≡◌, ◌≢◌, ℕ, zero, suc, ◌<◌, Bool, true, false, ◌&&◌, ◌||◌, ◌==◌, nat_lt, cond, IsTrue, IsFalse, List, [], ◌∷◌, Option, Some, refl, sym, ap, ◌∙◌, subst, arith, inl, inr, ◌⊎◌}
+use Rattle.std.proofs.Common.{◌≡◌, ◌≢◌, ℕ, zero, suc, ◌<◌, Bool, true, false, ◌&&◌, ◌||◌, ◌==◌, nat_lt, cond, IsTrue, IsFalse, List, []}
+use Rattle.std.proofs.Common.{◌∷◌, Option, Some, refl, sym, ap, ◌∙◌, subst, arith, inl, inr, ◌⊎◌}
 use Rattle.std.proofs.lemmas.Bool.Decides.{nat_tests}
 use native.Mathlib.Decide.{ℕ_discrete}
 use Rattle.ere.specs.declared.case.Case.{Case}
@@ -16,18 +17,22 @@ use Rattle.std.specs.Result.{IsErrAnd, OnErr}
 use Rattle.std.specs.Prelude.{Result, Ok, Err, IfErr, IfOk}
 use Rattle.ere.specs.declared.parts.Part.{Part}
 use Rattle.ere.specs.declared.parts.Members.{Members}
-use Rattle.ere.specs.Private.Reading.{Ends, EndsBranch, NoTimes, NoDuplication, ends_branch, join, Reads, IsBuilt, AreBuilt, ReadsDuplications, ReadsAtom, ReadsPiece, ReadsBranch, ReadsAlternatives, HasNoTokens, NoAtom, NoPiece, NoBranch, NoAlternatives}
+use Rattle.ere.specs.Private.Reading.{Ends, EndsBranch, NoTimes, NoDuplication, ends_branch, join, Reads, IsBuilt, AreBuilt}
+use Rattle.ere.specs.Private.Reading.{ReadsDuplications, ReadsAtom, ReadsPiece, ReadsBranch, ReadsAlternatives, HasNoTokens, NoAtom}
+use Rattle.ere.specs.Private.Reading.{NoPiece, NoBranch, NoAlternatives}
 use Rattle.ere.proofs.Texts.{eqb_is}
 use Rattle.ere.proofs.BracketSteps.{eqb_differs}
 use Rattle.ere.proofs.TokenLemmas.{one_token, no_token}
-use Rattle.ere.proofs.GrammarLemmas.{piece_begins, branch_begins, one_alternatives, duplications_push, branch_push, alternatives_push, alternatives_left, alternatives_begin, branch_left, ends_no_times}
+use Rattle.ere.proofs.GrammarLemmas.{piece_begins, branch_begins, one_alternatives, duplications_push, branch_push, alternatives_push}
+use Rattle.ere.proofs.GrammarLemmas.{alternatives_left, alternatives_begin, branch_left, ends_no_times}
 
 pub no_tokens : {case : Case} → (ts : List Token) → Tokens case [] ts → ts ≡ []
 no_tokens [] a = refl
 no_tokens (t ∷ ts) (tokens.more {rest = r} s a) = absurd (no_token r t s)
 
 -- the first token of a text, and the tokens of what is behind it
-pub first_token : {case : Case} → (from to : List ℕ) (t : Token) (all : List Token) → SpellsToken case from to t → Tokens case from all → (rest : List Token) × Tokens case to rest × (all ≡ t ∷ rest)
+pub first_token : {case : Case} → (from to : List ℕ) (t : Token) (all : List Token) → SpellsToken case from to t → Tokens case from all
+    → (rest : List Token) × Tokens case to rest × (all ≡ t ∷ rest)
 first_token {case} from to t [] s a = absurd (empty_text from to t s a)
   where
     empty_text : (from to : List ℕ) (t : Token) → SpellsToken case from to t → Tokens case from [] → ⊥
@@ -42,14 +47,17 @@ Reads-token from to t s = record {
   backward = λ all a. first_token from to t all s a;
 }
 
-pub Reads-map : {case : Case} → (from to : List ℕ) (P Q : List Token → List Token → Type 0) → ((all rest : List Token) → P all rest → Q all rest) → Reads case from to P → Reads case from to Q
+pub Reads-map : {case : Case} → (from to : List ℕ) (P Q : List Token → List Token → Type 0)
+    → ((all rest : List Token) → P all rest → Q all rest) → Reads case from to P → Reads case from to Q
 Reads-map from to P Q f r = record {
   forward = λ rest a. let found = r.forward rest a in (found.0, found.1, f found.0 rest found.2);
   backward = λ all a. let found = r.backward all a in (found.0, found.1, f all found.0 found.2);
 }
 
 -- one behind the other
-pub Reads-then : {case : Case} → (from middle to : List ℕ) (P Q R : List Token → List Token → Type 0) → ((all between rest : List Token) → P all between → Q between rest → R all rest) → Reads case from middle P → Reads case middle to Q → Reads case from to R
+pub Reads-then : {case : Case} → (from middle to : List ℕ) (P Q R : List Token → List Token → Type 0)
+    → ((all between rest : List Token) → P all between → Q between rest → R all rest) → Reads case from middle P → Reads case middle to Q
+    → Reads case from to R
 Reads-then from middle to P Q R f a b = record {
   forward = λ rest h.
       let second = b.forward rest h in
@@ -82,7 +90,16 @@ closes_spelled from to e = spelled.byte 41 e (closes_token _ to)
 bar_byte : (case : Case) → (b : ℕ) (text : List ℕ) → b ≢ 124 → token_of_byte case b text ≡ Some token.bar → ⊥
 unfolding token_of_byte
 bar_byte case b text other e =
-    skip (b == 46) _ _ (λ f. cc) (skip (b == 40) _ _ (λ f. cc) (skip (b == 41) _ _ (λ f. cc) (pass (b == 124) _ _ (eqb_differs b 124 other) (skip (b == 94) _ _ (λ f. cc) (skip (b == 36) _ _ (λ f. cc) (skip (b == 42) _ _ (λ f. cc) (skip (b == 43) _ _ (λ f. cc) (skip (b == 63) _ _ (λ f. cc) (skip (b == 91 || (b == 92 || (b == 123 && digit_ahead text))) _ _ (λ f. cc) (λ f. cc)))))))))) e
+    skip (b == 46) _ _ (λ f. cc)
+    (skip (b == 40) _ _ (λ f. cc)
+    (skip (b == 41) _ _ (λ f. cc)
+    (pass (b == 124) _ _ (eqb_differs b 124 other)
+    (skip (b == 94) _ _ (λ f. cc)
+    (skip (b == 36) _ _ (λ f. cc)
+    (skip (b == 42) _ _ (λ f. cc)
+    (skip (b == 43) _ _ (λ f. cc)
+    (skip (b == 63) _ _ (λ f. cc)
+    (skip (b == 91 || (b == 92 || (b == 123 && digit_ahead text))) _ _ (λ f. cc) (λ f. cc)))))))))) e
   where
     skip : (c : Bool) (x y : Option Token) → (x ≡ Some token.bar → ⊥) → (y ≡ Some token.bar → ⊥) → cond c x y ≡ Some token.bar → ⊥
     skip true x y f h e = f e
@@ -95,7 +112,16 @@ bar_byte case b text other e =
 closes_byte : (case : Case) → (b : ℕ) (text : List ℕ) → b ≢ 41 → token_of_byte case b text ≡ Some token.closes → ⊥
 unfolding token_of_byte
 closes_byte case b text other e =
-    skip (b == 46) _ _ (λ f. cc) (skip (b == 40) _ _ (λ f. cc) (pass (b == 41) _ _ (eqb_differs b 41 other) (skip (b == 124) _ _ (λ f. cc) (skip (b == 94) _ _ (λ f. cc) (skip (b == 36) _ _ (λ f. cc) (skip (b == 42) _ _ (λ f. cc) (skip (b == 43) _ _ (λ f. cc) (skip (b == 63) _ _ (λ f. cc) (skip (b == 91 || (b == 92 || (b == 123 && digit_ahead text))) _ _ (λ f. cc) (λ f. cc)))))))))) e
+    skip (b == 46) _ _ (λ f. cc)
+    (skip (b == 40) _ _ (λ f. cc)
+    (pass (b == 41) _ _ (eqb_differs b 41 other)
+    (skip (b == 124) _ _ (λ f. cc)
+    (skip (b == 94) _ _ (λ f. cc)
+    (skip (b == 36) _ _ (λ f. cc)
+    (skip (b == 42) _ _ (λ f. cc)
+    (skip (b == 43) _ _ (λ f. cc)
+    (skip (b == 63) _ _ (λ f. cc)
+    (skip (b == 91 || (b == 92 || (b == 123 && digit_ahead text))) _ _ (λ f. cc) (λ f. cc)))))))))) e
   where
     skip : (c : Bool) (x y : Option Token) → (x ≡ Some token.closes → ⊥) → (y ≡ Some token.closes → ⊥) → cond c x y ≡ Some token.closes → ⊥
     skip true x y f h e = f e
@@ -119,15 +145,24 @@ ends_tokens depth [] ts h a = subst (λ v. EndsBranch v depth) (sym (no_tokens t
 ends_tokens zero (b ∷ text) ts h a = go (or_true (b == 124) false h)
   where
     go : ((b == 124) ≡ true) ⊎ (false ≡ true) → EndsBranch ts zero
-    go (inl e) = let found = first_token (b ∷ text) text token.bar ts (bar_spelled (b ∷ text) text (ap (λ v. v ∷ text) (eqb_is b 124 e))) a in subst (λ v. EndsBranch v zero) (sym found.2) tt
+    go (inl e) =
+        let found = first_token (b ∷ text) text token.bar ts (bar_spelled (b ∷ text) text (ap (λ v. v ∷ text) (eqb_is b 124 e))) a in
+        subst (λ v. EndsBranch v zero) (sym found.2) tt
     go (inr e) = absurd (cc)
 ends_tokens (suc depth) (b ∷ text) ts h a = go (or_true (b == 124) (nat_lt 0 (suc depth) && b == 41) h)
   where
     go : ((b == 124) ≡ true) ⊎ ((nat_lt 0 (suc depth) && b == 41) ≡ true) → EndsBranch ts (suc depth)
-    go (inl e) = let found = first_token (b ∷ text) text token.bar ts (bar_spelled (b ∷ text) text (ap (λ v. v ∷ text) (eqb_is b 124 e))) a in subst (λ v. EndsBranch v (suc depth)) (sym found.2) tt
-    go (inr e) = let found = first_token (b ∷ text) text token.closes ts (closes_spelled (b ∷ text) text (ap (λ v. v ∷ text) (eqb_is b 41 (and_true (nat_lt 0 (suc depth)) (b == 41) e).1))) a in subst (λ v. EndsBranch v (suc depth)) (sym found.2) tt
+    go (inl e) =
+        let found = first_token (b ∷ text) text token.bar ts (bar_spelled (b ∷ text) text (ap (λ v. v ∷ text) (eqb_is b 124 e))) a in
+        subst (λ v. EndsBranch v (suc depth)) (sym found.2) tt
+    go (inr e) =
+        let found =
+        first_token (b ∷ text) text token.closes ts
+        (closes_spelled (b ∷ text) text (ap (λ v. v ∷ text) (eqb_is b 41 (and_true (nat_lt 0 (suc depth)) (b == 41) e).1))) a in
+        subst (λ v. EndsBranch v (suc depth)) (sym found.2) tt
 
-pub all_ends_tokens : {case : Case} → (depth : ℕ) (to : List ℕ) (ts : List Token) → IsTrue (ends_branch depth to) → IsFalse (begins_with 124 to) → Tokens case to ts → Ends ts depth
+pub all_ends_tokens : {case : Case} → (depth : ℕ) (to : List ℕ) (ts : List Token) → IsTrue (ends_branch depth to)
+    → IsFalse (begins_with 124 to) → Tokens case to ts → Ends ts depth
 all_ends_tokens depth [] ts h k a = subst (λ v. Ends v depth) (sym (no_tokens ts a)) tt
 all_ends_tokens zero (b ∷ text) ts h k a = go (or_true (b == 124) false h)
   where
@@ -138,7 +173,11 @@ all_ends_tokens (suc depth) (b ∷ text) ts h k a = go (or_true (b == 124) (nat_
   where
     go : ((b == 124) ≡ true) ⊎ ((nat_lt 0 (suc depth) && b == 41) ≡ true) → Ends ts (suc depth)
     go (inl e) = absurd (cc)
-    go (inr e) = let found = first_token (b ∷ text) text token.closes ts (closes_spelled (b ∷ text) text (ap (λ v. v ∷ text) (eqb_is b 41 (and_true (nat_lt 0 (suc depth)) (b == 41) e).1))) a in subst (λ v. Ends v (suc depth)) (sym found.2) tt
+    go (inr e) =
+        let found =
+        first_token (b ∷ text) text token.closes ts
+        (closes_spelled (b ∷ text) text (ap (λ v. v ∷ text) (eqb_is b 41 (and_true (nat_lt 0 (suc depth)) (b == 41) e).1))) a in
+        subst (λ v. Ends v (suc depth)) (sym found.2) tt
 
 pub times_tokens : {case : Case} → (to : List ℕ) (ts : List Token) → NoDuplication case to → Tokens case to ts → NoTimes ts
 times_tokens to [] h a = tt
@@ -171,13 +210,15 @@ closes_only from to (spelled.bracket i m e h is) = absurd (cc)
 closes_only from to (spelled.interval c l g e d h is) = absurd (cc)
 
 -- where no branch ends, the tokens do not end
-pub no_end_tokens : {case : Case} → (depth : ℕ) (from : List ℕ) (ts : List Token) → IsFalse (ends_branch depth from) → Tokens case from ts → EndsBranch ts depth → ⊥
+pub no_end_tokens : {case : Case} → (depth : ℕ) (from : List ℕ) (ts : List Token) → IsFalse (ends_branch depth from) → Tokens case from ts
+    → EndsBranch ts depth → ⊥
 no_end_tokens depth [] ts h a k = absurd (cc)
 no_end_tokens {case} depth (b ∷ text) [] h a k = no_text b text a
   where
     no_text : (b : ℕ) (text : List ℕ) → Tokens case (b ∷ text) [] → ⊥
     no_text b text a = elim a [ ]
-no_end_tokens depth (b ∷ text) (token.bar ∷ ts) h (tokens.more {rest = r} s a) k = let is = subst (λ v. IsFalse (ends_branch depth v)) (bar_only (b ∷ text) r s) h in absurd (cc)
+no_end_tokens depth (b ∷ text) (token.bar ∷ ts) h (tokens.more {rest = r} s a) k =
+    let is = subst (λ v. IsFalse (ends_branch depth v)) (bar_only (b ∷ text) r s) h in absurd (cc)
 no_end_tokens zero (b ∷ text) (token.closes ∷ ts) h a k = k
 no_end_tokens (suc depth) (b ∷ text) (token.closes ∷ ts) h (tokens.more {rest = r} s a) k =
     let is : IsFalse (nat_lt 0 (suc depth) && true) = subst (λ v. IsFalse (ends_branch (suc depth) v)) (closes_only (b ∷ text) r s) h in
@@ -190,7 +231,8 @@ no_end_tokens depth (b ∷ text) (token.at_end ∷ ts) h a k = k
 no_end_tokens depth (b ∷ text) (token.times l g ∷ ts) h a k = k
 
 -- a fault among the tokens
-pub lexing_fails : {case : Case} → (from : List ℕ) (b : ℕ) (behind : List ℕ) → from ≡ b ∷ behind → ((rest : List ℕ) (t : Token) → SpellsToken case from rest t → ⊥) → HasNoTokens case from
+pub lexing_fails : {case : Case} → (from : List ℕ) (b : ℕ) (behind : List ℕ) → from ≡ b ∷ behind
+    → ((rest : List ℕ) (t : Token) → SpellsToken case from rest t → ⊥) → HasNoTokens case from
 lexing_fails {case} from b behind e never [] a = absurd (let nothing : Tokens case (b ∷ behind) [] = subst (λ v. Tokens case v []) e a in elim nothing [ ])
 lexing_fails from b behind e never (t ∷ ts) (tokens.more {rest = r} s a) = never r t s
 
@@ -198,11 +240,15 @@ pub back_fails : {case : Case} → (from to : List ℕ) (P : List Token → List
 back_fails from to P r never all a = let rest = r.backward all a in never rest.0 rest.1
 
 -- one duplication more
-pub repeat_more : {case : Case} → (from to behind : List ℕ) (tree whole : Tree) (least : ℕ) (greatest : Option ℕ) → Reads case from to (λ all rest. SpellsDuplications all rest tree whole) → SpellsToken case to behind (token.times least greatest) → Reads case from behind (λ all rest. SpellsDuplications all rest tree (repeat whole least greatest))
+pub repeat_more : {case : Case} → (from to behind : List ℕ) (tree whole : Tree) (least : ℕ) (greatest : Option ℕ)
+    → Reads case from to (λ all rest. SpellsDuplications all rest tree whole) → SpellsToken case to behind (token.times least greatest)
+    → Reads case from behind (λ all rest. SpellsDuplications all rest tree (repeat whole least greatest))
 repeat_more from to behind tree whole least greatest r s =
-    Reads-then from to behind _ _ _ (λ all between rest a e. duplications_push (subst (λ v. SpellsDuplications all v tree whole) e a)) r (Reads-token to behind _ s)
+    Reads-then from to behind _ _ _ (λ all between rest a e. duplications_push (subst (λ v. SpellsDuplications all v tree whole) e a)) r
+    (Reads-token to behind _ s)
 
-pub any_more : {case : Case} → (from to behind : List ℕ) (t : Token) → Reads case from to (λ all rest. Unit {0}) → SpellsToken case to behind t → Reads case from behind (λ all rest. Unit {0})
+pub any_more : {case : Case} → (from to behind : List ℕ) (t : Token) → Reads case from to (λ all rest. Unit {0})
+    → SpellsToken case to behind t → Reads case from behind (λ all rest. Unit {0})
 any_more from to behind t r s = Reads-then from to behind _ _ _ (λ all between rest a e. tt) r (Reads-token to behind t s)
 
 -- a branch as far as it was read
@@ -210,7 +256,9 @@ pub record BranchSoFar (case : Case) (depth : ℕ) (from to : List ℕ) (members
   pub pieces : Trees
   pub built : AreBuilt members pieces
   pub reads : Reads case from to (λ all rest. SpellsBranch greatest_open depth all rest pieces)
-  pub left : (all rest : List Token) (others : Trees) → Tokens case from all → SpellsBranch greatest_open depth all rest others → EndsBranch rest depth → (middle : List Token) × Tokens case to middle × (us : Trees) × SpellsBranch greatest_open depth middle rest us
+  pub left : (all rest : List Token) (others : Trees) → Tokens case from all → SpellsBranch greatest_open depth all rest others
+      → EndsBranch rest depth
+      → (middle : List Token) × Tokens case to middle × (us : Trees) × SpellsBranch greatest_open depth middle rest us
 
 pub branch_start : {case : Case} → (depth : ℕ) (from : List ℕ) (members : Option Members) → AreBuilt members none → BranchSoFar case depth from from members
 branch_start depth from members built = record {
@@ -220,7 +268,10 @@ branch_start depth from members built = record {
   left = λ all rest others a b e. (all, a, others, b);
 }
 
-pub branch_step : {case : Case} → (depth : ℕ) (from at to : List ℕ) (members after : Option Members) (part : Option Part) → BranchSoFar case depth from at members → ReadsPiece case depth at to part → ((trees : Trees) (tree : Tree) → AreBuilt members trees → IsBuilt part tree → AreBuilt after (join trees (more tree none))) → BranchSoFar case depth from to after
+pub branch_step : {case : Case} → (depth : ℕ) (from at to : List ℕ) (members after : Option Members) (part : Option Part)
+    → BranchSoFar case depth from at members → ReadsPiece case depth at to part
+    → ((trees : Trees) (tree : Tree) → AreBuilt members trees → IsBuilt part tree → AreBuilt after (join trees (more tree none)))
+    → BranchSoFar case depth from to after
 branch_step depth from at to members after part so_far next build = record {
   pieces = join so_far.pieces (more next.tree none);
   built = build so_far.pieces next.tree so_far.built next.built;
@@ -232,10 +283,14 @@ branch_step depth from at to members after part so_far next build = record {
       (read.0, read.1, left.0, left.1);
 }
 
-pub branch_end : {case : Case} → (depth : ℕ) (from to : List ℕ) (members : Option Members) (part : Option Part) → BranchSoFar case depth from to members → IsTrue (ends_branch depth to) → ((trees : Trees) → AreBuilt members trees → IsBuilt part (branch_of trees)) → ReadsBranch case depth from to part
-branch_end depth from to members part so_far ends build = record { pieces = so_far.pieces; built = build so_far.pieces so_far.built; reads = so_far.reads; ends = ends }
+pub branch_end : {case : Case} → (depth : ℕ) (from to : List ℕ) (members : Option Members) (part : Option Part)
+    → BranchSoFar case depth from to members → IsTrue (ends_branch depth to)
+    → ((trees : Trees) → AreBuilt members trees → IsBuilt part (branch_of trees)) → ReadsBranch case depth from to part
+branch_end depth from to members part so_far ends build =
+    record { pieces = so_far.pieces; built = build so_far.pieces so_far.built; reads = so_far.reads; ends = ends }
 
-pub branch_fails : {case : Case} → (depth : ℕ) (from at : List ℕ) (members : Option Members) → BranchSoFar case depth from at members → IsFalse (ends_branch depth at) → NoPiece case depth at → NoBranch case depth from
+pub branch_fails : {case : Case} → (depth : ℕ) (from at : List ℕ) (members : Option Members) → BranchSoFar case depth from at members
+    → IsFalse (ends_branch depth at) → NoPiece case depth at → NoBranch case depth from
 branch_fails {case} depth from at members so_far open_end never all rest others a b e =
     let here = so_far.left all rest others a b e in
     go here.0 here.2 here.1 here.3
@@ -251,7 +306,10 @@ pub record AlternativesSoFar (case : Case) (depth : ℕ) (from to : List ℕ) (m
   pub reads : Reads case from to (λ all rest. SpellsAlternatives greatest_open depth all rest branches)
   pub ends : IsTrue (ends_branch depth to)
 
-pub alternatives_start : {case : Case} → (depth : ℕ) (from to : List ℕ) (members after : Option Members) (part : Option Part) → AreBuilt members none → ReadsBranch case depth from to part → ((trees : Trees) (tree : Tree) → AreBuilt members trees → IsBuilt part tree → AreBuilt after (join trees (more tree none))) → AlternativesSoFar case depth from to after
+pub alternatives_start : {case : Case} → (depth : ℕ) (from to : List ℕ) (members after : Option Members) (part : Option Part)
+    → AreBuilt members none → ReadsBranch case depth from to part
+    → ((trees : Trees) (tree : Tree) → AreBuilt members trees → IsBuilt part tree → AreBuilt after (join trees (more tree none)))
+    → AlternativesSoFar case depth from to after
 alternatives_start depth from to members after part built first build = record {
   branches = more (branch_of first.pieces) none;
   built = build none (branch_of first.pieces) built first.built;
@@ -259,7 +317,10 @@ alternatives_start depth from to members after part built first build = record {
   ends = first.ends;
 }
 
-pub alternatives_step : {case : Case} → (depth : ℕ) (from at behind to : List ℕ) (members after : Option Members) (part : Option Part) → AlternativesSoFar case depth from at members → at ≡ 124 ∷ behind → ReadsBranch case depth behind to part → ((trees : Trees) (tree : Tree) → AreBuilt members trees → IsBuilt part tree → AreBuilt after (join trees (more tree none))) → AlternativesSoFar case depth from to after
+pub alternatives_step : {case : Case} → (depth : ℕ) (from at behind to : List ℕ) (members after : Option Members) (part : Option Part)
+    → AlternativesSoFar case depth from at members → at ≡ 124 ∷ behind → ReadsBranch case depth behind to part
+    → ((trees : Trees) (tree : Tree) → AreBuilt members trees → IsBuilt part tree → AreBuilt after (join trees (more tree none)))
+    → AlternativesSoFar case depth from to after
 alternatives_step depth from at behind to members after part so_far e next build = record {
   branches = join so_far.branches (more (branch_of next.pieces) none);
   built = build so_far.branches (branch_of next.pieces) so_far.built next.built;
@@ -271,15 +332,25 @@ alternatives_step depth from at behind to members after part so_far e next build
   ends = next.ends;
 }
 
-pub alternatives_done : {case : Case} → (depth : ℕ) (from to : List ℕ) (members : Option Members) (part : Option Part) → AlternativesSoFar case depth from to members → IsFalse (begins_with 124 to) → ((trees : Trees) → AreBuilt members trees → IsBuilt part (alternatives_of trees)) → ReadsAlternatives case depth from to part
-alternatives_done depth from to members part so_far no_bar_here build = record { branches = so_far.branches; built = build so_far.branches so_far.built; reads = so_far.reads; ends = so_far.ends; no_bar = no_bar_here }
+pub alternatives_done : {case : Case} → (depth : ℕ) (from to : List ℕ) (members : Option Members) (part : Option Part)
+    → AlternativesSoFar case depth from to members → IsFalse (begins_with 124 to)
+    → ((trees : Trees) → AreBuilt members trees → IsBuilt part (alternatives_of trees)) → ReadsAlternatives case depth from to part
+alternatives_done depth from to members part so_far no_bar_here build =
+    record {
+      branches = so_far.branches;
+      built = build so_far.branches so_far.built;
+      reads = so_far.reads;
+      ends = so_far.ends;
+      no_bar = no_bar_here;
+    }
 
 pub first_branch_fails : {case : Case} → (depth : ℕ) (from : List ℕ) → NoBranch case depth from → NoAlternatives case depth from
 first_branch_fails depth from never all rest branches a w e =
     let begins = alternatives_begin greatest_open w e in
     never all begins.0 begins.1 a begins.2 begins.3
 
-pub next_branch_fails : {case : Case} → (depth : ℕ) (from at behind : List ℕ) (members : Option Members) → AlternativesSoFar case depth from at members → at ≡ 124 ∷ behind → NoBranch case depth behind → NoAlternatives case depth from
+pub next_branch_fails : {case : Case} → (depth : ℕ) (from at behind : List ℕ) (members : Option Members)
+    → AlternativesSoFar case depth from at members → at ≡ 124 ∷ behind → NoBranch case depth behind → NoAlternatives case depth from
 next_branch_fails depth from at behind members so_far e never all rest branches a w ends =
     let read = so_far.reads.backward all a in
     let bar = first_token at behind token.bar read.0 (bar_spelled at behind e) read.1 in
@@ -288,7 +359,8 @@ next_branch_fails depth from at behind members so_far e never all rest branches 
     never bar.0 begins.0 begins.1 bar.1 begins.2 begins.3
 
 -- pieces
-pub piece_of_atom : {case : Case} → (depth : ℕ) (from middle to : List ℕ) (atom part : Option Part) → ReadsAtom case depth from middle atom → ((tree : Tree) → IsBuilt atom tree → ReadsDuplications case middle to tree part) → ReadsPiece case depth from to part
+pub piece_of_atom : {case : Case} → (depth : ℕ) (from middle to : List ℕ) (atom part : Option Part) → ReadsAtom case depth from middle atom
+    → ((tree : Tree) → IsBuilt atom tree → ReadsDuplications case middle to tree part) → ReadsPiece case depth from to part
 piece_of_atom depth from middle to atom part first rest =
     let more_of = rest first.tree first.built in
     record {
@@ -298,7 +370,9 @@ piece_of_atom depth from middle to atom part first rest =
       next = more_of.next;
     }
 
-pub leaf_piece : {case : Case} → (depth : ℕ) (from to : List ℕ) (t : Token) (plain : Tree) (part : Option Part) → SpellsToken case from to t → ((rest : List Token) → SpellsPiece greatest_open depth (t ∷ rest) rest plain) → IsBuilt part plain → NoDuplication case to → ReadsPiece case depth from to part
+pub leaf_piece : {case : Case} → (depth : ℕ) (from to : List ℕ) (t : Token) (plain : Tree) (part : Option Part) → SpellsToken case from to t
+    → ((rest : List Token) → SpellsPiece greatest_open depth (t ∷ rest) rest plain) → IsBuilt part plain → NoDuplication case to
+    → ReadsPiece case depth from to part
 leaf_piece depth from to t plain part s make built next = record {
   tree = plain;
   built = built;
@@ -306,7 +380,8 @@ leaf_piece depth from to t plain part s make built next = record {
   reads = Reads-map from to _ _ (λ all rest e. subst (λ v. SpellsPiece greatest_open depth v rest plain) (sym e) (make rest)) (Reads-token from to t s);
 }
 
-pub leaf_atom : {case : Case} → (depth : ℕ) (from to : List ℕ) (t : Token) (plain : Tree) (part : Option Part) → SpellsToken case from to t → ((rest : List Token) → SpellsAtom greatest_open depth (t ∷ rest) rest plain) → IsBuilt part plain → ReadsAtom case depth from to part
+pub leaf_atom : {case : Case} → (depth : ℕ) (from to : List ℕ) (t : Token) (plain : Tree) (part : Option Part) → SpellsToken case from to t
+    → ((rest : List Token) → SpellsAtom greatest_open depth (t ∷ rest) rest plain) → IsBuilt part plain → ReadsAtom case depth from to part
 leaf_atom depth from to t plain part s make built = record {
   tree = plain;
   built = built;
@@ -321,25 +396,30 @@ times_fail depth from to l g s all rest tree a p n =
     let first = first_token from to (token.times l g) all s a in
     piece_begins greatest_open (subst (λ v. SpellsPiece greatest_open depth v rest tree) first.2 p)
 
-start_rest : (depth : ℕ) (rest middle : List Token) (tree : Tree) → SpellsPiece greatest_open depth (token.at_start ∷ middle) rest tree → NoTimes rest → NoTimes middle
+start_rest : (depth : ℕ) (rest middle : List Token) (tree : Tree) → SpellsPiece greatest_open depth (token.at_start ∷ middle) rest tree
+    → NoTimes rest → NoTimes middle
 start_rest depth rest middle tree pieces_are.start n = n
 start_rest depth rest middle tree (pieces_are.atom a ds) n = elim a [ ]
 
-end_rest : (depth : ℕ) (rest middle : List Token) (tree : Tree) → SpellsPiece greatest_open depth (token.at_end ∷ middle) rest tree → NoTimes rest → NoTimes middle
+end_rest : (depth : ℕ) (rest middle : List Token) (tree : Tree) → SpellsPiece greatest_open depth (token.at_end ∷ middle) rest tree
+    → NoTimes rest → NoTimes middle
 end_rest depth rest middle tree pieces_are.finish n = n
 end_rest depth rest middle tree (pieces_are.atom a ds) n = elim a [ ]
 
-pub start_fails : {case : Case} → (depth : ℕ) (from to : List ℕ) → SpellsToken case from to token.at_start → ((all : List Token) → Tokens case to all → NoTimes all → ⊥) → NoPiece case depth from
+pub start_fails : {case : Case} → (depth : ℕ) (from to : List ℕ) → SpellsToken case from to token.at_start
+    → ((all : List Token) → Tokens case to all → NoTimes all → ⊥) → NoPiece case depth from
 start_fails depth from to s never all rest tree a p n =
     let first = first_token from to token.at_start all s a in
     never first.0 first.1 (start_rest depth rest first.0 tree (subst (λ v. SpellsPiece greatest_open depth v rest tree) first.2 p) n)
 
-pub end_fails : {case : Case} → (depth : ℕ) (from to : List ℕ) → SpellsToken case from to token.at_end → ((all : List Token) → Tokens case to all → NoTimes all → ⊥) → NoPiece case depth from
+pub end_fails : {case : Case} → (depth : ℕ) (from to : List ℕ) → SpellsToken case from to token.at_end
+    → ((all : List Token) → Tokens case to all → NoTimes all → ⊥) → NoPiece case depth from
 end_fails depth from to s never all rest tree a p n =
     let first = first_token from to token.at_end all s a in
     never first.0 first.1 (end_rest depth rest first.0 tree (subst (λ v. SpellsPiece greatest_open depth v rest tree) first.2 p) n)
 
-group_atom : (depth : ℕ) (rest middle : List Token) (tree : Tree) → SpellsPiece greatest_open depth (token.opens ∷ middle) rest tree → (behind : List Token) × (inner : Tree) × SpellsAtom greatest_open depth (token.opens ∷ middle) behind inner
+group_atom : (depth : ℕ) (rest middle : List Token) (tree : Tree) → SpellsPiece greatest_open depth (token.opens ∷ middle) rest tree
+    → (behind : List Token) × (inner : Tree) × SpellsAtom greatest_open depth (token.opens ∷ middle) behind inner
 group_atom depth rest middle tree (pieces_are.atom {middle = m} {tree = t} a ds) = (m, t, a)
 
 pub group_fails : {case : Case} → (depth : ℕ) (from to : List ℕ) → SpellsToken case from to token.opens → NoAtom case depth from → NoPiece case depth from
@@ -349,7 +429,8 @@ group_fails depth from to s never all rest tree a p n =
     never all inner.0 inner.1 a (subst (λ v. SpellsAtom greatest_open depth v inner.0 inner.1) (sym first.2) inner.2)
 
 -- groups
-inside_group : (depth : ℕ) (middle rest : List Token) (tree : Tree) → SpellsAtom greatest_open depth (token.opens ∷ middle) rest tree → (depth < greatest_open) × ((branches : Trees) × SpellsAlternatives greatest_open (suc depth) middle (token.closes ∷ rest) branches)
+inside_group : (depth : ℕ) (middle rest : List Token) (tree : Tree) → SpellsAtom greatest_open depth (token.opens ∷ middle) rest tree
+    → (depth < greatest_open) × ((branches : Trees) × SpellsAlternatives greatest_open (suc depth) middle (token.closes ∷ rest) branches)
 inside_group depth middle rest tree (atoms.group {branches = bs} below inner) = (below, (bs, inner))
 
 pub full_fails : {case : Case} → (depth : ℕ) (from start : List ℕ) → SpellsToken case from start token.opens → depth ≡ greatest_open → NoAtom case depth from
@@ -358,36 +439,44 @@ full_fails depth from start s full all rest tree a atom =
     let inner = inside_group depth first.0 rest tree (subst (λ v. SpellsAtom greatest_open depth v rest tree) first.2 atom) in
     omega (arith, inner.0, full)
 
-pub inner_fails : {case : Case} → (depth : ℕ) (from start : List ℕ) → SpellsToken case from start token.opens → NoAlternatives case (suc depth) start → NoAtom case depth from
+pub inner_fails : {case : Case} → (depth : ℕ) (from start : List ℕ) → SpellsToken case from start token.opens
+    → NoAlternatives case (suc depth) start → NoAtom case depth from
 inner_fails depth from start s never all rest tree a atom =
     let first = first_token from start token.opens all s a in
     let inner = inside_group depth first.0 rest tree (subst (λ v. SpellsAtom greatest_open depth v rest tree) first.2 atom) in
     never first.0 (token.closes ∷ rest) inner.1.0 first.1 inner.1.1 tt
 
-pub unclosed_fails : {case : Case} → (depth : ℕ) (from start : List ℕ) (part : Option Part) → SpellsToken case from start token.opens → ReadsAlternatives case (suc depth) start [] part → NoAtom case depth from
+pub unclosed_fails : {case : Case} → (depth : ℕ) (from start : List ℕ) (part : Option Part) → SpellsToken case from start token.opens
+    → ReadsAlternatives case (suc depth) start [] part → NoAtom case depth from
 unclosed_fails depth from start part s read all rest tree a atom =
     let first = first_token from start token.opens all s a in
     let inner = inside_group depth first.0 rest tree (subst (λ v. SpellsAtom greatest_open depth v rest tree) first.2 atom) in
     let whole = read.reads.backward first.0 first.1 in
     let nothing = no_tokens whole.0 whole.1 in
-    let same = one_alternatives greatest_open greatest_open (subst (λ v. SpellsAlternatives greatest_open (suc depth) first.0 v read.branches) nothing whole.2) tt inner.1.1 tt in
+    let same =
+    one_alternatives greatest_open greatest_open
+    (subst (λ v. SpellsAlternatives greatest_open (suc depth) first.0 v read.branches) nothing whole.2) tt inner.1.1 tt in
     absurd (let e : [] ≡ token.closes ∷ rest = same.0 in cc)
 
 pub closing : (depth : ℕ) (to behind : List ℕ) (b : ℕ) → to ≡ b ∷ behind → IsTrue (ends_branch (suc depth) to) → IsFalse (begins_with 124 to) → to ≡ 41 ∷ behind
-closing depth to behind b e ends no_bar_here = go (or_true (b == 124) (nat_lt 0 (suc depth) && b == 41) (subst (λ v. IsTrue (ends_branch (suc depth) v)) e ends))
+closing depth to behind b e ends no_bar_here =
+    go (or_true (b == 124) (nat_lt 0 (suc depth) && b == 41) (subst (λ v. IsTrue (ends_branch (suc depth) v)) e ends))
   where
     go : ((b == 124) ≡ true) ⊎ ((nat_lt 0 (suc depth) && b == 41) ≡ true) → to ≡ 41 ∷ behind
     go (inl bar) = absurd (let f : IsFalse (b == 124) = subst (λ v. IsFalse (begins_with 124 v)) e no_bar_here in cc)
     go (inr close) = e ∙ ap (λ v. v ∷ behind) (eqb_is b 41 (and_true (nat_lt 0 (suc depth)) (b == 41) close).1)
 
-pub group_reads : {case : Case} → (depth : ℕ) (from start to behind : List ℕ) (part : Option Part) → SpellsToken case from start token.opens → depth < greatest_open → ReadsAlternatives case (suc depth) start to part → to ≡ 41 ∷ behind → ReadsAtom case depth from behind part
+pub group_reads : {case : Case} → (depth : ℕ) (from start to behind : List ℕ) (part : Option Part) → SpellsToken case from start token.opens
+    → depth < greatest_open → ReadsAlternatives case (suc depth) start to part → to ≡ 41 ∷ behind → ReadsAtom case depth from behind part
 group_reads depth from start to behind part s below read e = record {
   tree = alternatives_of read.branches;
   built = read.built;
   reads = Reads-then from start behind _ (λ between rest. SpellsAlternatives greatest_open (suc depth) between (token.closes ∷ rest) read.branches) _
       (λ all between rest is inner. subst (λ v. SpellsAtom greatest_open depth v rest (alternatives_of read.branches)) (sym is) (atoms.group below inner))
       (Reads-token from start token.opens s)
-      (Reads-then start to behind _ _ _ (λ all between rest inner is. subst (λ v. SpellsAlternatives greatest_open (suc depth) all v read.branches) is inner) read.reads (Reads-token to behind token.closes (closes_spelled to behind e)));
+      (Reads-then start to behind _ _ _
+      (λ all between rest inner is. subst (λ v. SpellsAlternatives greatest_open (suc depth) all v read.branches) is inner) read.reads
+      (Reads-token to behind token.closes (closes_spelled to behind e)));
 }
 
 -- an error that is handed on
@@ -399,7 +488,8 @@ pub on_err : {T E : Type 0} (r : Result T E) (P : Type 0) → P → OnErr r P
 on_err (Ok x) P p = tt
 on_err (Err e) P p = p
 
-pub times_first : {case : Case} → (to behind : List ℕ) (l : ℕ) (g : Option ℕ) → SpellsToken case to behind (token.times l g) → (all : List Token) → Tokens case to all → NoTimes all → ⊥
+pub times_first : {case : Case} → (to behind : List ℕ) (l : ℕ) (g : Option ℕ) → SpellsToken case to behind (token.times l g)
+    → (all : List Token) → Tokens case to all → NoTimes all → ⊥
 times_first to behind l g s all a n = let first = first_token to behind (token.times l g) all s a in subst NoTimes first.2 n
 
 pub on_err_map : {T E : Type 0} (r : Result T E) (K : E → Type 0) (P Q : Type 0) → (P → Q) → OnErr r P → IfErr r (λ e. K e → Q)
@@ -423,7 +513,8 @@ unfolding height
 height_end = refl
 
 -- a `)` outside all groups
-pub lone_close_atom : {case : Case} → (depth : ℕ) (from to : List ℕ) (part : Option Part) → SpellsToken case from to token.closes → IsFalse (ends_branch depth from) → IsBuilt part (set (single 41)) → ReadsAtom case depth from to part
+pub lone_close_atom : {case : Case} → (depth : ℕ) (from to : List ℕ) (part : Option Part) → SpellsToken case from to token.closes
+    → IsFalse (ends_branch depth from) → IsBuilt part (set (single 41)) → ReadsAtom case depth from to part
 lone_close_atom zero from to part s open_end built = leaf_atom zero from to token.closes (set (single 41)) part s (λ rest. atoms.lone_close) built
 lone_close_atom (suc depth) from to part s open_end built =
     let is : IsFalse (nat_lt 0 (suc depth) && true) = subst (λ v. IsFalse (ends_branch (suc depth) v)) (closes_only from to s) open_end in
@@ -431,4 +522,6 @@ lone_close_atom (suc depth) from to part s open_end built =
     absurd (let never : IsFalse (true && true) = subst (λ v. IsFalse (v && true)) inside is in cc)
 
 pub no_bar_begins : {case : Case} → (depth : ℕ) (from to : List ℕ) → SpellsToken case from to token.bar → IsFalse (ends_branch depth from) → ⊥
-no_bar_begins depth from to s open_end = absurd (let is : IsFalse (ends_branch depth (124 ∷ to)) = subst (λ v. IsFalse (ends_branch depth v)) (bar_only from to s) open_end in cc)
+no_bar_begins depth from to s open_end =
+    absurd
+    (let is : IsFalse (ends_branch depth (124 ∷ to)) = subst (λ v. IsFalse (ends_branch depth v)) (bar_only from to s) open_end in cc)

@@ -1,5 +1,6 @@
 -- Sets made from a test, and 256 truth values as such a set.
-use Rattle.std.proofs.Common.{◌≡◌, ℕ, ◌+◌, ◌<◌, ◌≤◌, Bool, true, false, not, ◌&&◌, ◌||◌, ◌==◌, nat_lt, IsTrue, List, length, get_or, set, refl, sym, ◌∙◌, arith, ap, map}
+use Rattle.std.proofs.Common.{◌≡◌, ℕ, ◌+◌, ◌<◌, ◌≤◌, Bool, true, false, not, ◌&&◌, ◌||◌, ◌==◌, nat_lt, IsTrue, List, length, get_or, set}
+use Rattle.std.proofs.Common.{refl, sym, ◌∙◌, arith, ap, map}
 use Rattle.std.proofs.lemmas.List.FromFn.{get_or-map-range_with_len, length-map-range_with_len, fill_by_all}
 use Rattle.std.specs.List.{range_with_len}
 use Rattle.std.proofs.lemmas.Bool.Decides.{nat_tests}
@@ -20,7 +21,8 @@ unfolding set_of
 get_or-set_of test b h = get_or-map-range_with_len (λ k. is_line_byte k && test k) 0 256 b b false h (omega arith)
 
 -- 256 truth values that are those of a test
-pub set_of_all : (test : ℕ → Bool) (set : List Bool) → length set ≡ 256 → ((b : ℕ) → b < 256 → get_or set b false ≡ (is_line_byte b && test b)) → set ≡ set_of test
+pub set_of_all : (test : ℕ → Bool) (set : List Bool) → length set ≡ 256
+    → ((b : ℕ) → b < 256 → get_or set b false ≡ (is_line_byte b && test b)) → set ≡ set_of test
 unfolding set_of
 set_of_all test set whole each = fill_by_all (λ b. is_line_byte b && test b) set 256 false whole each
 
@@ -82,8 +84,13 @@ joined true false false y p q = sym (q refl)
 later : (b i : ℕ) → (b == i) ≡ false → nat_lt b (i + 1) ≡ nat_lt b i
 later b i e = grind (arith, nat_tests)
 
-pub of_more : (passes : ℕ → Bool) (set : List Bool) (i : ℕ) → passes i ≡ true → set ≡ set_of (λ b. nat_lt b i && passes b) → with_byte set i ≡ set_of (λ b. nat_lt b (i + 1) && passes b)
-of_more passes set i held so_far = set_of-ext (λ b. has set b || b == i) (λ b. nat_lt b (i + 1) && passes b) (λ b. ap (λ t. is_line_byte b && (t || b == i)) (ap (λ s. has s b) so_far ∙ has-set_of (λ b. nat_lt b i && passes b) b) ∙ joined (is_line_byte b) (nat_lt b i && passes b) (b == i) (nat_lt b (i + 1) && passes b) (here b) (λ e. ap (λ t. t && passes b) (later b i e)))
+pub of_more : (passes : ℕ → Bool) (set : List Bool) (i : ℕ) → passes i ≡ true → set ≡ set_of (λ b. nat_lt b i && passes b)
+    → with_byte set i ≡ set_of (λ b. nat_lt b (i + 1) && passes b)
+of_more passes set i held so_far =
+    set_of-ext (λ b. has set b || b == i) (λ b. nat_lt b (i + 1) && passes b) (λ b.
+    ap (λ t. is_line_byte b && (t || b == i)) (ap (λ s. has s b) so_far ∙ has-set_of (λ b. nat_lt b i && passes b) b)
+    ∙ joined (is_line_byte b) (nat_lt b i && passes b) (b == i) (nat_lt b (i + 1) && passes b) (here b)
+    (λ e. ap (λ t. t && passes b) (later b i e)))
   where
     here : (b : ℕ) → (b == i) ≡ true → (nat_lt b (i + 1) && passes b) ≡ true
     here b e =
@@ -95,7 +102,8 @@ skipped : (l x y : Bool) → (l && y) ≡ false → x ≡ false → (l && x) ≡
 skipped true x y p q = q ∙ sym p
 skipped false x y p q = refl
 
-pub of_same : (passes : ℕ → Bool) (set : List Bool) (i : ℕ) → (is_line_byte i && passes i) ≡ false → set ≡ set_of (λ b. nat_lt b i && passes b) → set ≡ set_of (λ b. nat_lt b (i + 1) && passes b)
+pub of_same : (passes : ℕ → Bool) (set : List Bool) (i : ℕ) → (is_line_byte i && passes i) ≡ false
+    → set ≡ set_of (λ b. nat_lt b i && passes b) → set ≡ set_of (λ b. nat_lt b (i + 1) && passes b)
 of_same passes set i none so_far = so_far ∙ set_of-ext (λ b. nat_lt b i && passes b) (λ b. nat_lt b (i + 1) && passes b) (λ b. go b (b == i) refl)
   where
     go : (b : ℕ) (t : Bool) → (b == i) ≡ t → (is_line_byte b && (nat_lt b i && passes b)) ≡ (is_line_byte b && (nat_lt b (i + 1) && passes b))
@@ -103,7 +111,9 @@ of_same passes set i none so_far = so_far ∙ set_of-ext (λ b. nat_lt b i && pa
         let same : i ≡ b = grind (arith, nat_tests) in
         let below : nat_lt b (i + 1) ≡ true = grind (arith, nat_tests) in
         let past : nat_lt b i ≡ false = grind (arith, nat_tests) in
-        skipped (is_line_byte b) (nat_lt b i && passes b) (nat_lt b (i + 1) && passes b) (ap (λ t. is_line_byte b && (t && passes b)) below ∙ ap (λ n. is_line_byte n && passes n) (sym same) ∙ none) (ap (λ t. t && passes b) past)
+        skipped (is_line_byte b) (nat_lt b i && passes b) (nat_lt b (i + 1) && passes b)
+        (ap (λ t. is_line_byte b && (t && passes b)) below ∙ ap (λ n. is_line_byte n && passes n) (sym same) ∙ none)
+        (ap (λ t. t && passes b) past)
     go b false e = ap (λ t. is_line_byte b && (t && passes b)) (sym (later b i e))
 
 pub of_all : (passes : ℕ → Bool) (set : List Bool) (i : ℕ) → 256 ≤ i → set ≡ set_of (λ b. nat_lt b i && passes b) → set ≡ set_of passes
@@ -115,7 +125,9 @@ of_all passes set i all so_far = so_far ∙ set_of-ext (λ b. nat_lt b i && pass
 
 -- The set of one byte.
 pub single_in : (byte : ℕ) → with_byte empty_set byte ≡ single byte
-single_in byte = set_of-ext (λ b. has empty_set b || b == byte) (λ b. b == byte) (λ b. ap (λ t. is_line_byte b && (t || b == byte)) (has-set_of (λ _. false) b ∙ and_falls (is_line_byte b)))
+single_in byte =
+    set_of-ext (λ b. has empty_set b || b == byte) (λ b. b == byte)
+    (λ b. ap (λ t. is_line_byte b && (t || b == byte)) (has-set_of (λ _. false) b ∙ and_falls (is_line_byte b)))
 
 pub single_out : (byte : ℕ) → is_line_byte byte ≡ false → empty_set ≡ single byte
 single_out byte none = set_of-ext (λ _. false) (λ b. b == byte) (λ b. go b (b == byte) refl)

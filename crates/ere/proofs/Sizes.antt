@@ -1,5 +1,6 @@
 -- Sizes and properness of the trees of a program's trees, variant by variant.
-use Rattle.std.proofs.Common.{◌≡◌, ℕ, ◌+◌, ◌-◌, ◌*◌, ◌<◌, ◌≤◌, ◌↔◌, Bool, true, false, leb, IsTrue, List, [], ◌∷◌, length, get_or, drop, map, max, min, Option, Some, None, IfSome, refl, sym, ap, ◌∙◌, arith}
+use Rattle.std.proofs.Common.{◌≡◌, ℕ, ◌+◌, ◌-◌, ◌*◌, ◌<◌, ◌≤◌, ◌↔◌, Bool, true, false, leb, IsTrue, List, [], ◌∷◌, length, get_or, drop}
+use Rattle.std.proofs.Common.{map, max, min, Option, Some, None, IfSome, refl, sym, ap, ◌∙◌, arith}
 use Rattle.std.proofs.Math.Nat.{mul-le-mul_left}
 use native.Mathlib.Decide.{dec_le}
 use Rattle.std.proofs.lemmas.List.{at_drop_more, at_drop_all}
@@ -18,10 +19,12 @@ abbrev pub forms : List Ere → Trees
 forms members = trees_of (map form members)
 
 -- one member more, from the last one back
-pub forms_back : (members : List Ere) (i : ℕ) (x : Ere) → 0 < i → i ≤ length members → x ≡ get_or members (i - 1) x → forms (drop (i - 1) members) ≡ more (form x) (forms (drop i members))
+pub forms_back : (members : List Ere) (i : ℕ) (x : Ere) → 0 < i → i ≤ length members → x ≡ get_or members (i - 1) x
+    → forms (drop (i - 1) members) ≡ more (form x) (forms (drop i members))
 forms_back members i x above within read =
     let same : i - 1 + 1 ≡ i = omega arith in
-    at_drop_more forms members (i - 1) x (omega arith) ∙ ap (λ k. forms (get_or members (i - 1) x ∷ drop k members)) same ∙ ap (λ y. more (form y) (forms (drop i members))) (sym read)
+    at_drop_more forms members (i - 1) x (omega arith) ∙ ap (λ k. forms (get_or members (i - 1) x ∷ drop k members)) same
+    ∙ ap (λ y. more (form y) (forms (drop i members))) (sym read)
 
 pub forms_end : (members : List Ere) → forms (drop (length members) members) ≡ none
 forms_end members = at_drop_all forms members (length members) (omega arith)
@@ -50,7 +53,8 @@ pub height-Alt : (e : Ere) (members : Vec Ere Global) → e ≡ Alt members → 
 unfolding height
 height-Alt e members h = rw (h, form-Alt members) refl
 
-pub height-Repeat : (e : Ere) (body : Box Ere Global) (least : ℕ) (greatest : Option ℕ) → e ≡ Repeat body least greatest → height (form e) ≡ height (form body.value) + 1
+pub height-Repeat : (e : Ere) (body : Box Ere Global) (least : ℕ) (greatest : Option ℕ) → e ≡ Repeat body least greatest
+    → height (form e) ≡ height (form body.value) + 1
 unfolding height
 height-Repeat e body least greatest h = rw (h, form-Repeat body least greatest) refl
 
@@ -86,7 +90,8 @@ pub leaves-Alt : (e : Ere) (members : Vec Ere Global) → e ≡ Alt members → 
 unfolding leaves
 leaves-Alt e members h = rw (h, form-Alt members) refl
 
-pub leaves-Repeat : (e : Ere) (body : Box Ere Global) (least : ℕ) (greatest : Option ℕ) → e ≡ Repeat body least greatest → leaves (form e) ≡ copies_counted least greatest * leaves (form body.value)
+pub leaves-Repeat : (e : Ere) (body : Box Ere Global) (least : ℕ) (greatest : Option ℕ) → e ≡ Repeat body least greatest
+    → leaves (form e) ≡ copies_counted least greatest * leaves (form body.value)
 unfolding leaves
 leaves-Repeat e body least greatest h = rw (h, form-Repeat body least greatest) refl
 
@@ -140,27 +145,37 @@ two_of [] h = absurd h
 two_of (a ∷ []) h = absurd h
 two_of (a ∷ b ∷ members) h = omega arith
 
-pub proper-Cat : (e : Ere) (members : Vec Ere Global) (n : ℕ) (r : Bool) → e ≡ Cat members → n ≡ length members.items → 2 ≤ n → IsTrue r ↔ AreProper (forms members.items) → IsTrue r ↔ IsProper (form e)
+pub proper-Cat : (e : Ere) (members : Vec Ere Global) (n : ℕ) (r : Bool) → e ≡ Cat members → n ≡ length members.items → 2 ≤ n
+    → IsTrue r ↔ AreProper (forms members.items) → IsTrue r ↔ IsProper (form e)
 unfolding IsProper
 proper-Cat e members n r h len two known = rw (h, form-Cat members) (λ t. (has_two members.items (omega arith), known.0 t), λ p. known.1 p.1)
 
-pub proper-Alt : (e : Ere) (members : Vec Ere Global) (n : ℕ) (r : Bool) → e ≡ Alt members → n ≡ length members.items → 2 ≤ n → IsTrue r ↔ AreProper (forms members.items) → IsTrue r ↔ IsProper (form e)
+pub proper-Alt : (e : Ere) (members : Vec Ere Global) (n : ℕ) (r : Bool) → e ≡ Alt members → n ≡ length members.items → 2 ≤ n
+    → IsTrue r ↔ AreProper (forms members.items) → IsTrue r ↔ IsProper (form e)
 unfolding IsProper
 proper-Alt e members n r h len two known = rw (h, form-Alt members) (λ t. (has_two members.items (omega arith), known.0 t), λ p. known.1 p.1)
 
 pub few-Cat : (e : Ere) (members : Vec Ere Global) (n : ℕ) → e ≡ Cat members → n ≡ length members.items → n < 2 → IsTrue (leb 2 n) ↔ IsProper (form e)
 unfolding IsProper
-few-Cat e members n h len few = rw (h, form-Cat members) (λ t. absurd (grind (arith, nat_tests)), λ p. let two = two_of members.items p.0 in absurd (omega (arith, two)))
+few-Cat e members n h len few =
+    rw (h, form-Cat members)
+    (λ t. absurd (grind (arith, nat_tests)), λ p. let two = two_of members.items p.0 in absurd (omega (arith, two)))
 
 pub few-Alt : (e : Ere) (members : Vec Ere Global) (n : ℕ) → e ≡ Alt members → n ≡ length members.items → n < 2 → IsTrue (leb 2 n) ↔ IsProper (form e)
 unfolding IsProper
-few-Alt e members n h len few = rw (h, form-Alt members) (λ t. absurd (grind (arith, nat_tests)), λ p. let two = two_of members.items p.0 in absurd (omega (arith, two)))
+few-Alt e members n h len few =
+    rw (h, form-Alt members)
+    (λ t. absurd (grind (arith, nat_tests)), λ p. let two = two_of members.items p.0 in absurd (omega (arith, two)))
 
-pub proper-Repeat : (e : Ere) (body : Box Ere Global) (least : ℕ) (greatest : Option ℕ) (ordered r : Bool) → e ≡ Repeat body least greatest → IsTrue ordered ↔ IfSome greatest (λ most. least ≤ most) → IsTrue ordered → IsTrue r ↔ IsProper (form body.value) → IsTrue r ↔ IsProper (form e)
+pub proper-Repeat : (e : Ere) (body : Box Ere Global) (least : ℕ) (greatest : Option ℕ) (ordered r : Bool) → e ≡ Repeat body least greatest
+    → IsTrue ordered ↔ IfSome greatest (λ most. least ≤ most) → IsTrue ordered → IsTrue r ↔ IsProper (form body.value)
+    → IsTrue r ↔ IsProper (form e)
 unfolding IsProper
-proper-Repeat e body least greatest ordered r h by known_order known = rw (h, form-Repeat body least greatest) (λ t. (by.0 known_order, known.0 t), λ p. known.1 p.1)
+proper-Repeat e body least greatest ordered r h by known_order known =
+    rw (h, form-Repeat body least greatest) (λ t. (by.0 known_order, known.0 t), λ p. known.1 p.1)
 
-pub unordered-Repeat : (e : Ere) (body : Box Ere Global) (least : ℕ) (greatest : Option ℕ) (ordered : Bool) → e ≡ Repeat body least greatest → IsTrue ordered ↔ IfSome greatest (λ most. least ≤ most) → ordered ≡ false → IsTrue ordered ↔ IsProper (form e)
+pub unordered-Repeat : (e : Ere) (body : Box Ere Global) (least : ℕ) (greatest : Option ℕ) (ordered : Bool) → e ≡ Repeat body least greatest
+    → IsTrue ordered ↔ IfSome greatest (λ most. least ≤ most) → ordered ≡ false → IsTrue ordered ↔ IsProper (form e)
 unfolding IsProper
 unordered-Repeat e body least greatest ordered h by failed = rw (h, form-Repeat body least greatest) (λ t. absurd (cc), λ p. by.1 p.0)
 
@@ -168,7 +183,8 @@ pub proper-none : IsTrue true ↔ AreProper none
 unfolding AreProper
 proper-none = (λ _. tt, λ _. refl)
 
-pub proper-more : (tree : Tree) (trees : Trees) (first rest : Bool) → IsTrue first ↔ IsProper tree → IsTrue rest ↔ AreProper trees → IsTrue first → IsTrue rest ↔ AreProper (more tree trees)
+pub proper-more : (tree : Tree) (trees : Trees) (first rest : Bool) → IsTrue first ↔ IsProper tree → IsTrue rest ↔ AreProper trees
+    → IsTrue first → IsTrue rest ↔ AreProper (more tree trees)
 unfolding AreProper
 proper-more tree trees first rest one others held = (λ t. (one.0 held, others.0 t), λ p. others.1 p.1)
 

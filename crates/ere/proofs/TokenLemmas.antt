@@ -35,9 +35,11 @@ all_digits digits h = recursion_from_All (λ b. is_digit b ≡ true) digits h
 pub data IntervalView (digits tail rest : List ℕ) (least : ℕ) (greatest : Option ℕ) : Type 0 where
   exactly : tail ≡ 125 ∷ rest → SpellsCount digits least → greatest ≡ Some least → IntervalView digits tail rest least greatest
   at_least : tail ≡ 44 ∷ 125 ∷ rest → SpellsCount digits least → greatest ≡ None → IntervalView digits tail rest least greatest
-  between : (high : List ℕ) (most : ℕ) → tail ≡ 44 ∷ (high ++ 125 ∷ rest) → SpellsCount digits least → SpellsCount high most → least ≤ most → greatest ≡ Some most → IntervalView digits tail rest least greatest
+  between : (high : List ℕ) (most : ℕ) → tail ≡ 44 ∷ (high ++ 125 ∷ rest) → SpellsCount digits least → SpellsCount high most → least ≤ most
+      → greatest ≡ Some most → IntervalView digits tail rest least greatest
 
-pub interval_view : (from digits tail rest : List ℕ) (least : ℕ) (greatest : Option ℕ) → from ≡ digits ++ tail → AllPass is_digit digits → IsFalse (digit_ahead tail) → SpellsInterval from rest least greatest → IntervalView digits tail rest least greatest
+pub interval_view : (from digits tail rest : List ℕ) (least : ℕ) (greatest : Option ℕ) → from ≡ digits ++ tail → AllPass is_digit digits
+    → IsFalse (digit_ahead tail) → SpellsInterval from rest least greatest → IntervalView digits tail rest least greatest
 interval_view from digits tail rest least greatest e d f (interval.exactly other g count is) =
     let same = one_run other digits (125 ∷ rest) tail (all_digits other count.decimal) (all_digits digits d) refl f (sym g ∙ e) in
     exactly (sym same.1) (subst (λ v. SpellsCount v least) same.0 count) is
@@ -58,8 +60,10 @@ no_empty_count high rest r most e count =
     let short : 0 ≡ length high = ap length none in
     absurd (omega (arith, count.some))
 
-one_interval_view : (digits tail r q : List ℕ) (l m : ℕ) (g h : Option ℕ) → IntervalView digits tail r l g → IntervalView digits tail q m h → (r ≡ q) × (l ≡ m) × (g ≡ h)
-one_interval_view digits tail r q l m g h (exactly e a i) (exactly f b j) = let same = one_count digits l m a b in (tail_of (sym e ∙ f), same, i ∙ ap Some same ∙ sym j)
+one_interval_view : (digits tail r q : List ℕ) (l m : ℕ) (g h : Option ℕ) → IntervalView digits tail r l g → IntervalView digits tail q m h
+    → (r ≡ q) × (l ≡ m) × (g ≡ h)
+one_interval_view digits tail r q l m g h (exactly e a i) (exactly f b j) =
+    let same = one_count digits l m a b in (tail_of (sym e ∙ f), same, i ∙ ap Some same ∙ sym j)
 one_interval_view digits tail r q l m g h (exactly e a i) (at_least f b j) = absurd (omega (arith, head_of (sym e ∙ f)))
 one_interval_view digits tail r q l m g h (exactly e a i) (between high most f b c o j) = absurd (omega (arith, head_of (sym e ∙ f)))
 one_interval_view digits tail r q l m g h (at_least e a i) (exactly f b j) = absurd (omega (arith, head_of (sym e ∙ f)))
@@ -78,7 +82,8 @@ one_interval from r q l m g h (interval.exactly digits e count is) b =
 one_interval from r q l m g h (interval.at_least digits e count is) b =
     one_interval_view digits (44 ∷ 125 ∷ r) r q l m g h (at_least refl count is) (interval_view from digits (44 ∷ 125 ∷ r) q m h e count.decimal refl b)
 one_interval from r q l m g h (interval.between digits high most e count count2 order is) b =
-    one_interval_view digits (44 ∷ (high ++ 125 ∷ r)) r q l m g h (between high most refl count count2 order is) (interval_view from digits (44 ∷ (high ++ 125 ∷ r)) q m h e count.decimal refl b)
+    one_interval_view digits (44 ∷ (high ++ 125 ∷ r)) r q l m g h (between high most refl count count2 order is)
+    (interval_view from digits (44 ∷ (high ++ 125 ∷ r)) q m h e count.decimal refl b)
 
 -- a byte that begins a longer token is none by itself
 pub no_bracket_byte : (case : Case) → (text : List ℕ) (t : Token) → token_of_byte case 91 text ≡ Some t → ⊥
@@ -93,8 +98,11 @@ pub no_brace_byte : (case : Case) → (text : List ℕ) (t : Token) → IsTrue (
 unfolding token_of_byte
 no_brace_byte case text t h e = let none : token_of_byte case 123 text ≡ None = rw h refl in absurd (cc)
 
-pub at_byte : (case : Case) → (from : List ℕ) (b c : ℕ) (rest more : List ℕ) (t : Token) → from ≡ b ∷ rest → from ≡ c ∷ more → token_of_byte case b rest ≡ Some t → token_of_byte case c more ≡ Some t
-at_byte case from b c rest more t e f h = subst (λ v. token_of_byte case v more ≡ Some t) (head_of (sym e ∙ f)) (subst (λ v. token_of_byte case b v ≡ Some t) (tail_of (sym e ∙ f)) h)
+pub at_byte : (case : Case) → (from : List ℕ) (b c : ℕ) (rest more : List ℕ) (t : Token) → from ≡ b ∷ rest → from ≡ c ∷ more
+    → token_of_byte case b rest ≡ Some t → token_of_byte case c more ≡ Some t
+at_byte case from b c rest more t e f h =
+    subst (λ v. token_of_byte case v more ≡ Some t) (head_of (sym e ∙ f))
+    (subst (λ v. token_of_byte case b v ≡ Some t) (tail_of (sym e ∙ f)) h)
 
 pub one_token : {case : Case} → (from r q : List ℕ) (s t : Token) → SpellsToken case from r s → SpellsToken case from q t → (r ≡ q) × (s ≡ t)
 one_token from r q s t (spelled.byte b e h) (spelled.byte c f k) =
@@ -104,7 +112,9 @@ one_token from r q s t (spelled.byte b e h) (spelled.escaped c f k is) = absurd 
 one_token from r q s t (spelled.byte b e h) (spelled.bracket items m f k is) = absurd (no_bracket_byte _ items s (at_byte _ from b 91 r items s e f h))
 one_token from r q s t (spelled.byte b e h) (spelled.interval counts l g f d k is) = absurd (no_brace_byte _ counts s d (at_byte _ from b 123 r counts s e f h))
 one_token from r q s t (spelled.escaped c f k is) (spelled.byte b e h) = absurd (no_escape_byte _ (c ∷ r) t (at_byte _ from b 92 q (c ∷ r) t e f h))
-one_token {case} from r q s t (spelled.escaped c f k is) (spelled.escaped b e h is2) = let same : c ≡ b = head_of (tail_of (sym f ∙ e)) in (tail_of (tail_of (sym f ∙ e)), is ∙ ap (λ v. set (read_in case (single v))) same ∙ sym is2)
+one_token {case} from r q s t (spelled.escaped c f k is) (spelled.escaped b e h is2) =
+    let same : c ≡ b = head_of (tail_of (sym f ∙ e)) in
+    (tail_of (tail_of (sym f ∙ e)), is ∙ ap (λ v. set (read_in case (single v))) same ∙ sym is2)
 one_token from r q s t (spelled.escaped c f k is) (spelled.bracket items m e h is2) = absurd (omega (arith, head_of (sym f ∙ e)))
 one_token from r q s t (spelled.escaped c f k is) (spelled.interval counts l g e d h is2) = absurd (omega (arith, head_of (sym f ∙ e)))
 one_token from r q s t (spelled.bracket items m f k is) (spelled.byte b e h) = absurd (no_bracket_byte _ items t (at_byte _ from b 91 q items t e f h))

@@ -1,5 +1,6 @@
 -- A text spells at most one tree, and no repeat in it has a least count above its greatest.
-use Rattle.std.proofs.Common.{◌≡◌, ◌≢◌, ℕ, zero, ◌<◌, ◌≤◌, Bool, true, false, ◌&&◌, ◌||◌, ◌==◌, cond, IsTrue, IsFalse, List, [], ◌∷◌, length, Option, Some, None, IfSome, refl, sym, ap, ◌∙◌, subst, arith, inl, inr, ◌⊎◌}
+use Rattle.std.proofs.Common.{◌≡◌, ◌≢◌, ℕ, zero, ◌<◌, ◌≤◌, Bool, true, false, ◌&&◌, ◌||◌, ◌==◌, cond, IsTrue, IsFalse, List, [], ◌∷◌}
+use Rattle.std.proofs.Common.{length, Option, Some, None, IfSome, refl, sym, ap, ◌∙◌, subst, arith, inl, inr, ◌⊎◌}
 use Rattle.std.specs.List.{AllByRecursion}
 use Rattle.ere.specs.declared.case.Case.{Case}
 use Rattle.ere.specs.declared.parts.Part.{Part}
@@ -7,12 +8,14 @@ use Rattle.ere.specs.ByteSet.{single}
 use Rattle.ere.specs.Brackets.{begins_with}
 use Rattle.ere.specs.Letters.{read_in}
 use Rattle.ere.specs.Tree.{Tree, Trees, none, more, set, repeat, at_start, at_end, form}
-use Rattle.ere.specs.Limits.{IsProper, AreProper, HasTwo, IsTreeOf, IsWithinLimits, HasNoTree, height, leaves, greatest_height, greatest_leaves, greatest_open, greatest_pattern}
+use Rattle.ere.specs.Limits.{IsProper, AreProper, HasTwo, IsTreeOf, IsWithinLimits, HasNoTree, height, leaves, greatest_height}
+use Rattle.ere.specs.Limits.{greatest_leaves, greatest_open, greatest_pattern}
 use Rattle.ere.specs.Tokens.{Token, Tokens, SpellsToken, token_of_byte, digit_ahead}
 use Rattle.ere.specs.Tokens as token
 use Rattle.ere.specs.Tokens.{Tokens as tokens, SpellsToken as spelled, SpellsInterval as interval, SpellsInterval}
 use Rattle.ere.specs.Spelling.{Spells, SpellsDuplications, SpellsAtom, SpellsPiece, SpellsBranch, SpellsAlternatives, branch_of, alternatives_of}
-use Rattle.ere.specs.Spelling.{SpellsDuplications as duplications, SpellsAtom as atoms, SpellsPiece as pieces_are, SpellsBranch as branches_are, SpellsAlternatives as alternatives_are}
+use Rattle.ere.specs.Spelling.{SpellsDuplications as duplications, SpellsAtom as atoms, SpellsPiece as pieces_are}
+use Rattle.ere.specs.Spelling.{SpellsBranch as branches_are, SpellsAlternatives as alternatives_are}
 use Rattle.ere.specs.Private.Reading.{ReadsAlternatives, NoAlternatives, ends_branch}
 use Rattle.ere.proofs.TokenLemmas.{one_tokens}
 use Rattle.ere.proofs.GrammarLemmas.{one_alternatives}
@@ -33,7 +36,16 @@ AllProper ts = AllByRecursion IsProperToken ts
 byte_proper : (case : Case) → (b : ℕ) (text : List ℕ) (t : Token) → token_of_byte case b text ≡ Some t → IsProperToken t
 unfolding token_of_byte
 byte_proper case b text t e =
-    walk (b == 46) _ _ tt (walk (b == 40) _ _ tt (walk (b == 41) _ _ tt (walk (b == 124) _ _ tt (walk (b == 94) _ _ tt (walk (b == 36) _ _ tt (walk (b == 42) _ _ tt (walk (b == 43) _ _ tt (walk (b == 63) _ _ (omega arith) (last (b == 91 || (b == 92 || (b == 123 && digit_ahead text)))))))))))) e
+    walk (b == 46) _ _ tt
+    (walk (b == 40) _ _ tt
+    (walk (b == 41) _ _ tt
+    (walk (b == 124) _ _ tt
+    (walk (b == 94) _ _ tt
+    (walk (b == 36) _ _ tt
+    (walk (b == 42) _ _ tt
+    (walk (b == 43) _ _ tt
+    (walk (b == 63) _ _ (omega arith)
+    (last (b == 91 || (b == 92 || (b == 123 && digit_ahead text)))))))))))) e
   where
     walk : (c : Bool) (x : Token) (y : Option Token) → IsProperToken x → (y ≡ Some t → IsProperToken t) → cond c (Some x) y ≡ Some t → IsProperToken t
     walk true x y p f e = let same : x ≡ t = cc in subst IsProperToken same p
@@ -44,7 +56,8 @@ byte_proper case b text t e =
     last false e = let same : token.set (read_in case (single b)) ≡ t = cc in subst IsProperToken same tt
 
 interval_proper : (from rest : List ℕ) (least : ℕ) (greatest : Option ℕ) → SpellsInterval from rest least greatest → IfSome greatest (λ most. least ≤ most)
-interval_proper from rest least greatest (interval.exactly digits e count is) = subst (λ g. IfSome g (λ most. least ≤ most)) (sym is) (let same : least ≤ least = omega arith in same)
+interval_proper from rest least greatest (interval.exactly digits e count is) =
+    subst (λ g. IfSome g (λ most. least ≤ most)) (sym is) (let same : least ≤ least = omega arith in same)
 interval_proper from rest least greatest (interval.at_least digits e count is) = subst (λ g. IfSome g (λ most. least ≤ most)) (sym is) tt
 interval_proper from rest least greatest (interval.between low high most e count count2 order is) = subst (λ g. IfSome g (λ most. least ≤ most)) (sym is) order
 
@@ -64,14 +77,16 @@ branch_proper none p = tt
 branch_proper (more a none) p = p.0
 branch_proper (more a (more b trees)) p = (tt, p)
 
-alternatives_proper : (branches : Trees) → AreProper branches → HasTwo branches ⊎ ((tree : Tree) × (branches ≡ more tree none)) → IsProper (alternatives_of branches)
+alternatives_proper : (branches : Trees) → AreProper branches → HasTwo branches ⊎ ((tree : Tree) × (branches ≡ more tree none))
+    → IsProper (alternatives_of branches)
 unfolding IsProper AreProper
 alternatives_proper none p (inl two) = absurd two
 alternatives_proper none p (inr one) = absurd (let e = one.1 in cc)
 alternatives_proper (more a none) p h = p.0
 alternatives_proper (more a (more b trees)) p h = (tt, p)
 
-some_branch : {limit depth : ℕ} {from rest : List Token} {branches : Trees} → SpellsAlternatives limit depth from rest branches → HasTwo branches ⊎ ((tree : Tree) × (branches ≡ more tree none))
+some_branch : {limit depth : ℕ} {from rest : List Token} {branches : Trees} → SpellsAlternatives limit depth from rest branches
+    → HasTwo branches ⊎ ((tree : Tree) × (branches ≡ more tree none))
 some_branch (alternatives_are.last {pieces = ps} b) = inr (branch_of ps, refl)
 some_branch (alternatives_are.bar {pieces = ps} b (alternatives_are.last c)) = inl tt
 some_branch (alternatives_are.bar {pieces = ps} b (alternatives_are.bar c d)) = inl tt
@@ -100,39 +115,47 @@ proper_end : IsProper at_end
 unfolding IsProper
 proper_end = tt
 
-duplications_proper : {from rest : List Token} {tree whole : Tree} → SpellsDuplications from rest tree whole → AllProper from → IsProper tree → IsProper whole × AllProper rest
+duplications_proper : {from rest : List Token} {tree whole : Tree} → SpellsDuplications from rest tree whole → AllProper from
+    → IsProper tree → IsProper whole × AllProper rest
 duplications_proper duplications.done all p = (p, all)
 duplications_proper (duplications.again {piece = tree} {least = l} {greatest = g} ds) all p = duplications_proper ds all.1 (proper_repeat tree l g all.0 p)
 
 module _ (limit : ℕ) where
   mutual
-    pub all_proper : {depth : ℕ} {from rest : List Token} {branches : Trees} → SpellsAlternatives limit depth from rest branches → AllProper from → AreProper branches × AllProper rest
-    all_proper (alternatives_are.last {pieces = ps} b) all = let inner = pieces_proper b all in (proper_more (branch_of ps) none (branch_proper ps inner.0) proper_none, inner.1)
+    pub all_proper : {depth : ℕ} {from rest : List Token} {branches : Trees} → SpellsAlternatives limit depth from rest branches
+        → AllProper from → AreProper branches × AllProper rest
+    all_proper (alternatives_are.last {pieces = ps} b) all =
+        let inner = pieces_proper b all in (proper_more (branch_of ps) none (branch_proper ps inner.0) proper_none, inner.1)
     all_proper (alternatives_are.bar {pieces = ps} {branches = bs} b a) all =
         let inner = pieces_proper b all in
         let others = all_proper a inner.1.1 in
         (proper_more (branch_of ps) bs (branch_proper ps inner.0) others.0, others.1)
 
-    pub pieces_proper : {depth : ℕ} {from rest : List Token} {pieces : Trees} → SpellsBranch limit depth from rest pieces → AllProper from → AreProper pieces × AllProper rest
+    pub pieces_proper : {depth : ℕ} {from rest : List Token} {pieces : Trees} → SpellsBranch limit depth from rest pieces → AllProper from
+        → AreProper pieces × AllProper rest
     pieces_proper branches_are.done all = (proper_none, all)
     pieces_proper (branches_are.piece {tree = t} {pieces = ps} p b) all =
         let first = piece_proper p all in
         let others = pieces_proper b first.1 in
         (proper_more t ps first.0 others.0, others.1)
 
-    pub piece_proper : {depth : ℕ} {from rest : List Token} {tree : Tree} → SpellsPiece limit depth from rest tree → AllProper from → IsProper tree × AllProper rest
+    pub piece_proper : {depth : ℕ} {from rest : List Token} {tree : Tree} → SpellsPiece limit depth from rest tree → AllProper from
+        → IsProper tree × AllProper rest
     piece_proper pieces_are.start all = (proper_start, all.1)
     piece_proper pieces_are.finish all = (proper_end, all.1)
     piece_proper (pieces_are.atom a ds) all = let inner = atom_proper a all in duplications_proper ds inner.1 inner.0
 
-    pub atom_proper : {depth : ℕ} {from rest : List Token} {tree : Tree} → SpellsAtom limit depth from rest tree → AllProper from → IsProper tree × AllProper rest
+    pub atom_proper : {depth : ℕ} {from rest : List Token} {tree : Tree} → SpellsAtom limit depth from rest tree → AllProper from
+        → IsProper tree × AllProper rest
     atom_proper (atoms.literal {members = m}) all = (proper_set m, all.1)
-    atom_proper (atoms.group {branches = bs} below inner) all = let found = all_proper inner all.1 in (alternatives_proper bs found.0 (some_branch inner), found.1.1)
+    atom_proper (atoms.group {branches = bs} below inner) all =
+        let found = all_proper inner all.1 in (alternatives_proper bs found.0 (some_branch inner), found.1.1)
     atom_proper atoms.lone_close all = (proper_set (single 41), all.1)
 
 pub spelled_proper : {case : Case} → (limit : ℕ) (text : List ℕ) (tree : Tree) → Spells case limit text tree → IsProper tree
 spelled_proper limit text tree s =
-    subst IsProper (sym s.is_tree) (alternatives_proper s.branches (all_proper limit s.spelled (tokens_proper text s.tokens s.are_tokens)).0 (some_branch s.spelled))
+    subst IsProper (sym s.is_tree)
+    (alternatives_proper s.branches (all_proper limit s.spelled (tokens_proper text s.tokens s.are_tokens)).0 (some_branch s.spelled))
 
 pub tree_within : (case : Case) → (pattern : List ℕ) (tree : Tree) → IsTreeOf case pattern tree → IsWithinLimits tree
 tree_within case pattern tree t = record { proper = spelled_proper greatest_open pattern tree t.spelled; low = t.low; small = t.small }
@@ -146,7 +169,8 @@ at_end_of_text (b ∷ text) h k = absurd (never (b == 124) h k)
     never true h k = absurd (cc)
     never false h k = absurd (cc)
 
-pub whole_tree : {case : Case} → (pattern to : List ℕ) (part : Option Part) (r : ReadsAlternatives case 0 pattern to part) → Spells case greatest_open pattern (alternatives_of r.branches)
+pub whole_tree : {case : Case} → (pattern to : List ℕ) (part : Option Part) (r : ReadsAlternatives case 0 pattern to part)
+    → Spells case greatest_open pattern (alternatives_of r.branches)
 whole_tree {case} pattern to part r =
     let nothing = at_end_of_text to r.ends r.no_bar in
     let found = r.reads.forward [] (subst (λ v. Tokens case v []) (sym nothing) tokens.none) in
@@ -158,7 +182,8 @@ high_no_tree pattern to r tree t =
     let low : height (alternatives_of r.branches) ≤ greatest_height = rw same t.low in
     omega (arith, r.built, low)
 
-pub large_no_tree : {case : Case} → (pattern to : List ℕ) (part : Part) (r : ReadsAlternatives case 0 pattern to (Some part)) → greatest_leaves < leaves (form part.tree) → HasNoTree case pattern
+pub large_no_tree : {case : Case} → (pattern to : List ℕ) (part : Part) (r : ReadsAlternatives case 0 pattern to (Some part))
+    → greatest_leaves < leaves (form part.tree) → HasNoTree case pattern
 large_no_tree pattern to part r large tree t =
     let same = one_tree _ greatest_open greatest_open pattern _ _ (whole_tree pattern to (Some part) r) t.spelled in
     let small : leaves (form part.tree) ≤ greatest_leaves = rw (r.built.0 ∙ same) t.small in
@@ -167,7 +192,9 @@ large_no_tree pattern to part r large tree t =
 pub fault_no_tree : {case : Case} → (pattern : List ℕ) → NoAlternatives case 0 pattern → HasNoTree case pattern
 fault_no_tree pattern never tree t = never t.spelled.tokens [] t.spelled.branches t.spelled.are_tokens t.spelled.spelled tt
 
-pub found_tree : {case : Case} → (pattern to : List ℕ) (part : Part) (r : ReadsAlternatives case 0 pattern to (Some part)) → length pattern ≤ greatest_pattern → AllByRecursion (λ b. (b ≢ 0) × (b ≢ 10)) pattern → leaves (form part.tree) ≤ greatest_leaves → IsTreeOf case pattern (form part.tree)
+pub found_tree : {case : Case} → (pattern to : List ℕ) (part : Part) (r : ReadsAlternatives case 0 pattern to (Some part))
+    → length pattern ≤ greatest_pattern → AllByRecursion (λ b. (b ≢ 0) × (b ≢ 10)) pattern → leaves (form part.tree) ≤ greatest_leaves
+    → IsTreeOf case pattern (form part.tree)
 found_tree {case} pattern to part r short allowed small = record {
   short = short;
   allowed = allowed;

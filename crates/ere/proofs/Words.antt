@@ -33,13 +33,15 @@ unfoldable mutual
   IsWordOfSome none word = ⊥
   IsWordOfSome (more tree trees) word = IsWord tree word ⊎ IsWordOfSome trees word
 
-power_from_copies : (language : Language) (words : WordSet) → ((before word after : List ℕ) → language before word after → words word) → (count : ℕ) (before word after : List ℕ) → InCopies language count before word after → IsPower words count word
+power_from_copies : (language : Language) (words : WordSet) → ((before word after : List ℕ) → language before word after → words word)
+    → (count : ℕ) (before word after : List ℕ) → InCopies language count before word after → IsPower words count word
 unfolding InCopies IsPower
 power_from_copies language words one zero before word after h = h
 power_from_copies language words one (suc count) before word after h =
     (h.0, h.1, h.2, power_from_copies language words one count before h.0 (h.1 ++ after) h.3, one (before ++ h.0) h.1 after h.4)
 
-copies_from_power : (language : Language) (words : WordSet) → ((before word after : List ℕ) → words word → language before word after) → (count : ℕ) (before word after : List ℕ) → IsPower words count word → InCopies language count before word after
+copies_from_power : (language : Language) (words : WordSet) → ((before word after : List ℕ) → words word → language before word after)
+    → (count : ℕ) (before word after : List ℕ) → IsPower words count word → InCopies language count before word after
 unfolding InCopies IsPower
 copies_from_power language words one zero before word after h = h
 copies_from_power language words one (suc count) before word after h =
@@ -91,7 +93,8 @@ mutual
   some_without_anchors-from_word : (trees : Trees) (before word after : List ℕ) → IsWordOfSome trees word → InSome (all_without_anchors trees) before word after
   some_without_anchors-from_word none before word after h = h
   some_without_anchors-from_word (more tree trees) before word after h =
-      ⊎_elim (λ here. inl (without_anchors-from_word tree before word after here)) (λ later. inr (some_without_anchors-from_word trees before word after later)) h
+      ⊎_elim (λ here. inl (without_anchors-from_word tree before word after here))
+      (λ later. inr (some_without_anchors-from_word trees before word after later)) h
 
 mutual
   unfolding InLanguage IsWord without_anchors
@@ -118,4 +121,5 @@ mutual
       ⊎_elim (λ here. inl (IsWord-from_without_anchors tree before word after here)) (λ later. inr (some-from_without_anchors trees before word after later)) h
 
 pub forgets_surroundings : ForgetsSurroundings
-forgets_surroundings tree before word after before' after' h = without_anchors-from_word tree before' word after' (IsWord-from_language tree before word after h)
+forgets_surroundings tree before word after before' after' h =
+    without_anchors-from_word tree before' word after' (IsWord-from_language tree before word after h)

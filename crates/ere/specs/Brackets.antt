@@ -55,15 +55,19 @@ pub data SpellsItem (first : Bool) (from rest : List ℕ) (set : List Bool) : Ty
   symbol : (x : ℕ) → IsCollatingSymbol from x rest → IsFalse (range_ahead rest) → set ≡ single x → SpellsItem first from rest set
   equivalence : (x : ℕ) → IsEquivalenceClass from x rest → set ≡ single x → SpellsItem first from rest set
   class : (name : List ℕ) → IsCharacterClass from name rest → class_named name ≡ Some set → SpellsItem first from rest set
-  range : (low high : ℕ) (after : List ℕ) → IsRangeStart first from low (45 ∷ after) → IsRangeEnd after high rest → low ≤ high → set ≡ bytes_between low high → SpellsItem first from rest set
+  range : (low high : ℕ) (after : List ℕ) → IsRangeStart first from low (45 ∷ after) → IsRangeEnd after high rest → low ≤ high
+      → set ≡ bytes_between low high → SpellsItem first from rest set
 
 -- One or more items, and the union of their sets.
 pub data SpellsItems : Bool → List ℕ → List ℕ → List Bool → Type 0 where
   last : {first : Bool} {from rest : List ℕ} {set : List Bool} → SpellsItem first from rest set → SpellsItems first from rest set
-  more : {first : Bool} {from middle rest : List ℕ} {set others : List Bool} → SpellsItem first from middle set → SpellsItems false middle rest others → SpellsItems first from rest (union set others)
+  more : {first : Bool} {from middle rest : List ℕ} {set others : List Bool} → SpellsItem first from middle set
+      → SpellsItems false middle rest others → SpellsItems first from rest (union set others)
 
 -- What follows the opening `[`: `^` or, where the next byte isn't `^`, nothing; then items, then `]`.
 -- Where case is ignored, the bytes of all items get their other case before a `^` takes the others.
 pub data SpellsBracket (case : Case) (from rest : List ℕ) (set : List Bool) : Type 0 where
-  matching : (members : List Bool) → IsFalse (begins_with 94 from) → SpellsItems true from (93 ∷ rest) members → set ≡ read_in case members → SpellsBracket case from rest set
-  non_matching : (items : List ℕ) (members : List Bool) → from ≡ 94 ∷ items → SpellsItems true items (93 ∷ rest) members → set ≡ complement (read_in case members) → SpellsBracket case from rest set
+  matching : (members : List Bool) → IsFalse (begins_with 94 from) → SpellsItems true from (93 ∷ rest) members → set ≡ read_in case members
+      → SpellsBracket case from rest set
+  non_matching : (items : List ℕ) (members : List Bool) → from ≡ 94 ∷ items → SpellsItems true items (93 ∷ rest) members
+      → set ≡ complement (read_in case members) → SpellsBracket case from rest set

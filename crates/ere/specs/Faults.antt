@@ -1,7 +1,8 @@
 -- The texts of the kinds of faults (this program's choice).
 use Rattle.std.specs.Prelude.{ℕ, List, codes}
 use Rattle.ere.specs.declared.error.EreErrorKind.{EreErrorKind}
-use Rattle.ere.specs.declared.error.EreErrorKind.TheVariants.{TooLong, BadByte, BadEscape, BadBracket, BadRange, BadClass, BadInterval, NothingToRepeat, Unclosed, TooDeep, TooLarge, OutOfMemory}
+use Rattle.ere.specs.declared.error.EreErrorKind.TheVariants.{TooLong, BadByte, BadEscape, BadBracket, BadRange, BadClass, BadInterval}
+use Rattle.ere.specs.declared.error.EreErrorKind.TheVariants.{NothingToRepeat, Unclosed, TooDeep, TooLarge, OutOfMemory}
 
 -- the bytes of a kind's text
 abbrev pub reason_of : EreErrorKind → List ℕ

@@ -23,29 +23,37 @@ alternatives_of branches = alt branches
 -- Any number of duplications after an atom, the first innermost.
 pub data SpellsDuplications : List Token → List Token → Tree → Tree → Type 0 where
   done : {from : List Token} {piece : Tree} → SpellsDuplications from from piece piece
-  again : {from rest : List Token} {piece whole : Tree} {least : ℕ} {greatest : Option ℕ} → SpellsDuplications from rest (repeat piece least greatest) whole → SpellsDuplications (token.times least greatest ∷ from) rest piece whole
+  again : {from rest : List Token} {piece whole : Tree} {least : ℕ} {greatest : Option ℕ}
+      → SpellsDuplications from rest (repeat piece least greatest) whole
+      → SpellsDuplications (token.times least greatest ∷ from) rest piece whole
 
 mutual
   -- one or more branches, with a bar before each but the first
   pub data SpellsAlternatives (limit : ℕ) : ℕ → List Token → List Token → Trees → Type 0 where
-    last : {depth : ℕ} {from rest : List Token} {pieces : Trees} → SpellsBranch limit depth from rest pieces → SpellsAlternatives limit depth from rest (more (branch_of pieces) none)
-    bar : {depth : ℕ} {from middle rest : List Token} {pieces branches : Trees} → SpellsBranch limit depth from (token.bar ∷ middle) pieces → SpellsAlternatives limit depth middle rest branches → SpellsAlternatives limit depth from rest (more (branch_of pieces) branches)
+    last : {depth : ℕ} {from rest : List Token} {pieces : Trees} → SpellsBranch limit depth from rest pieces
+        → SpellsAlternatives limit depth from rest (more (branch_of pieces) none)
+    bar : {depth : ℕ} {from middle rest : List Token} {pieces branches : Trees} → SpellsBranch limit depth from (token.bar ∷ middle) pieces
+        → SpellsAlternatives limit depth middle rest branches → SpellsAlternatives limit depth from rest (more (branch_of pieces) branches)
 
   -- any number of pieces
   pub data SpellsBranch (limit : ℕ) : ℕ → List Token → List Token → Trees → Type 0 where
     done : {depth : ℕ} {from : List Token} → SpellsBranch limit depth from from none
-    piece : {depth : ℕ} {from middle rest : List Token} {tree : Tree} {pieces : Trees} → SpellsPiece limit depth from middle tree → SpellsBranch limit depth middle rest pieces → SpellsBranch limit depth from rest (more tree pieces)
+    piece : {depth : ℕ} {from middle rest : List Token} {tree : Tree} {pieces : Trees} → SpellsPiece limit depth from middle tree
+        → SpellsBranch limit depth middle rest pieces → SpellsBranch limit depth from rest (more tree pieces)
 
   -- an anchor, which takes no duplication, or an atom with its duplications
   pub data SpellsPiece (limit : ℕ) : ℕ → List Token → List Token → Tree → Type 0 where
     start : {depth : ℕ} {rest : List Token} → SpellsPiece limit depth (token.at_start ∷ rest) rest at_start
     finish : {depth : ℕ} {rest : List Token} → SpellsPiece limit depth (token.at_end ∷ rest) rest at_end
-    atom : {depth : ℕ} {from middle rest : List Token} {tree whole : Tree} → SpellsAtom limit depth from middle tree → SpellsDuplications middle rest tree whole → SpellsPiece limit depth from rest whole
+    atom : {depth : ℕ} {from middle rest : List Token} {tree whole : Tree} → SpellsAtom limit depth from middle tree
+        → SpellsDuplications middle rest tree whole → SpellsPiece limit depth from rest whole
 
   -- A set; a group, whose tree is that of what it holds; or, outside all groups, a `)` for itself.
   pub data SpellsAtom (limit : ℕ) : ℕ → List Token → List Token → Tree → Type 0 where
     literal : {depth : ℕ} {rest : List Token} {members : List Bool} → SpellsAtom limit depth (token.set members ∷ rest) rest (set members)
-    group : {depth : ℕ} {from rest : List Token} {branches : Trees} → depth < limit → SpellsAlternatives limit (suc depth) from (token.closes ∷ rest) branches → SpellsAtom limit depth (token.opens ∷ from) rest (alternatives_of branches)
+    group : {depth : ℕ} {from rest : List Token} {branches : Trees} → depth < limit
+        → SpellsAlternatives limit (suc depth) from (token.closes ∷ rest) branches
+        → SpellsAtom limit depth (token.opens ∷ from) rest (alternatives_of branches)
     lone_close : {rest : List Token} → SpellsAtom limit zero (token.closes ∷ rest) rest (set (single 41))
 
 -- The text spells the tree, with at most `limit` groups open at once.

@@ -1,6 +1,7 @@
 -- The tokens of an extended regular expression (POSIX.1-2017 XBD 9.4): a text is the joining of the
 -- texts of its tokens, in one way at most.
-use Rattle.std.specs.Prelude.{◌≡◌, ℕ, ◌+◌, ◌*◌, ◌-◌, ◌≤◌, ◌<◌, Bool, false, not, ◌&&◌, ◌||◌, ◌==◌, IsTrue, List, [], ◌∷◌, ◌++◌, length, Option, Some, None, if◌then◌else◌, fold}
+use Rattle.std.specs.Prelude.{◌≡◌, ℕ, ◌+◌, ◌*◌, ◌-◌, ◌≤◌, ◌<◌, Bool, false, not, ◌&&◌, ◌||◌, ◌==◌, IsTrue, List, [], ◌∷◌, ◌++◌, length}
+use Rattle.std.specs.Prelude.{Option, Some, None, if◌then◌else◌, fold}
 use Rattle.std.specs.List.{AllPass}
 use Rattle.ere.specs.ByteSet.{single, all_line_bytes}
 use Rattle.ere.specs.Classes.{is_digit, is_punct}
@@ -65,16 +66,20 @@ pub record SpellsCount (digits : List ℕ) (count : ℕ) : Type 0 where
 pub data SpellsInterval (from rest : List ℕ) (least : ℕ) (greatest : Option ℕ) : Type 0 where
   exactly : (digits : List ℕ) → from ≡ digits ++ 125 ∷ rest → SpellsCount digits least → greatest ≡ Some least → SpellsInterval from rest least greatest
   at_least : (digits : List ℕ) → from ≡ digits ++ 44 ∷ 125 ∷ rest → SpellsCount digits least → greatest ≡ None → SpellsInterval from rest least greatest
-  between : (low high : List ℕ) (most : ℕ) → from ≡ low ++ 44 ∷ (high ++ 125 ∷ rest) → SpellsCount low least → SpellsCount high most → least ≤ most → greatest ≡ Some most → SpellsInterval from rest least greatest
+  between : (low high : List ℕ) (most : ℕ) → from ≡ low ++ 44 ∷ (high ++ 125 ∷ rest) → SpellsCount low least → SpellsCount high most
+      → least ≤ most → greatest ≡ Some most → SpellsInterval from rest least greatest
 
 -- One token at the front of a text, and the text after it.
 pub data SpellsToken (case : Case) (from rest : List ℕ) (token : Token) : Type 0 where
   byte : (b : ℕ) → from ≡ b ∷ rest → token_of_byte case b rest ≡ Some token → SpellsToken case from rest token
   escaped : (b : ℕ) → from ≡ 92 ∷ b ∷ rest → IsTrue (is_escapable b) → token ≡ set (read_in case (single b)) → SpellsToken case from rest token
-  bracket : (items : List ℕ) (members : List Bool) → from ≡ 91 ∷ items → SpellsBracket case items rest members → token ≡ set members → SpellsToken case from rest token
-  interval : (counts : List ℕ) (least : ℕ) (greatest : Option ℕ) → from ≡ 123 ∷ counts → IsTrue (digit_ahead counts) → SpellsInterval counts rest least greatest → token ≡ times least greatest → SpellsToken case from rest token
+  bracket : (items : List ℕ) (members : List Bool) → from ≡ 91 ∷ items → SpellsBracket case items rest members → token ≡ set members
+      → SpellsToken case from rest token
+  interval : (counts : List ℕ) (least : ℕ) (greatest : Option ℕ) → from ≡ 123 ∷ counts → IsTrue (digit_ahead counts)
+      → SpellsInterval counts rest least greatest → token ≡ times least greatest → SpellsToken case from rest token
 
 -- The text is the joining of the texts of these tokens.
 pub data Tokens (case : Case) : List ℕ → List Token → Type 0 where
   none : Tokens case [] []
-  more : {from rest : List ℕ} {token : Token} {tokens : List Token} → SpellsToken case from rest token → Tokens case rest tokens → Tokens case from (token ∷ tokens)
+  more : {from rest : List ℕ} {token : Token} {tokens : List Token} → SpellsToken case from rest token → Tokens case rest tokens
+      → Tokens case from (token ∷ tokens)

@@ -1,5 +1,6 @@
 -- Tables of sets, as a number goes into or out of one set after another.
-use Rattle.std.proofs.Common.{◌≡◌, ◌≢◌, ℕ, ◌<◌, Bool, true, false, not, ◌&&◌, ◌||◌, ◌==◌, List, [], ◌∷◌, ◌++◌, length, append_assoc, length-append, get_or, refl, sym, ap, ◌∙◌, arith}
+use Rattle.std.proofs.Common.{◌≡◌, ◌≢◌, ℕ, ◌<◌, Bool, true, false, not, ◌&&◌, ◌||◌, ◌==◌, List, [], ◌∷◌, ◌++◌, length, append_assoc}
+use Rattle.std.proofs.Common.{length-append, get_or, refl, sym, ap, ◌∙◌, arith}
 use Rattle.std.specs.Prelude.{All}
 use Rattle.std.proofs.lemmas.Bool.{false≢true}
 use Rattle.std.proofs.lemmas.Bool.Decides.{nat_tests}
@@ -53,7 +54,9 @@ pub record Added (old new : List ListValue) (trigrams : List ℕ) (number : ℕ)
 pub added_none : (table : List ListValue) (number : ℕ) → Added table table [] number
 added_none table number = record { done = λ t there. absurd (false≢true there); left = λ t _. refl }
 
-pub added_more : (old now new : List ListValue) (past : List ℕ) (m number : ℕ) → Added old now past number → has past m ≡ false → (set_of new m).members ≡ (set_of now m).members ++ number ∷ [] → ((t : ℕ) → t ≢ m → set_of new t ≡ set_of now t) → Added old new (past ++ m ∷ []) number
+pub added_more : (old now new : List ListValue) (past : List ℕ) (m number : ℕ) → Added old now past number → has past m ≡ false
+    → (set_of new m).members ≡ (set_of now m).members ++ number ∷ [] → ((t : ℕ) → t ≢ m → set_of new t ≡ set_of now t)
+    → Added old new (past ++ m ∷ []) number
 added_more old now new past m number h fresh at others = record {
   done = λ t there. came t (rw (has-push past m t) at there) (m == t) refl;
   left = λ t absent. stayed t (rw (has-push past m t) at absent) (m == t) refl;
@@ -77,20 +80,26 @@ added_more old now new past m number h fresh at others = record {
         others t ne ∙ h.left t (sym (or_false (has past t)) ∙ rw e at absent)
 
 -- the next set has the room, and the number is above all in it
-pub next_has_room : (old now : List ListValue) (past : List ℕ) (m : ℕ) (left : List ℕ) (number : ℕ) → Added old now past number → AllDiffer (past ++ m ∷ left) → IsPrepared old (past ++ m ∷ left) → HasRoom (set_of now m)
+pub next_has_room : (old now : List ListValue) (past : List ℕ) (m : ℕ) (left : List ℕ) (number : ℕ) → Added old now past number
+    → AllDiffer (past ++ m ∷ left) → IsPrepared old (past ++ m ∷ left) → HasRoom (set_of now m)
 next_has_room old now past m left number h differ prepared =
     rw (h.left m (next_is_new past m left differ)) (All-has (λ t. HasRoom (set_of old t)) (past ++ m ∷ left) m prepared (next_is_there past m left))
 
-pub next_is_above : (old now : List ListValue) (past : List ℕ) (m : ℕ) (left : List ℕ) (number : ℕ) → Added old now past number → AllDiffer (past ++ m ∷ left) → IsAbove old (past ++ m ∷ left) number → All (λ n. n < number) (set_of now m).members
+pub next_is_above : (old now : List ListValue) (past : List ℕ) (m : ℕ) (left : List ℕ) (number : ℕ) → Added old now past number
+    → AllDiffer (past ++ m ∷ left) → IsAbove old (past ++ m ∷ left) number → All (λ n. n < number) (set_of now m).members
 next_is_above old now past m left number h differ above =
     rw (h.left m (next_is_new past m left differ))
     (All-from_has (λ n. n < number) (set_of old m).members (λ n there. above m n (next_is_there past m left) there))
 
-pub holds-added : (old new : List ListValue) (trigrams : List ℕ) (number : ℕ) → Added old new trigrams number → (t n : ℕ) → holds new t n ≡ (holds old t n || (has trigrams t && number == n))
+pub holds-added : (old new : List ListValue) (trigrams : List ℕ) (number : ℕ) → Added old new trigrams number → (t n : ℕ)
+    → holds new t n ≡ (holds old t n || (has trigrams t && number == n))
 holds-added old new trigrams number h t n = cases (has trigrams t) refl
   where
     cases : (named : Bool) → has trigrams t ≡ named → holds new t n ≡ (holds old t n || (has trigrams t && number == n))
-    cases true e = rw e (ap (λ ms. has ms n) (h.done t e) ∙ has-append (set_of old t).members (number ∷ []) n ∙ ap (λ b. holds old t n || b) (or_false (number == n)))
+    cases true e =
+        rw e
+        (ap (λ ms. has ms n) (h.done t e) ∙ has-append (set_of old t).members (number ∷ []) n
+        ∙ ap (λ b. holds old t n || b) (or_false (number == n)))
     cases false e = rw e (ap (λ s. has s.members n) (h.left t e) ∙ sym (or_false (holds old t n)))
 
 and_true : (a : Bool) → a ≡ (a && true)
@@ -116,7 +125,9 @@ pub record Withdrawn (old new : List ListValue) (trigrams : List ℕ) (number : 
 pub withdrawn_none : (table : List ListValue) (number : ℕ) → Withdrawn table table [] number
 withdrawn_none table number = record { sets = λ t n. and_true (holds table t n); empty = λ t there none. absurd (false≢true there) }
 
-pub withdrawn_more : (old now new : List ListValue) (past : List ℕ) (m number : ℕ) → Withdrawn old now past number → (set_of new m).members ≡ without number (set_of now m).members → ((t : ℕ) → t ≢ m → set_of new t ≡ set_of now t) → ((set_of new m).members ≡ [] → set_of new m ≡ no_numbers) → Withdrawn old new (past ++ m ∷ []) number
+pub withdrawn_more : (old now new : List ListValue) (past : List ℕ) (m number : ℕ) → Withdrawn old now past number
+    → (set_of new m).members ≡ without number (set_of now m).members → ((t : ℕ) → t ≢ m → set_of new t ≡ set_of now t)
+    → ((set_of new m).members ≡ [] → set_of new m ≡ no_numbers) → Withdrawn old new (past ++ m ∷ []) number
 withdrawn_more old now new past m number h at others empty = record {
   sets = λ t n. rw (has-push past m t) (sets t n (m == t) refl);
   empty = λ t there none. gone t (rw (has-push past m t) at there) none (m == t) refl;
@@ -125,7 +136,9 @@ withdrawn_more old now new past m number h at others empty = record {
     sets : (t n : ℕ) (same : Bool) → (m == t) ≡ same → holds new t n ≡ (holds old t n && not ((has past t || m == t) && n == number))
     sets t n true e =
         let is : m ≡ t = grind (arith, nat_tests) in
-        rw e (ap (λ ms. has ms n) (rw is at at) ∙ has-filter (λ k. not (k == number)) (set_of now t).members n ∙ ap (λ b. b && not (n == number)) (h.sets t n) ∙ twice (holds old t n) (has past t) (n == number))
+        rw e
+        (ap (λ ms. has ms n) (rw is at at) ∙ has-filter (λ k. not (k == number)) (set_of now t).members n
+        ∙ ap (λ b. b && not (n == number)) (h.sets t n) ∙ twice (holds old t n) (has past t) (n == number))
     sets t n false e =
         let ne : t ≢ m = grind (arith, nat_tests) in
         rw e (ap (λ s. has s.members n) (others t ne) ∙ h.sets t n ∙ once (holds old t n) (has past t) (n == number))
@@ -148,12 +161,15 @@ pub record Prepared (old new : List ListValue) (trigrams : List ℕ) : Type 0 wh
 pub prepared_none : (table : List ListValue) → Prepared table table []
 prepared_none table = record { sets = λ t. refl; room = λ t some. some; prepared = λ k d inside. absurd (omega arith) }
 
-pub prepared_more : (old now new : List ListValue) (past : List ℕ) (m : ℕ) → Prepared old now past → ((t : ℕ) → (set_of new t).members ≡ (set_of now t).members) → KeepsRoom now new → HasRoom (set_of new m) → Prepared old new (past ++ m ∷ [])
+pub prepared_more : (old now new : List ListValue) (past : List ℕ) (m : ℕ) → Prepared old now past
+    → ((t : ℕ) → (set_of new t).members ≡ (set_of now t).members) → KeepsRoom now new → HasRoom (set_of new m)
+    → Prepared old new (past ++ m ∷ [])
 prepared_more old now new past m h sets room at = record {
   sets = λ t. sets t ∙ h.sets t;
   room = λ t some. room t (h.room t some);
   prepared = All-push (λ t. HasRoom (set_of new t)) past m (All-weaker (λ t. HasRoom (set_of now t)) (λ t. HasRoom (set_of new t)) room past h.prepared) at;
 }
 
-pub same_sets : (old now new : List ListValue) → ((t : ℕ) → (set_of now t).members ≡ (set_of old t).members) → ((t : ℕ) → (set_of new t).members ≡ (set_of now t).members) → SameSets old new
+pub same_sets : (old now new : List ListValue) → ((t : ℕ) → (set_of now t).members ≡ (set_of old t).members)
+    → ((t : ℕ) → (set_of new t).members ≡ (set_of now t).members) → SameSets old new
 same_sets old now new first then t n = ap (λ ms. has ms n) (then t ∙ first t)

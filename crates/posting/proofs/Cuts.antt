@@ -1,5 +1,6 @@
 -- Stored numbers, gone through from the end.
-use Rattle.std.proofs.Common.{◌≡◌, ℕ, zero, suc, ◌+◌, ◌-◌, ◌/◌, ◌^◌, ◌<◌, ◌≤◌, Bool, true, false, nat_lt, List, [], ◌∷◌, ◌++◌, length, take, drop, get_or, refl, sym, ap, ◌∙◌, ◌⊎◌, inl, inr, arith, append_assoc, length-append, length-drop}
+use Rattle.std.proofs.Common.{◌≡◌, ℕ, zero, suc, ◌+◌, ◌-◌, ◌/◌, ◌^◌, ◌<◌, ◌≤◌, Bool, true, false, nat_lt, List, [], ◌∷◌, ◌++◌, length, take}
+use Rattle.std.proofs.Common.{drop, get_or, refl, sym, ap, ◌∙◌, ◌⊎◌, inl, inr, arith, append_assoc, length-append, length-drop}
 use Rattle.std.specs.Prelude.{All}
 use Rattle.std.specs.List.{sum, remove}
 use Rattle.std.specs.List.Sorted.{IsStrictlyIncreasing}
@@ -12,7 +13,9 @@ use Rattle.std.proofs.Math.Seq.{take-append_seam, drop-append_seam, drop-append-
 use Rattle.posting.specs.Stored.{groups, bytes_of, bytes_after}
 use Rattle.posting.specs.Private.Gaps.{limit, numbers_after, last_of, IsSpelled, IsPassed, IsBlock, IsLastPlace, IsCut}
 use Rattle.posting.proofs.Rising.{All-left}
-use Rattle.posting.proofs.Groups.{first_low, below_limit, limit-zero, limit-rest, groups-one, groups-low, groups-high, Rise, rise-tail, rise_spelled, spelled_bytes, spelled_numbers, bytes_after-cons, bytes_after-nil, bytes_after-append, last_of-cons, last_of-nil, last_of-append, numbers_after-nil, length-groups}
+use Rattle.posting.proofs.Groups.{first_low, below_limit, limit-zero, limit-rest, groups-one, groups-low, groups-high, Rise, rise-tail}
+use Rattle.posting.proofs.Groups.{rise_spelled, spelled_bytes, spelled_numbers, bytes_after-cons, bytes_after-nil, bytes_after-append}
+use Rattle.posting.proofs.Groups.{last_of-cons, last_of-nil, last_of-append, numbers_after-nil, length-groups}
 use Rattle.posting.proofs.Walks.{some_numbers}
 
 -- ---- where the groups of a number end
@@ -21,7 +24,9 @@ groups-inner : (more g k : ℕ) → k + 1 < length (groups more g) → 128 ≤ g
 groups-inner zero g k inside = absurd (omega (arith, inside, ap length (groups-one g)))
 groups-inner (suc more) g k inside = cases (nat_lt g 128) refl k inside (groups-inner more (g / 128))
   where
-    cases : (t : Bool) → nat_lt g 128 ≡ t → (k : ℕ) → k + 1 < length (groups (suc more) g) → ((j : ℕ) → j + 1 < length (groups more (g / 128)) → 128 ≤ get_or (groups more (g / 128)) j 0) → 128 ≤ get_or (groups (suc more) g) k 0
+    cases : (t : Bool) → nat_lt g 128 ≡ t → (k : ℕ) → k + 1 < length (groups (suc more) g)
+        → ((j : ℕ) → j + 1 < length (groups more (g / 128)) → 128 ≤ get_or (groups more (g / 128)) j 0)
+        → 128 ≤ get_or (groups (suc more) g) k 0
     cases true e k inside later =
         let low : g < 128 = grind (arith, nat_tests) in
         absurd (omega (arith, inside, ap length (groups-low (suc more) g low)))
@@ -40,7 +45,9 @@ groups-end zero g k small is =
     rw (at, groups-one g) (omega (arith, small, limit-zero))
 groups-end (suc more) g k small is = cases (nat_lt g 128) refl k is (λ j. groups-end more (g / 128) j (limit-rest more g small))
   where
-    cases : (t : Bool) → nat_lt g 128 ≡ t → (k : ℕ) → k + 1 ≡ length (groups (suc more) g) → ((j : ℕ) → j + 1 ≡ length (groups more (g / 128)) → get_or (groups more (g / 128)) j 0 < 128) → get_or (groups (suc more) g) k 0 < 128
+    cases : (t : Bool) → nat_lt g 128 ≡ t → (k : ℕ) → k + 1 ≡ length (groups (suc more) g)
+        → ((j : ℕ) → j + 1 ≡ length (groups more (g / 128)) → get_or (groups more (g / 128)) j 0 < 128)
+        → get_or (groups (suc more) g) k 0 < 128
     cases true e k is later =
         let low : g < 128 = grind (arith, nat_tests) in
         let at : k ≡ 0 = omega (arith, is, ap length (groups-low (suc more) g low)) in
@@ -59,7 +66,9 @@ EndsLow bytes = (k : ℕ) → k + 1 ≡ length bytes → get_or bytes k 0 < 128
 
 ends_low : (before : ℕ) (numbers : List ℕ) → Rise before numbers → EndsLow (bytes_after before numbers)
 ends_low before [] h k is = absurd (omega (arith, is, ap length (bytes_after-nil before)))
-ends_low before (n ∷ numbers) h k is = rw (bytes_after-cons before n numbers) (cases (cases_lt k (length (bytes_of (n - before)))) (ends_low n numbers (rise-tail before n numbers h)))
+ends_low before (n ∷ numbers) h k is =
+    rw (bytes_after-cons before n numbers)
+    (cases (cases_lt k (length (bytes_of (n - before)))) (ends_low n numbers (rise-tail before n numbers h)))
   where
     whole : k + 1 ≡ length (bytes_of (n - before)) + length (bytes_after n numbers)
     whole = is ∙ ap length (bytes_after-cons before n numbers) ∙ length-append (bytes_of (n - before)) (bytes_after n numbers)
@@ -67,7 +76,8 @@ ends_low before (n ∷ numbers) h k is = rw (bytes_after-cons before n numbers) 
     small : n < 2 ^ 32
     small = All-head (λ m. m < 2 ^ 32) n numbers h.bound
 
-    cases : (k < length (bytes_of (n - before))) ⊎ (length (bytes_of (n - before)) ≤ k) → EndsLow (bytes_after n numbers) → get_or (bytes_of (n - before) ++ bytes_after n numbers) k 0 < 128
+    cases : (k < length (bytes_of (n - before))) ⊎ (length (bytes_of (n - before)) ≤ k) → EndsLow (bytes_after n numbers)
+        → get_or (bytes_of (n - before) ++ bytes_after n numbers) k 0 < 128
     cases (inl lt) later =
         let here = groups-end 4 (n - before) k (below_limit (n - before) (omega (arith, small))) (omega (arith, whole, lt)) in
         omega (arith, here, get_or_append_left (bytes_of (n - before)) (bytes_after n numbers) 0 k lt)
@@ -120,7 +130,8 @@ cut_none bytes last number h is = record {
   spelled = h;
 }
 
-pub cut_more : (bytes : List ℕ) (number : ℕ) (front : List ℕ) (at : ℕ) (front' : List ℕ) (at' : ℕ) → IsCut bytes number front at → IsCut front number front' at' → IsCut bytes number front' at'
+pub cut_more : (bytes : List ℕ) (number : ℕ) (front : List ℕ) (at : ℕ) (front' : List ℕ) (at' : ℕ) → IsCut bytes number front at
+    → IsCut front number front' at' → IsCut bytes number front' at'
 cut_more bytes number front at front' at' h g = record {
   left = g.left ++ h.left;
   numbers = h.numbers ∙ ap (λ ns. ns ++ h.left) g.numbers ∙ append_assoc (numbers_after 0 front') g.left h.left;
@@ -166,7 +177,8 @@ abbrev pub ReadsGap : List ℕ → ℕ → Type 0
 ReadsGap bytes gap = (more g : ℕ) (rest : List ℕ) → g < limit more → g < 2 ^ 32 → bytes ≡ groups more g ++ rest → gap ≡ g
 
 -- the last number, by the place where it begins
-module _ (bytes : List ℕ) (last place gap : ℕ) (h : IsSpelled 0 bytes) (last_is : last ≡ last_of 0 (numbers_after 0 bytes)) (at : IsLastPlace bytes place) (reads : ReadsGap (drop place bytes) gap) where
+module _ (bytes : List ℕ) (last place gap : ℕ) (h : IsSpelled 0 bytes) (last_is : last ≡ last_of 0 (numbers_after 0 bytes))
+    (at : IsLastPlace bytes place) (reads : ReadsGap (drop place bytes) gap) where
   abbrev e : Ending (numbers_after 0 bytes)
   e = ending_of (numbers_after 0 bytes) (some_numbers bytes h (omega (arith, at.inside)))
 
@@ -208,7 +220,10 @@ module _ (bytes : List ℕ) (last place gap : ℕ) (h : IsSpelled 0 bytes) (last
       early lt =
           let low = ends_low 0 e.front front_rise (length (bytes_after 0 e.front) - 1) (omega (arith, lt)) in
           let high = at.high (length (bytes_after 0 e.front) - 1) (omega (arith, lt)) (omega (arith, lt, count, length-groups 4 (e.final - before))) in
-          let same = ap (λ xs. get_or xs (length (bytes_after 0 e.front) - 1) 0) bytes_are ∙ get_or_append_left (bytes_after 0 e.front) (bytes_of (e.final - before)) 0 (length (bytes_after 0 e.front) - 1) (omega (arith, lt)) in
+          let same =
+          ap (λ xs. get_or xs (length (bytes_after 0 e.front) - 1) 0) bytes_are
+          ∙ get_or_append_left (bytes_after 0 e.front) (bytes_of (e.final - before)) 0 (length (bytes_after 0 e.front) - 1)
+          (omega (arith, lt)) in
           omega (arith, low, high, same)
 
       -- a byte within the number would end one
@@ -217,19 +232,28 @@ module _ (bytes : List ℕ) (last place gap : ℕ) (h : IsSpelled 0 bytes) (last
           let low = at.low (omega (arith, lt)) in
           let k_is : place - 1 ≡ length (bytes_after 0 e.front) + (place - 1 - length (bytes_after 0 e.front)) = omega (arith, lt) in
           let high = groups-inner 4 (e.final - before) (place - 1 - length (bytes_after 0 e.front)) (omega (arith, lt, count, at.inside)) in
-          let same = ap (λ xs. get_or xs (place - 1) 0) bytes_are ∙ ap (λ i. get_or (bytes_after 0 e.front ++ bytes_of (e.final - before)) i 0) k_is ∙ get_or-append-add (bytes_after 0 e.front) (bytes_of (e.final - before)) (place - 1 - length (bytes_after 0 e.front)) 0 in
+          let same =
+          ap (λ xs. get_or xs (place - 1) 0) bytes_are
+          ∙ ap (λ i. get_or (bytes_after 0 e.front ++ bytes_of (e.final - before)) i 0) k_is
+          ∙ get_or-append-add (bytes_after 0 e.front) (bytes_of (e.final - before)) (place - 1 - length (bytes_after 0 e.front)) 0
+          in
           omega (arith, low, high, same)
 
-      cases : (place < length (bytes_after 0 e.front)) ⊎ (length (bytes_after 0 e.front) ≤ place) → (length (bytes_after 0 e.front) < place) ⊎ (place ≤ length (bytes_after 0 e.front)) → place ≡ length (bytes_after 0 e.front)
+      cases : (place < length (bytes_after 0 e.front)) ⊎ (length (bytes_after 0 e.front) ≤ place)
+          → (length (bytes_after 0 e.front) < place) ⊎ (place ≤ length (bytes_after 0 e.front)) → place ≡ length (bytes_after 0 e.front)
       cases (inl lt) either = absurd (early lt)
       cases (inr ge) (inl gt) = absurd (late gt)
       cases (inr ge) (inr le) = omega (arith, ge, le)
 
   front_is : take place bytes ≡ bytes_after 0 e.front
-  front_is = ap (λ n. take n bytes) place_is ∙ ap (take (length (bytes_after 0 e.front))) bytes_are ∙ take-append_seam (bytes_after 0 e.front) (bytes_of (e.final - before))
+  front_is =
+      ap (λ n. take n bytes) place_is ∙ ap (take (length (bytes_after 0 e.front))) bytes_are
+      ∙ take-append_seam (bytes_after 0 e.front) (bytes_of (e.final - before))
 
   rest_is : drop place bytes ≡ bytes_of (e.final - before) ++ []
-  rest_is = ap (λ n. drop n bytes) place_is ∙ ap (drop (length (bytes_after 0 e.front))) bytes_are ∙ drop-append_seam (bytes_after 0 e.front) (bytes_of (e.final - before)) ∙ sym (append-nil (bytes_of (e.final - before)))
+  rest_is =
+      ap (λ n. drop n bytes) place_is ∙ ap (drop (length (bytes_after 0 e.front))) bytes_are
+      ∙ drop-append_seam (bytes_after 0 e.front) (bytes_of (e.final - before)) ∙ sym (append-nil (bytes_of (e.final - before)))
 
   gap_is : gap ≡ e.final - before
   gap_is = reads 4 (e.final - before) [] (below_limit (e.final - before) small) small rest_is
@@ -256,7 +280,8 @@ module _ (bytes : List ℕ) (last place gap : ℕ) (h : IsSpelled 0 bytes) (last
 
 -- ---- bytes at the end that are each the whole of a number
 
-cut_low : (front : List ℕ) (b last number : ℕ) → IsSpelled 0 (front ++ b ∷ []) → last ≡ last_of 0 (numbers_after 0 (front ++ b ∷ [])) → EndsLow front → b < 128 → number ≤ last → (b ≤ last) × IsCut (front ++ b ∷ []) number front (last - b)
+cut_low : (front : List ℕ) (b last number : ℕ) → IsSpelled 0 (front ++ b ∷ []) → last ≡ last_of 0 (numbers_after 0 (front ++ b ∷ []))
+    → EndsLow front → b < 128 → number ≤ last → (b ≤ last) × IsCut (front ++ b ∷ []) number front (last - b)
 cut_low front b last number h is ends low le =
     let cut = cut_last (front ++ b ∷ []) last (length front) b h is at reads number le in
     (gap_fits (front ++ b ∷ []) last (length front) b h is at reads, rw (take-append_seam front (b ∷ [])) at cut)
@@ -265,7 +290,10 @@ cut_low front b last number h is ends low le =
     at = record {
       inside = omega (arith, length-append front (b ∷ []));
       high = λ k from inside. absurd (omega (arith, from, inside, length-append front (b ∷ [])));
-      low = λ some. (let end = ends (length front - 1) (omega (arith, some)) in omega (arith, end, get_or_append_left front (b ∷ []) 0 (length front - 1) (omega (arith, some))));
+      low =
+          λ some.
+          (let end = ends (length front - 1) (omega (arith, some)) in
+          omega (arith, end, get_or_append_left front (b ∷ []) 0 (length front - 1) (omega (arith, some))));
     }
 
     reads : ReadsGap (drop (length front) (front ++ b ∷ [])) b
@@ -276,7 +304,9 @@ low_end front b low k is =
     let at : k ≡ length front = omega (arith, is, length-append front (b ∷ [])) in
     rw at (omega (arith, low, get_or-append_seam front b [] 0))
 
-cut_tail : (tail front : List ℕ) (last number : ℕ) → IsSpelled 0 (front ++ tail) → last ≡ last_of 0 (numbers_after 0 (front ++ tail)) → EndsLow front → All (λ b. b < 128) tail → number ≤ last - sum tail → (sum tail ≤ last) × IsCut (front ++ tail) number front (last - sum tail)
+cut_tail : (tail front : List ℕ) (last number : ℕ) → IsSpelled 0 (front ++ tail) → last ≡ last_of 0 (numbers_after 0 (front ++ tail))
+    → EndsLow front → All (λ b. b < 128) tail → number ≤ last - sum tail
+    → (sum tail ≤ last) × IsCut (front ++ tail) number front (last - sum tail)
 cut_tail [] front last number h is ends low le =
     let whole : front ++ [] ≡ front = append-nil front in
     let same : last - sum [] ≡ last = omega arith in
@@ -285,13 +315,19 @@ cut_tail (b ∷ tail) front last number h is ends low le =
     let split : front ++ (b ∷ tail) ≡ (front ++ b ∷ []) ++ tail = sym (append_assoc front (b ∷ []) tail) in
     let sum_is : sum (b ∷ tail) ≡ 0 + b + sum tail = sum_by-append (λ m. m) (b ∷ []) tail in
     let here = All-head (λ m. m < 128) b tail low in
-    let more = cut_tail tail (front ++ b ∷ []) last number (rw split at h) (rw split at is) (low_end front b here) (All-tail (λ m. m < 128) b tail low) (omega (arith, le, sum_is)) in
+    let more =
+    cut_tail tail (front ++ b ∷ []) last number (rw split at h) (rw split at is) (low_end front b here)
+    (All-tail (λ m. m < 128) b tail low) (omega (arith, le, sum_is)) in
     let one = cut_low front b (last - sum tail) number more.1.spelled more.1.ends ends here (omega (arith, le, sum_is)) in
-    let same : last - sum (b ∷ tail) ≡ last - sum tail - b = omega (arith, sum_is) in
-    (omega (arith, more.0, one.0, sum_is), rw (split, same) (cut_more ((front ++ b ∷ []) ++ tail) number (front ++ b ∷ []) (last - sum tail) front (last - sum tail - b) more.1 one.1))
+    let same : last - sum (b ∷ tail) ≡ last - sum tail - b = omega (arith, sum_is) in (
+      omega (arith, more.0, one.0, sum_is),
+      rw (split, same)
+          (cut_more ((front ++ b ∷ []) ++ tail) number (front ++ b ∷ []) (last - sum tail) front (last - sum tail - b) more.1 one.1),
+    )
 
 -- a block at the end: all of it but its first byte, which ends a number
-module _ (bytes : List ℕ) (last total : ℕ) (h : IsSpelled 0 bytes) (is : last ≡ last_of 0 (numbers_after 0 bytes)) (long : 32 ≤ length bytes) (block : IsBlock (drop (length bytes - 32) bytes) total) where
+module _ (bytes : List ℕ) (last total : ℕ) (h : IsSpelled 0 bytes) (is : last ≡ last_of 0 (numbers_after 0 bytes))
+    (long : 32 ≤ length bytes) (block : IsBlock (drop (length bytes - 32) bytes) total) where
   abbrev from : ℕ
   from = length bytes - 32
 
@@ -306,7 +342,8 @@ module _ (bytes : List ℕ) (last total : ℕ) (h : IsSpelled 0 bytes) (is : las
 
   sum_is : total ≡ get_or bytes from 0 + sum (drop (from + 1) bytes)
   sum_is =
-      let both : sum (get_or bytes from 0 ∷ drop (from + 1) bytes) ≡ 0 + get_or bytes from 0 + sum (drop (from + 1) bytes) = sum_by-append (λ m. m) (get_or bytes from 0 ∷ []) (drop (from + 1) bytes) in
+      let both : sum (get_or bytes from 0 ∷ drop (from + 1) bytes) ≡ 0 + get_or bytes from 0 + sum (drop (from + 1) bytes) =
+      sum_by-append (λ m. m) (get_or bytes from 0 ∷ []) (drop (from + 1) bytes) in
       block.total_is ∙ ap sum (whole ∙ parts) ∙ omega (arith, both)
 
   front_ends : EndsLow (take (from + 1) bytes)
@@ -315,11 +352,15 @@ module _ (bytes : List ℕ) (last total : ℕ) (h : IsSpelled 0 bytes) (is : las
       let low = All-head (λ b. b < 128) (get_or bytes from 0) (drop (from + 1) bytes) lows in
       rw at (omega (arith, low, get_or-take (from + 1) bytes from 0 (omega arith)))
 
-  pub cut_block : (total - get_or bytes from 0 ≤ last) × IsCut bytes (last - (total - get_or bytes from 0)) (take (from + 1) bytes) (last - (total - get_or bytes from 0))
+  pub cut_block : (total - get_or bytes from 0 ≤ last) × IsCut bytes (last - (total - get_or bytes from 0)) (take (from + 1) bytes)
+      (last - (total - get_or bytes from 0))
   cut_block =
       let joined : take (from + 1) bytes ++ drop (from + 1) bytes ≡ bytes = take-append-drop (from + 1) bytes in
       let same : total - get_or bytes from 0 ≡ sum (drop (from + 1) bytes) = omega (arith, sum_is) in
-      rw same (rw joined at (cut_tail (drop (from + 1) bytes) (take (from + 1) bytes) last (last - sum (drop (from + 1) bytes)) (rw joined h) (rw joined is) front_ends (All-tail (λ b. b < 128) (get_or bytes from 0) (drop (from + 1) bytes) lows) (omega arith)))
+      rw same
+      (rw joined
+      at (cut_tail (drop (from + 1) bytes) (take (from + 1) bytes) last (last - sum (drop (from + 1) bytes)) (rw joined h)
+      (rw joined is) front_ends (All-tail (λ b. b < 128) (get_or bytes from 0) (drop (from + 1) bytes) lows) (omega arith)))
 
 -- ---- what is left out is what is left
 
@@ -347,11 +388,16 @@ module _ (bytes : List ℕ) (number : ℕ) (front : List ℕ) (at : ℕ) (h : Is
   }
 
   pub cut_passed : at < number → IsPassed 0 bytes number at (drop (length front) bytes)
-  cut_passed low = passed_below (All-weaker (λ n. n ≤ last_of 0 (numbers_after 0 front)) (λ n. n < number) (λ n le. omega (arith, le, low, c.ends)) (numbers_after 0 front) (up_to_last 0 (numbers_after 0 front) (rise_spelled 0 front c.spelled)))
+  cut_passed low =
+      passed_below
+      (All-weaker (λ n. n ≤ last_of 0 (numbers_after 0 front)) (λ n. n < number) (λ n le. omega (arith, le, low, c.ends))
+      (numbers_after 0 front) (up_to_last 0 (numbers_after 0 front) (rise_spelled 0 front c.spelled)))
 
 -- all are left out
-pub cut_all : (bytes : List ℕ) (number : ℕ) (front : List ℕ) (at : ℕ) → IsSpelled 0 bytes → IsCut bytes number front at → length front ≡ 0 → IsPassed 0 bytes number at bytes × All (λ n. number ≤ n) (numbers_after at bytes)
-cut_all bytes number [] at h c none = (passed_below bytes number [] at h c (rw (numbers_after-nil 0) (All-nil (λ n. n < number))), cut_next bytes number [] at h c)
+pub cut_all : (bytes : List ℕ) (number : ℕ) (front : List ℕ) (at : ℕ) → IsSpelled 0 bytes → IsCut bytes number front at → length front ≡ 0
+    → IsPassed 0 bytes number at bytes × All (λ n. number ≤ n) (numbers_after at bytes)
+cut_all bytes number [] at h c none =
+    (passed_below bytes number [] at h c (rw (numbers_after-nil 0) (All-nil (λ n. n < number))), cut_next bytes number [] at h c)
 cut_all bytes number (b ∷ front) at h c none = absurd (omega (arith, none))
 
 -- ---- bytes taken out where two gaps were joined
@@ -367,17 +413,20 @@ pub record Closing (old : List ℕ) (from gap : ℕ) (new : List ℕ) (place : �
   pub items : new ≡ (take from old ++ bytes_of gap) ++ drop place old
   pub count : length (take from old ++ bytes_of gap) ≡ from + length (bytes_of gap)
 
-pub closing_begins : (old : List ℕ) (from gap end : ℕ) (new : List ℕ) → from + length (bytes_of gap) ≤ length old → end ≡ from + length (bytes_of gap) → new ≡ take from old ++ (bytes_of gap ++ drop end old) → Closing old from gap new end
+pub closing_begins : (old : List ℕ) (from gap end : ℕ) (new : List ℕ) → from + length (bytes_of gap) ≤ length old
+    → end ≡ from + length (bytes_of gap) → new ≡ take from old ++ (bytes_of gap ++ drop end old) → Closing old from gap new end
 closing_begins old from gap end new fits is items = record {
   items = items ∙ sym (append_assoc (take from old) (bytes_of gap) (drop end old));
   count = omega (arith, length-append (take from old) (bytes_of gap), length-take-le from old (omega (arith, fits)));
 }
 
-pub closing_len : (old : List ℕ) (from gap : ℕ) (new : List ℕ) (place : ℕ) → Closing old from gap new place → length new ≡ from + length (bytes_of gap) + (length old - place)
+pub closing_len : (old : List ℕ) (from gap : ℕ) (new : List ℕ) (place : ℕ) → Closing old from gap new place
+    → length new ≡ from + length (bytes_of gap) + (length old - place)
 closing_len old from gap new place h =
     ap length h.items ∙ length-append (take from old ++ bytes_of gap) (drop place old) ∙ omega (arith, h.count, length-drop place old)
 
-pub closing_more : (old : List ℕ) (from gap : ℕ) (new : List ℕ) (place end : ℕ) → Closing old from gap new place → end ≡ from + length (bytes_of gap) → place < length old → Closing old from gap (remove new end) (place + 1)
+pub closing_more : (old : List ℕ) (from gap : ℕ) (new : List ℕ) (place end : ℕ) → Closing old from gap new place
+    → end ≡ from + length (bytes_of gap) → place < length old → Closing old from gap (remove new end) (place + 1)
 closing_more old from gap new place end h is inside = record {
   items =
       ap (λ xs. remove xs end) (h.items ∙ ap (λ xs. (take from old ++ bytes_of gap) ++ xs) (drop_more old place 0 inside))
@@ -386,5 +435,6 @@ closing_more old from gap new place end h is inside = record {
   count = h.count;
 }
 
-pub closing_ends : (old : List ℕ) (from gap : ℕ) (new : List ℕ) (place : ℕ) → Closing old from gap new place → new ≡ take from old ++ (bytes_of gap ++ drop place old)
+pub closing_ends : (old : List ℕ) (from gap : ℕ) (new : List ℕ) (place : ℕ) → Closing old from gap new place
+    → new ≡ take from old ++ (bytes_of gap ++ drop place old)
 closing_ends old from gap new place h = h.items ∙ append_assoc (take from old) (bytes_of gap) (drop place old)

@@ -1,5 +1,6 @@
 -- Numbers in groups of seven bits, written and read back.
-use Rattle.std.proofs.Common.{◌≡◌, ℕ, zero, suc, ◌+◌, ◌-◌, ◌*◌, ◌/◌, ◌%◌, ◌^◌, ◌<◌, ◌≤◌, Bool, true, false, nat_lt, List, [], ◌∷◌, ◌++◌, length, refl, sym, ap, ◌∙◌, arith, append_assoc, length-append}
+use Rattle.std.proofs.Common.{◌≡◌, ℕ, zero, suc, ◌+◌, ◌-◌, ◌*◌, ◌/◌, ◌%◌, ◌^◌, ◌<◌, ◌≤◌, Bool, true, false, nat_lt, List, [], ◌∷◌, ◌++◌}
+use Rattle.std.proofs.Common.{length, refl, sym, ap, ◌∙◌, arith, append_assoc, length-append}
 use Rattle.std.proofs.Common.{get_or, set, take, drop, length-set, length-drop}
 use Rattle.std.specs.Prelude.{All}
 use Rattle.std.specs.List.Sorted.{IsStrictlyIncreasing}
@@ -53,11 +54,19 @@ put_together : (g : ℕ) → g % 128 + 128 - 128 + 128 * (g / 128) ≡ g
 put_together g = omega arith
 
 -- groups are read back
-numbers-groups : (more : ℕ) (f : ℕ → ℕ) (g : ℕ) (rest : List ℕ) → g < limit more → numbers_in f (groups more g ++ rest) ≡ f g ∷ numbers_in (λ gap. f g + gap) rest
-numbers-groups zero f g rest small = let low : g < 128 = omega (arith, limit-zero) in ap (λ bytes. numbers_in f (bytes ++ rest)) (groups-low zero g low) ∙ numbers-low f g rest low
-numbers-groups (suc more) f g rest small = cases (nat_lt g 128) refl (λ later. numbers-groups more (λ h. f (g % 128 + 128 - 128 + 128 * h)) (g / 128) rest later)
+numbers-groups : (more : ℕ) (f : ℕ → ℕ) (g : ℕ) (rest : List ℕ) → g < limit more
+    → numbers_in f (groups more g ++ rest) ≡ f g ∷ numbers_in (λ gap. f g + gap) rest
+numbers-groups zero f g rest small =
+    let low : g < 128 = omega (arith, limit-zero) in
+    ap (λ bytes. numbers_in f (bytes ++ rest)) (groups-low zero g low) ∙ numbers-low f g rest low
+numbers-groups (suc more) f g rest small =
+    cases (nat_lt g 128) refl (λ later. numbers-groups more (λ h. f (g % 128 + 128 - 128 + 128 * h)) (g / 128) rest later)
   where
-    cases : (b : Bool) → nat_lt g 128 ≡ b → (g / 128 < limit more → numbers_in (λ h. f (g % 128 + 128 - 128 + 128 * h)) (groups more (g / 128) ++ rest) ≡ f (g % 128 + 128 - 128 + 128 * (g / 128)) ∷ numbers_in (λ gap. f (g % 128 + 128 - 128 + 128 * (g / 128)) + gap) rest) → numbers_in f (groups (suc more) g ++ rest) ≡ f g ∷ numbers_in (λ gap. f g + gap) rest
+    cases : (b : Bool) → nat_lt g 128 ≡ b
+        → (g / 128 < limit more
+        → numbers_in (λ h. f (g % 128 + 128 - 128 + 128 * h)) (groups more (g / 128) ++ rest)
+        ≡ f (g % 128 + 128 - 128 + 128 * (g / 128)) ∷ numbers_in (λ gap. f (g % 128 + 128 - 128 + 128 * (g / 128)) + gap) rest)
+        → numbers_in f (groups (suc more) g ++ rest) ≡ f g ∷ numbers_in (λ gap. f g + gap) rest
     cases true e later =
         let low : g < 128 = grind (arith, nat_tests) in
         ap (λ bytes. numbers_in f (bytes ++ rest)) (groups-low (suc more) g low) ∙ numbers-low f g rest low
@@ -89,7 +98,8 @@ unfolding numbers_in
 numbers_after-nil before = refl
 
 -- the first number is read back
-pub numbers_after-cons : (before n : ℕ) (rest : List ℕ) → before ≤ n → n < 2 ^ 32 → numbers_after before (bytes_of (n - before) ++ rest) ≡ n ∷ numbers_after n rest
+pub numbers_after-cons : (before n : ℕ) (rest : List ℕ) → before ≤ n → n < 2 ^ 32
+    → numbers_after before (bytes_of (n - before) ++ rest) ≡ n ∷ numbers_after n rest
 numbers_after-cons before n rest order small =
     numbers-groups 4 (λ gap. before + gap) (n - before) rest (below_limit (n - before) (omega arith))
     ∙ ap (λ m. m ∷ numbers_after m rest) (is order)
@@ -165,7 +175,9 @@ pub groups-joined : (more a b carry : ℕ) → carry ≤ 1 → length (groups mo
 groups-joined zero a b carry small = rw (groups-one (a + b + carry), groups-one a, groups-one b) (omega arith)
 groups-joined (suc more) a b carry small = cases (nat_lt a 128) (nat_lt b 128) (nat_lt (a + b + carry) 128) refl refl refl (groups-joined more)
   where
-    cases : (p q r : Bool) → nat_lt a 128 ≡ p → nat_lt b 128 ≡ q → nat_lt (a + b + carry) 128 ≡ r → ((a b carry : ℕ) → carry ≤ 1 → length (groups more (a + b + carry)) ≤ length (groups more a) + length (groups more b)) → length (groups (suc more) (a + b + carry)) ≤ length (groups (suc more) a) + length (groups (suc more) b)
+    cases : (p q r : Bool) → nat_lt a 128 ≡ p → nat_lt b 128 ≡ q → nat_lt (a + b + carry) 128 ≡ r
+        → ((a b carry : ℕ) → carry ≤ 1 → length (groups more (a + b + carry)) ≤ length (groups more a) + length (groups more b))
+        → length (groups (suc more) (a + b + carry)) ≤ length (groups (suc more) a) + length (groups (suc more) b)
     cases p q true e f g later =
         let low : a + b + carry < 128 = grind (arith, nat_tests) in
         rw (groups-low (suc more) (a + b + carry) low) (omega (arith, length-groups (suc more) a, length-groups (suc more) b))
@@ -174,28 +186,37 @@ groups-joined (suc more) a b carry small = cases (nat_lt a 128) (nat_lt b 128) (
         let low' : b < 128 = grind (arith, nat_tests) in
         let high : 128 ≤ a + b + carry = grind (arith, nat_tests) in
         let rest : (a + b + carry) / 128 ≡ 1 = omega arith in
-        rw (groups-low (suc more) a low, groups-low (suc more) b low', groups-high more (a + b + carry) high, rest, groups-low more 1 (omega arith)) (omega arith)
+        rw (
+          groups-low (suc more) a low,
+          groups-low (suc more) b low',
+          groups-high more (a + b + carry) high,
+          rest,
+          groups-low more 1 (omega arith),
+        ) (omega arith)
     cases true false false e f g later =
         let low : a < 128 = grind (arith, nat_tests) in
         let high' : 128 ≤ b = grind (arith, nat_tests) in
         let high : 128 ≤ a + b + carry = grind (arith, nat_tests) in
         let next : (a + b + carry) / 128 ≡ 0 + b / 128 + ((a + b + carry) / 128 - b / 128) = omega arith in
         let fits = later 0 (b / 128) ((a + b + carry) / 128 - b / 128) (omega arith) in
-        rw (groups-low (suc more) a low, groups-high more b high', groups-high more (a + b + carry) high) (omega (arith, ap (λ n. length (groups more n)) next, fits, ap length (groups-low more 0 (omega arith))))
+        rw (groups-low (suc more) a low, groups-high more b high', groups-high more (a + b + carry) high)
+        (omega (arith, ap (λ n. length (groups more n)) next, fits, ap length (groups-low more 0 (omega arith))))
     cases false true false e f g later =
         let high' : 128 ≤ a = grind (arith, nat_tests) in
         let low : b < 128 = grind (arith, nat_tests) in
         let high : 128 ≤ a + b + carry = grind (arith, nat_tests) in
         let next : (a + b + carry) / 128 ≡ a / 128 + 0 + ((a + b + carry) / 128 - a / 128) = omega arith in
         let fits = later (a / 128) 0 ((a + b + carry) / 128 - a / 128) (omega arith) in
-        rw (groups-low (suc more) b low, groups-high more a high', groups-high more (a + b + carry) high) (omega (arith, ap (λ n. length (groups more n)) next, fits, ap length (groups-low more 0 (omega arith))))
+        rw (groups-low (suc more) b low, groups-high more a high', groups-high more (a + b + carry) high)
+        (omega (arith, ap (λ n. length (groups more n)) next, fits, ap length (groups-low more 0 (omega arith))))
     cases false false false e f g later =
         let high' : 128 ≤ a = grind (arith, nat_tests) in
         let high'' : 128 ≤ b = grind (arith, nat_tests) in
         let high : 128 ≤ a + b + carry = grind (arith, nat_tests) in
         let next : (a + b + carry) / 128 ≡ a / 128 + b / 128 + ((a + b + carry) / 128 - (a / 128 + b / 128)) = omega arith in
         let fits = later (a / 128) (b / 128) ((a + b + carry) / 128 - (a / 128 + b / 128)) (omega arith) in
-        rw (groups-high more a high', groups-high more b high'', groups-high more (a + b + carry) high) (omega (arith, ap (λ n. length (groups more n)) next, fits))
+        rw (groups-high more a high', groups-high more b high'', groups-high more (a + b + carry) high)
+        (omega (arith, ap (λ n. length (groups more n)) next, fits))
 
 -- A number's groups, of which the first are pushed and `left` has the others.
 pub record Pushing (old : List ℕ) (old_capacity gap : ℕ) (new : List ℕ) (capacity left : ℕ) : Type 0 where
@@ -211,7 +232,8 @@ pushing_begins old capacity gap small room = record { more = 4; small = below_li
 pub pushing_room : {old new : List ℕ} {c gap capacity left : ℕ} → Pushing old c gap new capacity left → length new + 1 ≤ capacity
 pushing_room h = omega (arith, h.room)
 
-pub pushing_more : (old new : List ℕ) (c gap capacity left b : ℕ) → Pushing old c gap new capacity left → 128 ≤ left → b ≡ left % 128 + 128 → Pushing old c gap (new ++ b ∷ []) capacity (left / 128)
+pub pushing_more : (old new : List ℕ) (c gap capacity left b : ℕ) → Pushing old c gap new capacity left → 128 ≤ left → b ≡ left % 128 + 128
+    → Pushing old c gap (new ++ b ∷ []) capacity (left / 128)
 pushing_more old new c gap capacity left b h high is = by h.more refl
   where
     by : (more : ℕ) → h.more ≡ more → Pushing old c gap (new ++ b ∷ []) capacity (left / 128)
@@ -257,14 +279,16 @@ writing_begins old from gap small room = record {
 pub writing_room : (old : List ℕ) (from gap : ℕ) (new : List ℕ) (place left : ℕ) → Writing old from gap new place left → place < length new
 writing_room old from gap new place left h = omega (arith, h.room, h.len, length-groups h.more left)
 
-write_at : (written old : List ℕ) (place b : ℕ) → length written ≡ place → place < length old → set (written ++ drop place old) place b ≡ (written ++ b ∷ []) ++ drop (place + 1) old
+write_at : (written old : List ℕ) (place b : ℕ) → length written ≡ place → place < length old
+    → set (written ++ drop place old) place b ≡ (written ++ b ∷ []) ++ drop (place + 1) old
 write_at written old place b len inside =
     ap (λ xs. set (written ++ xs) place b) (drop_more old place 0 inside)
     ∙ ap (λ i. set (written ++ get_or old place 0 ∷ drop (place + 1) old) i b) (sym len)
     ∙ set-append_seam written (get_or old place 0) (drop (place + 1) old) b
     ∙ sym (append_assoc (written) (b ∷ []) (drop (place + 1) old))
 
-pub writing_more : (old : List ℕ) (from gap : ℕ) (new : List ℕ) (place left b : ℕ) → Writing old from gap new place left → 128 ≤ left → b ≡ left % 128 + 128 → Writing old from gap (set new place b) (place + 1) (left / 128)
+pub writing_more : (old : List ℕ) (from gap : ℕ) (new : List ℕ) (place left b : ℕ) → Writing old from gap new place left → 128 ≤ left
+    → b ≡ left % 128 + 128 → Writing old from gap (set new place b) (place + 1) (left / 128)
 writing_more old from gap new place left b h high is = by h.more refl
   where
     by : (more : ℕ) → h.more ≡ more → Writing old from gap (set new place b) (place + 1) (left / 128)
@@ -287,7 +311,9 @@ writing_more old from gap new place left b h high is = by h.more refl
           room = omega (arith, takes, room);
         }
 
-pub writing_ends : (old : List ℕ) (from gap : ℕ) (new : List ℕ) (place left : ℕ) → Writing old from gap new place left → left < 128 → from ≤ length old → (set new place left ≡ take from old ++ (bytes_of gap ++ drop (place + 1) old)) × (place + 1 ≡ from + length (bytes_of gap))
+pub writing_ends : (old : List ℕ) (from gap : ℕ) (new : List ℕ) (place left : ℕ) → Writing old from gap new place left → left < 128
+    → from ≤ length old
+    → (set new place left ≡ take from old ++ (bytes_of gap ++ drop (place + 1) old)) × (place + 1 ≡ from + length (bytes_of gap))
 writing_ends old from gap new place left h low within = (bytes, place_is)
   where
     last : h.written ++ left ∷ [] ≡ take from old ++ bytes_of gap
@@ -302,14 +328,28 @@ writing_ends old from gap new place left h low within = (bytes, place_is)
         ∙ append_assoc (take from old) (bytes_of gap) (drop (place + 1) old)
 
     place_is : place + 1 ≡ from + length (bytes_of gap)
-    place_is = omega (arith, ap length last, length-append h.written (left ∷ []), length-append (take from old) (bytes_of gap), h.written_len, length-take-le from old within)
+    place_is =
+        omega (
+          arith,
+          ap length last,
+          length-append h.written (left ∷ []),
+          length-append (take from old) (bytes_of gap),
+          h.written_len,
+          length-take-le from old within,
+        )
 
 -- the bytes after the written ones are moved up to them
-pub moved : (old mid new : List ℕ) (from to end gap : ℕ) → mid ≡ take from old ++ (bytes_of gap ++ drop end old) → end ≡ from + length (bytes_of gap) → end ≤ to → to ≤ length old → length mid ≡ length old → new ≡ paste mid end (drop to mid) (length mid - to) → take (end + (length old - to)) new ≡ take from old ++ (bytes_of gap ++ drop to old)
+pub moved : (old mid new : List ℕ) (from to end gap : ℕ) → mid ≡ take from old ++ (bytes_of gap ++ drop end old)
+    → end ≡ from + length (bytes_of gap) → end ≤ to → to ≤ length old → length mid ≡ length old
+    → new ≡ paste mid end (drop to mid) (length mid - to)
+    → take (end + (length old - to)) new ≡ take from old ++ (bytes_of gap ++ drop to old)
 moved old mid new from to end gap mid_is end_is before within len new_is =
-    let count : length (take from old ++ bytes_of gap) ≡ end = omega (arith, length-append (take from old) (bytes_of gap), length-take-le from old (omega arith)) in
+    let count : length (take from old ++ bytes_of gap) ≡ end =
+    omega (arith, length-append (take from old) (bytes_of gap), length-take-le from old (omega arith)) in
     let is : mid ≡ (take from old ++ bytes_of gap) ++ drop end old = mid_is ∙ sym (append_assoc (take from old) (bytes_of gap) (drop end old)) in
-    let front : take end mid ≡ take from old ++ bytes_of gap = ap (take end) is ∙ ap (λ n. take n ((take from old ++ bytes_of gap) ++ drop end old)) (sym count) ∙ take-append_seam (take from old ++ bytes_of gap) (drop end old) in
+    let front : take end mid ≡ take from old ++ bytes_of gap =
+    ap (take end) is ∙ ap (λ n. take n ((take from old ++ bytes_of gap) ++ drop end old)) (sym count)
+    ∙ take-append_seam (take from old ++ bytes_of gap) (drop end old) in
     let rest : drop to mid ≡ drop to old = ap (drop to) is ∙ drop-append-drop end old (take from old ++ bytes_of gap) to before count in
     let left : length (drop to mid) ≡ length mid - to = length-drop to mid in
     ap (λ n. take (end + n) new) (ap (λ n. n - to) (sym len))
@@ -326,7 +366,8 @@ one_head x y xs ys e = (cc, cc)
 pub first_none : (bytes : List ℕ) → length bytes ≡ 0 → (more gap : ℕ) (rest : List ℕ) → bytes ≡ groups more gap ++ rest → ⊥
 first_none bytes none more gap rest is = omega (arith, ap length is, length-append (groups more gap) rest, length-groups more gap)
 
-pub first_low : (b : ℕ) (bytes others : List ℕ) → bytes ≡ b ∷ others → b < 128 → (more gap : ℕ) (rest : List ℕ) → gap < limit more → bytes ≡ groups more gap ++ rest → (b ≡ gap) × (others ≡ rest)
+pub first_low : (b : ℕ) (bytes others : List ℕ) → bytes ≡ b ∷ others → b < 128 → (more gap : ℕ) (rest : List ℕ) → gap < limit more
+    → bytes ≡ groups more gap ++ rest → (b ≡ gap) × (others ≡ rest)
 first_low b bytes others is low more gap rest small spelled = cases more (nat_lt gap 128) refl small spelled
   where
     cases : (m : ℕ) (t : Bool) → nat_lt gap 128 ≡ t → gap < limit m → bytes ≡ groups m gap ++ rest → (b ≡ gap) × (others ≡ rest)
@@ -340,12 +381,14 @@ first_low b bytes others is low more gap rest small spelled = cases more (nat_lt
         absurd (omega (arith, heads.0))
 
 -- the groups after a first one
-pub first_high : (b : ℕ) (bytes others : List ℕ) → bytes ≡ b ∷ others → 128 ≤ b → (more gap : ℕ) (rest : List ℕ) → gap < limit more → gap < 2 ^ 32 → bytes ≡ groups more gap ++ rest → (high : ℕ) (left : List ℕ)
+pub first_high : (b : ℕ) (bytes others : List ℕ) → bytes ≡ b ∷ others → 128 ≤ b → (more gap : ℕ) (rest : List ℕ) → gap < limit more
+    → gap < 2 ^ 32 → bytes ≡ groups more gap ++ rest → (high : ℕ) (left : List ℕ)
     → ((m g : ℕ) (r : List ℕ) → g < limit m → g < 2 ^ 32 → others ≡ groups m g ++ r → (high ≡ g) × (left ≡ r))
     → ((high * 128 % 2 ^ 32 + (b - 128)) % 2 ^ 32 ≡ gap) × (left ≡ rest)
 first_high b bytes others is high_b more gap rest small fits spelled high left later = cases more (nat_lt gap 128) refl small spelled
   where
-    cases : (m : ℕ) (t : Bool) → nat_lt gap 128 ≡ t → gap < limit m → bytes ≡ groups m gap ++ rest → ((high * 128 % 2 ^ 32 + (b - 128)) % 2 ^ 32 ≡ gap) × (left ≡ rest)
+    cases : (m : ℕ) (t : Bool) → nat_lt gap 128 ≡ t → gap < limit m → bytes ≡ groups m gap ++ rest
+        → ((high * 128 % 2 ^ 32 + (b - 128)) % 2 ^ 32 ≡ gap) × (left ≡ rest)
     cases m true e small s =
         let below : gap < 128 = grind (arith, nat_tests) in
         let heads = one_head b gap others rest (sym is ∙ s ∙ ap (λ xs. xs ++ rest) (groups-low m gap below)) in

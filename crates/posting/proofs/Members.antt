@@ -1,5 +1,6 @@
 -- Which numbers are in a list.
-use Rattle.std.proofs.Common.{◌≡◌, ◌≢◌, ℕ, zero, suc, ◌<◌, ◌≤◌, Bool, true, false, not, ◌==◌, ◌⊎◌, inl, inr, List, [], ◌∷◌, length, get_or, refl, sym, ap, ◌∙◌, arith, Result, Ok, Err, MatchResult, is_ok}
+use Rattle.std.proofs.Common.{◌≡◌, ◌≢◌, ℕ, zero, suc, ◌<◌, ◌≤◌, Bool, true, false, not, ◌==◌, ◌⊎◌, inl, inr, List, [], ◌∷◌, length, get_or}
+use Rattle.std.proofs.Common.{refl, sym, ap, ◌∙◌, arith, Result, Ok, Err, MatchResult, is_ok}
 use Rattle.std.specs.Prelude.{All, filter}
 use Rattle.std.specs.List.{remove}
 use Rattle.std.specs.List.Sorted.{IsStrictlyIncreasing, IsBinarySearchResult}
@@ -26,7 +27,8 @@ pub lacks_above : (xs : List ℕ) (n : ℕ) → All (λ m. m < n) xs → has xs 
 lacks_above xs n h = lacks_from_all xs n (All-weaker (λ m. m < n) (λ m. m ≢ n) (λ m lt e. omega arith) xs h)
 
 -- a number that a place among rising numbers has to hold is not there
-pub lacks_at : (xs : List ℕ) (i n : ℕ) → IsStrictlyIncreasing xs → ((k : ℕ) → k < i → k < length xs → get_or xs k 0 < n) → (i < length xs → n < get_or xs i 0) → has xs n ≡ false
+pub lacks_at : (xs : List ℕ) (i n : ℕ) → IsStrictlyIncreasing xs → ((k : ℕ) → k < i → k < length xs → get_or xs k 0 < n)
+    → (i < length xs → n < get_or xs i 0) → has xs n ≡ false
 lacks_at xs i n rises below at = lacks_from_all xs n (All-from_get_or (λ m. m ≢ n) xs 0 differs)
   where
     differs : (k : ℕ) → k < length xs → get_or xs k 0 ≢ n
@@ -78,7 +80,9 @@ same_rising (x ∷ xs) (y ∷ ys) up up' same =
     rw heads (ap (λ zs. y ∷ zs) (same_rising xs ys (rising-tail x xs up) (rising-tail y ys up') (λ n. same_tails n heads)))
   where
     above : (a : ℕ) (others : List ℕ) → IsStrictlyIncreasing (a ∷ others) → All (λ m. a ≤ m) (a ∷ others)
-    above a others rises = All-cons (λ m. a ≤ m) a others (omega arith) (All-weaker (λ m. a < m) (λ m. a ≤ m) (λ m lt. omega arith) others (rising-head a others rises))
+    above a others rises =
+        All-cons (λ m. a ≤ m) a others (omega arith)
+        (All-weaker (λ m. a < m) (λ m. a ≤ m) (λ m lt. omega arith) others (rising-head a others rises))
 
     same_heads : x ≡ y
     same_heads =
@@ -100,7 +104,9 @@ same_rising (x ∷ xs) (y ∷ ys) up up' same =
 
 -- what `binary_search` says of rising numbers
 abbrev pub SearchedFor : List ℕ → ℕ → Result ℕ ℕ → Type 0
-SearchedFor xs n r = MatchResult r (λ i. (i < length xs) × (get_or xs i 0 ≡ n)) (λ i. (i ≤ length xs) × ((k : ℕ) → k < i → get_or xs k 0 < n) × ((k : ℕ) → i ≤ k → k < length xs → n < get_or xs k 0))
+SearchedFor xs n r =
+    MatchResult r (λ i. (i < length xs) × (get_or xs i 0 ≡ n))
+    (λ i. (i ≤ length xs) × ((k : ℕ) → k < i → get_or xs k 0 < n) × ((k : ℕ) → i ≤ k → k < length xs → n < get_or xs k 0))
 
 pub searched_for : (xs : List ℕ) (n : ℕ) (r : Result ℕ ℕ) → IsStrictlyIncreasing xs → IsBinarySearchResult (λ y. nat_cmp y n) xs r → SearchedFor xs n r
 searched_for xs n r rises h = searched xs n r h (rises_at xs rises)

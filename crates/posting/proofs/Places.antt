@@ -1,5 +1,6 @@
 -- How lists come and go, with their slots.
-use Rattle.std.proofs.Common.{◌≡◌, ◌≢◌, ℕ, zero, suc, ◌+◌, ◌-◌, ◌<◌, ◌≤◌, false, true, cond, ◌==◌, eqb, List, [], ◌∷◌, ◌++◌, ◌⊎◌, inl, inr, length, get_or, map, refl, sym, ap, ◌∙◌, subst, arith}
+use Rattle.std.proofs.Common.{◌≡◌, ◌≢◌, ℕ, zero, suc, ◌+◌, ◌-◌, ◌<◌, ◌≤◌, false, true, cond, ◌==◌, eqb, List, [], ◌∷◌, ◌++◌, ◌⊎◌, inl, inr}
+use Rattle.std.proofs.Common.{length, get_or, map, refl, sym, ap, ◌∙◌, subst, arith}
 use Rattle.std.specs.List.{list_any}
 use Rattle.std.specs.declared.alloc.Global.{Global}
 use Rattle.std.specs.declared.vec.Vec.{Vec}
@@ -16,7 +17,8 @@ use Rattle.posting.proofs.Slots.{HasSlot-from_slot}
 use Rattle.posting.proofs.Tables.{set_in_slot-place}
 
 -- pages with the same slots
-pub IsSound-same : (pages pages' : List (Vec ℕ Global)) (lists : List Owned) → ((t : ℕ) → slot_of pages' t ≡ slot_of pages t) → IsSound pages lists → IsSound pages' lists
+pub IsSound-same : (pages pages' : List (Vec ℕ Global)) (lists : List Owned) → ((t : ℕ) → slot_of pages' t ≡ slot_of pages t)
+    → IsSound pages lists → IsSound pages' lists
 IsSound-same pages pages' lists same h = record {
   within = λ t. rw (same t) (h.within t);
   owner = λ t place e. h.owner t place (sym (same t) ∙ e);
@@ -33,7 +35,8 @@ length-lists pages lists h =
     owner : (k d : ℕ) → k < length (map (λ o. o.trigram) lists) → get_or (map (λ o. o.trigram) lists) k d ≡ owner_at lists k
     owner k d inside = get_or-map (λ o. o.trigram) lists k no_list d (omega (arith, length-map lists (λ o. o.trigram)))
 
-    apart : (i j d : ℕ) → i < j → j < length (map (λ o. o.trigram) lists) → eqb (get_or (map (λ o. o.trigram) lists) i d) (get_or (map (λ o. o.trigram) lists) j d) ≡ false
+    apart : (i j d : ℕ) → i < j → j < length (map (λ o. o.trigram) lists)
+        → eqb (get_or (map (λ o. o.trigram) lists) i d) (get_or (map (λ o. o.trigram) lists) j d) ≡ false
     apart i j d before inside =
         let long = length-map lists (λ o. o.trigram) in
         let here = h.slot i (omega arith) in
@@ -63,7 +66,8 @@ pub record Listed (pages pages' : List (Vec ℕ Global)) (trigram place : ℕ) :
 slot-new : {pages pages' : List (Vec ℕ Global)} {trigram place : ℕ} → Listed pages pages' trigram place → slot_of pages' trigram ≡ place + 1
 slot-new {pages} {pages'} {trigram} {place} h = h.slots trigram ∙ rw (eq-eqb trigram trigram refl) refl
 
-slot-old : {pages pages' : List (Vec ℕ Global)} {trigram place : ℕ} → Listed pages pages' trigram place → (t : ℕ) → t ≢ trigram → slot_of pages' t ≡ slot_of pages t
+slot-old : {pages pages' : List (Vec ℕ Global)} {trigram place : ℕ} → Listed pages pages' trigram place → (t : ℕ) → t ≢ trigram
+    → slot_of pages' t ≡ slot_of pages t
 slot-old {pages} {pages'} {trigram} {place} h t ne = let e : (t == trigram) ≡ false = grind (arith, nat_tests) in h.slots t ∙ rw e refl
 
 owner_at-before : (lists : List Owned) (x : Owned) (k : ℕ) → k < length lists → owner_at (lists ++ x ∷ []) k ≡ owner_at lists k
@@ -72,7 +76,8 @@ owner_at-before lists x k inside = ap (λ o. o.trigram) (get_or_append_left list
 owner_at-push : (lists : List Owned) (x : Owned) (k : ℕ) → length lists ≡ k → owner_at (lists ++ x ∷ []) k ≡ x.trigram
 owner_at-push lists x k end = ap (λ o. o.trigram) (get_or_push lists x no_list k end)
 
-module _ (pages pages' : List (Vec ℕ Global)) (lists : List Owned) (trigram : ℕ) (x : Owned) (sound : IsSound pages lists) (own : x.trigram ≡ trigram) (listed : Listed pages pages' trigram (length lists)) where
+module _ (pages pages' : List (Vec ℕ Global)) (lists : List Owned) (trigram : ℕ) (x : Owned) (sound : IsSound pages lists)
+    (own : x.trigram ≡ trigram) (listed : Listed pages pages' trigram (length lists)) where
   pub IsSound-listed : IsSound pages' (lists ++ x ∷ [])
   IsSound-listed = record {
     within = λ t. rw (length_push lists x) (within t (cases_eq t trigram));
@@ -114,7 +119,8 @@ module _ (pages pages' : List (Vec ℕ Global)) (lists : List Owned) (trigram : 
   after-new : set_in_slot (lists ++ x ∷ []) (slot_of pages' trigram) ≡ x.list
   after-new = rw (slot-new listed) (set_in_slot-place (lists ++ x ∷ []) (length lists) ∙ ap (λ o. o.list) (get_or_push lists x no_list (length lists) refl))
 
-  pub members-listed : x.list.members ≡ [] → (t : ℕ) → (set_in_slot (lists ++ x ∷ []) (slot_of pages' t)).members ≡ (set_in_slot lists (slot_of pages t)).members
+  pub members-listed : x.list.members ≡ [] → (t : ℕ)
+      → (set_in_slot (lists ++ x ∷ []) (slot_of pages' t)).members ≡ (set_in_slot lists (slot_of pages t)).members
   members-listed empty t = cases (cases_eq t trigram)
     where
       cases : (t ≡ trigram) ⊎ (t ≢ trigram) → (set_in_slot (lists ++ x ∷ []) (slot_of pages' t)).members ≡ (set_in_slot lists (slot_of pages t)).members
@@ -136,7 +142,9 @@ pub record SwappedOut (lists lists' : List Owned) (place : ℕ) : Type 0 where
   pub moved : place < length lists' → get_or lists' place no_list ≡ get_or lists (length lists') no_list
   pub stayed : (k : ℕ) → k ≢ place → k < length lists' → get_or lists' k no_list ≡ get_or lists k no_list
 
-pub swapped_out : (lists lists' : List Owned) (place old new : ℕ) → old ≡ length lists → new ≡ length lists' → new + 1 ≡ old → ((d : Owned) → place + 1 < old → get_or lists' place d ≡ get_or lists (old - 1) d) × ((k : ℕ) (d : Owned) → k ≢ place → k + 1 < old → get_or lists' k d ≡ get_or lists k d) → SwappedOut lists lists' place
+pub swapped_out : (lists lists' : List Owned) (place old new : ℕ) → old ≡ length lists → new ≡ length lists' → new + 1 ≡ old
+    → ((d : Owned) → place + 1 < old → get_or lists' place d ≡ get_or lists (old - 1) d)
+    × ((k : ℕ) (d : Owned) → k ≢ place → k + 1 < old → get_or lists' k d ≡ get_or lists k d) → SwappedOut lists lists' place
 swapped_out lists lists' place old new is is' one by_index = record {
   len = omega arith;
   moved = λ before. (let end : old - 1 ≡ length lists' = omega arith in by_index.0 no_list (omega arith) ∙ ap (λ k. get_or lists k no_list) end);
@@ -160,7 +168,8 @@ slot-set old new trigram slot h = h trigram ∙ rw (eq-eqb trigram trigram refl)
 slot-unset : (old new : List (Vec ℕ Global)) (trigram slot : ℕ) → IsSlotSet old new trigram slot → (t : ℕ) → t ≢ trigram → slot_of new t ≡ slot_of old t
 slot-unset old new trigram slot h t ne = let e : (t == trigram) ≡ false = grind (arith, nat_tests) in h t ∙ rw e refl
 
-module _ (pages emptied : List (Vec ℕ Global)) (lists lists' : List Owned) (trigram place : ℕ) (sound : IsSound pages lists) (slot : slot_of pages trigram ≡ place + 1) (swapped : SwappedOut lists lists' place) (gone : IsSlotSet pages emptied trigram 0) where
+module _ (pages emptied : List (Vec ℕ Global)) (lists lists' : List Owned) (trigram place : ℕ) (sound : IsSound pages lists)
+    (slot : slot_of pages trigram ≡ place + 1) (swapped : SwappedOut lists lists' place) (gone : IsSlotSet pages emptied trigram 0) where
   -- the last list went
   pub dropped_last : length lists' ≤ place → Dropped pages emptied lists lists' trigram place
   dropped_last end = record {
@@ -187,16 +196,21 @@ module _ (pages emptied : List (Vec ℕ Global)) (lists lists' : List Owned) (tr
       let is = slot-unset pages emptied trigram 0 gone (owner_at lists' place) (moved_other before) in
       HasSlot-from_slot emptied (owner_at lists' place) (omega arith)
 
-  pub dropped_moved : (pages' : List (Vec ℕ Global)) (owner number : ℕ) → place < length lists' → owner ≡ owner_at lists' place → number ≡ place + 1 → IsSlotSet emptied pages' owner number → Dropped pages pages' lists lists' trigram place
+  pub dropped_moved : (pages' : List (Vec ℕ Global)) (owner number : ℕ) → place < length lists' → owner ≡ owner_at lists' place
+      → number ≡ place + 1 → IsSlotSet emptied pages' owner number → Dropped pages pages' lists lists' trigram place
   dropped_moved pages' owner number before owns is named = record {
     slot = slot;
     swapped = swapped;
     gone = slot-unset emptied pages' owner number named trigram (λ e. moved_other before (sym (e ∙ owns))) ∙ slot-set pages emptied trigram 0 gone;
     slot_moved = λ _. ap (slot_of pages') (sym (owns ∙ moved_owner before)) ∙ slot-set emptied pages' owner number named ∙ is;
-    slots = λ t other differs. slot-unset emptied pages' owner number named t (λ e. differs (e ∙ owns ∙ moved_owner before)) ∙ slot-unset pages emptied trigram 0 gone t other;
+    slots =
+        λ t other differs.
+        slot-unset emptied pages' owner number named t (λ e. differs (e ∙ owns ∙ moved_owner before))
+        ∙ slot-unset pages emptied trigram 0 gone t other;
   }
 
-module _ (pages pages' : List (Vec ℕ Global)) (lists lists' : List Owned) (trigram place : ℕ) (sound : IsSound pages lists) (h : Dropped pages pages' lists lists' trigram place) where
+module _ (pages pages' : List (Vec ℕ Global)) (lists lists' : List Owned) (trigram place : ℕ) (sound : IsSound pages lists)
+    (h : Dropped pages pages' lists lists' trigram place) where
   -- the trigram, that of the list that moved, or another one
   record Moves (t : ℕ) : Type 0 where
     other : t ≢ trigram
@@ -215,7 +229,8 @@ module _ (pages pages' : List (Vec ℕ Global)) (lists lists' : List Owned) (tri
       first (inl e) = inl e
       first (inr other) = inr (then (cases_eq t (owner_at lists (length lists'))) (cases_lt place (length lists')))
         where
-          then : (t ≡ owner_at lists (length lists')) ⊎ (t ≢ owner_at lists (length lists')) → (place < length lists') ⊎ (length lists' ≤ place) → Moves t ⊎ Stays t
+          then : (t ≡ owner_at lists (length lists')) ⊎ (t ≢ owner_at lists (length lists'))
+              → (place < length lists') ⊎ (length lists' ≤ place) → Moves t ⊎ Stays t
           then (inl e) (inl before) = inl (record { other = other; owns = sym e; before = before })
           then (inl e) (inr end) =
               let is : place ≡ length lists' = omega (arith, sound.within trigram, h.slot, h.swapped.len) in
@@ -270,8 +285,12 @@ module _ (pages pages' : List (Vec ℕ Global)) (lists lists' : List Owned) (tri
           ap (slot_of pages') (ap (λ o. o.trigram) (h.swapped.stayed k other inside)) ∙ h.slots (owner_at lists k) not_it not_last ∙ was
 
       bound : (k : ℕ) → k < length lists' → (k ≡ place) ⊎ (k ≢ place) → owner_at lists' k < trigram_count
-      bound k inside (inl is) = subst (λ t. t < trigram_count) (sym (ap (owner_at lists') is ∙ ap (λ o. o.trigram) (h.swapped.moved (omega arith)))) (sound.bound (length lists') (omega (arith, h.swapped.len)))
-      bound k inside (inr other) = subst (λ t. t < trigram_count) (sym (ap (λ o. o.trigram) (h.swapped.stayed k other inside))) (sound.bound k (omega (arith, h.swapped.len)))
+      bound k inside (inl is) =
+          subst (λ t. t < trigram_count) (sym (ap (owner_at lists') is ∙ ap (λ o. o.trigram) (h.swapped.moved (omega arith))))
+          (sound.bound (length lists') (omega (arith, h.swapped.len)))
+      bound k inside (inr other) =
+          subst (λ t. t < trigram_count) (sym (ap (λ o. o.trigram) (h.swapped.stayed k other inside)))
+          (sound.bound k (omega (arith, h.swapped.len)))
 
   pub sets-dropped : (t : ℕ) → t ≢ trigram → set_in_slot lists' (slot_of pages' t) ≡ set_in_slot lists (slot_of pages t)
   sets-dropped t other = cases (kinds t)

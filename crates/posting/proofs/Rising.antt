@@ -51,4 +51,6 @@ All-right P (x ∷ xs) ys h = All-right P xs ys (All-tail P x (xs ++ ys) h)
 pub rising_below : (xs : List ℕ) (i : ℕ) → IsStrictlyIncreasing xs → i < length xs → All (λ m. m < get_or xs i 0) (take i xs)
 rising_below xs i h inside =
     All-from_get_or (λ m. m < get_or xs i 0) (take i xs) 0
-    (λ k before. let lt : k < i = omega (arith, before, length-take-le i xs (omega (arith, inside))) in omega (arith, get_or-take i xs k 0 lt, rising_far xs h k i lt inside))
+    (λ k before.
+    let lt : k < i = omega (arith, before, length-take-le i xs (omega (arith, inside))) in
+    omega (arith, get_or-take i xs k 0 lt, rising_far xs h k i lt inside))

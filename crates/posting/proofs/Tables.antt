@@ -1,5 +1,6 @@
 -- The table that pages and lists make.
-use Rattle.std.proofs.Common.{◌≡◌, ◌≢◌, ℕ, zero, suc, ◌+◌, ◌-◌, ◌^◌, ◌<◌, ◌≤◌, List, [], ◌⊎◌, inl, inr, length, get_or, set, refl, sym, ap, ◌∙◌, subst, arith, add-one}
+use Rattle.std.proofs.Common.{◌≡◌, ◌≢◌, ℕ, zero, suc, ◌+◌, ◌-◌, ◌^◌, ◌<◌, ◌≤◌, List, [], ◌⊎◌, inl, inr, length, get_or, set, refl, sym, ap}
+use Rattle.std.proofs.Common.{◌∙◌, subst, arith, add-one}
 use Rattle.std.specs.declared.alloc.Global.{Global}
 use Rattle.std.specs.declared.vec.Vec.{Vec}
 use Rattle.std.proofs.lemmas.Bool.{cases_lt, cases_eq}
@@ -14,16 +15,20 @@ pub below_count : (t : ℕ) → t < 2 ^ 24 → t < trigram_count
 unfolding trigram_count
 below_count t h = h
 
-pub set_of-table : (pages : List (Vec ℕ Global)) (lists : List Owned) (t : ℕ) → t < trigram_count → set_of (table_of pages lists) t ≡ set_in_slot lists (slot_of pages t)
+pub set_of-table : (pages : List (Vec ℕ Global)) (lists : List Owned) (t : ℕ) → t < trigram_count
+    → set_of (table_of pages lists) t ≡ set_in_slot lists (slot_of pages t)
 unfolding table_of
 set_of-table pages lists t below = get_or-map-range_with_len (λ s. set_in_slot lists (slot_of pages s)) 0 trigram_count t t no_numbers below (omega arith)
 
 pub set_of-past : (pages : List (Vec ℕ Global)) (lists : List Owned) (t : ℕ) → trigram_count ≤ t → set_of (table_of pages lists) t ≡ no_numbers
 unfolding table_of
-set_of-past pages lists t past = get_or_past _ t no_numbers (omega (arith, length-map-range_with_len (λ s. set_in_slot lists (slot_of pages s)) 0 trigram_count))
+set_of-past pages lists t past =
+    get_or_past _ t no_numbers (omega (arith, length-map-range_with_len (λ s. set_in_slot lists (slot_of pages s)) 0 trigram_count))
 
 -- what holds of the sets of the slots of two tables holds of their sets
-pub tables_relate : (R : ListValue → ListValue → Type 0) (pages pages' : List (Vec ℕ Global)) (lists lists' : List Owned) → R no_numbers no_numbers → ((t : ℕ) → R (set_in_slot lists (slot_of pages t)) (set_in_slot lists' (slot_of pages' t))) → (t : ℕ) → R (set_of (table_of pages lists) t) (set_of (table_of pages' lists') t)
+pub tables_relate : (R : ListValue → ListValue → Type 0) (pages pages' : List (Vec ℕ Global)) (lists lists' : List Owned)
+    → R no_numbers no_numbers → ((t : ℕ) → R (set_in_slot lists (slot_of pages t)) (set_in_slot lists' (slot_of pages' t))) → (t : ℕ)
+    → R (set_of (table_of pages lists) t) (set_of (table_of pages' lists') t)
 tables_relate R pages pages' lists lists' none after t = cases (cases_lt t trigram_count)
   where
     cases : (t < trigram_count) ⊎ (trigram_count ≤ t) → R (set_of (table_of pages lists) t) (set_of (table_of pages' lists') t)
@@ -35,7 +40,9 @@ tables_relate R pages pages' lists lists' none after t = cases (cases_lt t trigr
         (subst (λ s. R no_numbers s) (sym (set_of-past pages' lists' t past)) none)
 
 -- a trigram whose slots have the same set
-pub set_of-same : (pages pages' : List (Vec ℕ Global)) (lists lists' : List Owned) (t : ℕ) → set_in_slot lists' (slot_of pages' t) ≡ set_in_slot lists (slot_of pages t) → set_of (table_of pages' lists') t ≡ set_of (table_of pages lists) t
+pub set_of-same : (pages pages' : List (Vec ℕ Global)) (lists lists' : List Owned) (t : ℕ)
+    → set_in_slot lists' (slot_of pages' t) ≡ set_in_slot lists (slot_of pages t)
+    → set_of (table_of pages' lists') t ≡ set_of (table_of pages lists) t
 set_of-same pages pages' lists lists' t same = cases (cases_lt t trigram_count)
   where
     cases : (t < trigram_count) ⊎ (trigram_count ≤ t) → set_of (table_of pages' lists') t ≡ set_of (table_of pages lists) t
@@ -62,34 +69,49 @@ pub stands_inside : (pages : List (Vec ℕ Global)) (lists : List Owned) (trigra
 stands_inside pages lists trigram place h = omega (arith, h.sound.within trigram, h.slot)
 
 -- its set is the one that is there
-pub set_of-there : (pages : List (Vec ℕ Global)) (lists : List Owned) (trigram place : ℕ) (x : Owned) → Stands pages lists trigram place → x ≡ get_or lists place x → set_of (table_of pages lists) trigram ≡ x.list
+pub set_of-there : (pages : List (Vec ℕ Global)) (lists : List Owned) (trigram place : ℕ) (x : Owned) → Stands pages lists trigram place
+    → x ≡ get_or lists place x → set_of (table_of pages lists) trigram ≡ x.list
 set_of-there pages lists trigram place x h is =
-    set_of-table pages lists trigram h.below ∙ rw h.slot (set_in_slot-place lists place ∙ ap (λ o. o.list) (sym (get_or_read lists place x (stands_inside pages lists trigram place h) is no_list)))
+    set_of-table pages lists trigram h.below
+    ∙ rw h.slot
+    (set_in_slot-place lists place
+    ∙ ap (λ o. o.list) (sym (get_or_read lists place x (stands_inside pages lists trigram place h) is no_list)))
 
 -- a list is written, and the other trigrams keep their sets
-pub set_of-written : (pages : List (Vec ℕ Global)) (lists : List Owned) (trigram place : ℕ) (x : Owned) → Stands pages lists trigram place → set_of (table_of pages (set lists place x)) trigram ≡ x.list
+pub set_of-written : (pages : List (Vec ℕ Global)) (lists : List Owned) (trigram place : ℕ) (x : Owned) → Stands pages lists trigram place
+    → set_of (table_of pages (set lists place x)) trigram ≡ x.list
 set_of-written pages lists trigram place x h =
     set_of-table pages (set lists place x) trigram h.below ∙ rw h.slot (set_in_slot-set_same lists place x (stands_inside pages lists trigram place h))
 
-pub set_of-kept : (pages : List (Vec ℕ Global)) (lists : List Owned) (trigram place : ℕ) (x : Owned) → Stands pages lists trigram place → (t : ℕ) → t ≢ trigram → set_of (table_of pages (set lists place x)) t ≡ set_of (table_of pages lists) t
+pub set_of-kept : (pages : List (Vec ℕ Global)) (lists : List Owned) (trigram place : ℕ) (x : Owned) → Stands pages lists trigram place
+    → (t : ℕ) → t ≢ trigram → set_of (table_of pages (set lists place x)) t ≡ set_of (table_of pages lists) t
 set_of-kept pages lists trigram place x h t other =
     set_of-same pages pages lists (set lists place x) t
     (set_in_slot-set_other lists place (slot_of pages t) x (λ e. other (sym (h.sound.owner t place e) ∙ h.sound.owner trigram place h.slot)))
 
 -- what holds of each set and itself, and of the one that was there and the one that is written, holds of all
-pub written_relate : (R : ListValue → ListValue → Type 0) → ((s : ListValue) → R s s) → (pages : List (Vec ℕ Global)) (lists : List Owned) (trigram place : ℕ) (x y : Owned) → Stands pages lists trigram place → x ≡ get_or lists place x → R x.list y.list → (t : ℕ) → R (set_of (table_of pages lists) t) (set_of (table_of pages (set lists place y)) t)
+pub written_relate : (R : ListValue → ListValue → Type 0) → ((s : ListValue) → R s s)
+    → (pages : List (Vec ℕ Global)) (lists : List Owned) (trigram place : ℕ) (x y : Owned) → Stands pages lists trigram place
+    → x ≡ get_or lists place x → R x.list y.list → (t : ℕ)
+    → R (set_of (table_of pages lists) t) (set_of (table_of pages (set lists place y)) t)
 written_relate R itself pages lists trigram place x y h is related t = cases (cases_eq t trigram)
   where
     cases : (t ≡ trigram) ⊎ (t ≢ trigram) → R (set_of (table_of pages lists) t) (set_of (table_of pages (set lists place y)) t)
     cases (inl e) =
-        rw e (subst (λ s. R s (set_of (table_of pages (set lists place y)) trigram)) (sym (set_of-there pages lists trigram place x h is)) (subst (λ s. R x.list s) (sym (set_of-written pages lists trigram place y h)) related))
-    cases (inr ne) = subst (λ s. R (set_of (table_of pages lists) t) s) (sym (set_of-kept pages lists trigram place y h t ne)) (itself (set_of (table_of pages lists) t))
+        rw e
+        (subst (λ s. R s (set_of (table_of pages (set lists place y)) trigram)) (sym (set_of-there pages lists trigram place x h is))
+        (subst (λ s. R x.list s) (sym (set_of-written pages lists trigram place y h)) related))
+    cases (inr ne) =
+        subst (λ s. R (set_of (table_of pages lists) t) s) (sym (set_of-kept pages lists trigram place y h t ne))
+        (itself (set_of (table_of pages lists) t))
 
 -- a trigram without a list has an empty set with no room
-pub set_of-unlisted : (pages : List (Vec ℕ Global)) (lists : List Owned) (trigram : ℕ) → trigram < trigram_count → slot_of pages trigram ≡ 0 → set_of (table_of pages lists) trigram ≡ no_numbers
+pub set_of-unlisted : (pages : List (Vec ℕ Global)) (lists : List Owned) (trigram : ℕ) → trigram < trigram_count → slot_of pages trigram ≡ 0
+    → set_of (table_of pages lists) trigram ≡ no_numbers
 set_of-unlisted pages lists trigram below none = set_of-table pages lists trigram below ∙ rw none refl
 
-pub listed_from_room : (pages : List (Vec ℕ Global)) (lists : List Owned) (trigram : ℕ) → trigram < trigram_count → HasRoom (set_of (table_of pages lists) trigram) → 0 < slot_of pages trigram
+pub listed_from_room : (pages : List (Vec ℕ Global)) (lists : List Owned) (trigram : ℕ) → trigram < trigram_count
+    → HasRoom (set_of (table_of pages lists) trigram) → 0 < slot_of pages trigram
 listed_from_room pages lists trigram below room = cases (slot_of pages trigram) refl
   where
     cases : (slot : ℕ) → slot_of pages trigram ≡ slot → 0 < slot_of pages trigram
@@ -97,7 +119,9 @@ listed_from_room pages lists trigram below room = cases (slot_of pages trigram) 
     cases (suc k) e = omega arith
 
 -- the place of a trigram whose set has room
-pub stands_from_room : (pages : List (Vec ℕ Global)) (lists : List Owned) (table : List ListValue) (trigram slot : ℕ) → table_of pages lists ≡ table → IsSound pages lists → trigram < trigram_count → slot ≡ slot_of pages trigram → HasRoom (set_of table trigram) → Stands pages lists trigram (slot - 1)
+pub stands_from_room : (pages : List (Vec ℕ Global)) (lists : List Owned) (table : List ListValue) (trigram slot : ℕ)
+    → table_of pages lists ≡ table → IsSound pages lists → trigram < trigram_count → slot ≡ slot_of pages trigram
+    → HasRoom (set_of table trigram) → Stands pages lists trigram (slot - 1)
 stands_from_room pages lists table trigram slot view sound below is room =
     let some : 0 < slot_of pages trigram = listed_from_room pages lists trigram below (rw view room) in
     record { sound = sound; below = below; slot = omega arith }

@@ -1,5 +1,6 @@
 -- The candidates of a pattern, and those of them that are wanted.
-use Rattle.std.proofs.Common.{◌≡◌, ℕ, ◌≤◌, Bool, true, false, cond, Option, Some, None, List, [], ◌∷◌, map, length, Contains, IfSome, refl, sym, ◌∙◌, ap, subst, arith}
+use Rattle.std.proofs.Common.{◌≡◌, ℕ, ◌≤◌, Bool, true, false, cond, Option, Some, None, List, [], ◌∷◌, map, length, Contains, IfSome, refl}
+use Rattle.std.proofs.Common.{sym, ◌∙◌, ap, subst, arith}
 use Rattle.std.specs.Prelude.{flat_map, filter}
 use Rattle.std.proofs.lemmas.List.{length-map}
 use Rattle.std.proofs.lemmas.List.Elements.{filter_agree}
@@ -27,33 +28,47 @@ abbrev IsMetAs : Tree → Formula → Type 0
 IsMetAs tree formula = (set : TrigramSet) → is_met formula set ≡ condition tree set
 
 candidates_are : (s : State) (tree : Tree) (formula : Formula) → IsMetAs tree formula → filter (meets formula) s.documents ≡ candidates_of s tree
-candidates_are s tree formula same = filter_agree (meets formula) (λ d. condition tree (trigrams_of_body d.body)) (λ d. same (trigrams_of_body d.body)) s.documents
+candidates_are s tree formula same =
+    filter_agree (meets formula) (λ d. condition tree (trigrams_of_body d.body)) (λ d. same (trigrams_of_body d.body)) s.documents
 
 if_some_weaker : {P Q : Tree → Type 0} (o : Option Tree) → ((tree : Tree) → P tree → Q tree) → IfSome o P → IfSome o Q
 if_some_weaker None each h = tt
 if_some_weaker (Some tree) each h = each tree h
 
 -- a document's name by its number
-name_of_number : (documents : List Document) (d : Document) → Numbered documents → Contains documents d → (tree : Tree) → IsNamed documents tree d.number → ContainsMatch tree d.name
+name_of_number : (documents : List Document) (d : Document) → Numbered documents → Contains documents d → (tree : Tree)
+    → IsNamed documents tree d.number → ContainsMatch tree d.name
 name_of_number documents d rise there tree named =
     let same = same_Some named.document (d.name, d.body) (sym named.there ∙ document_at-Contains documents rise d there) in
     subst (λ pair. ContainsMatch tree pair.0) same named.name_hit
 
-number_of_name : (documents : List Document) (d : Document) → Numbered documents → Contains documents d → (tree : Tree) → ContainsMatch tree d.name → IsNamed documents tree d.number
+number_of_name : (documents : List Document) (d : Document) → Numbered documents → Contains documents d → (tree : Tree)
+    → ContainsMatch tree d.name → IsNamed documents tree d.number
 number_of_name documents d rise there tree hit = record { document = (d.name, d.body); there = document_at-Contains documents rise d there; name_hit = hit }
 
 -- the documents that the numbers are of
-shown_at-numbers : (documents wanted : List Document) → ((d : Document) → Contains wanted d → document_at d.number documents ≡ Some (d.name, d.body)) → flat_map (shown_at documents) (map (λ d. d.number) wanted) ≡ wanted
+shown_at-numbers : (documents wanted : List Document)
+    → ((d : Document) → Contains wanted d → document_at d.number documents ≡ Some (d.name, d.body))
+    → flat_map (shown_at documents) (map (λ d. d.number) wanted) ≡ wanted
 shown_at-numbers documents [] each = refl
 shown_at-numbers documents (d ∷ wanted) each =
     let here : shown_at documents d.number ≡ d ∷ [] = ap (numbered_document d.number) (each d (Contains-head d wanted)) in
     rw (here, shown_at-numbers documents wanted (λ x h. each x (Contains-tail d wanted x h))) refl
 
 -- Of the candidates in the order of their names, those whose names match are wanted.
-pub wanted_are : (s : State) (pattern : Pattern) (formula : Formula) → Numbered s.documents → IsMetAs pattern.tree formula → (members : List ℕ) → members ≡ map (λ d. d.number) (filter (meets formula) s.documents) → (ordered : List Document) → IsInNameOrder (filter (λ d. has members d.number) s.documents) ordered → (numbers kept : List ℕ) → numbers ≡ map (λ d. d.number) ordered → Selects (IsNamedFor s.documents pattern) numbers kept → AreWanted s pattern (flat_map (shown_at s.documents) kept)
+pub wanted_are : (s : State) (pattern : Pattern) (formula : Formula) → Numbered s.documents → IsMetAs pattern.tree formula
+    → (members : List ℕ) → members ≡ map (λ d. d.number) (filter (meets formula) s.documents) → (ordered : List Document)
+    → IsInNameOrder (filter (λ d. has members d.number) s.documents) ordered → (numbers kept : List ℕ)
+    → numbers ≡ map (λ d. d.number) ordered → Selects (IsNamedFor s.documents pattern) numbers kept
+    → AreWanted s pattern (flat_map (shown_at s.documents) kept)
 wanted_are s pattern formula rise same members are ordered order numbers kept numbered selected =
-    let split = Selects-map (λ d. d.number) (IsNamedFor s.documents pattern) ordered kept (subst (λ ns. Selects (IsNamedFor s.documents pattern) ns kept) numbered selected) in
-    let chosen = subst (λ ds. IsInNameOrder ds ordered) (ap (λ ns. filter (λ d. has ns d.number) s.documents) are ∙ (chosen_are s.documents rise (meets formula) ∙ candidates_are s pattern.tree formula same)) order in
+    let split =
+    Selects-map (λ d. d.number) (IsNamedFor s.documents pattern) ordered kept
+    (subst (λ ns. Selects (IsNamedFor s.documents pattern) ns kept) numbered selected) in
+    let chosen =
+    subst (λ ds. IsInNameOrder ds ordered)
+    (ap (λ ns. filter (λ d. has ns d.number) s.documents) are
+    ∙ (chosen_are s.documents rise (meets formula) ∙ candidates_are s pattern.tree formula same)) order in
     subst (λ ds. AreWanted s pattern ds) (sym (all_shown split chosen)) (wanted_of split chosen)
   where
     there : (d : Document) → Contains (candidates_of s pattern.tree) d → Contains s.documents d
@@ -68,7 +83,8 @@ wanted_are s pattern formula rise same members are ordered order numbers kept nu
     all_shown : (split : Split) → Chosen → flat_map (shown_at s.documents) kept ≡ split.from
     all_shown split chosen =
         ap (λ ns. flat_map (shown_at s.documents) ns) split.are
-        ∙ shown_at-numbers s.documents split.from (λ d h. document_at-Contains s.documents rise d (there d ((chosen.same d).0 (Contains-kept d split.selected h).0)))
+        ∙ shown_at-numbers s.documents split.from
+        (λ d h. document_at-Contains s.documents rise d (there d ((chosen.same d).0 (Contains-kept d split.selected h).0)))
 
     wanted_of : (split : Split) → Chosen → AreWanted s pattern split.from
     wanted_of split chosen = record {
@@ -77,11 +93,14 @@ wanted_are s pattern formula rise same members are ordered order numbers kept nu
         λ h. (let at = Contains-kept d split.selected h in
             let candidate = (chosen.same d).0 at.0 in
             record { candidate = candidate; name_hit = if_some_weaker pattern.name_tree (name_of_number s.documents d rise (there d candidate)) at.1 }),
-        λ w. kept-Contains d split.selected ((chosen.same d).1 w.candidate) (if_some_weaker pattern.name_tree (number_of_name s.documents d rise (there d w.candidate)) w.name_hit),
+        λ w.
+            kept-Contains d split.selected ((chosen.same d).1 w.candidate)
+            (if_some_weaker pattern.name_tree (number_of_name s.documents d rise (there d w.candidate)) w.name_hit),
       );
     }
 
-pub counted : (s : State) (pattern : Pattern) (formula : Formula) → IsMetAs pattern.tree formula → (members : List ℕ) → members ≡ map (λ d. d.number) (filter (meets formula) s.documents) → length members ≡ length (candidates_of s pattern.tree)
+pub counted : (s : State) (pattern : Pattern) (formula : Formula) → IsMetAs pattern.tree formula → (members : List ℕ)
+    → members ≡ map (λ d. d.number) (filter (meets formula) s.documents) → length members ≡ length (candidates_of s pattern.tree)
 counted s pattern formula same members are =
     ap length are ∙ (length-map (filter (meets formula) s.documents) (λ d. d.number) ∙ ap length (candidates_are s pattern.tree formula same))
 
@@ -93,5 +112,7 @@ length-filter p (d ∷ ds) = go (p d) (length-filter p ds)
     go true h = omega arith
     go false h = omega arith
 
-pub fewer : (s : State) (formula : Formula) (members : List ℕ) → members ≡ map (λ d. d.number) (filter (meets formula) s.documents) → length members ≤ length s.documents
-fewer s formula members are = omega (arith, ap length are, length-map (filter (meets formula) s.documents) (λ d. d.number), length-filter (meets formula) s.documents)
+pub fewer : (s : State) (formula : Formula) (members : List ℕ) → members ≡ map (λ d. d.number) (filter (meets formula) s.documents)
+    → length members ≤ length s.documents
+fewer s formula members are =
+    omega (arith, ap length are, length-map (filter (meets formula) s.documents) (λ d. d.number), length-filter (meets formula) s.documents)

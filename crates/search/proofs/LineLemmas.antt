@@ -19,10 +19,13 @@ abbrev pub HasNoEnd : List ℕ → Type 0
 HasNoEnd text = Nowhere (Passes (is_byte 10) text) 0 (length text)
 
 pub short-first : (text : List ℕ) (place : ℕ) → has_long_line text ≡ false → EndsAt text place → place ≤ 16384
-short-first text place short first = elim (cases_lt 16384 place) [ inl long ↦ absurd (false≢true (sym short ∙ (long-first text place first).0 long)) | inr within ↦ within ]
+short-first text place short first =
+    elim (cases_lt 16384 place) [ inl long ↦ absurd (false≢true (sym short ∙ (long-first text place first).0 long)) | inr within ↦ within ]
 
-pub short-rest : (text : List ℕ) (place : ℕ) → has_long_line text ≡ false → EndsAt text place → has_long_line (take (length text - (place + 1)) (drop (place + 1) text)) ≡ false
-short-rest text place short first = ap has_long_line (rest-after text place) ∙ (sym ((long-first text place first).1 (short-first text place short first)) ∙ short)
+pub short-rest : (text : List ℕ) (place : ℕ) → has_long_line text ≡ false → EndsAt text place
+    → has_long_line (take (length text - (place + 1)) (drop (place + 1) text)) ≡ false
+short-rest text place short first =
+    ap has_long_line (rest-after text place) ∙ (sym ((long-first text place first).1 (short-first text place short first)) ∙ short)
 
 pub length-first : (text : List ℕ) (place : ℕ) → has_long_line text ≡ false → EndsAt text place → length (take place text) ≤ 16384
 length-first text place short first = let within = short-first text place short first in simp length-take (omega arith)
@@ -30,7 +33,10 @@ length-first text place short first = let within = short-first text place short 
 pub length-last : (text : List ℕ) → has_long_line text ≡ false → HasNoEnd text → length text ≤ 16384
 length-last text short none = let e = long-last text none ∙ refl in grind (arith, nat_tests)
 
-pub numbered-first : (name : List ℕ) (line : ℕ) (text : List ℕ) (place : ℕ) → EndsAt text place → numbered name line (lines_of text) ≡ (found name line (take place text) ∷ []) ++ numbered name (line + 1) (lines_of (take (length text - (place + 1)) (drop (place + 1) text)))
+pub numbered-first : (name : List ℕ) (line : ℕ) (text : List ℕ) (place : ℕ) → EndsAt text place
+    → numbered name line (lines_of text)
+    ≡ (found name line (take place text) ∷ [])
+    ++ numbered name (line + 1) (lines_of (take (length text - (place + 1)) (drop (place + 1) text)))
 unfolding numbered
 numbered-first name line text place first =
     ap (λ lines. numbered name line lines) (lines_of-memchr text place first)
@@ -40,7 +46,8 @@ numbered-first name line text place first =
     moved : suc line ≡ line + 1
     moved = omega arith
 
-pub numbered-last : (name : List ℕ) (line : ℕ) (text : List ℕ) → 0 < length text → HasNoEnd text → numbered name line (lines_of text) ≡ (found name line text ∷ []) ++ []
+pub numbered-last : (name : List ℕ) (line : ℕ) (text : List ℕ) → 0 < length text → HasNoEnd text
+    → numbered name line (lines_of text) ≡ (found name line text ∷ []) ++ []
 unfolding numbered
 numbered-last name line [] some none = absurd (omega arith)
 numbered-last name line (b ∷ text) some none = ap (λ lines. numbered name line lines) (lines_of-none (b ∷ text) none)
@@ -51,22 +58,35 @@ numbered-empty name line [] e = refl
 numbered-empty name line (b ∷ text) e = absurd (omega arith)
 
 -- each line takes a byte at least
-pub room-rest : (line most : ℕ) (text : List ℕ) (place : ℕ) → EndsAt text place → line + length text ≤ most → line + 1 + length (take (length text - (place + 1)) (drop (place + 1) text)) ≤ most
+pub room-rest : (line most : ℕ) (text : List ℕ) (place : ℕ) → EndsAt text place → line + length text ≤ most
+    → line + 1 + length (take (length text - (place + 1)) (drop (place + 1) text)) ≤ most
 room-rest line most text place first room =
     let below : place < length text = first.0.high in
     omega (arith, length-take (length text - (place + 1)) (drop (place + 1) text), length-drop (place + 1) text)
 
-module _ (Has : Hit → Type 0) (name body : List ℕ) (line : ℕ) (text : List ℕ) (old now : List Hit) (so_far : (more : List Hit) → Selects Has (numbered name line (lines_of text)) more → Adds Has (lines_of_document name body) old (now ++ more)) where
+module _ (Has : Hit → Type 0) (name body : List ℕ) (line : ℕ) (text : List ℕ) (old now : List Hit)
+    (so_far : (more : List Hit) → Selects Has (numbered name line (lines_of text)) more
+    → Adds Has (lines_of_document name body) old (now ++ more)) where
   -- one line more
-  pub step : (place : ℕ) (new : List Hit) → EndsAt text place → Adds Has (found name line (take place text) ∷ []) now new → (more : List Hit) → Selects Has (numbered name (line + 1) (lines_of (take (length text - (place + 1)) (drop (place + 1) text)))) more → Adds Has (lines_of_document name body) old (new ++ more)
-  step place new first added = Selects-after Has (found name line (take place text) ∷ []) (numbered name (line + 1) (lines_of (take (length text - (place + 1)) (drop (place + 1) text)))) (lines_of_document name body) now old new added (λ more s. so_far more (subst (λ all. Selects Has all more) (sym (numbered-first name line text place first)) s))
+  pub step : (place : ℕ) (new : List Hit) → EndsAt text place → Adds Has (found name line (take place text) ∷ []) now new
+      → (more : List Hit)
+      → Selects Has (numbered name (line + 1) (lines_of (take (length text - (place + 1)) (drop (place + 1) text)))) more
+      → Adds Has (lines_of_document name body) old (new ++ more)
+  step place new first added =
+      Selects-after Has (found name line (take place text) ∷ [])
+      (numbered name (line + 1) (lines_of (take (length text - (place + 1)) (drop (place + 1) text)))) (lines_of_document name body) now
+      old new added (λ more s. so_far more (subst (λ all. Selects Has all more) (sym (numbered-first name line text place first)) s))
 
   -- the last line, without a line feed
   pub last : (new : List Hit) → 0 < length text → HasNoEnd text → Adds Has (found name line text ∷ []) now new → Adds Has (lines_of_document name body) old new
   last new some none added =
-      let all = Selects-after Has (found name line text ∷ []) [] (lines_of_document name body) now old new added (λ more s. so_far more (subst (λ all. Selects Has all more) (sym (numbered-last name line text some none)) s)) [] done in
+      let all =
+      Selects-after Has (found name line text ∷ []) [] (lines_of_document name body) now old new added
+      (λ more s. so_far more (subst (λ all. Selects Has all more) (sym (numbered-last name line text some none)) s)) [] done in
       subst (λ xs. Adds Has (lines_of_document name body) old xs) (append-nil new) all
 
   -- the end of the body
   pub ended : length text ≡ 0 → Adds Has (lines_of_document name body) old now
-  ended empty = subst (λ xs. Adds Has (lines_of_document name body) old xs) (append-nil now) (so_far [] (subst (λ all. Selects Has all []) (sym (numbered-empty name line text empty)) done))
+  ended empty =
+      subst (λ xs. Adds Has (lines_of_document name body) old xs) (append-nil now)
+      (so_far [] (subst (λ all. Selects Has all []) (sym (numbered-empty name line text empty)) done))

@@ -1,5 +1,6 @@
 -- The lines of documents, and the scan of all of them.
-use Rattle.std.proofs.Common.{◌≡◌, ℕ, zero, suc, ◌+◌, ◌-◌, ◌<◌, ◌≤◌, ◌⊎◌, inl, inr, List, [], ◌∷◌, ◌++◌, map, length, length-drop, drop, take, get_or, Some, Contains, IfSome, refl, sym, ◌∙◌, ap, subst, arith}
+use Rattle.std.proofs.Common.{◌≡◌, ℕ, zero, suc, ◌+◌, ◌-◌, ◌<◌, ◌≤◌, ◌⊎◌, inl, inr, List, [], ◌∷◌, ◌++◌, map, length, length-drop, drop}
+use Rattle.std.proofs.Common.{take, get_or, Some, Contains, IfSome, refl, sym, ◌∙◌, ap, subst, arith}
 use Rattle.std.specs.Prelude.{slice_get, flat_map}
 use Rattle.std.proofs.Math.Seq.{drop-cons}
 use Rattle.std.proofs.Math.ListN.{drop_of_length-le}
@@ -30,7 +31,8 @@ use Rattle.search.proofs.SelectsLemmas.{sorted-Selects, Contains-kept, kept-Cont
 
 -- ---- the lines of one document
 
-numbered-named : (name : List ℕ) (line : ℕ) (texts : List (List ℕ)) (P : Hit → Type 0) → ((line : ℕ) (text : List ℕ) → P (found name line text)) → AllByRecursion P (numbered name line texts)
+numbered-named : (name : List ℕ) (line : ℕ) (texts : List (List ℕ)) (P : Hit → Type 0)
+    → ((line : ℕ) (text : List ℕ) → P (found name line text)) → AllByRecursion P (numbered name line texts)
 unfolding numbered
 numbered-named name line [] P each = tt
 numbered-named name line (text ∷ texts) P each = (each line text, numbered-named name (suc line) texts P each)
@@ -55,20 +57,26 @@ numbered_at name line (text ∷ texts) f h = go (numbered_at name (suc line) tex
       text = ap (λ x. Some x.text) is;
     }
 
-    go : (Contains (numbered name (suc line) texts) f → IsNumbered name (suc line) texts f) → (found name line text ≡ f) ⊎ Contains (numbered name (suc line) texts) f → IsNumbered name line (text ∷ texts) f
+    go : (Contains (numbered name (suc line) texts) f → IsNumbered name (suc line) texts f)
+        → (found name line text ≡ f) ⊎ Contains (numbered name (suc line) texts) f → IsNumbered name line (text ∷ texts) f
     go deeper (inl is) = here is
     go deeper (inr rest) = let d = deeper rest in record { i = suc d.i; named = d.named; at = omega (arith, d.at); text = d.text }
 
-Contains-numbered : (name : List ℕ) (line : ℕ) (texts : List (List ℕ)) (i : ℕ) (text : List ℕ) → slice_get texts i ≡ Some text → Contains (numbered name line texts) (found name (line + i) text)
+Contains-numbered : (name : List ℕ) (line : ℕ) (texts : List (List ℕ)) (i : ℕ) (text : List ℕ) → slice_get texts i ≡ Some text
+    → Contains (numbered name line texts) (found name (line + i) text)
 unfolding numbered
 Contains-numbered name line [] i text e = cc
 Contains-numbered name line (first ∷ texts) zero text e =
     let same : first ≡ text = cc in
     let start : line ≡ line + 0 = omega arith in
-    subst (λ n. Contains (numbered name line (first ∷ texts)) (found name n text)) start (subst (λ x. Contains (numbered name line (first ∷ texts)) (found name line x)) same (Contains-head (found name line first) (numbered name (suc line) texts)))
+    subst (λ n. Contains (numbered name line (first ∷ texts)) (found name n text)) start
+    (subst (λ x. Contains (numbered name line (first ∷ texts)) (found name line x)) same
+    (Contains-head (found name line first) (numbered name (suc line) texts)))
 Contains-numbered name line (first ∷ texts) (suc i) text e =
     let moved : suc line + i ≡ line + suc i = omega arith in
-    Contains-tail (found name line first) (numbered name (suc line) texts) (found name (line + suc i) text) (subst (λ n. Contains (numbered name (suc line) texts) (found name n text)) moved (Contains-numbered name (suc line) texts i text e))
+    Contains-tail (found name line first) (numbered name (suc line) texts) (found name (line + suc i) text)
+    (subst (λ n. Contains (numbered name (suc line) texts) (found name n text)) moved
+    (Contains-numbered name (suc line) texts i text e))
 
 -- ---- all documents
 
@@ -77,7 +85,11 @@ all_lines documents = flat_map (λ d. lines_of_document d.name d.body) documents
 
 Contains-left : (xs ys : List Hit) (f : Hit) → Contains xs f → Contains (xs ++ ys) f
 Contains-left [] ys f h = absurd (omega (arith, h.1))
-Contains-left (x ∷ xs) ys f h = elim (Contains-cons x xs f h) [ inl is ↦ subst (λ y. Contains (x ∷ (xs ++ ys)) y) is (Contains-head x (xs ++ ys)) | inr rest ↦ Contains-tail x (xs ++ ys) f (Contains-left xs ys f rest) ]
+Contains-left (x ∷ xs) ys f h =
+    elim (Contains-cons x xs f h) [
+      | inl is ↦ subst (λ y. Contains (x ∷ (xs ++ ys)) y) is (Contains-head x (xs ++ ys))
+      | inr rest ↦ Contains-tail x (xs ++ ys) f (Contains-left xs ys f rest)
+    ]
 
 Contains-right : (xs ys : List Hit) (f : Hit) → Contains ys f → Contains (xs ++ ys) f
 Contains-right [] ys f h = h
@@ -92,30 +104,39 @@ Contains-cases (x ∷ xs) ys f h = go (Contains-cases xs ys f) (Contains-cons x 
     go deeper (inr rest) = elim (deeper rest) [ inl left ↦ inl (Contains-tail x xs f left) | inr right ↦ inr right ]
 
 -- a line of some document
-all_lines-Contains : (documents : List Document) (f : Hit) → Contains (all_lines documents) f → (d : Document) × Contains documents d × Contains (lines_of_document d.name d.body) f
+all_lines-Contains : (documents : List Document) (f : Hit) → Contains (all_lines documents) f
+    → (d : Document) × Contains documents d × Contains (lines_of_document d.name d.body) f
 all_lines-Contains [] f h = absurd (omega (arith, h.1))
 all_lines-Contains (d ∷ documents) f h = go (all_lines-Contains documents f) (Contains-cases (lines_of_document d.name d.body) (all_lines documents) f h)
   where
-    go : (Contains (all_lines documents) f → (x : Document) × Contains documents x × Contains (lines_of_document x.name x.body) f) → Contains (lines_of_document d.name d.body) f ⊎ Contains (all_lines documents) f → (x : Document) × Contains (d ∷ documents) x × Contains (lines_of_document x.name x.body) f
+    go : (Contains (all_lines documents) f → (x : Document) × Contains documents x × Contains (lines_of_document x.name x.body) f)
+        → Contains (lines_of_document d.name d.body) f ⊎ Contains (all_lines documents) f
+        → (x : Document) × Contains (d ∷ documents) x × Contains (lines_of_document x.name x.body) f
     go deeper (inl here) = (d, Contains-head d documents, here)
     go deeper (inr rest) = let found = deeper rest in (found.0, Contains-tail d documents found.0 found.1, found.2)
 
-Contains-all_lines : (documents : List Document) (d : Document) (f : Hit) → Contains documents d → Contains (lines_of_document d.name d.body) f → Contains (all_lines documents) f
+Contains-all_lines : (documents : List Document) (d : Document) (f : Hit) → Contains documents d
+    → Contains (lines_of_document d.name d.body) f → Contains (all_lines documents) f
 Contains-all_lines [] d f h here = absurd (omega (arith, h.1))
 Contains-all_lines (first ∷ documents) d f h here = go (Contains-all_lines documents d f) (Contains-cons first documents d h)
   where
-    go : (Contains documents d → Contains (lines_of_document d.name d.body) f → Contains (all_lines documents) f) → (first ≡ d) ⊎ Contains documents d → Contains (all_lines (first ∷ documents)) f
-    go deeper (inl is) = Contains-left (lines_of_document first.name first.body) (all_lines documents) f (subst (λ x. Contains (lines_of_document x.name x.body) f) (sym is) here)
+    go : (Contains documents d → Contains (lines_of_document d.name d.body) f → Contains (all_lines documents) f)
+        → (first ≡ d) ⊎ Contains documents d → Contains (all_lines (first ∷ documents)) f
+    go deeper (inl is) =
+        Contains-left (lines_of_document first.name first.body) (all_lines documents) f
+        (subst (λ x. Contains (lines_of_document x.name x.body) f) (sym is) here)
     go deeper (inr rest) = Contains-right (lines_of_document first.name first.body) (all_lines documents) f (deeper rest here)
 
 -- ---- in order
 
-sorted-append : (xs ys : List Hit) → IsStrictlySortedBy hit_cmp xs → IsStrictlySortedBy hit_cmp ys → AllByRecursion (λ x. AllByRecursion (λ y. hit_cmp x y ≡ Less) ys) xs → IsStrictlySortedBy hit_cmp (xs ++ ys)
+sorted-append : (xs ys : List Hit) → IsStrictlySortedBy hit_cmp xs → IsStrictlySortedBy hit_cmp ys
+    → AllByRecursion (λ x. AllByRecursion (λ y. hit_cmp x y ≡ Less) ys) xs → IsStrictlySortedBy hit_cmp (xs ++ ys)
 unfolding IsStrictlySortedBy
 sorted-append [] ys left right across = right
 sorted-append (x ∷ xs) ys left right across = (all-append xs ys left.0 across.0, sorted-append xs ys left.1 right across.1)
   where
-    all-append : (xs ys : List Hit) → AllByRecursion (λ y. hit_cmp x y ≡ Less) xs → AllByRecursion (λ y. hit_cmp x y ≡ Less) ys → AllByRecursion (λ y. hit_cmp x y ≡ Less) (xs ++ ys)
+    all-append : (xs ys : List Hit) → AllByRecursion (λ y. hit_cmp x y ≡ Less) xs → AllByRecursion (λ y. hit_cmp x y ≡ Less) ys
+        → AllByRecursion (λ y. hit_cmp x y ≡ Less) (xs ++ ys)
     all-append [] ys h g = g
     all-append (z ∷ xs) ys h g = (h.0, all-append xs ys h.1 g)
 
@@ -124,7 +145,8 @@ later_line name low line text other h =
     let before : nat_cmp low line ≡ Less = grind (arith, nat_tests) in
     rw (tied_itself nat_list_cmp_total name) before
 
-numbered-above : (name : List ℕ) (low line : ℕ) (text : List ℕ) (texts : List (List ℕ)) → low < line → AllByRecursion (λ y. hit_cmp (found name low text) y ≡ Less) (numbered name line texts)
+numbered-above : (name : List ℕ) (low line : ℕ) (text : List ℕ) (texts : List (List ℕ)) → low < line
+    → AllByRecursion (λ y. hit_cmp (found name low text) y ≡ Less) (numbered name line texts)
 unfolding numbered
 numbered-above name low line text [] h = tt
 numbered-above name low line text (other ∷ texts) h = (later_line name low line text other h, numbered-above name low (suc line) text texts (omega arith))
@@ -138,13 +160,18 @@ numbered-sorted name line (text ∷ texts) = (numbered-above name line (suc line
 lower_name : (f g : Hit) → slice_cmp nat_cmp f.name g.name ≡ Less → hit_cmp f g ≡ Less
 lower_name f g e = rw e refl
 
-all-lines-above : (name : List ℕ) (f : Hit) → f.name ≡ name → (documents : List Document) → AllByRecursion (λ n. slice_cmp nat_cmp name n ≡ Less) (map (λ d. d.name) documents) → AllByRecursion (λ y. hit_cmp f y ≡ Less) (all_lines documents)
+all-lines-above : (name : List ℕ) (f : Hit) → f.name ≡ name → (documents : List Document)
+    → AllByRecursion (λ n. slice_cmp nat_cmp name n ≡ Less) (map (λ d. d.name) documents)
+    → AllByRecursion (λ y. hit_cmp f y ≡ Less) (all_lines documents)
 all-lines-above name f is [] each = tt
 all-lines-above name f is (d ∷ documents) each =
     let below : slice_cmp nat_cmp f.name d.name ≡ Less = ap (λ n. slice_cmp nat_cmp n d.name) is ∙ each.0 in
-    join (lines_of_document d.name d.body) (all_lines documents) (numbered-named d.name 1 (lines_of d.body) (λ y. hit_cmp f y ≡ Less) (λ line text. lower_name f (found d.name line text) below)) (all-lines-above name f is documents each.1)
+    join (lines_of_document d.name d.body) (all_lines documents)
+    (numbered-named d.name 1 (lines_of d.body) (λ y. hit_cmp f y ≡ Less) (λ line text. lower_name f (found d.name line text) below))
+    (all-lines-above name f is documents each.1)
   where
-    join : (xs ys : List Hit) → AllByRecursion (λ y. hit_cmp f y ≡ Less) xs → AllByRecursion (λ y. hit_cmp f y ≡ Less) ys → AllByRecursion (λ y. hit_cmp f y ≡ Less) (xs ++ ys)
+    join : (xs ys : List Hit) → AllByRecursion (λ y. hit_cmp f y ≡ Less) xs → AllByRecursion (λ y. hit_cmp f y ≡ Less) ys
+        → AllByRecursion (λ y. hit_cmp f y ≡ Less) (xs ++ ys)
     join [] ys h g = g
     join (z ∷ xs) ys h g = (h.0, join xs ys h.1 g)
 
@@ -152,33 +179,45 @@ all_lines-sorted : (documents : List Document) → RisesByName documents → IsS
 unfolding IsStrictlySortedBy
 all_lines-sorted [] rises = tt
 all_lines-sorted (d ∷ documents) rises =
-    sorted-append (lines_of_document d.name d.body) (all_lines documents) (numbered-sorted d.name 1 (lines_of d.body)) (all_lines-sorted documents rises.1) (numbered-named d.name 1 (lines_of d.body) (λ x. AllByRecursion (λ y. hit_cmp x y ≡ Less) (all_lines documents)) (λ line text. all-lines-above d.name (found d.name line text) refl documents rises.0))
+    sorted-append (lines_of_document d.name d.body) (all_lines documents) (numbered-sorted d.name 1 (lines_of d.body))
+    (all_lines-sorted documents rises.1)
+    (numbered-named d.name 1 (lines_of d.body) (λ x. AllByRecursion (λ y. hit_cmp x y ≡ Less) (all_lines documents))
+    (λ line text. all-lines-above d.name (found d.name line text) refl documents rises.0))
 
 -- ---- from one of a list to the next
 
-pub lines-next : {X : Type 0} (lines : X → List Hit) (xs : List X) (i : ℕ) (x : X) → i < length xs → x ≡ get_or xs i x → flat_map lines (drop i xs) ≡ lines x ++ flat_map lines (drop (i + 1) xs)
+pub lines-next : {X : Type 0} (lines : X → List Hit) (xs : List X) (i : ℕ) (x : X) → i < length xs → x ≡ get_or xs i x
+    → flat_map lines (drop i xs) ≡ lines x ++ flat_map lines (drop (i + 1) xs)
 lines-next lines xs i x h is =
     let moved : suc i ≡ i + 1 = omega arith in
-    ap (λ ys. flat_map lines ys) (drop-cons xs i x h) ∙ (ap (λ y. lines y ++ flat_map lines (drop (suc i) xs)) (sym is) ∙ ap (λ n. lines x ++ flat_map lines (drop n xs)) moved)
+    ap (λ ys. flat_map lines ys) (drop-cons xs i x h)
+    ∙ (ap (λ y. lines y ++ flat_map lines (drop (suc i) xs)) (sym is) ∙ ap (λ n. lines x ++ flat_map lines (drop n xs)) moved)
 
-pub lines-step : {X : Type 0} (Has : Hit → Type 0) (lines : X → List Hit) (xs : List X) (i : ℕ) (x : X) (whole old now new : List Hit) → i < length xs → x ≡ get_or xs i x → Adds Has (lines x) now new → ((more : List Hit) → Selects Has (flat_map lines (drop i xs)) more → Adds Has whole old (now ++ more)) → (more : List Hit) → Selects Has (flat_map lines (drop (i + 1) xs)) more → Adds Has whole old (new ++ more)
+pub lines-step : {X : Type 0} (Has : Hit → Type 0) (lines : X → List Hit) (xs : List X) (i : ℕ) (x : X) (whole old now new : List Hit)
+    → i < length xs → x ≡ get_or xs i x → Adds Has (lines x) now new
+    → ((more : List Hit) → Selects Has (flat_map lines (drop i xs)) more → Adds Has whole old (now ++ more)) → (more : List Hit)
+    → Selects Has (flat_map lines (drop (i + 1) xs)) more → Adds Has whole old (new ++ more)
 lines-step Has lines xs i x whole old now new h is step before =
     Selects-after Has (lines x) (flat_map lines (drop (i + 1) xs)) whole now old new step
     (λ more s. before more (subst (λ all. Selects Has all more) (sym (lines-next lines xs i x h is)) s))
 
-pub lines-end : {X : Type 0} (Has : Hit → Type 0) (lines : X → List Hit) (xs : List X) (i : ℕ) (whole old now : List Hit) → length xs ≤ i → ((more : List Hit) → Selects Has (flat_map lines (drop i xs)) more → Adds Has whole old (now ++ more)) → Adds Has whole old now
+pub lines-end : {X : Type 0} (Has : Hit → Type 0) (lines : X → List Hit) (xs : List X) (i : ℕ) (whole old now : List Hit) → length xs ≤ i
+    → ((more : List Hit) → Selects Has (flat_map lines (drop i xs)) more → Adds Has whole old (now ++ more)) → Adds Has whole old now
 lines-end Has lines xs i whole old now h before =
     let none : drop i xs ≡ [] = drop_of_length-le xs h in
     subst (λ ys. Adds Has whole old ys) (append-nil now) (before [] (subst (λ ys. Selects Has (flat_map lines ys) []) (sym none) done))
 
 -- the first ones of a list, and the others
-pub two-parts : {X : Type 0} (Has : Hit → Type 0) (lines : X → List Hit) (xs : List X) (few : ℕ) (one two : List Hit) → Adds Has (flat_map lines (take few xs)) [] one → Adds Has (flat_map lines (take (length xs - few) (drop few xs))) one two → Selects Has (flat_map lines xs) two
+pub two-parts : {X : Type 0} (Has : Hit → Type 0) (lines : X → List Hit) (xs : List X) (few : ℕ) (one two : List Hit)
+    → Adds Has (flat_map lines (take few xs)) [] one → Adds Has (flat_map lines (take (length xs - few) (drop few xs))) one two
+    → Selects Has (flat_map lines xs) two
 two-parts Has lines xs few one two first rest =
     let whole : take few xs ++ take (length xs - few) (drop few xs) ≡ xs =
     ap (λ ys. take few xs ++ ys) (take_all (length xs - few) (drop few xs) (omega (arith, length-drop few xs))) ∙ take-append-drop few xs in
     let joined = sym (flat_map-append lines (take few xs) (take (length xs - few) (drop few xs))) ∙ ap (λ ys. flat_map lines ys) whole in
     subst (λ all. Selects Has all two) joined
-    (subst (λ hits. Selects Has (flat_map lines (take few xs) ++ flat_map lines (take (length xs - few) (drop few xs))) hits) (sym (rest.appended ∙ ap (λ ys. ys ++ rest.added) first.appended))
+    (subst (λ hits. Selects Has (flat_map lines (take few xs) ++ flat_map lines (take (length xs - few) (drop few xs))) hits)
+    (sym (rest.appended ∙ ap (λ ys. ys ++ rest.added) first.appended))
     (Selects-append first.selected rest.selected))
 
 pub no-lines : {X : Type 0} (Has : Hit → Type 0) (lines : X → List Hit) (xs : List X) (old : List Hit) → length xs ≡ 0 → Adds Has (flat_map lines xs) old old
@@ -188,12 +227,16 @@ no-lines Has lines (x ∷ xs) old e = absurd (omega arith)
 -- ---- the scan
 
 -- a document with a hit is a candidate
-candidate : (s : State) (pattern : Pattern) (d : Document) (i : ℕ) (text : List ℕ) → Contains s.documents d → slice_get (lines_of d.body) i ≡ Some text → ContainsMatch pattern.tree text → Contains (candidates_of s pattern.tree) d
+candidate : (s : State) (pattern : Pattern) (d : Document) (i : ℕ) (text : List ℕ) → Contains s.documents d
+    → slice_get (lines_of d.body) i ≡ Some text → ContainsMatch pattern.tree text → Contains (candidates_of s pattern.tree) d
 candidate s pattern d i text there at hit =
-    Contains-filter (λ x. condition pattern.tree (trigrams_of_body x.body)) s.documents d there (matching_line pattern.tree d.body text (i, slice_get_within (lines_of d.body) i text at, get_or_from_slice_get (lines_of d.body) i text text at) hit)
+    Contains-filter (λ x. condition pattern.tree (trigrams_of_body x.body)) s.documents d there
+    (matching_line pattern.tree d.body text
+    (i, slice_get_within (lines_of d.body) i text at, get_or_from_slice_get (lines_of d.body) i text text at) hit)
 
 -- Those of the lines of the wanted documents that contain a match are the scan.
-pub IsScanOf-wanted : (s : State) (pattern : Pattern) (wanted : List Document) (hits : List Hit) → AreWanted s pattern wanted → Selects (HasMatch pattern.tree) (all_lines wanted) hits → IsScanOf s pattern hits
+pub IsScanOf-wanted : (s : State) (pattern : Pattern) (wanted : List Document) (hits : List Hit) → AreWanted s pattern wanted
+    → Selects (HasMatch pattern.tree) (all_lines wanted) hits → IsScanOf s pattern hits
 IsScanOf-wanted s pattern wanted hits are kept = record {
   rises = sorted-Selects hit_cmp kept (all_lines-sorted wanted are.rises);
   exact = λ f. (λ h. forth f (Contains-kept f kept h), λ h. back f h);

@@ -29,7 +29,9 @@ pub Adds-keep : (Has : Hit → Type 0) (f : Hit) (old new : List Hit) → Has f 
 Adds-keep Has f old new h e = record { added = f ∷ []; appended = e; selected = keep h done }
 
 -- what was added, and then what is kept of the rest
-pub Selects-after : (Has : Hit → Type 0) (first rest whole now : List Hit) (old new : List Hit) → Adds Has first now new → ((more : List Hit) → Selects Has (first ++ rest) more → Adds Has whole old (now ++ more)) → (more : List Hit) → Selects Has rest more → Adds Has whole old (new ++ more)
+pub Selects-after : (Has : Hit → Type 0) (first rest whole now : List Hit) (old new : List Hit) → Adds Has first now new
+    → ((more : List Hit) → Selects Has (first ++ rest) more → Adds Has whole old (now ++ more)) → (more : List Hit) → Selects Has rest more
+    → Adds Has whole old (new ++ more)
 Selects-after Has first rest whole now old new step before more s =
     let joined = before (step.added ++ more) (Selects-append step.selected s) in
     let same : now ++ (step.added ++ more) ≡ new ++ more = sym (append_assoc now step.added more) ∙ ap (λ xs. xs ++ more) (sym step.appended) in
@@ -48,8 +50,11 @@ pub record Kept {X Y : Type 0} (f : X → Y) (Has : Y → Type 0) (xs : List X) 
 
 pub Selects-map : {X Y : Type 0} (f : X → Y) (Has : Y → Type 0) (xs : List X) (kept : List Y) → Selects Has (map f xs) kept → Kept f Has xs kept
 Selects-map f Has [] _ done = record { from = []; are = refl; selected = done }
-Selects-map f Has (x ∷ xs) _ (keep {all = _} {kept} h r) = let rest = Selects-map f Has xs kept r in record { from = x ∷ rest.from; are = ap (λ ys. f x ∷ ys) rest.are; selected = keep h rest.selected }
-Selects-map f Has (x ∷ xs) kept (skip h r) = let rest = Selects-map f Has xs kept r in record { from = rest.from; are = rest.are; selected = skip h rest.selected }
+Selects-map f Has (x ∷ xs) _ (keep {all = _} {kept} h r) =
+    let rest = Selects-map f Has xs kept r in
+    record { from = x ∷ rest.from; are = ap (λ ys. f x ∷ ys) rest.are; selected = keep h rest.selected }
+Selects-map f Has (x ∷ xs) kept (skip h r) =
+    let rest = Selects-map f Has xs kept r in record { from = rest.from; are = rest.are; selected = skip h rest.selected }
 
 -- what holds of each holds of each that is kept
 pub All-Selects : {X : Type 0} {Has : X → Type 0} {all kept : List X} (P : X → Type 0) → Selects Has all kept → AllByRecursion P all → AllByRecursion P kept
@@ -57,13 +62,16 @@ All-Selects P done each = tt
 All-Selects P (keep h r) each = (each.0, All-Selects P r each.1)
 All-Selects P (skip h r) each = All-Selects P r each.1
 
-pub sorted-Selects : {Has : Hit → Type 0} {all kept : List Hit} (cmp : Hit → Hit → Ordering) → Selects Has all kept → IsStrictlySortedBy cmp all → IsStrictlySortedBy cmp kept
+pub sorted-Selects : {Has : Hit → Type 0} {all kept : List Hit} (cmp : Hit → Hit → Ordering) → Selects Has all kept
+    → IsStrictlySortedBy cmp all → IsStrictlySortedBy cmp kept
 unfolding IsStrictlySortedBy
 sorted-Selects cmp done sorted = tt
 sorted-Selects cmp (keep {x = f} h r) sorted = (All-Selects (λ y. cmp f y ≡ Less) r sorted.0, sorted-Selects cmp r sorted.1)
 sorted-Selects cmp (skip h r) sorted = sorted-Selects cmp r sorted.1
 
-names-Selects : {Has : Document → Type 0} {all kept : List Document} (name : List ℕ) → Selects Has all kept → AllByRecursion (λ n. slice_cmp nat_cmp name n ≡ Less) (map (λ d. d.name) all) → AllByRecursion (λ n. slice_cmp nat_cmp name n ≡ Less) (map (λ d. d.name) kept)
+names-Selects : {Has : Document → Type 0} {all kept : List Document} (name : List ℕ) → Selects Has all kept
+    → AllByRecursion (λ n. slice_cmp nat_cmp name n ≡ Less) (map (λ d. d.name) all)
+    → AllByRecursion (λ n. slice_cmp nat_cmp name n ≡ Less) (map (λ d. d.name) kept)
 names-Selects name done each = tt
 names-Selects name (keep h r) each = (each.0, names-Selects name r each.1)
 names-Selects name (skip h r) each = names-Selects name r each.1
@@ -78,12 +86,18 @@ rises-Selects (skip h r) rises = rises-Selects r rises.1
 pub Contains-kept : {X : Type 0} {Has : X → Type 0} {all kept : List X} (x : X) → Selects Has all kept → Contains kept x → Contains all x × Has x
 Contains-kept x done h = absurd (omega (arith, h.1))
 Contains-kept {Has} x (keep {x = f} {all} {kept} p r) h =
-    elim (Contains-cons f kept x h) [ inl is ↦ (subst (λ y. Contains (f ∷ all) y) is (Contains-head f all), subst Has is p) | inr rest ↦ (let deeper = Contains-kept x r rest in (Contains-tail f all x deeper.0, deeper.1)) ]
+    elim (Contains-cons f kept x h) [
+      | inl is ↦ (subst (λ y. Contains (f ∷ all) y) is (Contains-head f all), subst Has is p)
+      | inr rest ↦ (let deeper = Contains-kept x r rest in (Contains-tail f all x deeper.0, deeper.1))
+    ]
 Contains-kept x (skip {x = f} {all} p r) h = let deeper = Contains-kept x r h in (Contains-tail f all x deeper.0, deeper.1)
 
 pub kept-Contains : {X : Type 0} {Has : X → Type 0} {all kept : List X} (x : X) → Selects Has all kept → Contains all x → Has x → Contains kept x
 kept-Contains x done h has = absurd (omega (arith, h.1))
 kept-Contains x (keep {x = f} {all} {kept} p r) h has =
-    elim (Contains-cons f all x h) [ inl is ↦ subst (λ y. Contains (f ∷ kept) y) is (Contains-head f kept) | inr rest ↦ Contains-tail f kept x (kept-Contains x r rest has) ]
+    elim (Contains-cons f all x h) [
+      | inl is ↦ subst (λ y. Contains (f ∷ kept) y) is (Contains-head f kept)
+      | inr rest ↦ Contains-tail f kept x (kept-Contains x r rest has)
+    ]
 kept-Contains {Has} x (skip {x = f} {all} {kept} p r) h has =
     elim (Contains-cons f all x h) [ inl is ↦ absurd (p (subst Has (sym is) has)) | inr rest ↦ kept-Contains x r rest has ]

@@ -12,7 +12,8 @@ use Rattle.search.proofs.ScanLemmas.{all_lines}
 abbrev pub AreTakenUpTo : List Document → List ℕ → ℕ → List TakenDocument → Type 0
 AreTakenUpTo documents numbers i taken = map shown taken ≡ flat_map (shown_at documents) (take i numbers)
 
-pub all_taken : (documents : List Document) (numbers : List ℕ) (i : ℕ) (taken : List TakenDocument) → length numbers ≤ i → AreTakenUpTo documents numbers i taken → map shown taken ≡ flat_map (shown_at documents) numbers
+pub all_taken : (documents : List Document) (numbers : List ℕ) (i : ℕ) (taken : List TakenDocument) → length numbers ≤ i
+    → AreTakenUpTo documents numbers i taken → map shown taken ≡ flat_map (shown_at documents) numbers
 all_taken documents numbers i taken high before = before ∙ ap (λ xs. flat_map (shown_at documents) xs) (take_all i numbers high)
 
 -- their lines

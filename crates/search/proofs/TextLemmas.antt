@@ -22,10 +22,12 @@ six a b c d e f = simp (append-nil, append_assoc)
 pub Begins-further : (old more middle new : List ℕ) → middle ≡ old ++ more → Begins middle new → Begins old new
 Begins-further old more middle new grown h =
     let cut : new ≡ middle ++ drop (length middle) new = sym (ap (λ t. t ++ drop (length middle) new) (sym h) ∙ take-append-drop (length middle) new) in
-    Begins-append old (more ++ drop (length middle) new) new (cut ∙ (ap (λ t. t ++ drop (length middle) new) grown ∙ append_assoc old more (drop (length middle) new)))
+    Begins-append old (more ++ drop (length middle) new) new
+    (cut ∙ (ap (λ t. t ++ drop (length middle) new) grown ∙ append_assoc old more (drop (length middle) new)))
 
 -- the number of hits, as it is printed
-pub counted : (hits : Vec StoredHit Global) (len : ℕ) (shown : List Hit) → len ≡ vec_len hits → hits_of hits.items ≡ shown → decimal len ≡ decimal (length shown)
+pub counted : (hits : Vec StoredHit Global) (len : ℕ) (shown : List Hit) → len ≡ vec_len hits → hits_of hits.items ≡ shown
+    → decimal len ≡ decimal (length shown)
 counted hits len shown e same = ap decimal (e ∙ (hits.ok.0 ∙ (sym (length-map hits.items hit_of) ∙ ap length same)))
 
 -- three texts one after another

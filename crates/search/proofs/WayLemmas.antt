@@ -20,5 +20,6 @@ pub finds_line_by_line : (tree : Tree) → Finds tree LineByLine
 unfolding Finds
 finds_line_by_line tree = tt
 
-pub compiled_from : (tree : Tree) (o : Option Compiled) (compiled : Compiled) → o ≡ Some compiled → IfSome o (IsCompiledFrom tree) → IsCompiledFrom tree compiled
+pub compiled_from : (tree : Tree) (o : Option Compiled) (compiled : Compiled) → o ≡ Some compiled → IfSome o (IsCompiledFrom tree)
+    → IsCompiledFrom tree compiled
 compiled_from tree o compiled is from = subst (λ x. IfSome x (IsCompiledFrom tree)) is from

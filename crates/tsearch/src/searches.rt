@@ -91,12 +91,7 @@ fn search_refusal(alloc: Global, case: Case, pattern: &[u8]) -> SearchReason
     }
 }
 
-fn search_in_refusal(
-    alloc: Global,
-    case: Case,
-    name_pattern: &[u8],
-    pattern: &[u8],
-) -> SearchReason
+fn search_in_refusal(alloc: Global, case: Case, name_pattern: &[u8], pattern: &[u8]) -> SearchReason
     ensures { IsRefusalOf (search_in_item case name_pattern.now pattern.now) result }
 {
     match Prepared::within_with_case(alloc, name_pattern, pattern, case) {

@@ -1,5 +1,6 @@
 -- What the parts of the reader of patterns tell one another.
-use Rattle.std.specs.Prelude.{◌≡◌, ℕ, suc, ◌+◌, ◌<◌, ◌≤◌, Bool, true, false, ◌&&◌, ◌||◌, ◌==◌, nat_lt, IsTrue, IsFalse, List, [], ◌∷◌, ◌++◌, map, Option, Some, None, MatchOption, slice_index}
+use Rattle.std.specs.Prelude.{◌≡◌, ℕ, suc, ◌+◌, ◌<◌, ◌≤◌, Bool, true, false, ◌&&◌, ◌||◌, ◌==◌, nat_lt, IsTrue, IsFalse, List, [], ◌∷◌, ◌++◌}
+use Rattle.std.specs.Prelude.{map, Option, Some, None, MatchOption, slice_index}
 use Rattle.std.specs.List.{AllPass}
 use Rattle.ere.specs.declared.case.Case.{Case}
 use Rattle.ere.specs.declared.token.Token.{Token}
@@ -141,10 +142,16 @@ abbrev pub NoAtom : Case → ℕ → List ℕ → Type 0
 NoAtom case depth from = (all rest : List tokens.Token) (tree : Tree) → tokens.Tokens case from all → SpellsAtom greatest_open depth all rest tree → ⊥
 
 abbrev pub NoPiece : Case → ℕ → List ℕ → Type 0
-NoPiece case depth from = (all rest : List tokens.Token) (tree : Tree) → tokens.Tokens case from all → SpellsPiece greatest_open depth all rest tree → NoTimes rest → ⊥
+NoPiece case depth from =
+    (all rest : List tokens.Token) (tree : Tree) → tokens.Tokens case from all → SpellsPiece greatest_open depth all rest tree
+    → NoTimes rest → ⊥
 
 abbrev pub NoBranch : Case → ℕ → List ℕ → Type 0
-NoBranch case depth from = (all rest : List tokens.Token) (pieces : Trees) → tokens.Tokens case from all → SpellsBranch greatest_open depth all rest pieces → EndsBranch rest depth → ⊥
+NoBranch case depth from =
+    (all rest : List tokens.Token) (pieces : Trees) → tokens.Tokens case from all → SpellsBranch greatest_open depth all rest pieces
+    → EndsBranch rest depth → ⊥
 
 abbrev pub NoAlternatives : Case → ℕ → List ℕ → Type 0
-NoAlternatives case depth from = (all rest : List tokens.Token) (branches : Trees) → tokens.Tokens case from all → SpellsAlternatives greatest_open depth all rest branches → Ends rest depth → ⊥
+NoAlternatives case depth from =
+    (all rest : List tokens.Token) (branches : Trees) → tokens.Tokens case from all
+    → SpellsAlternatives greatest_open depth all rest branches → Ends rest depth → ⊥

@@ -1,5 +1,6 @@
 -- The words of a set can be read off its truth values. This is proved here, and not among the proofs, since the set's `Model` cites it.
-use Rattle.std.proofs.Common.{◌≡◌, ℕ, zero, suc, ◌+◌, ◌*◌, ◌/◌, ◌%◌, ◌^◌, ◌<◌, Bool, false, cond, ◌==◌, List, map, length, get_or, refl, sym, ap, subst, ◌∙◌, arith}
+use Rattle.std.proofs.Common.{◌≡◌, ℕ, zero, suc, ◌+◌, ◌*◌, ◌/◌, ◌%◌, ◌^◌, ◌<◌, Bool, false, cond, ◌==◌, List, map, length, get_or, refl}
+use Rattle.std.proofs.Common.{sym, ap, subst, ◌∙◌, arith}
 use Rattle.std.specs.List.{range_with_len}
 use Rattle.std.specs.Int.{bit_at}
 use Rattle.std.specs.Simd.Lanes.{mask_l}
@@ -26,7 +27,8 @@ bit_is zero small = refl
 bit_is (suc zero) small = refl
 bit_is (suc (suc x)) small = absurd (omega arith)
 
-pub word_from : (test : ℕ → Bool) (word first : ℕ) → word < 2 ^ 64 → ((k : ℕ) → k < 64 → test (first + k) ≡ has_bit word k) → mask_l (map test (range_with_len first 64)) ≡ word
+pub word_from : (test : ℕ → Bool) (word first : ℕ) → word < 2 ^ 64 → ((k : ℕ) → k < 64 → test (first + k) ≡ has_bit word k)
+    → mask_l (map test (range_with_len first 64)) ≡ word
 word_from test word first small each = same_from_bits_below 64 (mask_l bits) word below small same
   where
     bits : List Bool
@@ -36,14 +38,20 @@ word_from test word first small each = same_from_bits_below 64 (mask_l bits) wor
     below = subst (λ n. mask_l bits < 2 ^ n) (length-map-range_with_len test first 64) (mask_l-lt bits)
 
     same : (k : ℕ) → k < 64 → bit_at (mask_l bits) k ≡ bit_at word k
-    same k inside = bit_mask_l bits k ∙ ap (λ t. cond t 1 0) (get_or-map-range_with_len test first 64 k (first + k) false inside refl ∙ each k inside) ∙ bit_is (bit_at word k) (bit_at-lt word k)
+    same k inside =
+        bit_mask_l bits k ∙ ap (λ t. cond t 1 0) (get_or-map-range_with_len test first 64 k (first + k) false inside refl ∙ each k inside)
+        ∙ bit_is (bit_at word k) (bit_at-lt word k)
 
 pub words_of-values_of : (words : List ℕ) → AreLineBytes words → words_of (values_of words) ≡ words
 unfolding words_of
-words_of-values_of words h = same_number_lists (words_of (values_of words)) words (length-map-range_with_len (λ i. word_of (values_of words) (i * 64)) 0 4 ∙ sym h.whole) each
+words_of-values_of words h =
+    same_number_lists (words_of (values_of words)) words
+    (length-map-range_with_len (λ i. word_of (values_of words) (i * 64)) 0 4 ∙ sym h.whole) each
   where
     each : (i : ℕ) → i < length (words_of (values_of words)) → get_or (words_of (values_of words)) i 0 ≡ get_or words i 0
     each i inside =
         let four : length (words_of (values_of words)) ≡ 4 = length-map-range_with_len (λ i. word_of (values_of words) (i * 64)) 0 4 in
         let place : i < 4 = omega arith in
-        get_or-map-range_with_len (λ i. word_of (values_of words) (i * 64)) 0 4 i i 0 place (omega arith) ∙ word_from (λ b. get_or (values_of words) b false) (get_or words i 0) (i * 64) (h.small i) (λ k low. get_or-values_of words (i * 64 + k) (omega arith) ∙ byte_in words i k low)
+        get_or-map-range_with_len (λ i. word_of (values_of words) (i * 64)) 0 4 i i 0 place (omega arith)
+        ∙ word_from (λ b. get_or (values_of words) b false) (get_or words i 0) (i * 64) (h.small i)
+        (λ k low. get_or-values_of words (i * 64 + k) (omega arith) ∙ byte_in words i k low)

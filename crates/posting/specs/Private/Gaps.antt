@@ -1,5 +1,6 @@
 -- Stored numbers, read back.
-use Rattle.std.specs.Prelude.{◌≡◌, ℕ, zero, suc, ◌+◌, ◌-◌, ◌*◌, ◌^◌, ◌<◌, ◌≤◌, if◌then◌else◌, nat_lt, nat_le, List, [], ◌∷◌, ◌++◌, All, filter, length, true, ◌||◌, take, sum, slice_index}
+use Rattle.std.specs.Prelude.{◌≡◌, ℕ, zero, suc, ◌+◌, ◌-◌, ◌*◌, ◌^◌, ◌<◌, ◌≤◌, if◌then◌else◌, nat_lt, nat_le, List, [], ◌∷◌, ◌++◌, All}
+use Rattle.std.specs.Prelude.{filter, length, true, ◌||◌, take, sum, slice_index}
 use Rattle.std.specs.List.Sorted.{IsStrictlyIncreasing}
 use Rattle.posting.specs.ListValue.{has, without}
 use Rattle.posting.specs.Stored.{bytes_of, bytes_after}

@@ -13,7 +13,9 @@ pub loop-at-init : goal.loop-at-init
 loop-at-init c = record { read = items.last c.in_ok-members.ensures.ok; on = c.in_ok-members.ensures.after.0; within = c.in_ok-members.ensures.after.1 }
 
 pub returns-in_err-more-clause-err : goal.returns-in_err-more-clause-err
-returns-in_err-more-clause-err c = if_err c.from_residual-in_err-more.result _ (items_fail _ _ _ c.loop-at.invariant.read (sym c.loop-at-test.ensures) c.in_err-more.ensures.err)
+returns-in_err-more-clause-err c =
+    if_err c.from_residual-in_err-more.result _
+    (items_fail _ _ _ c.loop-at.invariant.read (sym c.loop-at-test.ensures) c.in_err-more.ensures.err)
 
 pub loop-at-preserved : goal.loop-at-preserved
 loop-at-preserved c = record {
@@ -23,4 +25,6 @@ loop-at-preserved c = record {
 }
 
 pub returns-clause-ok : goal.returns-clause-ok
-returns-clause-ok c = subst (λ v. SpellsItems true (drop c.args.start c.args.text.now) v c.loop-at.members) (Stands-begins c.args.text.now c.loop-at.at 93 (sym c.loop-at-test.ensures)).from c.loop-at.invariant.read
+returns-clause-ok c =
+    subst (λ v. SpellsItems true (drop c.args.start c.args.text.now) v c.loop-at.members)
+    (Stands-begins c.args.text.now c.loop-at.at 93 (sym c.loop-at-test.ensures)).from c.loop-at.invariant.read

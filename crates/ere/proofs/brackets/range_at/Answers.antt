@@ -11,5 +11,11 @@ returns-in_err-high-clause-err c = if_err c.from_residual.result _ (λ high rest
 
 pub returns-clause-ok : goal.returns-clause-ok
 returns-clause-ok c =
-    let ahead = IsAhead-range_ahead c.args.text.now c.args.dash c.requires in
-    (c.in_ok-high.high, end_found (drop (c.args.dash + 1) c.args.text.now) _ _ (open_end_begins c.args.text.now (c.args.dash + 1) ahead.inside ahead.open_end) (plain_from _ c.if-opens.ensures c.if-opens-2.ensures) c.in_ok-high.ensures.ok, omega arith, c.between.ensures)
+    let ahead = IsAhead-range_ahead c.args.text.now c.args.dash c.requires in (
+      c.in_ok-high.high,
+      end_found (drop (c.args.dash + 1) c.args.text.now) _ _
+          (open_end_begins c.args.text.now (c.args.dash + 1) ahead.inside ahead.open_end)
+          (plain_from _ c.if-opens.ensures c.if-opens-2.ensures) c.in_ok-high.ensures.ok,
+      omega arith,
+      c.between.ensures,
+    )

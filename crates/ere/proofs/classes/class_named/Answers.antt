@@ -1,5 +1,6 @@
 use Rattle.std.proofs.Common.{rules}
-use Rattle.ere.specs.Classes.{class_named, is_upper, is_lower, is_alpha, is_digit, is_alnum, is_xdigit, is_punct, is_graph, is_print, is_blank, is_space, is_cntrl}
+use Rattle.ere.specs.Classes.{class_named, is_upper, is_lower, is_alpha, is_digit, is_alnum, is_xdigit, is_punct, is_graph, is_print}
+use Rattle.ere.specs.Classes.{is_blank, is_space, is_cntrl}
 use Rattle.ere.proofs.classes.class_named.Goals as goal
 
 pub returns-then-eq : goal.returns-then-eq

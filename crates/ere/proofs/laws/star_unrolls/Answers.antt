@@ -4,7 +4,10 @@ use Rattle.ere.specs.Tree.{Tree, repeat}
 use Rattle.ere.proofs.laws.star_unrolls.Goals as goal
 
 abbrev Unrolled : Tree → List ℕ → List ℕ → List ℕ → Type 0
-Unrolled body before word after = (word ≡ []) ⊎ ((front back : List ℕ) × (word ≡ front ++ back) × InLanguage (repeat body 0 None) before front (back ++ after) × InLanguage body (before ++ front) back after)
+Unrolled body before word after =
+    (word ≡ [])
+    ⊎ ((front back : List ℕ) × (word ≡ front ++ back) × InLanguage (repeat body 0 None) before front (back ++ after)
+    × InLanguage body (before ++ front) back after)
 
 unroll : (body : Tree) (before word after : List ℕ) (count : ℕ) → InCopies (InLanguage body) count before word after → Unrolled body before word after
 unfolding InLanguage InCopies

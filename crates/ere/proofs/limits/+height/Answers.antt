@@ -1,5 +1,6 @@
 use Rattle.std.proofs.Common.{arith, ◌∙◌, ap}
-use Rattle.ere.proofs.Sizes.{forms, forms_back, forms_end, height-Empty, height-Set, height-Start, height-End, height-Cat, height-Alt, height-Repeat, highest-more, highest-none}
+use Rattle.ere.proofs.Sizes.{forms, forms_back, forms_end, height-Empty, height-Set, height-Start, height-End, height-Cat, height-Alt}
+use Rattle.ere.proofs.Sizes.{height-Repeat, highest-more, highest-none}
 use Rattle.ere.specs.Limits.{highest}
 use Rattle.ere.specs.Tree.{form}
 use Rattle.ere.proofs.limits.+height.Goals as goal
@@ -11,7 +12,8 @@ pub capped_height-returns-in-Alt : goal.capped_height-returns-in-Alt
 capped_height-returns-in-Alt t c = omega (arith, height-Alt _ c.in-Alt.members c.in-Alt.is, rw c.deref-in-Alt.ensures.value at c.capped_highest-in-Alt.ensures)
 
 pub capped_height-returns-in-Repeat : goal.capped_height-returns-in-Repeat
-capped_height-returns-in-Repeat t c = omega (arith, height-Repeat _ c.in-Repeat.body _ _ c.in-Repeat.is, rw c.deref-in-Repeat.ensures at c.capped_height.ensures)
+capped_height-returns-in-Repeat t c =
+    omega (arith, height-Repeat _ c.in-Repeat.body _ _ c.in-Repeat.is, rw c.deref-in-Repeat.ensures at c.capped_height.ensures)
 
 pub capped_highest-loop-i-init : goal.capped_highest-loop-i-init
 capped_highest-loop-i-init t c = omega (arith, ap highest (forms_end c.args.members.now) ∙ highest-none)

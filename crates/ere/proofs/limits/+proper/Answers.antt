@@ -1,5 +1,6 @@
 use Rattle.std.proofs.Common.{arith}
-use Rattle.ere.proofs.Sizes.{forms_back, forms_end, proper-Empty, proper-Set, proper-Start, proper-End, proper-Cat, proper-Alt, few-Cat, few-Alt, proper-Repeat, unordered-Repeat, proper-none, proper-more, improper-more}
+use Rattle.ere.proofs.Sizes.{forms_back, forms_end, proper-Empty, proper-Set, proper-Start, proper-End, proper-Cat, proper-Alt, few-Cat}
+use Rattle.ere.proofs.Sizes.{few-Alt, proper-Repeat, unordered-Repeat, proper-none, proper-more, improper-more}
 use Rattle.ere.proofs.limits.+proper.Goals as goal
 
 pub are_proper-loop-i-init : goal.are_proper-loop-i-init
@@ -17,7 +18,8 @@ are_proper-loop-i-preserved t c =
 
 pub is_proper-returns-then-len-ge2 : goal.is_proper-returns-then-len-ge2
 is_proper-returns-then-len-ge2 t c =
-    proper-Cat _ c.in-Cat.members c.len.result _ c.in-Cat.is (omega (arith, c.in-Cat.members.ok.0)) (omega arith) (rw c.deref.ensures.value at c.are_proper.ensures)
+    proper-Cat _ c.in-Cat.members c.len.result _ c.in-Cat.is (omega (arith, c.in-Cat.members.ok.0)) (omega arith)
+    (rw c.deref.ensures.value at c.are_proper.ensures)
 
 pub is_proper-returns-else-len-ge2 : goal.is_proper-returns-else-len-ge2
 is_proper-returns-else-len-ge2 t c =
@@ -25,7 +27,8 @@ is_proper-returns-else-len-ge2 t c =
 
 pub is_proper-returns-then-len-ge2-2 : goal.is_proper-returns-then-len-ge2-2
 is_proper-returns-then-len-ge2-2 t c =
-    proper-Alt _ c.in-Alt.members c.len-in-Alt.result _ c.in-Alt.is (omega (arith, c.in-Alt.members.ok.0)) (omega arith) (rw c.deref-then-len-ge2-2.ensures.value at c.are_proper-then-len-ge2-2.ensures)
+    proper-Alt _ c.in-Alt.members c.len-in-Alt.result _ c.in-Alt.is (omega (arith, c.in-Alt.members.ok.0)) (omega arith)
+    (rw c.deref-then-len-ge2-2.ensures.value at c.are_proper-then-len-ge2-2.ensures)
 
 pub is_proper-returns-else-len-ge2-2 : goal.is_proper-returns-else-len-ge2-2
 is_proper-returns-else-len-ge2-2 t c =
@@ -33,7 +36,8 @@ is_proper-returns-else-len-ge2-2 t c =
 
 pub is_proper-returns-then-is_ordered : goal.is_proper-returns-then-is_ordered
 is_proper-returns-then-is_ordered t c =
-    proper-Repeat _ c.in-Repeat.body _ _ c.is_ordered.result _ c.in-Repeat.is c.is_ordered.ensures c.if-is_ordered.true (rw c.deref-then-is_ordered.ensures at c.is_proper.ensures)
+    proper-Repeat _ c.in-Repeat.body _ _ c.is_ordered.result _ c.in-Repeat.is c.is_ordered.ensures c.if-is_ordered.true
+    (rw c.deref-then-is_ordered.ensures at c.is_proper.ensures)
 
 pub is_proper-returns-else-is_ordered : goal.is_proper-returns-else-is_ordered
 is_proper-returns-else-is_ordered t c =

@@ -20,4 +20,5 @@ pub returns-in_default-len : goal.returns-in_default-len
 returns-in_default-len c = λ trees built.
     let kept = subst (λ m. AreBuilt m trees) c.in-Some.is built in
     let is = alternatives_alt c.in-Some.branches.trees.items trees kept.0 (omega (arith, c.in-Some.branches.trees.ok.0)) in
-    c.higher.ensures (alternatives_of trees) (form-Alt c.in-Some.branches.trees ∙ ap alt kept.0 ∙ sym is) (ap height is ∙ height_alt trees ∙ omega (arith, kept.1))
+    c.higher.ensures (alternatives_of trees) (form-Alt c.in-Some.branches.trees ∙ ap alt kept.0 ∙ sym is)
+    (ap height is ∙ height_alt trees ∙ omega (arith, kept.1))

@@ -6,7 +6,9 @@ use Rattle.ere.proofs.PartLemmas.{height_repeat}
 use Rattle.ere.proofs.parts.repeat_of.Goals as goal
 
 pub returns-in_default-clause-ok : goal.returns-in_default-clause-ok
-returns-in_default-clause-ok c = λ tree built. let high = subst (λ m. IsBuilt m tree) c.in_default.is built in omega (arith, high, height_repeat tree c.args.least c.args.greatest)
+returns-in_default-clause-ok c =
+    λ tree built.
+    let high = subst (λ m. IsBuilt m tree) c.in_default.is built in omega (arith, high, height_repeat tree c.args.least c.args.greatest)
 
 pub returns-then-part-ge-MAX_HEIGHT-clause-ok : goal.returns-then-part-ge-MAX_HEIGHT-clause-ok
 returns-then-part-ge-MAX_HEIGHT-clause-ok c = λ tree built.

@@ -12,4 +12,6 @@ returns-in_err-duplication_at-clause-err c =
 pub returns-in-Some-clause-err : goal.returns-in-Some-clause-err
 returns-in-Some-clause-err c =
     let text = c.args.text.now in
-    times_first _ _ _ _ (subst (λ f. IfSome f (λ d. SpellsToken c.args.case (drop c.args.after text) (drop d.2 text) (times d.0 d.1))) c.in-Some.is c.in_ok-duplication_at.ensures.ok)
+    times_first _ _ _ _
+    (subst (λ f. IfSome f (λ d. SpellsToken c.args.case (drop c.args.after text) (drop d.2 text) (times d.0 d.1))) c.in-Some.is
+    c.in_ok-duplication_at.ensures.ok)

@@ -12,5 +12,7 @@ swizzle c =
 pub returns : goal.returns
 returns c =
     let low = lanes_splat bit_and c.args.bytes 7 c.fits-bytes.0 in
-    lanes_are _ (λ k. get_or powers (get_or (zip2 bit_and c.args.bytes (replicate 16 7)) k 0) 0) (λ k. 2 ^ (get_or c.args.bytes k 0 % 8)) (λ k l. ap (λ n. get_or powers n 0) (low.each k l ∙ and_mask (get_or c.args.bytes k 0) 3) ∙ power_of_bit (get_or c.args.bytes k 0 % 8) (omega arith))
+    lanes_are _ (λ k. get_or powers (get_or (zip2 bit_and c.args.bytes (replicate 16 7)) k 0) 0) (λ k. 2 ^ (get_or c.args.bytes k 0 % 8)) (λ k l.
+    ap (λ n. get_or powers n 0) (low.each k l ∙ and_mask (get_or c.args.bytes k 0) 3)
+    ∙ power_of_bit (get_or c.args.bytes k 0 % 8) (omega arith))
     (lanes_looked_up powers _ low.long (λ k l. omega (arith, low.each k l, and_mask (get_or c.args.bytes k 0) 3)))

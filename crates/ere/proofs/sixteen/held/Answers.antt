@@ -15,4 +15,5 @@ pub returns-clause-each : goal.returns-clause-each
 returns-clause-each c = λ k l.
     let both = zip2 bit_and c.args.bytes c.args.bits in
     let long : length both ≡ 16 = length-zip2 bit_and c.args.bytes c.args.bits (c.fits-bytes.0 ∙ sym c.fits-bits.0) ∙ c.fits-bytes.0 in
-    ap (λ n. has_bit n k) (equal_lanes both c.args.bits long c.fits-bits.0) ∙ equal_each both c.args.bits long c.fits-bits.0 k l ∙ ap (λ n. n == get_or c.args.bits k 0) (get_or-zip2 bit_and c.args.bytes c.args.bits k 0 0 0 (omega arith) (omega arith))
+    ap (λ n. has_bit n k) (equal_lanes both c.args.bits long c.fits-bits.0) ∙ equal_each both c.args.bits long c.fits-bits.0 k l
+    ∙ ap (λ n. n == get_or c.args.bits k 0) (get_or-zip2 bit_and c.args.bytes c.args.bits k 0 0 0 (omega arith) (omega arith))

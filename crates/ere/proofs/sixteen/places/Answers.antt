@@ -7,4 +7,6 @@ use Rattle.ere.proofs.sixteen.places.Goals as goal
 pub returns : goal.returns
 returns c =
     let moved = lanes_splat (λ a b. a / 2 ^ b) c.args.bytes 3 c.fits-bytes.0 in
-    lanes_are _ (λ k. bit_and (get_or (zip2 (λ a b. a / 2 ^ b) c.args.bytes (replicate 16 3)) k 0) 15) (λ k. get_or c.args.bytes k 0 / 8 % 16) (λ k l. ap (λ n. bit_and n 15) (moved.each k l) ∙ and_mask (get_or c.args.bytes k 0 / 8) 4) (lanes_splat bit_and _ 15 moved.long)
+    lanes_are _ (λ k. bit_and (get_or (zip2 (λ a b. a / 2 ^ b) c.args.bytes (replicate 16 3)) k 0) 15)
+    (λ k. get_or c.args.bytes k 0 / 8 % 16) (λ k l. ap (λ n. bit_and n 15) (moved.each k l) ∙ and_mask (get_or c.args.bytes k 0 / 8) 4)
+    (lanes_splat bit_and _ 15 moved.long)

@@ -10,7 +10,9 @@ pub returns-then-not-begins_duplication-clause-none : goal.returns-then-not-begi
 returns-then-not-begins_duplication-clause-none c = c.if-not-begins_duplication.ensures.none c.args.case refl
 
 pub returns-in-Times-clause-ok : goal.returns-in-Times-clause-ok
-returns-in-Times-clause-ok c = subst (λ t. SpellsToken c.args.case (drop c.args.at c.args.text.now) (drop c.in_ok-token.after c.args.text.now) (meaning t)) c.in-Times.is c.in_ok-token.ensures.ok
+returns-in-Times-clause-ok c =
+    subst (λ t. SpellsToken c.args.case (drop c.args.at c.args.text.now) (drop c.in_ok-token.after c.args.text.now) (meaning t))
+    c.in-Times.is c.in_ok-token.ensures.ok
 
 means_times : (t : Token) (l : ℕ) (g : Option ℕ) → meaning t ≡ times l g → t ≡ Times l g
 means_times (Set members) l g e = absurd (cc)
@@ -22,4 +24,12 @@ means_times AtEnd l g e = absurd (cc)
 means_times (Times m h) l g e = cc
 
 pub returns-in_default : goal.returns-in_default
-returns-in_default c = record { ok = tt; after = tt; none = no_duplication_other _ _ (meaning c.in_ok-token.token) c.in_ok-token.ensures.ok (λ l g e. c.in_default.not-Times l g (means_times _ l g e)); err = tt }
+returns-in_default c =
+    record {
+      ok = tt;
+      after = tt;
+      none =
+          no_duplication_other _ _ (meaning c.in_ok-token.token) c.in_ok-token.ensures.ok
+          (λ l g e. c.in_default.not-Times l g (means_times _ l g e));
+      err = tt;
+    }

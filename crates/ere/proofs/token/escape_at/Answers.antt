@@ -12,7 +12,8 @@ use Rattle.ere.proofs.token.escape_at.Goals.{else-at-text-via-then-at-text+else-
 pub returns-then-is_escapable-clause-ok : goal.returns-then-is_escapable-clause-ok
 returns-then-is_escapable-clause-ok c =
     spelled.escaped (get_or c.args.text.now (c.args.at + 1) 0)
-    ((Stands-begins c.args.text.now c.args.at 92 c.requires).from ∙ ap (λ t. 92 ∷ t) (next c.args.text.now (c.args.at + 1) (c.args.at + 2) (omega arith) (omega arith)))
+    ((Stands-begins c.args.text.now c.args.at 92 c.requires).from
+    ∙ ap (λ t. 92 ∷ t) (next c.args.text.now (c.args.at + 1) (c.args.at + 2) (omega arith) (omega arith)))
     (sym c.if-is_escapable.ensures) (ap set c.single_in.ensures)
 
 pub returns-clause-err : goal.returns-clause-err

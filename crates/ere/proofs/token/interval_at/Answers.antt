@@ -10,7 +10,9 @@ pub returns-in_default-clause-err : goal.returns-in_default-clause-err
 returns-in_default-clause-err c = low_fails _ _ (subst (ReadsCount _ _) c.in_default.is c.count_at-low.ensures.count)
 
 pub returns-then-stands_at-clause-ok : goal.returns-then-stands_at-clause-ok
-returns-then-stands_at-clause-ok c = exactly_found _ _ _ c.in-Some.least (subst (ReadsCount _ _) c.in-Some.is c.count_at-low.ensures.count) (Stands-begins c.args.text.now c.count_at-low.result.1 125 (sym c.if-stands_at.ensures)).from
+returns-then-stands_at-clause-ok c =
+    exactly_found _ _ _ c.in-Some.least (subst (ReadsCount _ _) c.in-Some.is c.count_at-low.ensures.count)
+    (Stands-begins c.args.text.now c.count_at-low.result.1 125 (sym c.if-stands_at.ensures)).from
 
 pub returns-then-not-stands_at-clause-err : goal.returns-then-not-stands_at-clause-err
 returns-then-not-stands_at-clause-err c = tail_fails _ _ _ c.count_at-low.ensures.count c.if-stands_at.ensures c.if-not-stands_at.ensures
@@ -20,20 +22,25 @@ returns-then-stands_at-2-clause-ok c =
     let text = c.args.text.now in
     let comma = c.count_at-low.result.1 in
     let brace = (Stands-begins text (comma + 1) 125 (sym c.if-stands_at-2.ensures)).from ∙ ap (λ k. 125 ∷ drop k text) (omega arith) in
-    at_least_found _ _ _ c.in-Some.least (subst (ReadsCount _ _) c.in-Some.is c.count_at-low.ensures.count) ((Stands-begins text comma 44 (sym c.if-not-stands_at.ensures)).from ∙ ap (λ t. 44 ∷ t) brace)
+    at_least_found _ _ _ c.in-Some.least (subst (ReadsCount _ _) c.in-Some.is c.count_at-low.ensures.count)
+    ((Stands-begins text comma 44 (sym c.if-not-stands_at.ensures)).from ∙ ap (λ t. 44 ∷ t) brace)
 
 pub returns-in_default-high-clause-err : goal.returns-in_default-high-clause-err
 returns-in_default-high-clause-err c =
     let q = subst (ReadsCount _ _) c.in_default-high.is c.count_at-high.ensures.count in
-    comma_fails _ _ _ _ _ None c.count_at-low.ensures.count (Stands-begins c.args.text.now c.count_at-low.result.1 44 (sym c.if-not-stands_at.ensures)).from c.if-stands_at-2.ensures q (λ rest l m e count least order. q.counted m count)
+    comma_fails _ _ _ _ _ None c.count_at-low.ensures.count
+    (Stands-begins c.args.text.now c.count_at-low.result.1 44 (sym c.if-not-stands_at.ensures)).from c.if-stands_at-2.ensures q
+    (λ rest l m e count least order. q.counted m count)
 
 pub returns-then-least-most-clause-err : goal.returns-then-least-most-clause-err
 returns-then-least-most-clause-err c =
     let r = subst (ReadsCount _ _) c.in-Some.is c.count_at-low.ensures.count in
     let q = subst (ReadsCount _ _) c.in-Some-high.is c.count_at-high.ensures.count in
-    comma_fails _ _ _ _ (Some c.in-Some.least) (Some c.in-Some-high.most) r (Stands-begins c.args.text.now c.count_at-low.result.1 44 (sym c.if-not-stands_at.ensures)).from c.if-stands_at-2.ensures q
+    comma_fails _ _ _ _ (Some c.in-Some.least) (Some c.in-Some-high.most) r
+    (Stands-begins c.args.text.now c.count_at-low.result.1 44 (sym c.if-not-stands_at.ensures)).from c.if-stands_at-2.ensures q
     (λ rest l m e count least order. elim c.then-least-most.branch [
-      | then-least-most-via-then-least-most w ↦ let most = one_count q.digits m c.in-Some-high.most count q.counted in omega (arith, most, least, order, w.if-least-most.true)
+      | then-least-most-via-then-least-most w ↦
+          let most = one_count q.digits m c.in-Some-high.most count q.counted in omega (arith, most, least, order, w.if-least-most.true)
       | then-least-most-via-else-least-most+then-not-stands_at-2 w ↦ begins_not _ 125 rest e w.if-not-stands_at-2.ensures
     ])
 

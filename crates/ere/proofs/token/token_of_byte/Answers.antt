@@ -6,7 +6,10 @@ use Rattle.ere.proofs.token.token_of_byte.Goals as goal
 
 pub returns-in-46 : goal.returns-in-46
 unfolding token_of_byte
-returns-in-46 c = λ rest _. subst (λ b. token_of_byte c.args.case b rest ≡ Some (token.set c.all.result)) (sym c.in-46.is) (ap (λ s. Some (set s)) (sym c.all.ensures))
+returns-in-46 c =
+    λ rest _.
+    subst (λ b. token_of_byte c.args.case b rest ≡ Some (token.set c.all.result)) (sym c.in-46.is)
+    (ap (λ s. Some (set s)) (sym c.all.ensures))
 
 pub returns-in-40 : goal.returns-in-40
 unfolding token_of_byte
@@ -41,4 +44,8 @@ unfolding token_of_byte
 returns-in-63 c = λ rest _. subst (λ b. token_of_byte c.args.case b rest ≡ Some (token.times 0 (Some 1))) (sym c.in-63.is) refl
 
 pub returns-in_default : goal.returns-in_default
-returns-in_default c = λ rest short. subst (λ s. token_of_byte c.args.case c.args.byte rest ≡ Some (set s)) (sym c.single_in.ensures) (other_byte _ c.args.byte rest (omega arith) (omega arith) (omega arith) (omega arith) (omega arith) (omega arith) (omega arith) (omega arith) (omega arith) short)
+returns-in_default c =
+    λ rest short.
+    subst (λ s. token_of_byte c.args.case c.args.byte rest ≡ Some (set s)) (sym c.single_in.ensures)
+    (other_byte _ c.args.byte rest (omega arith) (omega arith) (omega arith) (omega arith) (omega arith) (omega arith) (omega arith)
+    (omega arith) (omega arith) short)

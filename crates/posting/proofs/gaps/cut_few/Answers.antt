@@ -11,7 +11,9 @@ loop-few-init c = record {
 pub loop-few-preserved : goal.loop-few-preserved
 loop-few-preserved c = record {
   cut =
-      cut_more c.args.bytes.now c.args.number c.loop-few.front.now c.loop-few.at c.cut_number-before.result.0.now c.cut_number-before.result.1 c.loop-few.invariant.cut
-      (cut_weaker c.loop-few.front.now c.loop-few.at c.args.number c.cut_number-before.result.0.now c.cut_number-before.result.1 c.cut_number-before.ensures.cut c.if-at-number.false);
+      cut_more c.args.bytes.now c.args.number c.loop-few.front.now c.loop-few.at c.cut_number-before.result.0.now
+      c.cut_number-before.result.1 c.loop-few.invariant.cut
+      (cut_weaker c.loop-few.front.now c.loop-few.at c.args.number c.cut_number-before.result.0.now c.cut_number-before.result.1
+      c.cut_number-before.ensures.cut c.if-at-number.false);
   shorter = omega (arith, c.cut_number-before.ensures.shorter, c.loop-few.invariant.shorter);
 }

@@ -8,15 +8,20 @@ pub loop-front-init : goal.loop-front-init
 loop-front-init c = cut_none c.args.bytes.now c.args.last c.args.number c.requires.spelled c.requires.last
 
 pub loop-front-preserved : goal.loop-front-preserved
-loop-front-preserved c = cut_more c.args.bytes.now c.args.number c.loop-front.front.now c.loop-front.at c.in-Some.fewer.now c.in-Some.before c.loop-front.invariant c.in-Some.ensures.some.0
+loop-front-preserved c =
+    cut_more c.args.bytes.now c.args.number c.loop-front.front.now c.loop-front.at c.in-Some.fewer.now c.in-Some.before
+    c.loop-front.invariant c.in-Some.ensures.some.0
 
 pub returns-in-None-clause-passed : goal.returns-in-None-clause-passed
 returns-in-None-clause-passed c =
-    rw (take_rest c.args.bytes.now (length c.loop-front.front.now)) (cut_passed c.args.bytes.now c.args.number c.loop-front.front.now c.loop-front.at c.requires.spelled c.loop-front.invariant c.in-None.ensures.none)
+    rw (take_rest c.args.bytes.now (length c.loop-front.front.now))
+    (cut_passed c.args.bytes.now c.args.number c.loop-front.front.now c.loop-front.at c.requires.spelled c.loop-front.invariant
+    c.in-None.ensures.none)
 
 pub returns-in-None-clause-next : goal.returns-in-None-clause-next
 returns-in-None-clause-next c =
-    rw (take_rest c.args.bytes.now (length c.loop-front.front.now)) (cut_next c.args.bytes.now c.args.number c.loop-front.front.now c.loop-front.at c.requires.spelled c.loop-front.invariant)
+    rw (take_rest c.args.bytes.now (length c.loop-front.front.now))
+    (cut_next c.args.bytes.now c.args.number c.loop-front.front.now c.loop-front.at c.requires.spelled c.loop-front.invariant)
 
 pub returns-clause-passed : goal.returns-clause-passed
 returns-clause-passed c =

@@ -9,7 +9,8 @@ loop-place-init c =
     record {
       closing =
           rw (all_written c.args.bytes.now.items c.write_gap-end.new.bytes len)
-          (closing_begins c.args.bytes.now.items c.args.from c.args.gap c.write_gap-end.result c.write_gap-end.new.bytes (omega (arith, c.requires.fits, c.requires.within)) c.write_gap-end.ensures.place
+          (closing_begins c.args.bytes.now.items c.args.from c.args.gap c.write_gap-end.result c.write_gap-end.new.bytes
+          (omega (arith, c.requires.fits, c.requires.within)) c.write_gap-end.ensures.place
           (rw c.as_mut_slice.ensures.value at c.write_gap-end.ensures.bytes));
       capacity = refl;
     }
@@ -23,7 +24,8 @@ pub loop-place-preserved : goal.loop-place-preserved
 loop-place-preserved c = record {
   closing =
       rw c.remove.ensures.items
-      (closing_more c.args.bytes.now.items c.args.from c.args.gap c.loop-place.bytes.items c.loop-place._place c.write_gap-end.result c.loop-place.invariant.closing c.write_gap-end.ensures.place (omega (arith, c.loop-place-test.true, c.requires.within)));
+      (closing_more c.args.bytes.now.items c.args.from c.args.gap c.loop-place.bytes.items c.loop-place._place c.write_gap-end.result
+      c.loop-place.invariant.closing c.write_gap-end.ensures.place (omega (arith, c.loop-place-test.true, c.requires.within)));
   capacity = c.remove.ensures.capacity ∙ c.loop-place.invariant.capacity;
 }
 

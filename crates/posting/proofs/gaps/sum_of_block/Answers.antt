@@ -13,4 +13,5 @@ pub returns-then-most-lt128 : goal.returns-then-most-lt128
 returns-then-most-lt128 c =
     let end : c.loop-i.i ≡ 32 = omega arith in
     let total = rw end at c.loop-i.invariant.total in
-    block_is c.args.bytes.now c.loop-i.total c.loop-i.most c.if-bytes-lt-BLOCK.false total (λ k before. c.loop-i.invariant.most k (omega (arith, before, end))) c.if-most-lt128.true
+    block_is c.args.bytes.now c.loop-i.total c.loop-i.most c.if-bytes-lt-BLOCK.false total
+    (λ k before. c.loop-i.invariant.most k (omega (arith, before, end))) c.if-most-lt128.true

@@ -9,7 +9,8 @@ returns-in_err-make_page-clause-sound c =
 
 pub returns-in_err-push-clause-sound : goal.returns-in_err-push-clause-sound
 returns-in_err-push-clause-sound c =
-    rw c.in_err-push.ensures.items (IsSound-same c.args.pages.now.items c.make_page.new.pages.items c.args.lists.now.items c.in_ok-make_page.ensures.slots c.requires)
+    rw c.in_err-push.ensures.items
+    (IsSound-same c.args.pages.now.items c.make_page.new.pages.items c.args.lists.now.items c.in_ok-make_page.ensures.slots c.requires)
 
 pub overflow_cast-place : goal.overflow_cast-place
 overflow_cast-place c = omega (arith, c.args.lists.now.ok.0, length-lists c.args.pages.now.items c.args.lists.now.items c.requires, trigram_count-lt)
@@ -26,5 +27,6 @@ listed c =
 pub returns-clause-sound : goal.returns-clause-sound
 returns-clause-sound c =
     rw c.in_ok-push.ensures.items
-    (IsSound-listed c.make_page.new.pages.items c.set_slot.new.pages.items c.args.lists.now.items c.args.trigram (record { trigram = c.args.trigram; list = c.new-list.result })
+    (IsSound-listed c.make_page.new.pages.items c.set_slot.new.pages.items c.args.lists.now.items c.args.trigram
+    (record { trigram = c.args.trigram; list = c.new-list.result })
     (IsSound-same c.args.pages.now.items c.make_page.new.pages.items c.args.lists.now.items c.in_ok-make_page.ensures.slots c.requires) refl (listed c))

@@ -7,5 +7,6 @@ use Rattle.posting.proofs.pages.set_slot.Goals as goal
 pub returns : goal.returns
 returns c =
     rw c.number-number.ensures.value
-    (slot_of-written c.args.pages.now.items c.index_mut-slots.result.now (with_item c.index_mut-slots.result.now (c.args.trigram % page_size) c.args.slot) c.args.trigram c.args.slot c.requires
+    (slot_of-written c.args.pages.now.items c.index_mut-slots.result.now
+    (with_item c.index_mut-slots.result.now (c.args.trigram % page_size) c.args.slot) c.args.trigram c.args.slot c.requires
     (rw c.number-number.ensures.value at c.index_mut-slots.ensures.value) refl)

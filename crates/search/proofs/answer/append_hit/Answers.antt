@@ -14,5 +14,7 @@ returns-clause-ok c =
     let second : c.as_slice-2.result.now ≡ codes ":" = c.as_slice-2.ensures in
     let text : c.as_slice-3.result.now ≡ c.args.hit.now.text.items = c.as_slice-3.ensures.value in
     let end : c.as_slice-4.result.now ≡ line_end = c.as_slice-4.ensures in
-    let joined = six c.as_bytes.result.now c.as_slice.result.now c.as_bytes-2.result.now c.as_slice-2.result.now c.as_slice-3.result.now c.as_slice-4.result.now ∙ (λ i. ((((name i ++ first i) ++ line i) ++ second i) ++ text i) ++ end i) in
+    let joined =
+    six c.as_bytes.result.now c.as_slice.result.now c.as_bytes-2.result.now c.as_slice-2.result.now c.as_slice-3.result.now
+    c.as_slice-4.result.now ∙ (λ i. ((((name i ++ first i) ++ line i) ++ second i) ++ text i) ++ end i) in
     on_ok_weaker c.append_all.result (λ e. e ∙ ap (λ t. c.args.out.now.items ++ t) joined) c.append_all.ensures.ok

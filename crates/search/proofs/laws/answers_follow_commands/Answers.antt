@@ -33,4 +33,6 @@ pub returns-clause-version : goal.returns-clause-version
 returns-clause-version c = λ commands pattern answer is. is.version
 
 pub returns-clause-hits : goal.returns-clause-hits
-returns-clause-hits c = λ commands pattern answer found is. (λ h. to_put commands pattern found ((is.hits.exact found).0 h), λ h. (is.hits.exact found).1 (from_put commands pattern found h))
+returns-clause-hits c =
+    λ commands pattern answer found is.
+    (λ h. to_put commands pattern found ((is.hits.exact found).0 h), λ h. (is.hits.exact found).1 (from_put commands pattern found h))

@@ -21,12 +21,18 @@ loop-document-preserved g c =
     let new = hits_of c.scan_body.new.hits.items in
     let added = subst (λ body. Adds Has (lines_of_document document.name body) now new) c.body.ensures c.in_ok-scan_body.ensures.hits in
     record {
-      so_far = lines-step Has lines_of_taken c.args.documents.now c.loop-document.document-index document (flat_map lines_of_taken c.args.documents.now) (hits_of c.args.hits.now.items) now new c.loop-document-test.true c.document-item.is added c.loop-document.invariant.so_far;
+      so_far =
+          lines-step Has lines_of_taken c.args.documents.now c.loop-document.document-index document
+          (flat_map lines_of_taken c.args.documents.now) (hits_of c.args.hits.now.items) now new c.loop-document-test.true
+          c.document-item.is added c.loop-document.invariant.so_far;
       way = c.scan_body.ensures.way;
     }
 
 pub returns : goal.returns
-returns g c = lines-end (HasMatch (form c.args.tree.now)) lines_of_taken c.args.documents.now c.loop-document.document-index (flat_map lines_of_taken c.args.documents.now) (hits_of c.args.hits.now.items) (hits_of c.loop-document.hits.items) c.loop-document-test.false c.loop-document.invariant.so_far
+returns g c =
+    lines-end (HasMatch (form c.args.tree.now)) lines_of_taken c.args.documents.now c.loop-document.document-index
+    (flat_map lines_of_taken c.args.documents.now) (hits_of c.args.hits.now.items) (hits_of c.loop-document.hits.items)
+    c.loop-document-test.false c.loop-document.invariant.so_far
 
 pub scan_body-requires-clause-way : goal.scan_body-requires-clause-way
 scan_body-requires-clause-way g c = c.loop-document.invariant.way

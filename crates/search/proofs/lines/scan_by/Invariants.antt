@@ -10,6 +10,7 @@ use Rattle.search.proofs.lines.scan_by.Given as goal
 
 abbrev pub invariant-loop-document : goal.invariant-loop-document
 invariant-loop-document g l = record {
-  so_far : (more : List Hit) → Selects (HasMatch (form l.tree)) (flat_map lines_of_taken (drop l.document-index l.documents)) more → Adds (HasMatch (form l.tree)) (flat_map lines_of_taken l.documents) (hits_of l.initial.hits.items) (hits_of l.hits.items ++ more);
+  so_far : (more : List Hit) → Selects (HasMatch (form l.tree)) (flat_map lines_of_taken (drop l.document-index l.documents)) more
+      → Adds (HasMatch (form l.tree)) (flat_map lines_of_taken l.documents) (hits_of l.initial.hits.items) (hits_of l.hits.items ++ more);
   way : Finds (form l.tree) l.way;
 }

@@ -17,4 +17,5 @@ returns g c =
     let documents = c.args.documents.now in
     let few = c.few_documents-few.result in
     two-parts Has lines_of_taken documents few (hits_of c.scan_by.new.hits.items) (hits_of c.scan_compiled.new.hits.items)
-    (subst (λ old. Adds Has (flat_map lines_of_taken (take few documents)) old (hits_of c.scan_by.new.hits.items)) (ap hits_of c.new-hits.ensures.items) c.in_ok-scan_by.ensures) c.in_ok-scan_compiled.ensures
+    (subst (λ old. Adds Has (flat_map lines_of_taken (take few documents)) old (hits_of c.scan_by.new.hits.items))
+    (ap hits_of c.new-hits.ensures.items) c.in_ok-scan_by.ensures) c.in_ok-scan_compiled.ensures

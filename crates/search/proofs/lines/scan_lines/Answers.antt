@@ -12,7 +12,10 @@ scan_line-requires-clause-short c = length-first c.loop-end.rest.now c.in-Some.e
 
 pub loop-end-preserved : goal.loop-end-preserved
 loop-end-preserved c = record {
-  so_far = step (HasMatch (form c.args.tree.now)) c.args.name.now c.args.body.now c.loop-end.line c.loop-end.rest.now (hits_of c.args.hits.now.items) (hits_of c.loop-end.hits.items) c.loop-end.invariant.so_far c.in-Some.end (hits_of c.scan_line.new.hits.items) c.in-Some.ensures c.in_ok-scan_line.ensures;
+  so_far =
+      step (HasMatch (form c.args.tree.now)) c.args.name.now c.args.body.now c.loop-end.line c.loop-end.rest.now
+      (hits_of c.args.hits.now.items) (hits_of c.loop-end.hits.items) c.loop-end.invariant.so_far c.in-Some.end
+      (hits_of c.scan_line.new.hits.items) c.in-Some.ensures c.in_ok-scan_line.ensures;
   short = short-rest c.loop-end.rest.now c.in-Some.end c.loop-end.invariant.short c.in-Some.ensures;
   room = room-rest c.loop-end.line (1 + length c.args.body.now) c.loop-end.rest.now c.in-Some.end c.in-Some.ensures c.loop-end.invariant.room;
 }
@@ -20,7 +23,8 @@ loop-end-preserved c = record {
 pub returns-then-is_empty : goal.returns-then-is_empty
 returns-then-is_empty c =
     let empty : length c.loop-end.rest.now ≡ 0 = grind (arith, nat_tests) in
-    ended (HasMatch (form c.args.tree.now)) c.args.name.now c.args.body.now c.loop-end.line c.loop-end.rest.now (hits_of c.args.hits.now.items) (hits_of c.loop-end.hits.items) c.loop-end.invariant.so_far empty
+    ended (HasMatch (form c.args.tree.now)) c.args.name.now c.args.body.now c.loop-end.line c.loop-end.rest.now
+    (hits_of c.args.hits.now.items) (hits_of c.loop-end.hits.items) c.loop-end.invariant.so_far empty
 
 pub scan_line-requires-2-clause-short : goal.scan_line-requires-2-clause-short
 scan_line-requires-2-clause-short c = length-last c.loop-end.rest.now c.loop-end.invariant.short c.in_default.ensures
@@ -28,4 +32,7 @@ scan_line-requires-2-clause-short c = length-last c.loop-end.rest.now c.loop-end
 pub returns : goal.returns
 returns c =
     let some : 0 < length c.loop-end.rest.now = grind (arith, nat_tests) in
-    on_ok_weaker c.scan_line-2.result (λ added. last (HasMatch (form c.args.tree.now)) c.args.name.now c.args.body.now c.loop-end.line c.loop-end.rest.now (hits_of c.args.hits.now.items) (hits_of c.loop-end.hits.items) c.loop-end.invariant.so_far (hits_of c.scan_line-2.new.hits.items) some c.in_default.ensures added) c.scan_line-2.ensures
+    on_ok_weaker c.scan_line-2.result (λ added.
+    last (HasMatch (form c.args.tree.now)) c.args.name.now c.args.body.now c.loop-end.line c.loop-end.rest.now
+    (hits_of c.args.hits.now.items) (hits_of c.loop-end.hits.items) c.loop-end.invariant.so_far
+    (hits_of c.scan_line-2.new.hits.items) some c.in_default.ensures added) c.scan_line-2.ensures

@@ -9,7 +9,8 @@ use Rattle.search.proofs.lines.scan_lines.Given as goal
 
 abbrev pub invariant-loop-end : goal.invariant-loop-end
 invariant-loop-end l = record {
-  so_far : (more : List Hit) → Selects (HasMatch (form l.tree)) (numbered l.name l.line (lines_of l.rest)) more → Adds (HasMatch (form l.tree)) (lines_of_document l.name l.body) (hits_of l.initial.hits.items) (hits_of l.hits.items ++ more);
+  so_far : (more : List Hit) → Selects (HasMatch (form l.tree)) (numbered l.name l.line (lines_of l.rest)) more
+      → Adds (HasMatch (form l.tree)) (lines_of_document l.name l.body) (hits_of l.initial.hits.items) (hits_of l.hits.items ++ more);
   short : has_long_line l.rest ≡ false;
   room : l.line + length l.rest ≤ 1 + length l.body;
 }

@@ -11,10 +11,15 @@ returns-then-first-rest-clause-hits c =
     let name = c.args.name.now in
     let line = c.loop-first.line + c.in-Some.first.before in
     let text = take (c.in-Some.first.end - c.in-Some.first.start) (drop c.in-Some.first.start c.loop-first.rest.now) in
-    let is : found c.in_ok-copy.field-0 line c.in_ok-from_slice.field-0.items ≡ found name line text = ap (λ n. found n line c.in_ok-from_slice.field-0.items) c.in_ok-copy.ensures ∙ ap (λ t. found name line t) c.in_ok-from_slice.ensures.items in
-    let grown : hits_of c.push.new.self.items ≡ hits_of old ++ found name line text ∷ [] = ap hits_of c.in_ok-push.ensures.items ∙ (map-append hit_of old _ ∙ ap (λ f. hits_of old ++ f ∷ []) is) in
+    let is : found c.in_ok-copy.field-0 line c.in_ok-from_slice.field-0.items ≡ found name line text =
+    ap (λ n. found n line c.in_ok-from_slice.field-0.items) c.in_ok-copy.ensures
+    ∙ ap (λ t. found name line t) c.in_ok-from_slice.ensures.items in
+    let grown : hits_of c.push.new.self.items ≡ hits_of old ++ found name line text ∷ [] =
+    ap hits_of c.in_ok-push.ensures.items ∙ (map-append hit_of old _ ∙ ap (λ f. hits_of old ++ f ∷ []) is) in
     λ tree stands.
-    sweep_last tree c.args.name.now c.args.body.now c.loop-first.line c.loop-first.rest.now (hits_of c.args.hits.now.items) (hits_of c.loop-first.hits.items) (c.loop-first.invariant.so_far tree stands) c.in-Some.first (c.in-Some.ensures.some tree (c.loop-first.invariant.same tree stands)) (hits_of c.push.new.self.items) grown c.if-first-rest.true
+    sweep_last tree c.args.name.now c.args.body.now c.loop-first.line c.loop-first.rest.now (hits_of c.args.hits.now.items)
+    (hits_of c.loop-first.hits.items) (c.loop-first.invariant.so_far tree stands) c.in-Some.first
+    (c.in-Some.ensures.some tree (c.loop-first.invariant.same tree stands)) (hits_of c.push.new.self.items) grown c.if-first-rest.true
 
 pub loop-first-preserved : goal.loop-first-preserved
 loop-first-preserved c =
@@ -22,14 +27,25 @@ loop-first-preserved c =
     let name = c.args.name.now in
     let line = c.loop-first.line + c.in-Some.first.before in
     let text = take (c.in-Some.first.end - c.in-Some.first.start) (drop c.in-Some.first.start c.loop-first.rest.now) in
-    let is : found c.in_ok-copy.field-0 line c.in_ok-from_slice.field-0.items ≡ found name line text = ap (λ n. found n line c.in_ok-from_slice.field-0.items) c.in_ok-copy.ensures ∙ ap (λ t. found name line t) c.in_ok-from_slice.ensures.items in
-    let grown : hits_of c.push.new.self.items ≡ hits_of old ++ found name line text ∷ [] = ap hits_of c.in_ok-push.ensures.items ∙ (map-append hit_of old _ ∙ ap (λ f. hits_of old ++ f ∷ []) is) in
+    let is : found c.in_ok-copy.field-0 line c.in_ok-from_slice.field-0.items ≡ found name line text =
+    ap (λ n. found n line c.in_ok-from_slice.field-0.items) c.in_ok-copy.ensures
+    ∙ ap (λ t. found name line t) c.in_ok-from_slice.ensures.items in
+    let grown : hits_of c.push.new.self.items ≡ hits_of old ++ found name line text ∷ [] =
+    ap hits_of c.in_ok-push.ensures.items ∙ (map-append hit_of old _ ∙ ap (λ f. hits_of old ++ f ∷ []) is) in
     record {
-      so_far = λ tree stands. sweep_on tree c.args.name.now c.args.body.now c.loop-first.line c.loop-first.rest.now (hits_of c.args.hits.now.items) (hits_of c.loop-first.hits.items) (c.loop-first.invariant.so_far tree stands) c.in-Some.first (c.in-Some.ensures.some tree (c.loop-first.invariant.same tree stands)) (hits_of c.push.new.self.items) grown;
+      so_far =
+          λ tree stands.
+          sweep_on tree c.args.name.now c.args.body.now c.loop-first.line c.loop-first.rest.now (hits_of c.args.hits.now.items)
+          (hits_of c.loop-first.hits.items) (c.loop-first.invariant.so_far tree stands) c.in-Some.first
+          (c.in-Some.ensures.some tree (c.loop-first.invariant.same tree stands)) (hits_of c.push.new.self.items) grown;
       same = λ tree stands. c.in-Some.ensures.same tree (c.loop-first.invariant.same tree stands);
-      room = room_left c.loop-first.line (1 + length c.args.body.now) c.loop-first.rest.now c.in-Some.first c.in-Some.ensures.inside c.if-first-rest.false c.loop-first.invariant.room;
+      room =
+          room_left c.loop-first.line (1 + length c.args.body.now) c.loop-first.rest.now c.in-Some.first c.in-Some.ensures.inside
+          c.if-first-rest.false c.loop-first.invariant.room;
     }
 
 pub returns-clause-hits : goal.returns-clause-hits
 returns-clause-hits c = λ tree stands.
-    sweep_end tree c.args.name.now c.args.body.now c.loop-first.line c.loop-first.rest.now (hits_of c.args.hits.now.items) (hits_of c.loop-first.hits.items) (c.loop-first.invariant.so_far tree stands) (c.in_default.ensures.none tree (c.loop-first.invariant.same tree stands))
+    sweep_end tree c.args.name.now c.args.body.now c.loop-first.line c.loop-first.rest.now (hits_of c.args.hits.now.items)
+    (hits_of c.loop-first.hits.items) (c.loop-first.invariant.so_far tree stands)
+    (c.in_default.ensures.none tree (c.loop-first.invariant.same tree stands))

@@ -9,7 +9,9 @@ use Rattle.search.proofs.lines.sweep_lines.Given as goal
 
 abbrev pub invariant-loop-first : goal.invariant-loop-first
 invariant-loop-first l = record {
-  so_far : (tree : Tree) → IsFinderOf tree l.initial.finder → (more : List Hit) → Selects (HasMatch tree) (numbered l.name l.line (lines_of l.rest)) more → Adds (HasMatch tree) (lines_of_document l.name l.body) (hits_of l.initial.hits.items) (hits_of l.hits.items ++ more);
+  so_far : (tree : Tree) → IsFinderOf tree l.initial.finder → (more : List Hit)
+      → Selects (HasMatch tree) (numbered l.name l.line (lines_of l.rest)) more
+      → Adds (HasMatch tree) (lines_of_document l.name l.body) (hits_of l.initial.hits.items) (hits_of l.hits.items ++ more);
   same : (tree : Tree) → IsFinderOf tree l.initial.finder → IsFinderOf tree l.finder;
   room : l.line + length l.rest ≤ 1 + length l.body;
 }

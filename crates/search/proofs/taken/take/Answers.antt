@@ -9,7 +9,13 @@ use Rattle.search.proofs.CandidateLemmas.{counted, fewer, wanted_are}
 use Rattle.search.proofs.taken.take.Goals as goal
 
 pub overflow_cast-result : goal.overflow_cast-result
-overflow_cast-result c = omega (arith, c.len.ensures, c.documents.ensures, fewer c.args.index.now (formula_of c.args.prepared.now.query) c.in_ok-candidates.candidates.members c.in_ok-candidates.ensures)
+overflow_cast-result c =
+    omega (
+      arith,
+      c.len.ensures,
+      c.documents.ensures,
+      fewer c.args.index.now (formula_of c.args.prepared.now.query) c.in_ok-candidates.candidates.members c.in_ok-candidates.ensures,
+    )
 
 pub returns : goal.returns
 returns c =
@@ -26,5 +32,8 @@ returns c =
       version = c.version.ensures.version;
       documents = c.documents.ensures;
       candidates = c.len.ensures ∙ counted state pattern formula prepared.filter members c.in_ok-candidates.ensures;
-      wanted = subst (λ ds. AreWanted state pattern ds) (sym taken) (wanted_are state pattern formula rise prepared.filter members c.in_ok-candidates.ensures chosen.0 chosen.1 c.in_ok-numbers.numbers.items c.in_ok-kept.kept.items chosen.2 c.in_ok-kept.ensures);
+      wanted =
+          subst (λ ds. AreWanted state pattern ds) (sym taken)
+          (wanted_are state pattern formula rise prepared.filter members c.in_ok-candidates.ensures chosen.0 chosen.1
+          c.in_ok-numbers.numbers.items c.in_ok-kept.kept.items chosen.2 c.in_ok-kept.ensures);
     }

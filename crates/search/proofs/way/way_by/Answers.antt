@@ -9,4 +9,7 @@ pub returns-else-nests_stars : goal.returns-else-nests_stars
 returns-else-nests_stars c = finds_line_by_line (form c.args.tree.now)
 
 pub returns-in-Ok : goal.returns-in-Ok
-returns-in-Ok c = finds_by (form c.args.tree.now) c.in-Ok.finder (c.in-Ok.ensures (form c.args.tree.now) (compiled_from (form c.args.tree.now) c.args.compiled.now c.in-Some.compiled c.in-Some.is c.requires))
+returns-in-Ok c =
+    finds_by (form c.args.tree.now) c.in-Ok.finder
+    (c.in-Ok.ensures (form c.args.tree.now)
+    (compiled_from (form c.args.tree.now) c.args.compiled.now c.in-Some.compiled c.in-Some.is c.requires))

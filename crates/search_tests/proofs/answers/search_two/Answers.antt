@@ -12,5 +12,8 @@ returns c =
     let one = Put c.args.first.0 c.args.first.1 in
     let two = Put c.args.second.0 c.args.second.1 in
     let after_one = c.in_ok-apply.ensures.ok ∙ (ap (applied one) c.new-index.ensures ∙ sym (state_of-push [] one)) in
-    let after_two = c.in_ok-apply-2.ensures.ok ∙ (ap (applied two) after_one ∙ sym (state_of-push (one ∷ []) two)) in
-    (pattern_of c.in_ok-prepared.prepared, c.in_ok-prepared.ensures.pattern, subst (λ s. IsAnswerOf s (pattern_of c.in_ok-prepared.prepared) c.in_ok-find.field-0) after_two c.in_ok-find.ensures)
+    let after_two = c.in_ok-apply-2.ensures.ok ∙ (ap (applied two) after_one ∙ sym (state_of-push (one ∷ []) two)) in (
+      pattern_of c.in_ok-prepared.prepared,
+      c.in_ok-prepared.ensures.pattern,
+      subst (λ s. IsAnswerOf s (pattern_of c.in_ok-prepared.prepared) c.in_ok-find.field-0) after_two c.in_ok-find.ensures,
+    )

@@ -13,5 +13,8 @@ returns c =
     let two = Put c.args.second.0 c.args.second.1 in
     let after_one = c.in_ok-apply.ensures.ok ∙ (ap (applied one) c.new-index.ensures ∙ sym (state_of-push [] one)) in
     let after_two = c.in_ok-apply-2.ensures.ok ∙ (ap (applied two) after_one ∙ sym (state_of-push (one ∷ []) two)) in
-    let answered = c.in_ok-answer.ensures _ (pattern_of c.in_ok-prepared.prepared) c.in_ok-taken.ensures in
-    (pattern_of c.in_ok-prepared.prepared, c.in_ok-prepared.ensures.pattern, subst (λ s. IsAnswerOf s (pattern_of c.in_ok-prepared.prepared) c.in_ok-answer.field-0) after_two answered)
+    let answered = c.in_ok-answer.ensures _ (pattern_of c.in_ok-prepared.prepared) c.in_ok-taken.ensures in (
+      pattern_of c.in_ok-prepared.prepared,
+      c.in_ok-prepared.ensures.pattern,
+      subst (λ s. IsAnswerOf s (pattern_of c.in_ok-prepared.prepared) c.in_ok-answer.field-0) after_two answered,
+    )

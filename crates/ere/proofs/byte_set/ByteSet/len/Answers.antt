@@ -11,7 +11,9 @@ overflow_add-count c =
     omega arith
 
 pub loop-word-preserved : goal.loop-word-preserved
-loop-word-preserved c = ap (λ n. n + count_ones (get_or c.self.inside.words c.loop-word.word-index 0)) c.loop-word.invariant ∙ sym (count_more c.self.inside.words c.loop-word.word-index c.self.invariant (omega arith))
+loop-word-preserved c =
+    ap (λ n. n + count_ones (get_or c.self.inside.words c.loop-word.word-index 0)) c.loop-word.invariant
+    ∙ sym (count_more c.self.inside.words c.loop-word.word-index c.self.invariant (omega arith))
 
 pub returns : goal.returns
 returns c =

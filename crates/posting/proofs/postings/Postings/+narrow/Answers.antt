@@ -7,7 +7,8 @@ use Rattle.std.specs.List.{list_any}
 use Rattle.posting.specs.ListValue.{has}
 use Rattle.posting.specs.Postings.{selected}
 use Rattle.posting.specs.Private.Selection.{Finds}
-use Rattle.posting.proofs.Selection.{chosen-Any, chosen-Has, chosen-Has_empty, narrowed_by_found, found-Any, found-None, found-Has, found-And, found-Or, narrowed_more, narrowed_passed, narrowed_ends, narrowed_to_none, joined_ends}
+use Rattle.posting.proofs.Selection.{chosen-Any, chosen-Has, chosen-Has_empty, narrowed_by_found, found-Any, found-None, found-Has}
+use Rattle.posting.proofs.Selection.{found-And, found-Or, narrowed_more, narrowed_passed, narrowed_ends, narrowed_to_none, joined_ends}
 use Rattle.posting.proofs.postings.Postings.+narrow.Goals as goal
 use Rattle.posting.proofs.postings.Postings.+narrow.Goals.{collect_all-then-i-first+in_ok-found, collect_all-else-i-first}
 
@@ -27,7 +28,8 @@ narrow-returns-in_ok-collect-in_default t c =
     let table = c.args.self.now in
     let asked = c.args.within.now.members in
     let found = c.in_ok-collect-in_default.field-0.members in
-    IfOk-weaker c.intersect-in_default-2.result (λ chosen. chosen.members ≡ filter (has found) asked) (λ chosen. chosen.members ≡ selected table (formula_of c.args.query.now) asked)
+    IfOk-weaker c.intersect-in_default-2.result (λ chosen. chosen.members ≡ filter (has found) asked)
+    (λ chosen. chosen.members ≡ selected table (formula_of c.args.query.now) asked)
     (λ v e. e ∙ narrowed_by_found table (formula_of c.args.query.now) asked found c.in_ok-collect-in_default.ensures)
     c.intersect-in_default-2.ensures
 
@@ -45,50 +47,65 @@ pub collect-returns-in-Some : goal.collect-returns-in-Some
 collect-returns-in-Some t c =
     let asked = c.args.within.now.members in
     rw c.in-Has.is
-    (IfOk-weaker c.shortened.result (λ set. (n : ℕ) → has asked n ≡ true → has set.members n ≡ has c.in-Some.list.now.members n) (λ set. Finds c.args.self.now (formula_of (query.Has c.in-Has.trigram)) asked set.members)
+    (IfOk-weaker c.shortened.result (λ set. (n : ℕ) → has asked n ≡ true → has set.members n ≡ has c.in-Some.list.now.members n)
+    (λ set. Finds c.args.self.now (formula_of (query.Has c.in-Has.trigram)) asked set.members)
     (λ v same. found-Has c.args.self.now c.in-Has.trigram asked v.members (rw c.in-Some.ensures.some at same)) c.shortened.ensures)
 
 pub collect-returns-in-None-list : goal.collect-returns-in-None-list
 collect-returns-in-None-list t c =
     rw c.in-Has.is
-    (found-Has c.args.self.now c.in-Has.trigram c.args.within.now.members c.new-in-None-list.result.members (λ n there. rw (c.new-in-None-list.ensures, c.in-None-list.ensures.none) refl))
+    (found-Has c.args.self.now c.in-Has.trigram c.args.within.now.members c.new-in-None-list.result.members
+    (λ n there. rw (c.new-in-None-list.ensures, c.in-None-list.ensures.none) refl))
 
 pub collect-returns-in-And : goal.collect-returns-in-And
 collect-returns-in-And t c =
     let asked = c.args.within.now.members in
     rw c.in-And.is
-    (IfOk-weaker c.collect_all.result (λ set. Finds c.args.self.now (all_of (formulas_of (map formula_of c.in-And.members.items))) asked set.members) (λ set. Finds c.args.self.now (formula_of (query.And c.in-And.members)) asked set.members)
+    (IfOk-weaker c.collect_all.result
+    (λ set. Finds c.args.self.now (all_of (formulas_of (map formula_of c.in-And.members.items))) asked set.members)
+    (λ set. Finds c.args.self.now (formula_of (query.And c.in-And.members)) asked set.members)
     (λ v found. found-And c.args.self.now c.in-And.members asked v.members found) (rw c.deref.ensures.value at c.collect_all.ensures))
 
 pub collect-returns-in-Or : goal.collect-returns-in-Or
 collect-returns-in-Or t c =
     let asked = c.args.within.now.members in
     rw c.in-Or.is
-    (IfOk-weaker c.collect_any.result (λ set. Finds c.args.self.now (one_of (formulas_of (map formula_of c.in-Or.members.items))) asked set.members) (λ set. Finds c.args.self.now (formula_of (query.Or c.in-Or.members)) asked set.members)
+    (IfOk-weaker c.collect_any.result
+    (λ set. Finds c.args.self.now (one_of (formulas_of (map formula_of c.in-Or.members.items))) asked set.members)
+    (λ set. Finds c.args.self.now (formula_of (query.Or c.in-Or.members)) asked set.members)
     (λ v found. found-Or c.args.self.now c.in-Or.members asked v.members found) (rw c.deref-in-Or.ensures.value at c.collect_any.ensures))
 
 pub collect_all-returns-then-is_empty : goal.collect_all-returns-then-is_empty
 collect_all-returns-then-is_empty t c =
-    narrowed_to_none c.args.self.now c.args.members.now c.fewest-first.result.0 c.loop-i.i c.args.within.now.members c.loop-i.found.members (c.is_empty.ensures.empty.0 c.if-is_empty.true) c.loop-i.invariant
+    narrowed_to_none c.args.self.now c.args.members.now c.fewest-first.result.0 c.loop-i.i c.args.within.now.members c.loop-i.found.members
+    (c.is_empty.ensures.empty.0 c.if-is_empty.true) c.loop-i.invariant
 
 pub collect_all-loop-i-preserved : goal.collect_all-loop-i-preserved
 collect_all-loop-i-preserved t c =
     elim c.if-i-first.branch [
       | collect_all-then-i-first+in_ok-found w ↦
           rw w.found-is
-          (narrowed_more c.args.self.now c.args.members.now c.fewest-first.result.0 c.loop-i.i c.index-members-i.result c.args.within.now.members c.loop-i.found.members w.in_ok-found.found.members c.loop-i-test.true c.index-members-i.is c.loop-i.invariant w.in_ok-found.ensures)
+          (narrowed_more c.args.self.now c.args.members.now c.fewest-first.result.0 c.loop-i.i c.index-members-i.result
+          c.args.within.now.members c.loop-i.found.members w.in_ok-found.found.members c.loop-i-test.true c.index-members-i.is
+          c.loop-i.invariant w.in_ok-found.ensures)
       | collect_all-else-i-first w ↦
           rw w.found-is
-          (narrowed_passed c.args.self.now c.args.members.now c.fewest-first.result.0 c.loop-i.i c.index-members-i.result c.args.within.now.members c.loop-i.found.members w.if-i-first.false c.loop-i-test.true c.loop-i.invariant)
+          (narrowed_passed c.args.self.now c.args.members.now c.fewest-first.result.0 c.loop-i.i c.index-members-i.result
+          c.args.within.now.members c.loop-i.found.members w.if-i-first.false c.loop-i-test.true c.loop-i.invariant)
     ]
 
 pub collect_all-returns : goal.collect_all-returns
-collect_all-returns t c = narrowed_ends c.args.self.now c.args.members.now c.fewest-first.result.0 c.loop-i.i c.args.within.now.members c.loop-i.found.members c.loop-i-test.false c.loop-i.invariant
+collect_all-returns t c =
+    narrowed_ends c.args.self.now c.args.members.now c.fewest-first.result.0 c.loop-i.i c.args.within.now.members c.loop-i.found.members
+    c.loop-i-test.false c.loop-i.invariant
 
 pub collect_any-returns : goal.collect_any-returns
 collect_any-returns t c =
     let lists = c.loop-member.lists.items in
     let asked = c.args.within.now.members in
-    IfOk-weaker c.union_of.result (λ all. (n : ℕ) → has all.members n ≡ list_any (λ set. has set.members n) lists) (λ found. Finds c.args.self.now (one_of (formulas_of (map formula_of c.args.members.now))) asked found.members)
-    (λ v union. joined_ends c.args.self.now c.args.members.now c.loop-member.member-index asked v.members lists c.loop-member-test.false c.loop-member.invariant union)
+    IfOk-weaker c.union_of.result (λ all. (n : ℕ) → has all.members n ≡ list_any (λ set. has set.members n) lists)
+    (λ found. Finds c.args.self.now (one_of (formulas_of (map formula_of c.args.members.now))) asked found.members)
+    (λ v union.
+    joined_ends c.args.self.now c.args.members.now c.loop-member.member-index asked v.members lists c.loop-member-test.false
+    c.loop-member.invariant union)
     (rw c.deref.ensures.value at c.union_of.ensures)

@@ -5,28 +5,46 @@ use Rattle.posting.proofs.postings.Postings.add_kept.Goals as goal
 
 pub loop-trigram-init : goal.loop-trigram-init
 loop-trigram-init c =
-    let same : c.into_iter-trigram-iterator.result ≡ c.args.kept.now = cc (c.into_iter-trigram-iterator.ensures.into_iter_gives, c.iter-trigram-items.ensures) in
+    let same : c.into_iter-trigram-iterator.result ≡ c.args.kept.now =
+    cc (c.into_iter-trigram-iterator.ensures.into_iter_gives, c.iter-trigram-items.ensures) in
     record { passed = sym same; changed = added_none c.args.self.now c.args.number }
 
 pub push-requires-clause-room : goal.push-requires-clause-room
 push-requires-clause-room c =
-    let next = passed-next c.args.kept.now c.loop-trigram.yielded c.loop-trigram.trigram-iterator c.next.new.self c.in-Some.trigram c.loop-trigram.invariant.passed c.in-Some.ensures.steps in
-    next_has_room c.args.self.now c.loop-trigram.self c.loop-trigram.yielded c.in-Some.trigram c.next.new.self c.args.number c.loop-trigram.invariant.changed (subst AllDiffer next c.requires.once) (subst (IsPrepared c.args.self.now) next c.requires.prepared)
+    let next =
+    passed-next c.args.kept.now c.loop-trigram.yielded c.loop-trigram.trigram-iterator c.next.new.self c.in-Some.trigram
+    c.loop-trigram.invariant.passed c.in-Some.ensures.steps in
+    next_has_room c.args.self.now c.loop-trigram.self c.loop-trigram.yielded c.in-Some.trigram c.next.new.self c.args.number
+    c.loop-trigram.invariant.changed (subst AllDiffer next c.requires.once)
+    (subst (IsPrepared c.args.self.now) next c.requires.prepared)
 
 pub push-requires-clause-above : goal.push-requires-clause-above
 push-requires-clause-above c =
-    let next = passed-next c.args.kept.now c.loop-trigram.yielded c.loop-trigram.trigram-iterator c.next.new.self c.in-Some.trigram c.loop-trigram.invariant.passed c.in-Some.ensures.steps in
-    next_is_above c.args.self.now c.loop-trigram.self c.loop-trigram.yielded c.in-Some.trigram c.next.new.self c.args.number c.loop-trigram.invariant.changed (subst AllDiffer next c.requires.once) (subst (λ ts. IsAbove c.args.self.now ts c.args.number) next c.requires.above)
+    let next =
+    passed-next c.args.kept.now c.loop-trigram.yielded c.loop-trigram.trigram-iterator c.next.new.self c.in-Some.trigram
+    c.loop-trigram.invariant.passed c.in-Some.ensures.steps in
+    next_is_above c.args.self.now c.loop-trigram.self c.loop-trigram.yielded c.in-Some.trigram c.next.new.self c.args.number
+    c.loop-trigram.invariant.changed (subst AllDiffer next c.requires.once)
+    (subst (λ ts. IsAbove c.args.self.now ts c.args.number) next c.requires.above)
 
 pub loop-trigram-preserved : goal.loop-trigram-preserved
 loop-trigram-preserved c =
-    let next = passed-next c.args.kept.now c.loop-trigram.yielded c.loop-trigram.trigram-iterator c.next.new.self c.in-Some.trigram c.loop-trigram.invariant.passed c.in-Some.ensures.steps in
+    let next =
+    passed-next c.args.kept.now c.loop-trigram.yielded c.loop-trigram.trigram-iterator c.next.new.self c.in-Some.trigram
+    c.loop-trigram.invariant.passed c.in-Some.ensures.steps in
     record {
-      passed = passed-more c.args.kept.now c.loop-trigram.yielded c.loop-trigram.trigram-iterator c.next.new.self c.in-Some.trigram c.loop-trigram.invariant.passed c.in-Some.ensures.steps;
-      changed = added_more c.args.self.now c.loop-trigram.self c.push.new.self c.loop-trigram.yielded c.in-Some.trigram c.args.number c.loop-trigram.invariant.changed (next_is_new c.loop-trigram.yielded c.in-Some.trigram c.next.new.self (subst AllDiffer next c.requires.once)) c.push.ensures.at c.push.ensures.others;
+      passed =
+          passed-more c.args.kept.now c.loop-trigram.yielded c.loop-trigram.trigram-iterator c.next.new.self c.in-Some.trigram
+          c.loop-trigram.invariant.passed c.in-Some.ensures.steps;
+      changed =
+          added_more c.args.self.now c.loop-trigram.self c.push.new.self c.loop-trigram.yielded c.in-Some.trigram c.args.number
+          c.loop-trigram.invariant.changed
+          (next_is_new c.loop-trigram.yielded c.in-Some.trigram c.next.new.self (subst AllDiffer next c.requires.once))
+          c.push.ensures.at c.push.ensures.others;
     }
 
 pub returns : goal.returns
 returns c =
     let all = passed-all c.args.kept.now c.loop-trigram.yielded c.loop-trigram.trigram-iterator c.loop-trigram.invariant.passed c.in-None.ensures.steps.0 in
-    subst (λ ts. AddsNumber c.args.self.now c.loop-trigram.self ts c.args.number) (sym all) (holds-added c.args.self.now c.loop-trigram.self c.loop-trigram.yielded c.args.number c.loop-trigram.invariant.changed)
+    subst (λ ts. AddsNumber c.args.self.now c.loop-trigram.self ts c.args.number) (sym all)
+    (holds-added c.args.self.now c.loop-trigram.self c.loop-trigram.yielded c.args.number c.loop-trigram.invariant.changed)

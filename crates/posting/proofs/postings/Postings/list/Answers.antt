@@ -11,5 +11,8 @@ returns-in-0-clause-none c =
 pub returns-in_default-clause-some : goal.returns-in_default-clause-some
 returns-in_default-clause-some c =
     let slot : c.slot.result ≡ slot_of c.self.inside.pages.items c.args.trigram = rw c.deref.ensures.value at c.slot.ensures.value in
-    let there : Stands c.self.inside.pages.items c.self.inside.lists.items c.args.trigram (c.slot.result - 1) = record { sound = c.self.invariant; below = c.slot.ensures.bound; slot = omega arith } in
-    rw (← c.self.view_is) (sym (set_of-there c.self.inside.pages.items c.self.inside.lists.items c.args.trigram (c.slot.result - 1) c.index.result.now there c.index.ensures))
+    let there : Stands c.self.inside.pages.items c.self.inside.lists.items c.args.trigram (c.slot.result - 1) =
+    record { sound = c.self.invariant; below = c.slot.ensures.bound; slot = omega arith } in
+    rw (← c.self.view_is)
+    (sym (set_of-there c.self.inside.pages.items c.self.inside.lists.items c.args.trigram (c.slot.result - 1) c.index.result.now there
+    c.index.ensures))

@@ -4,11 +4,16 @@ use Rattle.posting.proofs.postings.Postings.prepare_kept.Goals as goal
 
 pub loop-trigram-init : goal.loop-trigram-init
 loop-trigram-init c =
-    let same : c.into_iter-trigram-iterator.result ≡ c.args.kept.now = cc (c.into_iter-trigram-iterator.ensures.into_iter_gives, c.iter-trigram-items.ensures) in
+    let same : c.into_iter-trigram-iterator.result ≡ c.args.kept.now =
+    cc (c.into_iter-trigram-iterator.ensures.into_iter_gives, c.iter-trigram-items.ensures) in
     record { passed = sym same; changed = prepared_none c.args.self.now }
 
 pub loop-trigram-preserved : goal.loop-trigram-preserved
 loop-trigram-preserved c = record {
-  passed = passed-more c.args.kept.now c.loop-trigram.yielded c.loop-trigram.trigram-iterator c.next.new.self c.in-Some.trigram c.loop-trigram.invariant.passed c.in-Some.ensures.steps;
-  changed = prepared_more c.args.self.now c.loop-trigram.self c.make_room.new.self c.loop-trigram.yielded c.in-Some.trigram c.loop-trigram.invariant.changed c.make_room.ensures.members c.make_room.ensures.room c.in_ok-make_room.ensures.ok;
+  passed =
+      passed-more c.args.kept.now c.loop-trigram.yielded c.loop-trigram.trigram-iterator c.next.new.self c.in-Some.trigram
+      c.loop-trigram.invariant.passed c.in-Some.ensures.steps;
+  changed =
+      prepared_more c.args.self.now c.loop-trigram.self c.make_room.new.self c.loop-trigram.yielded c.in-Some.trigram
+      c.loop-trigram.invariant.changed c.make_room.ensures.members c.make_room.ensures.room c.in_ok-make_room.ensures.ok;
 }

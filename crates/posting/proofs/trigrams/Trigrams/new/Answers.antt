@@ -20,7 +20,11 @@ loop-trigram-preserved c =
     let new = c.push.ensures ∙ ap (λ ns. ns ++ c.number-number.result ∷ []) c.in_ok-room_for.ensures.members in
     record {
       members =
-          new ∙ ap (λ ns. ns ++ c.number-number.result ∷ []) c.loop-trigram.invariant.members ∙ ap (λ n. take c.loop-trigram.trigram-index c.args.rising.now ++ n ∷ []) (c.number-number.ensures.value ∙ item)
+          new ∙ ap (λ ns. ns ++ c.number-number.result ∷ []) c.loop-trigram.invariant.members
+          ∙ ap (λ n. take c.loop-trigram.trigram-index c.args.rising.now ++ n ∷ []) (c.number-number.ensures.value ∙ item)
           ∙ sym (take_more c.args.rising.now c.loop-trigram.trigram-index 0 c.loop-trigram-test.true);
-      bound = rw new (All-push (λ n. n < 16777216) c.loop-trigram.numbers.members c.number-number.result c.loop-trigram.invariant.bound c.number-number.ensures.bound);
+      bound =
+          rw new
+          (All-push (λ n. n < 16777216) c.loop-trigram.numbers.members c.number-number.result c.loop-trigram.invariant.bound
+          c.number-number.ensures.bound);
     }

@@ -13,7 +13,10 @@ returns g c = λ state pattern of.
     let hits = hits_of c.in_ok-hits.hits.items in
     let taken = c.args.self.wanted.items in
     let lines = ap (λ ts. flat_map lines_of_taken ts) c.as_slice.ensures.value ∙ lines-shown taken in
-    let kept = subst (λ all. Selects (HasMatch pattern.tree) all hits) lines (subst (λ p. Selects (HasMatch p.tree) (flat_map lines_of_taken c.as_slice.result.now) hits) of.prepared c.in_ok-hits.ensures) in
+    let kept =
+    subst (λ all. Selects (HasMatch pattern.tree) all hits) lines
+    (subst (λ p. Selects (HasMatch p.tree) (flat_map lines_of_taken c.as_slice.result.now) hits) of.prepared c.in_ok-hits.ensures)
+    in
     record {
       version = of.version;
       hits = IsScanOf-wanted state pattern (map shown taken) hits of.wanted kept;
