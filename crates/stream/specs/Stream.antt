@@ -1,5 +1,5 @@
 -- What a stream of items takes from its input.
-use Rattle.std.specs.Prelude.{◌≡◌, ◌⊎◌, ℕ, ◌<◌, List, [], ◌∷◌, ◌++◌, length, Option, Some, None, Ok, Err, Bool, true, false, IsTrue, IsFalse, ⊤}
+use Rattle.std.specs.Prelude.{◌≡◌, ◌⊎◌, ℕ, ◌<◌, List, [], ◌∷◌, ◌++◌, length, Option, Some, None, Ok, Err, Bool, true, false, IsTrue, OnSome, ⊤}
 use Rattle.std.specs.declared.result.Result.{Result}
 use Rattle.std.specs.Io.KnownBytes.{IsAtEnd}
 use Rattle.index.specs.declared.body.TheConstants.{MAX_BODY}
@@ -35,16 +35,16 @@ abbrev pub IsItemOf : ℕ → List ℕ → Numbered → Bool → ℕ → Type 0
 IsItemOf line bytes item false next = (rest : List ℕ) (items : List Numbered) → ItemsFrom next rest items → ItemsFrom line (bytes ++ rest) (item ∷ items)
 IsItemOf line bytes item true next = ItemsFrom line bytes (item ∷ [])
 
--- An item was taken from an input, as these bytes; this is left of the input.
-pub record Takes (old : Place) (taken : Taken) (new : Place) (bytes : List ℕ) (left : Option (List ℕ)) : Type 0 where
+-- An item was taken from an input, as these bytes. This was left of the input, and this is left of it then.
+pub record Takes (old : Place) (taken : Taken) (new : Place) (bytes : List ℕ) (was left : Option (List ℕ)) : Type 0 where
   pub item : Item
   pub shows : Shows taken.item item
   pub whole : IsItemOf old.line bytes (numbered taken.line item) taken.ended new.line
   pub ended : new.ended ≡ taken.ended
-  pub end : IsTrue taken.ended → IsAtEnd left ⊎ IsFault item
+  pub end : IsTrue taken.ended → OnSome was (IsAtEnd left) ⊎ IsFault item
 
--- What a call gives, where these bytes were taken from the input and this is left of it.
-abbrev pub IsNext : Place → Result (Option Taken) StreamError → Place → List ℕ → Option (List ℕ) → Type 0
-IsNext old (Ok (Some taken)) new bytes left = Takes old taken new bytes left
-IsNext old (Ok None) new bytes left = ItemsFrom old.line bytes [] × IsTrue new.ended × (IsTrue old.ended ⊎ IsAtEnd left)
-IsNext old (Err error) new bytes left = ⊤
+-- What a call gives, where these bytes were taken from the input.
+abbrev pub IsNext : Place → Result (Option Taken) StreamError → Place → List ℕ → Option (List ℕ) → Option (List ℕ) → Type 0
+IsNext old (Ok (Some taken)) new bytes was left = Takes old taken new bytes was left
+IsNext old (Ok None) new bytes was left = ItemsFrom old.line bytes [] × IsTrue new.ended × (IsTrue old.ended ⊎ OnSome was (IsAtEnd left))
+IsNext old (Err error) new bytes was left = ⊤

@@ -54,7 +54,7 @@ impl ItemStream {
         text: &'t mut Vec<u8>,
     ) -> Result<Option<Taken<'t>>, StreamError>
         ensures taken { (bytes : List ℕ) × Consumes (I.remaining input.old) (I.remaining input.new) bytes
-            × IsNext self.old result self.new bytes (I.remaining input.new) }
+            × IsNext self.old result self.new bytes (I.remaining input.old) (I.remaining input.new) }
         ensures over { self.old.ended ≡ true → (result ≡ Ok None) × (input.new ≡ input.old) }
         ensures failed { OnErr result (self.new.ended ≡ true) }
     {
