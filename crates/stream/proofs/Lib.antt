@@ -1,0 +1,4 @@
+pub mod EndLemmas
+pub mod LineLemmas
+pub mod BodyLemmas
+pub mod TakingLemmas
