@@ -1,5 +1,5 @@
 -- The end of an input whose bytes were known.
-use Rattle.std.proofs.Common.{◌≡◌, ◌<◌, ◌≤◌, ℕ, List, [], ◌++◌, length, take, Option, Some, None}
+use Rattle.std.proofs.Common.{ℕ, List, Option, Some, None}
 use Rattle.std.specs.Option.{OnSome}
 use Rattle.std.specs.Io.KnownBytes.{Consumes, IsAtEnd}
 
@@ -7,7 +7,3 @@ pub end_later : (a b c : Option (List ℕ)) (bytes : List ℕ) → Consumes a b 
 end_later None b c bytes taken end = tt
 end_later (Some x) None c bytes taken end = absurd taken
 end_later (Some x) (Some y) c bytes taken end = end
-
-pub end_known : (a c : Option (List ℕ)) → IsAtEnd c → OnSome a (IsAtEnd c)
-end_known None c end = tt
-end_known (Some x) c end = end

@@ -1,14 +1,19 @@
 -- The items of lines, with puts' bytes.
-use Rattle.std.proofs.Common.{◌≡◌, ◌≢◌, ◌⊎◌, inl, inr, ℕ, ◌+◌, ◌<◌, ◌≤◌, List, [], ◌∷◌, ◌++◌, length, Option, Some, None, is_none, unwrap_or, Ok, Err, Bool, true, false, IsTrue, IsFalse, refl, sym, ap, subst, ◌∙◌, append_assoc, append-nil}
-use Rattle.std.specs.Option.{OnSome, IsNone}
-use Rattle.std.specs.Io.KnownBytes.{Consumes, IsAtEnd}
+use Rattle.std.proofs.Common.{◌≡◌, ◌≢◌, ℕ, ◌+◌, ◌<◌, List, [], ◌∷◌, ◌++◌, length, Option, Some, None, is_none, unwrap_or, Ok, Err, IfOk, true, false, IsTrue, IsFalse, refl, sym, ap, subst, ◌∙◌, append_assoc, append-nil, true≢false}
 use Rattle.script.specs.Items.{Item, Numbered, numbered, ItemsFrom, done, other_line, closed_put, last_put, malformed_put, missing_body, short_body, open_body, ended, last, IsLine, IsPutLine, is_blank, is_put, item_of_line, line_feeds, put, bad_put, truncated, body_not_closed}
-use Rattle.stream.specs.Stream.{IsItemOf}
+use Rattle.std.specs.declared.result.Result.{Result}
+use Rattle.stream.specs.declared.item.StreamError.{StreamError}
+use Rattle.stream.specs.declared.item.StreamItem.{StreamItem}
+use Rattle.stream.specs.declared.stream.Step.{Step}
+use Rattle.stream.specs.Stream.{IsItemOf, Shows}
 use Rattle.stream.specs.Private.Lines.{Skips}
-use Rattle.stream.specs.Private.Taking.{IsStep}
+use Rattle.stream.specs.Private.Taking.{IsStep, TakesItem}
+
+some_is_not_none : {next : ℕ} → Some next ≡ None → ⊥
+some_is_not_none e = cc
 
 some_byte : (line : List ℕ) → IsFalse (is_blank line) → line ≢ []
-some_byte [] not_blank = cc
+some_byte [] not_blank = absurd (true≢false not_blank)
 some_byte (b ∷ line) not_blank = λ e. cc
 
 module _ (n : ℕ) (line : List ℕ) (is : IsLine line) where
@@ -22,7 +27,7 @@ module _ (n : ℕ) (line : List ℕ) (is : IsLine line) where
   step_bad_put is_put none = malformed_put line [] (ended refl is) is_put none
 
   pub step_other : (item : Item) (next : ℕ) → IsFalse (is_blank line) → IsFalse (is_put line) → item ≡ item_of_line line → next ≡ n + 1 → IsStep n (line ++ 10 ∷ []) item (Some next)
-  step_other item next not_blank not_put same is_next rest items h =
+  step_other item next not_blank not_put same is_next = λ rest items h.
       let text : (line ++ 10 ∷ []) ++ rest ≡ line ++ 10 ∷ rest = append_assoc line (10 ∷ []) rest in
       subst (λ t. ItemsFrom n t (numbered n item ∷ items)) (sym text)
       (subst (λ i. ItemsFrom n (line ++ 10 ∷ rest) (numbered n i ∷ items)) (sym same)
@@ -37,7 +42,7 @@ module _ (n size : ℕ) (line name body : List ℕ) (is : IsPutLine line name si
     is_whole = subst (IsPutLine line name) (sym long) is
 
     pub step_closed : (bytes : List ℕ) (next : ℕ) → bytes ≡ 10 ∷ [] → next ≡ n + 2 + line_feeds body → IsStep n (line ++ 10 ∷ (body ++ bytes)) (put name body) (Some next)
-    step_closed bytes next feed is_next rest items h =
+    step_closed bytes next feed is_next = λ rest items h.
         let text : (line ++ 10 ∷ (body ++ bytes)) ++ rest ≡ line ++ 10 ∷ (body ++ 10 ∷ rest) =
         append_assoc line (10 ∷ (body ++ bytes)) rest ∙ ap (λ l. line ++ 10 ∷ l) (append_assoc body bytes rest) ∙ ap (λ l. line ++ 10 ∷ (body ++ (l ++ rest))) feed in
         closed_put line rest text is_whole (subst (λ m. ItemsFrom m rest items) is_next h)
@@ -65,3 +70,14 @@ pub last_after_skipped : (first n : ℕ) (skipped line bytes : List ℕ) (item :
 last_after_skipped first n skipped line bytes item whole skips is =
     let text : bytes ≡ skipped ++ line = whole ∙ ap (λ l. skipped ++ l) (append-nil line) in
     subst (λ t. ItemsFrom first t (numbered n item ∷ [])) (sym text) (skips line (numbered n item ∷ []) is)
+
+-- an item after which the reading goes on
+pub takes_next : (r : Result Step StreamError) (number next : ℕ) (line bytes : List ℕ) (was left : Option (List ℕ)) (found : StreamItem) (item : Item) → IfOk r (λ step. (step.item ≡ found) × (step.next ≡ Some next)) → Shows found item → IsStep number (line ++ 10 ∷ bytes) item (Some next)
+    → TakesItem number line r bytes was left
+takes_next (Err error) number next line bytes was left found item is shows whole = tt
+takes_next (Ok step) number next line bytes was left found item is shows whole = record {
+  item = item;
+  shows = subst (λ f. Shows f item) (sym is.0) shows;
+  whole = subst (IsStep number (line ++ 10 ∷ bytes) item) (sym is.1) whole;
+  end = λ none. absurd (some_is_not_none (sym is.1 ∙ none));
+}

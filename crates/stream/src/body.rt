@@ -1,15 +1,14 @@
 //! The bytes after a put's line.
 
-ghost use Rattle.std.specs.Prelude.{◌≡◌, ℕ, ◌+◌, ◌≤◌, ◌<◌, ◌^◌, List, length, take, drop, IfSome, IfOk};
+ghost use Rattle.std.specs.Prelude.{◌≡◌, ℕ, ◌+◌, ◌≤◌, ◌<◌, ◌^◌, List, length, IfSome};
 ghost use Rattle.std.specs.Io.KnownBytes.{Consumes};
-ghost use Rattle.script.specs.Items.{line_feeds};
-ghost use Rattle.stream.specs.Private.Bytes.{Counts, Fills, PassesPiece, Passes, Reads, Looks, IsClosing, IsPutBytes};
+ghost use Rattle.stream.specs.Private.Bytes.{Counts, Appends, Fills, PassesPiece, Passes, IsFront, Looks, IsClosing, Holds, IsPutBytes};
 
 use crate::item::StreamError;
-use crate::line::interrupted;
+use crate::line::{append, interrupted};
 use index::MAX_BODY;
 use std::alloc::Global;
-use std::io::{BufRead, Read};
+use std::io::BufRead;
 
 /// How many bytes were taken, and how many of them are line feeds.
 #[derive(Clone, Copy, Debug)]
@@ -44,15 +43,6 @@ pub enum Closing {
     InputEnd,
 }
 
-fn nothing() -> Passed
-    ensures { (result.count ≡ 0) × (result.line_feeds ≡ 0) }
-{
-    Passed {
-        count: 0,
-        line_feeds: 0,
-    }
-}
-
 fn count(bytes: &[u8]) -> Passed
     ensures { Counts result bytes.now }
 {
@@ -62,45 +52,58 @@ fn count(bytes: &[u8]) -> Passed
     }
 }
 
-/// One read into the body, from this place on. `None` means that it was interrupted.
-fn read_at<I: Read>(input: &mut I, body: &mut [u8], at: usize) -> Result<Option<usize>, StreamError>
-    requires { at < length body.old }
-    ensures front { take at body.new ≡ take at body.old }
-    ensures fits { IfOk result (λ found. IfSome found (λ n. at + n ≤ length body.new)) }
-    ensures taken { (bytes : List ℕ) × Consumes (I.remaining input.old) (I.remaining input.new) bytes
-        × Reads result bytes (drop at body.new) (I.remaining input.new) }
+/// Appends to the body what the reader has, at most so many bytes, and returns whether it has any. It reads once
+/// if the reader has nothing. If it has none then, the input ends.
+fn take_some<I: BufRead>(
+    input: &mut I,
+    most: usize,
+    body: &mut Vec<u8>,
+) -> Result<bool, StreamError>
+    ensures { (bytes : List ℕ) × Consumes (I.remaining input.old) (I.remaining input.new) bytes
+        × Appends most body.old.items result body.new.items bytes (I.remaining input.old) (I.remaining input.new) }
 {
-    match input.read(&mut body[at..]) {
-        Ok(n) => Ok(Some(n)),
+    let shown = match input.fill_buf() {
+        Ok(shown) => shown,
         Err(error) => {
             interrupted(&error)?;
-            Ok(None)
+            return Ok(true);
         }
-    }
+    };
+    let more = shown.len() > 0;
+    let taken = shown.len().min(most);
+    append(body, &shown[..taken])?;
+    input.consume(taken);
+    Ok(more)
 }
 
-/// Reads bytes into the body until it is full or the input ends. Returns how many.
-fn fill<I: Read>(input: &mut I, body: &mut [u8]) -> Result<usize, StreamError>
+/// Appends bytes to the body until it has so many or the input ends.
+fn fill<I: BufRead>(input: &mut I, size: usize, body: &mut Vec<u8>) -> Result<(), StreamError>
+    requires { length body.old.items ≡ 0 }
     ensures { (bytes : List ℕ) × Consumes (I.remaining input.old) (I.remaining input.new) bytes
-        × Fills result body.new bytes (I.remaining input.old) (I.remaining input.new) }
+        × Fills size result body.new.items bytes (I.remaining input.old) (I.remaining input.new) }
 {
-    let mut at = 0;
     for _ in 0..u64::MAX {
-        if at == body.len() {
-            return Ok(at);
+        if body.len() >= size {
+            return Ok(());
         }
-        match read_at(input, body, at)? {
-            None => {}
-            Some(0) => return Ok(at),
-            Some(n) => at += n,
+        let more = take_some(input, size - body.len(), body)?;
+        if !more {
+            return Ok(());
         }
     }
     Err(StreamError::CannotRead)
 }
 
-/// Passes over what the reader has, at most so many bytes. It reads once if the reader has nothing. `None`
-/// means that the input ends.
-fn pass_piece<I: BufRead>(input: &mut I, most: usize) -> Result<Option<Passed>, StreamError>
+/// A piece that was passed over.
+#[derive(Clone, Copy, Debug)]
+struct Piece {
+    passed: Passed,
+    /// Whether the reader had any bytes. If not, the input ends.
+    more: bool,
+}
+
+/// Passes over what the reader has, at most so many bytes. It reads once if the reader has nothing.
+fn pass_piece<I: BufRead>(input: &mut I, most: usize) -> Result<Piece, StreamError>
     ensures { (bytes : List ℕ) × Consumes (I.remaining input.old) (I.remaining input.new) bytes
         × PassesPiece most result bytes (I.remaining input.old) (I.remaining input.new) }
 {
@@ -108,15 +111,17 @@ fn pass_piece<I: BufRead>(input: &mut I, most: usize) -> Result<Option<Passed>, 
         Ok(shown) => shown,
         Err(error) => {
             interrupted(&error)?;
-            return Ok(Some(nothing()));
+            return Ok(Piece {
+                passed: count(&[]),
+                more: true,
+            });
         }
     };
-    if shown.is_empty() {
-        return Ok(None);
-    }
-    let passed = count(&shown[..shown.len().min(most)]);
-    input.consume(passed.count);
-    Ok(Some(passed))
+    let more = shown.len() > 0;
+    let taken = shown.len().min(most);
+    let passed = count(&shown[..taken]);
+    input.consume(taken);
+    Ok(Piece { passed, more })
 }
 
 /// Passes over so many bytes, or over fewer if the input ends before. None of them is kept.
@@ -124,14 +129,15 @@ fn pass_over<I: BufRead>(input: &mut I, size: usize) -> Result<Passed, StreamErr
     ensures { (bytes : List ℕ) × Consumes (I.remaining input.old) (I.remaining input.new) bytes
         × Passes size result bytes (I.remaining input.old) (I.remaining input.new) }
 {
-    let mut passed = nothing();
+    let mut passed = count(&[]);
     for _ in 0..u64::MAX {
-        if passed.count == size {
+        if passed.count >= size {
             return Ok(passed);
         }
-        match pass_piece(input, size - passed.count)? {
-            None => return Ok(passed),
-            Some(piece) => passed = both(passed, piece),
+        let piece = pass_piece(input, size - passed.count)?;
+        passed = both(passed, piece.passed);
+        if !piece.more {
+            return Ok(passed);
         }
     }
     Err(StreamError::CannotRead)
@@ -148,6 +154,33 @@ fn both(first: Passed, second: Passed) -> Passed
     }
 }
 
+/// The byte at the front of what follows a put's bytes, if there is one.
+#[derive(Clone, Copy, Debug)]
+struct Front {
+    closing: Closing,
+    taken: usize,
+}
+
+fn front_of(shown: &[u8]) -> Front
+    ensures front { IsFront shown.now result.closing result.taken }
+    ensures within { result.taken ≤ length shown.now }
+{
+    match shown.first() {
+        None => Front {
+            closing: Closing::InputEnd,
+            taken: 0,
+        },
+        Some(b) => Front {
+            closing: if *b == b'\n' {
+                Closing::LineFeed
+            } else {
+                Closing::OtherByte
+            },
+            taken: 1,
+        },
+    }
+}
+
 /// Takes the byte after a put's bytes, if the reader has one. It reads once if the reader has nothing.
 /// `None` means that this was interrupted.
 fn look<I: BufRead>(input: &mut I) -> Result<Option<Closing>, StreamError>
@@ -161,16 +194,9 @@ fn look<I: BufRead>(input: &mut I) -> Result<Option<Closing>, StreamError>
             return Ok(None);
         }
     };
-    if shown.is_empty() {
-        return Ok(Some(Closing::InputEnd));
-    }
-    let closing = if shown[0] == b'\n' {
-        Closing::LineFeed
-    } else {
-        Closing::OtherByte
-    };
-    input.consume(1);
-    Ok(Some(closing))
+    let front = front_of(shown);
+    input.consume(front.taken);
+    Ok(Some(front.closing))
 }
 
 /// Takes the byte after a put's bytes, unless the input ends there.
@@ -179,36 +205,57 @@ pub fn close<I: BufRead>(input: &mut I) -> Result<Closing, StreamError>
         × IsClosing result bytes (I.remaining input.old) (I.remaining input.new) }
 {
     for _ in 0..u64::MAX {
-        if let Some(closing) = look(input)? {
+        let found = look(input)?;
+        if let Some(closing) = found {
             return Ok(closing);
         }
     }
     Err(StreamError::CannotRead)
 }
 
-/// A body of this length, which is to be filled.
-fn body_of(alloc: Global, size: usize) -> Option<Vec<u8>>
-    ensures { IfSome result (λ body. length body.items ≡ size) }
+/// An empty body with room for so many bytes.
+fn room_for(alloc: Global, size: usize) -> Option<Vec<u8>>
+    ensures { IfSome result (λ body. length body.items ≡ 0) }
 {
     let mut body = Vec::new(alloc);
-    if body.reserve_exact(size).is_err() || body.resize(size, 0).is_err() {
-        return None;
+    match body.reserve_exact(size) {
+        Ok(()) => Some(body),
+        Err(_) => None,
     }
-    Some(body)
 }
 
 /// Reads a put's bytes into the body.
-fn read_body<I: BufRead>(input: &mut I, mut body: Vec<u8>) -> Result<PutBytes, StreamError>
+fn read_body<I: BufRead>(
+    input: &mut I,
+    size: usize,
+    mut body: Vec<u8>,
+) -> Result<PutBytes, StreamError>
+    requires { length body.items ≡ 0 }
     ensures { (bytes : List ℕ) × Consumes (I.remaining input.old) (I.remaining input.new) bytes
-        × IsPutBytes (length body.entry.items) result bytes (I.remaining input.old) (I.remaining input.new) }
+        × IsPutBytes size result bytes (I.remaining input.old) (I.remaining input.new) }
 {
-    let filled = fill(input, body.as_mut_slice())?;
-    body.truncate(filled);
-    let passed = count(body.as_slice());
-    Ok(PutBytes {
-        body: Body::Kept(body),
-        passed,
-    })
+    match fill(input, size, &mut body) {
+        Ok(()) => {
+            let passed = count(body.as_slice());
+            Ok(PutBytes {
+                body: Body::Kept(body),
+                passed,
+            })
+        }
+        Err(error) => Err(error),
+    }
+}
+
+/// Passes over a put's bytes, of which nothing is kept.
+fn skip_body<I: BufRead>(input: &mut I, size: usize, body: Body) -> Result<PutBytes, StreamError>
+    requires { (bytes : List ℕ) → Holds body size bytes }
+    ensures { (bytes : List ℕ) × Consumes (I.remaining input.old) (I.remaining input.new) bytes
+        × IsPutBytes size result bytes (I.remaining input.old) (I.remaining input.new) }
+{
+    match pass_over(input, size) {
+        Ok(passed) => Ok(PutBytes { body, passed }),
+        Err(error) => Err(error),
+    }
 }
 
 /// Takes a put's bytes. They are kept if there are at most `MAX_BODY` of them and memory for them.
@@ -220,14 +267,11 @@ pub fn take_bytes<I: BufRead>(
     ensures { (bytes : List ℕ) × Consumes (I.remaining input.old) (I.remaining input.new) bytes
         × IsPutBytes size result bytes (I.remaining input.old) (I.remaining input.new) }
 {
-    let body = if size > MAX_BODY {
-        Body::Long
-    } else {
-        match body_of(alloc, size) {
-            Some(body) => return read_body(input, body),
-            None => Body::Lost,
-        }
-    };
-    let passed = pass_over(input, size)?;
-    Ok(PutBytes { body, passed })
+    if size > MAX_BODY {
+        return skip_body(input, size, Body::Long);
+    }
+    match room_for(alloc, size) {
+        Some(body) => read_body(input, size, body),
+        None => skip_body(input, size, Body::Lost),
+    }
 }

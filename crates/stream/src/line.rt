@@ -1,6 +1,6 @@
 //! Lines, read to their ends.
 
-ghost use Rattle.std.specs.Prelude.{◌≡◌, ℕ, ◌≤◌, ◌++◌, List, [], length, IfOk, IfErr, OnErr, MatchResult};
+ghost use Rattle.std.specs.Prelude.{◌≡◌, ℕ, ◌≤◌, ◌++◌, List, [], length, IfOk};
 ghost use Rattle.std.specs.Io.KnownBytes.{Consumes};
 ghost use Rattle.script.specs.Items.{is_blank};
 ghost use Rattle.stream.specs.Private.Lines.{IsPart, Grows, IsLineTaken, IsNextLine};
@@ -63,17 +63,24 @@ pub fn interrupted(error: &Error) -> Result<(), StreamError> {
     }
 }
 
-/// Appends a piece to the text of a line.
-fn append(text: &mut Vec<u8>, piece: &[u8]) -> Result<(), StreamError>
+/// Appends bytes.
+pub fn append(text: &mut Vec<u8>, bytes: &[u8]) -> Result<(), StreamError>
+    ensures { IfOk result (λ _. text.new.items ≡ text.old.items ++ bytes.now) }
+{
+    match text.extend_from_slice(bytes) {
+        Ok(()) => Ok(()),
+        Err(_) => Err(StreamError::OutOfMemory),
+    }
+}
+
+/// Appends a piece to the text of a line, unless the line is too long then.
+fn append_piece(text: &mut Vec<u8>, piece: &[u8]) -> Result<(), StreamError>
     ensures { IfOk result (λ _. text.new.items ≡ text.old.items ++ piece.now) }
 {
     if MAX_SCRIPT.saturating_sub(text.len()) < piece.len() {
         return Err(StreamError::LineTooLong);
     }
-    match text.extend_from_slice(piece) {
-        Ok(()) => Ok(()),
-        Err(_) => Err(StreamError::OutOfMemory),
-    }
+    append(text, piece)
 }
 
 /// Takes what the reader has of a line, up to its line feed, and appends it to the text. It reads once if the
@@ -90,9 +97,10 @@ fn take_piece<I: BufRead>(input: &mut I, text: &mut Vec<u8>) -> Result<Piece, St
         }
     };
     let part = part_of(shown);
-    append(text, part.line)?;
-    input.consume(part.taken);
-    Ok(part.piece)
+    let (taken, piece) = (part.taken, part.piece);
+    append_piece(text, part.line)?;
+    input.consume(taken);
+    Ok(piece)
 }
 
 /// Takes a line, and whether a line feed ended it. Otherwise the input's end did.

@@ -125,7 +125,7 @@ fn last_item(line: &[u8]) -> Item<'_>
 {
     match read_line(line) {
         Line::Blank => unreachable!(),
-        Line::Put { .. } => Item::Truncated,
+        Line::Put { name: _, size: _ } => Item::Truncated,
         Line::BadPut => Item::BadPut,
         Line::Other(item) => item,
     }
@@ -163,7 +163,7 @@ fn take_item<'t, I: BufRead>(
 
 /// An item after which so many lines more are counted.
 fn go_on_after(item: StreamItem<'_>, number: u32, lines: usize) -> Result<Step<'_>, StreamError>
-    ensures { IfOk result (λ step. (step.item ≡ item.entry) × (step.next ≡ Some (number + lines)) × (number + lines < 2 ^ 32)) }
+    ensures { IfOk result (λ step. (step.item ≡ item.entry) × (step.next ≡ Some (number + lines))) }
 {
     match number_after(number, lines) {
         Some(next) => Ok(Step {
@@ -203,7 +203,8 @@ fn take_put<'t, I: BufRead>(
     }
     let lines = put.passed.line_feeds.saturating_add(2);
     let item = put_item(name, put.body);
-    match close(input)? {
+    let closing = close(input)?;
+    match closing {
         Closing::LineFeed => go_on_after(item, number, lines),
         Closing::InputEnd => Ok(Step { item, next: None }),
         Closing::OtherByte => Ok(Step {

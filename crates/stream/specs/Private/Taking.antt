@@ -1,5 +1,5 @@
 -- The item of a line, with a put's bytes.
-use Rattle.std.specs.Prelude.{◌≡◌, ◌⊎◌, ℕ, List, [], ◌∷◌, ◌++◌, Option, Some, None, Ok, Err, OnSome, IsNone, ⊤}
+use Rattle.std.specs.Prelude.{◌≡◌, ◌⊎◌, ℕ, List, [], ◌∷◌, ◌++◌, Option, Some, None, Ok, Err, OnSome, ⊤}
 use Rattle.std.specs.declared.result.Result.{Result}
 use Rattle.std.specs.Io.KnownBytes.{IsAtEnd}
 use Rattle.script.specs.Items.{Item, Numbered, numbered, ItemsFrom}
@@ -17,7 +17,7 @@ pub record TakesStep (number : ℕ) (line : List ℕ) (step : Step) (bytes : Lis
   pub item : Item
   pub shows : Shows step.item item
   pub whole : IsStep number (line ++ 10 ∷ bytes) item step.next
-  pub end : IsNone step.next → OnSome was (IsAtEnd left) ⊎ IsFault item
+  pub end : step.next ≡ None → OnSome was (IsAtEnd left) ⊎ IsFault item
 
 abbrev pub TakesItem : ℕ → List ℕ → Result Step StreamError → List ℕ → Option (List ℕ) → Option (List ℕ) → Type 0
 TakesItem number line (Ok step) bytes was left = TakesStep number line step bytes was left

@@ -1,10 +1,10 @@
--- The body's front is what was read so far.
-use Rattle.std.proofs.Common.{◌≡◌, ◌≤◌, length, take}
+-- The body is what was read so far, and no longer than it is to be.
+use Rattle.std.proofs.Common.{◌≤◌, length}
 use Rattle.std.specs.Io.KnownBytes.{Consumes}
 use Rattle.stream.proofs.body.fill.Given as goal
 
 abbrev pub invariant-loop : goal.invariant-loop
 invariant-loop g l = record {
-  within : l.at ≤ length l.body;
-  taken : Consumes (g.I.Read.remaining l.initial.input) (g.I.Read.remaining l.input) (take l.at l.body);
+  within : length l.body.items ≤ l.size;
+  taken : Consumes (g.I.Read.remaining l.initial.input) (g.I.Read.remaining l.input) l.body.items;
 }

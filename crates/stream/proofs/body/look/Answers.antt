@@ -1,0 +1,21 @@
+use Rattle.std.proofs.Common.{[], take, refl, sym, subst, arith, length-take, append-nil}
+use Rattle.std.specs.Io.BufRead.{FillKeeps}
+use Rattle.std.proofs.KnownBytes.{Consumes-nil, Consumes-kept}
+use Rattle.std.proofs.BufReadLemmas.{Consumes_shown}
+use Rattle.stream.proofs.BodyLemmas.{closes_by_front}
+use Rattle.stream.proofs.body.look.Goals as goal
+
+pub returns-in_err-interrupted : goal.returns-in_err-interrupted
+returns-in_err-interrupted g c = ([], Consumes-kept _ _ _ [] (Consumes-nil _) c.fill_buf.follows.holds-at-none.0, tt)
+
+pub returns-in-Err : goal.returns-in-Err
+returns-in-Err g c = ([], Consumes-kept _ _ _ [] (Consumes-nil _) c.fill_buf.follows.holds-at-none.0, refl)
+
+pub returns : goal.returns
+returns g c =
+    let shown = c.in-Ok.shown.now in
+    let rested = c.fill_buf.follows.lender-at-none in
+    let filled = subst (FillKeeps _ (g.I.Read.remaining rested) (g.I.BufRead.consumable_len rested)) c.in-Ok.is c.fill_buf.follows.holds-at-none in
+    let front = c.front_of-front in
+    let moved = Consumes_shown _ _ _ _ shown front.result.taken front.ensures.within c.in-Ok.ensures.front c.in-Ok.ensures.end filled.0 filled.1 c.consume.ensures.bytes in
+    (take front.result.taken shown, moved.0, closes_by_front front.result.closing shown front.result.taken _ _ front.ensures.front moved.1)

@@ -1,0 +1,31 @@
+use Rattle.std.proofs.Common.{[], inr, refl}
+use Rattle.std.proofs.KnownBytes.{Consumes-nil}
+use Rattle.script.specs.Items.{bad_put}
+use Rattle.stream.specs.Stream.{no_header}
+use Rattle.stream.proofs.TakingLemmas.{step_bad_put, step_other, takes_next}
+use Rattle.stream.proofs.stream.take_item.Goals as goal
+
+pub returns-in-Put : goal.returns-in-Put
+returns-in-Put g c =
+    let (bytes, taken, takes) = c.take_put.ensures in
+    (bytes, taken, takes c.args.line.now c.in-Put.ensures)
+
+pub returns-in-BadPut : goal.returns-in-BadPut
+returns-in-BadPut g c = (
+  [],
+  Consumes-nil _,
+  record {
+    item = bad_put;
+    shows = refl;
+    whole = step_bad_put c.args.number c.args.line.now c.requires.is_line c.in-BadPut.ensures.0 c.in-BadPut.ensures.1;
+    end = λ none. inr no_header;
+  },
+)
+
+pub returns-in-Other : goal.returns-in-Other
+returns-in-Other g c = (
+  [],
+  Consumes-nil _,
+  takes_next c.go_on_after.result c.args.number _ c.args.line.now [] _ _ _ _ c.go_on_after.ensures refl
+      (step_other c.args.number c.args.line.now c.requires.is_line _ _ c.in-Other.ensures.0 c.in-Other.ensures.1 c.in-Other.ensures.2 refl),
+)
