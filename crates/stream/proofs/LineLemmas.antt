@@ -60,17 +60,19 @@ module _ (start mid left : Option (List ℕ)) (first number : ℕ) (skipped line
   all_taken : Consumes start left (skipped ++ bytes)
   all_taken = Consumes-trans start mid left skipped bytes before taken
 
-  pub skips_more : IsLineTaken (Ok true) line bytes mid left → IsTrue (is_blank line) → (all : List ℕ) × Consumes start left all × Skips first all (number + 1)
-  skips_more is blank = (
-    skipped ++ bytes,
-    all_taken,
-    λ rest items h.
-        let same : (skipped ++ bytes) ++ rest ≡ skipped ++ (line ++ 10 ∷ rest) = append_assoc skipped bytes rest ∙ ap (λ l. skipped ++ (l ++ rest)) is.1 ∙ ap (λ l. skipped ++ l) (append_assoc line (10 ∷ []) rest) in
-        subst (λ t. ItemsFrom first t items) (sym same) (skips (line ++ 10 ∷ rest) items (blank_line line rest (ended refl is.0) blank h)),
-  )
+  pub skips_more : (closed : Bool) → closed ≡ true → IsLineTaken (Ok closed) line bytes mid left → IsTrue (is_blank line) → (all : List ℕ) × Consumes start left all × Skips first all (number + 1)
+  skips_more closed e is' blank =
+      let is = subst (λ b. IsLineTaken (Ok b) line bytes mid left) e is' in (
+        skipped ++ bytes,
+        all_taken,
+        λ rest items h.
+            let same : (skipped ++ bytes) ++ rest ≡ skipped ++ (line ++ 10 ∷ rest) = append_assoc skipped bytes rest ∙ ap (λ l. skipped ++ (l ++ rest)) is.1 ∙ ap (λ l. skipped ++ l) (append_assoc line (10 ∷ []) rest) in
+            subst (λ t. ItemsFrom first t items) (sym same) (skips (line ++ 10 ∷ rest) items (blank_line line rest (ended refl is.0) blank h)),
+      )
 
-  pub skips_all : IsLineTaken (Ok false) line bytes mid left → IsTrue (is_blank line) → (all : List ℕ) × Consumes start left all × IsNextLine first (Ok None) line all start left
-  skips_all is blank =
+  pub skips_all : (closed : Bool) → closed ≡ false → IsLineTaken (Ok closed) line bytes mid left → IsTrue (is_blank line) → (all : List ℕ) × Consumes start left all × IsNextLine first (Ok None) line all start left
+  skips_all closed e is' blank =
+      let is = subst (λ b. IsLineTaken (Ok b) line bytes mid left) e is' in
       let same : skipped ++ bytes ≡ skipped ++ line = ap (λ l. skipped ++ l) (is.1 ∙ append-nil line) in (
         skipped ++ bytes,
         all_taken,

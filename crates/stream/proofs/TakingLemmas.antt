@@ -1,5 +1,5 @@
 -- The items of lines, with puts' bytes.
-use Rattle.std.proofs.Common.{◌≡◌, ◌≢◌, ℕ, ◌+◌, ◌<◌, List, [], ◌∷◌, ◌++◌, length, Option, Some, None, is_none, unwrap_or, Ok, Err, IfOk, true, false, IsTrue, IsFalse, refl, sym, ap, subst, ◌∙◌, append_assoc, append-nil, true≢false}
+use Rattle.std.proofs.Common.{◌≡◌, ◌≢◌, ℕ, ◌+◌, ◌^◌, ◌<◌, List, [], ◌∷◌, ◌++◌, length, Option, Some, None, is_none, unwrap_or, Ok, Err, IfOk, true, false, IsTrue, IsFalse, refl, sym, ap, subst, ◌∙◌, append_assoc, append-nil, true≢false}
 use Rattle.script.specs.Items.{Item, Numbered, numbered, ItemsFrom, done, other_line, closed_put, last_put, malformed_put, missing_body, short_body, open_body, ended, last, IsLine, IsPutLine, is_blank, is_put, item_of_line, line_feeds, put, bad_put, truncated, body_not_closed}
 use Rattle.std.specs.declared.result.Result.{Result}
 use Rattle.stream.specs.declared.item.StreamError.{StreamError}
@@ -71,13 +71,13 @@ last_after_skipped first n skipped line bytes item whole skips is =
     let text : bytes ≡ skipped ++ line = whole ∙ ap (λ l. skipped ++ l) (append-nil line) in
     subst (λ t. ItemsFrom first t (numbered n item ∷ [])) (sym text) (skips line (numbered n item ∷ []) is)
 
--- an item after which the reading goes on
-pub takes_next : (r : Result Step StreamError) (number next : ℕ) (line bytes : List ℕ) (was left : Option (List ℕ)) (found : StreamItem) (item : Item) → IfOk r (λ step. (step.item ≡ found) × (step.next ≡ Some next)) → Shows found item → IsStep number (line ++ 10 ∷ bytes) item (Some next)
-    → TakesItem number line r bytes was left
-takes_next (Err error) number next line bytes was left found item is shows whole = tt
-takes_next (Ok step) number next line bytes was left found item is shows whole = record {
+-- an item after which the reading goes on, if the number of the next line fits
+pub takes_next : (r : Result Step StreamError) (number lines : ℕ) (line bytes : List ℕ) (was left : Option (List ℕ)) (found : StreamItem) (item : Item) → IfOk r (λ step. (step.item ≡ found) × (step.next ≡ Some (number + lines)) × (number + lines < 2 ^ 32)) → Shows found item
+    → (number + lines < 2 ^ 32 → IsStep number (line ++ 10 ∷ bytes) item (Some (number + lines))) → TakesItem number line r bytes was left
+takes_next (Err error) number lines line bytes was left found item is shows whole = tt
+takes_next (Ok step) number lines line bytes was left found item is shows whole = record {
   item = item;
   shows = subst (λ f. Shows f item) (sym is.0) shows;
-  whole = subst (IsStep number (line ++ 10 ∷ bytes) item) (sym is.1) whole;
+  whole = subst (IsStep number (line ++ 10 ∷ bytes) item) (sym is.1) (whole is.2);
   end = λ none. absurd (some_is_not_none (sym is.1 ∙ none));
 }

@@ -1,6 +1,6 @@
 //! Lines, read to their ends.
 
-ghost use Rattle.std.specs.Prelude.{◌≡◌, ℕ, ◌≤◌, ◌++◌, List, [], length, IfOk};
+ghost use Rattle.std.specs.Prelude.{◌≡◌, ℕ, ◌+◌, ◌≤◌, ◌++◌, List, [], length, IfOk};
 ghost use Rattle.std.specs.Io.KnownBytes.{Consumes};
 ghost use Rattle.script.specs.Items.{is_blank};
 ghost use Rattle.stream.specs.Private.Lines.{IsPart, Grows, IsLineTaken, IsNextLine};
@@ -140,13 +140,23 @@ pub fn next_line<I: BufRead>(
     let mut line = first;
     loop {
         let closed = take_line(input, text)?;
-        if !is_blank(text) {
+        if !is_blank(text.as_slice()) {
             return Ok(Some(LineStart { line, closed }));
         }
         if !closed {
             return Ok(None);
         }
-        line = line.checked_add(1).ok_or(StreamError::TooManyLines)?;
+        let next = next_number(line)?;
+        line = next;
+    }
+}
+
+fn next_number(line: u32) -> Result<u32, StreamError>
+    ensures { IfOk result (λ next. next ≡ line + 1) }
+{
+    match line.checked_add(1) {
+        Some(next) => Ok(next),
+        None => Err(StreamError::TooManyLines),
     }
 }
 

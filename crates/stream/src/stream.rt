@@ -101,7 +101,7 @@ impl ItemStream {
     /// Goes on with the line of this number, if there is one.
     fn go_on(&mut self, next: Option<u32>)
         requires { self.old.ended ≡ true }
-        ensures { self.new ≡ place (unwrap_or next.entry self.old.line) (is_none next.entry) }
+        ensures { self.new ≡ place (unwrap_or next self.old.line) (is_none next) }
     {
         if let Some(line) = next {
             self.line = line;
@@ -163,7 +163,7 @@ fn take_item<'t, I: BufRead>(
 
 /// An item after which so many lines more are counted.
 fn go_on_after(item: StreamItem<'_>, number: u32, lines: usize) -> Result<Step<'_>, StreamError>
-    ensures { IfOk result (λ step. (step.item ≡ item.entry) × (step.next ≡ Some (number + lines))) }
+    ensures { IfOk result (λ step. (step.item ≡ item.entry) × (step.next ≡ Some (number + lines)) × (number + lines < 2 ^ 32)) }
 {
     match number_after(number, lines) {
         Some(next) => Ok(Step {
@@ -175,7 +175,7 @@ fn go_on_after(item: StreamItem<'_>, number: u32, lines: usize) -> Result<Step<'
 }
 
 fn number_after(number: u32, lines: usize) -> Option<u32>
-    ensures { IfSome result (λ next. next ≡ number + lines) }
+    ensures { IfSome result (λ next. (next ≡ number + lines) × (next < 2 ^ 32)) }
 {
     if lines > u32::MAX as usize {
         return None;
@@ -215,7 +215,7 @@ fn take_put<'t, I: BufRead>(
 }
 
 fn put_item(name: &[u8], body: Body) -> StreamItem<'_>
-    ensures { (size : ℕ) (bytes : List ℕ) → Holds body.entry size bytes → length bytes ≡ size → Shows result (put name.now bytes) }
+    ensures { (size : ℕ) (bytes : List ℕ) → Holds body size bytes → length bytes ≡ size → Shows result (put name.now bytes) }
 {
     match body {
         Body::Kept(body) => StreamItem::Put { name, body },

@@ -5,8 +5,8 @@ use Rattle.std.proofs.BufReadLemmas.{Consumes_shown}
 use Rattle.stream.proofs.BodyLemmas.{none_if_not_more}
 use Rattle.stream.proofs.body.pass_piece.Goals as goal
 
-pub returns-in_err-interrupted : goal.returns-in_err-interrupted
-returns-in_err-interrupted g c = ([], Consumes-kept _ _ _ [] (Consumes-nil _) c.fill_buf.follows.holds-at-none.0, tt)
+pub returns-in_err-interrupted-in-Err : goal.returns-in_err-interrupted-in-Err
+returns-in_err-interrupted-in-Err g c = ([], Consumes-kept _ _ _ [] (Consumes-nil _) c.fill_buf.follows.holds-at-none.0, rw c.from_residual.ensures tt)
 
 pub returns-in-Err : goal.returns-in-Err
 returns-in-Err g c = ([], Consumes-kept _ _ _ [] (Consumes-nil _) c.fill_buf.follows.holds-at-none.0, ((search rules, search rules), zero-le, λ e. absurd (true≢false e)))

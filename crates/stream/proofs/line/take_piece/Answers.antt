@@ -5,11 +5,11 @@ use Rattle.std.proofs.BufReadLemmas.{Consumes_shown}
 use Rattle.stream.proofs.LineLemmas.{grows_by_part}
 use Rattle.stream.proofs.line.take_piece.Goals as goal
 
-pub returns-in_err-interrupted : goal.returns-in_err-interrupted
-returns-in_err-interrupted g c = ([], Consumes-kept _ _ _ [] (Consumes-nil _) c.fill_buf.follows.holds-at-none.0, tt)
-
 pub returns-in_err-append_piece : goal.returns-in_err-append_piece
-returns-in_err-append_piece g c = ([], Consumes-kept _ _ _ [] (Consumes-nil _) c.fill_buf.follows.holds-at-none.0, tt)
+returns-in_err-append_piece g c = ([], Consumes-kept _ _ _ [] (Consumes-nil _) c.fill_buf.follows.holds-at-none.0, rw c.from_residual-in_err-append_piece.ensures tt)
+
+pub returns-in_err-interrupted-in-Err : goal.returns-in_err-interrupted-in-Err
+returns-in_err-interrupted-in-Err g c = ([], Consumes-kept _ _ _ [] (Consumes-nil _) c.fill_buf.follows.holds-at-none.0, rw c.from_residual.ensures tt)
 
 pub returns-in-Err : goal.returns-in-Err
 returns-in-Err g c = ([], Consumes-kept _ _ _ [] (Consumes-nil _) c.fill_buf.follows.holds-at-none.0, (tt, sym (append-nil _)))

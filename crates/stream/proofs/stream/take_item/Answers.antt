@@ -26,6 +26,6 @@ pub returns-in-Other : goal.returns-in-Other
 returns-in-Other g c = (
   [],
   Consumes-nil _,
-  takes_next c.go_on_after.result c.args.number _ c.args.line.now [] _ _ _ _ c.go_on_after.ensures refl
-      (step_other c.args.number c.args.line.now c.requires.is_line _ _ c.in-Other.ensures.0 c.in-Other.ensures.1 c.in-Other.ensures.2 refl),
+  takes_next c.go_on_after.result c.args.number 1 c.args.line.now [] _ _ _ _ c.go_on_after.ensures refl
+      (λ few. step_other c.args.number c.args.line.now c.requires.is_line _ _ c.in-Other.ensures.0 c.in-Other.ensures.1 c.in-Other.ensures.2 refl),
 )

@@ -8,8 +8,8 @@ use Rattle.stream.proofs.stream.take_put.Goals as goal
 
 pub returns-in_err-put : goal.returns-in_err-put
 returns-in_err-put g c =
-    let (bytes, taken, _) = c.take_bytes-put.ensures in
-    (bytes, taken, λ line is. tt)
+    let (bytes, taken, _) = c.take_bytes.ensures in
+    (bytes, taken, λ line is. rw c.from_residual.ensures tt)
 
 pub returns-then-put-size : goal.returns-then-put-size
 returns-then-put-size g c =
@@ -27,8 +27,8 @@ returns-then-put-size g c =
 pub returns-in_err-closing : goal.returns-in_err-closing
 returns-in_err-closing g c =
     let (bytes, taken, _) = c.in_ok-put.ensures in
-    let (last, closed, _) = c.close-closing.ensures in
-    (bytes ++ last, Consumes-trans _ _ _ bytes last taken closed, λ line is. tt)
+    let (last, closed, _) = c.close.ensures in
+    (bytes ++ last, Consumes-trans _ _ _ bytes last taken closed, λ line is. rw c.from_residual-in_err-closing.ensures tt)
 
 pub returns-in-LineFeed : goal.returns-in-LineFeed
 returns-in-LineFeed g c =
@@ -37,8 +37,8 @@ returns-in-LineFeed g c =
     let long : length bytes ≡ c.args.size = omega (arith, counts.0, c.if-put-size.false, upto.0) in (
       bytes ++ last,
       Consumes-trans _ _ _ bytes last taken closed,
-      λ line is. takes_next c.go_on_after.result c.args.number _ line (bytes ++ last) _ _ c.put_item-item.result (put c.args.name.now bytes) c.go_on_after.ensures (c.put_item-item.ensures c.args.size bytes holds long)
-          (step_closed c.args.number c.args.size line c.args.name.now bytes is long last _ closes ?),
+      λ line is. takes_next c.go_on_after.result c.args.number c.saturating_add-lines.result line (bytes ++ last) _ _ c.put_item-item.result (put c.args.name.now bytes) c.go_on_after.ensures (c.put_item-item.ensures c.args.size bytes holds long)
+          (λ few. step_closed c.args.number c.args.size line c.args.name.now bytes is long last _ closes (omega (arith, few, c.saturating_add-lines.ensures, counts.1))),
     )
 
 pub returns-in-InputEnd : goal.returns-in-InputEnd
@@ -56,8 +56,8 @@ returns-in-InputEnd g c =
       },
     )
 
-pub returns-in-OtherByte : goal.returns-in-OtherByte
-returns-in-OtherByte g c =
+pub returns : goal.returns
+returns g c =
     let (bytes, taken, (holds, counts, upto)) = c.in_ok-put.ensures in
     let (last, closed, (b, is_byte, other)) = c.in_ok-closing.ensures in
     let long : length bytes ≡ c.args.size = omega (arith, counts.0, c.if-put-size.false, upto.0) in (
