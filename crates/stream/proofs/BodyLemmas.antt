@@ -1,10 +1,9 @@
 -- Bytes that are read or passed over, piece by piece.
-use Rattle.std.proofs.Common.{◌≡◌, ◌==◌, ℕ, ◌+◌, ◌-◌, ◌<◌, ◌≤◌, List, [], ◌∷◌, ◌++◌, length, take, Option, Ok, Bool, false, nat_lt, filter, refl, sym, ap, subst, ◌∙◌, arith, length-append}
+use Rattle.std.proofs.Common.{◌≡◌, ◌==◌, ℕ, ◌+◌, ◌-◌, ◌<◌, ◌≤◌, List, [], ◌∷◌, ◌++◌, length, take, Option, Ok, Bool, false, nat_lt, cond, refl, sym, ap, subst, ◌∙◌, arith, length-append}
 use Rattle.std.specs.Option.{OnSome}
 use Rattle.std.specs.Io.KnownBytes.{Consumes, IsAtEnd}
 use Rattle.std.proofs.KnownBytes.{Consumes-trans}
-use Rattle.std.proofs.lemmas.List.Sums.{length-filter, count_by-le-length}
-use Rattle.std.proofs.lemmas.List.Elements.{filter-append}
+use Rattle.std.proofs.lemmas.List.Sums.{sum_by-append, count_by-le-length}
 use Rattle.std.proofs.lemmas.Bool.Decides.{nat_tests}
 use Rattle.script.specs.Items.{line_feeds}
 use Rattle.stream.specs.declared.body.Passed.{Passed}
@@ -14,9 +13,7 @@ use Rattle.stream.specs.Private.Bytes.{IsUpTo, Counts, Passes, IsFront, Closes}
 use Rattle.stream.proofs.EndLemmas.{end_later}
 
 pub line_feeds-append : (front back : List ℕ) → line_feeds (front ++ back) ≡ line_feeds front + line_feeds back
-line_feeds-append front back =
-    let p = λ (b : ℕ). b == 10 in
-    omega (arith, length-filter p (front ++ back), length-filter p front, length-filter p back, ap length (filter-append p front back), length-append (filter p front) (filter p back))
+line_feeds-append front back = sum_by-append (λ b. cond (b == 10) 1 0) front back
 
 pub few_line_feeds : (bytes : List ℕ) → line_feeds bytes ≤ length bytes
 few_line_feeds bytes = count_by-le-length (λ b. b == 10) bytes

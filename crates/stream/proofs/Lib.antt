@@ -1,4 +1,6 @@
 pub mod EndLemmas
+pub mod ErrLemmas
 pub mod LineLemmas
 pub mod BodyLemmas
 pub mod TakingLemmas
+pub mod NextLemmas

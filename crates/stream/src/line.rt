@@ -1,6 +1,6 @@
 //! Lines, read to their ends.
 
-ghost use Rattle.std.specs.Prelude.{◌≡◌, ℕ, ◌+◌, ◌≤◌, ◌++◌, List, [], length, IfOk};
+ghost use Rattle.std.specs.Prelude.{◌≡◌, ℕ, ◌+◌, ◌^◌, ◌<◌, ◌≤◌, ◌++◌, List, [], length, IfOk};
 ghost use Rattle.std.specs.Io.KnownBytes.{Consumes};
 ghost use Rattle.script.specs.Items.{is_blank};
 ghost use Rattle.stream.specs.Private.Lines.{IsPart, Grows, IsLineTaken, IsNextLine};
@@ -152,7 +152,7 @@ pub fn next_line<I: BufRead>(
 }
 
 fn next_number(line: u32) -> Result<u32, StreamError>
-    ensures { IfOk result (λ next. next ≡ line + 1) }
+    ensures { IfOk result (λ next. (next ≡ line + 1) × (next < 2 ^ 32)) }
 {
     match line.checked_add(1) {
         Some(next) => Ok(next),

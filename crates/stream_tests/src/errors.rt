@@ -3,7 +3,7 @@
 use crate::inputs::{Endless, Pieces};
 use crate::words::items_of_input;
 use std::alloc::Global;
-use std::io::{self, BufReader, Read, Take};
+use std::io::{self, BufReader};
 use std::test::Fail;
 use stream::StreamError;
 
@@ -68,28 +68,5 @@ fn a_line_without_an_end(rt: HostRuntime) -> Result<(), Fail> {
     let (items, error) = items_of_input(rt.alloc(), &mut input)?;
     assert_eq!(rt; items.as_slice(), b"1:publish;".as_slice());
     assert!(rt; error == Some(StreamError::LineTooLong));
-    Ok(())
-}
-
-/// A put of 999,999,999 line feeds, and the line feed after them.
-fn put_of_line_feeds() -> Take<Endless<'static>> {
-    let endless = Endless {
-        first: b"put a 999999999\n",
-        byte: b'\n',
-    };
-    endless.take(1_000_000_016)
-}
-
-/// Each put has 1,000,000,001 lines. The fifth's last line has a number of over 32 bits.
-#[test]
-fn more_lines_than_fit(rt: HostRuntime) -> Result<(), Fail> {
-    let two = put_of_line_feeds().chain(put_of_line_feeds());
-    let four = two.chain(put_of_line_feeds()).chain(put_of_line_feeds());
-    let all = four.chain(put_of_line_feeds());
-    let mut input = BufReader::with_capacity(rt.alloc(), 65_536, all)?;
-    let (items, error) = items_of_input(rt.alloc(), &mut input)?;
-    let want = b"1:long put|a;2:long put|a;3:long put|a;4:long put|a;".as_slice();
-    assert_eq!(rt; items.as_slice(), want);
-    assert!(rt; error == Some(StreamError::TooManyLines));
     Ok(())
 }

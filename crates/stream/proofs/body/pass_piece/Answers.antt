@@ -2,11 +2,13 @@ use Rattle.std.proofs.Common.{[], take, refl, sym, subst, arith, length-take, ap
 use Rattle.std.specs.Io.BufRead.{FillKeeps}
 use Rattle.std.proofs.KnownBytes.{Consumes-nil, Consumes-kept}
 use Rattle.std.proofs.BufReadLemmas.{Consumes_shown}
+use Rattle.stream.specs.Private.Bytes.{PassesPiece}
+use Rattle.stream.proofs.ErrLemmas.{at_err}
 use Rattle.stream.proofs.BodyLemmas.{none_if_not_more}
 use Rattle.stream.proofs.body.pass_piece.Goals as goal
 
 pub returns-in_err-interrupted-in-Err : goal.returns-in_err-interrupted-in-Err
-returns-in_err-interrupted-in-Err g c = ([], Consumes-kept _ _ _ [] (Consumes-nil _) c.fill_buf.follows.holds-at-none.0, rw c.from_residual.ensures tt)
+returns-in_err-interrupted-in-Err g c = ([], Consumes-kept _ _ _ [] (Consumes-nil _) c.fill_buf.follows.holds-at-none.0, at_err c.from_residual.result (λ r. PassesPiece c.args.most r [] (g.I.Read.remaining c.args.input.now) (g.I.Read.remaining c.fill_buf.follows.lender-at-none)) c.from_residual.ensures.0 (λ e. tt))
 
 pub returns-in-Err : goal.returns-in-Err
 returns-in-Err g c = ([], Consumes-kept _ _ _ [] (Consumes-nil _) c.fill_buf.follows.holds-at-none.0, ((search rules, search rules), zero-le, λ e. absurd (true≢false e)))

@@ -2,6 +2,8 @@ use Rattle.std.proofs.Common.{◌≡◌, ◌++◌, ◌<◌, ◌≤◌, length, i
 use Rattle.std.proofs.KnownBytes.{Consumes-trans}
 use Rattle.script.specs.Items.{put, truncated, body_not_closed}
 use Rattle.stream.specs.Stream.{no_end}
+use Rattle.stream.specs.Private.Taking.{TakesItem}
+use Rattle.stream.proofs.ErrLemmas.{at_err}
 use Rattle.stream.proofs.EndLemmas.{end_later}
 use Rattle.stream.proofs.TakingLemmas.{step_truncated, step_closed, step_last, step_open, takes_next}
 use Rattle.stream.proofs.stream.take_put.Goals as goal
@@ -9,7 +11,7 @@ use Rattle.stream.proofs.stream.take_put.Goals as goal
 pub returns-in_err-put : goal.returns-in_err-put
 returns-in_err-put g c =
     let (bytes, taken, _) = c.take_bytes.ensures in
-    (bytes, taken, λ line is. rw c.from_residual.ensures tt)
+    (bytes, taken, λ line is. at_err c.from_residual.result (λ r. TakesItem c.args.number line r bytes (g.I.Read.remaining c.args.input.now) (g.I.Read.remaining c.take_bytes.new.input)) c.from_residual.ensures.0 (λ e. tt))
 
 pub returns-then-put-size : goal.returns-then-put-size
 returns-then-put-size g c =
@@ -28,7 +30,7 @@ pub returns-in_err-closing : goal.returns-in_err-closing
 returns-in_err-closing g c =
     let (bytes, taken, _) = c.in_ok-put.ensures in
     let (last, closed, _) = c.close.ensures in
-    (bytes ++ last, Consumes-trans _ _ _ bytes last taken closed, λ line is. rw c.from_residual-in_err-closing.ensures tt)
+    (bytes ++ last, Consumes-trans _ _ _ bytes last taken closed, λ line is. at_err c.from_residual-in_err-closing.result (λ r. TakesItem c.args.number line r (bytes ++ last) (g.I.Read.remaining c.args.input.now) (g.I.Read.remaining c.close.new.input)) c.from_residual-in_err-closing.ensures.0 (λ e. tt))
 
 pub returns-in-LineFeed : goal.returns-in-LineFeed
 returns-in-LineFeed g c =
