@@ -1,7 +1,8 @@
-use Rattle.std.proofs.Common.{◌≡◌, ◌++◌, ◌<◌, ◌≤◌, length, inl, inr, refl, sym, ap, ◌∙◌, arith}
+use Rattle.std.proofs.Common.{◌≡◌, ◌++◌, ◌<◌, ◌≤◌, length, inl, inr, refl, sym, ap, subst, ◌∙◌, arith}
 use Rattle.std.proofs.KnownBytes.{Consumes-trans}
 use Rattle.script.specs.Items.{put, truncated, body_not_closed}
 use Rattle.stream.specs.Stream.{no_end}
+use Rattle.stream.specs.Private.Bytes.{Closes}
 use Rattle.stream.specs.Private.Taking.{TakesItem}
 use Rattle.stream.proofs.ErrLemmas.{at_err}
 use Rattle.stream.proofs.EndLemmas.{end_later}
@@ -35,7 +36,8 @@ returns-in_err-closing g c =
 pub returns-in-LineFeed : goal.returns-in-LineFeed
 returns-in-LineFeed g c =
     let (bytes, taken, (holds, counts, upto)) = c.in_ok-put.ensures in
-    let (last, closed, closes) = c.in_ok-closing.ensures in
+    let (last, closed, closes') = c.in_ok-closing.ensures in
+    let closes = subst (λ k. Closes k last (g.I.Read.remaining c.take_bytes.new.input) (g.I.Read.remaining c.close.new.input)) c.in-LineFeed.is closes' in
     let long : length bytes ≡ c.args.size = omega (arith, counts.0, c.if-put-size.false, upto.0) in (
       bytes ++ last,
       Consumes-trans _ _ _ bytes last taken closed,
@@ -46,7 +48,8 @@ returns-in-LineFeed g c =
 pub returns-in-InputEnd : goal.returns-in-InputEnd
 returns-in-InputEnd g c =
     let (bytes, taken, (holds, counts, upto)) = c.in_ok-put.ensures in
-    let (last, closed, closes) = c.in_ok-closing.ensures in
+    let (last, closed, closes') = c.in_ok-closing.ensures in
+    let closes = subst (λ k. Closes k last (g.I.Read.remaining c.take_bytes.new.input) (g.I.Read.remaining c.close.new.input)) c.in-InputEnd.is closes' in
     let long : length bytes ≡ c.args.size = omega (arith, counts.0, c.if-put-size.false, upto.0) in (
       bytes ++ last,
       Consumes-trans _ _ _ bytes last taken closed,
@@ -61,7 +64,8 @@ returns-in-InputEnd g c =
 pub returns : goal.returns
 returns g c =
     let (bytes, taken, (holds, counts, upto)) = c.in_ok-put.ensures in
-    let (last, closed, (b, is_byte, other)) = c.in_ok-closing.ensures in
+    let (last, closed, closes') = c.in_ok-closing.ensures in
+    let (b, is_byte, other) = subst (λ k. Closes k last (g.I.Read.remaining c.take_bytes.new.input) (g.I.Read.remaining c.close.new.input)) c.in-OtherByte.is closes' in
     let long : length bytes ≡ c.args.size = omega (arith, counts.0, c.if-put-size.false, upto.0) in (
       bytes ++ last,
       Consumes-trans _ _ _ bytes last taken closed,
