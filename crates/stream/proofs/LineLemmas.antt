@@ -1,11 +1,10 @@
 -- Lines from pieces, and the lines that are skipped.
-use Rattle.std.proofs.Common.{◌≡◌, ◌≢◌, ℕ, ◌+◌, List, [], ◌∷◌, ◌++◌, length, take, Option, Some, None, Ok, Err, Bool, true, false, IsTrue, IsFalse, refl, sym, ap, subst, ◌∙◌, append_assoc, append-nil, true≢false}
+use Rattle.std.proofs.Common.{◌≡◌, ℕ, ◌+◌, List, [], ◌∷◌, ◌++◌, length, take, Option, None, Ok, Bool, true, false, IsTrue, IsFalse, refl, sym, ap, subst, ◌∙◌, append_assoc, append-nil, true≢false}
 use Rattle.std.specs.declared.result.Result.{Result}
 use Rattle.std.specs.Option.{OnSome}
-use Rattle.std.specs.List.{AllByRecursion}
 use Rattle.std.specs.Io.KnownBytes.{Consumes, IsAtEnd}
 use Rattle.std.proofs.KnownBytes.{Consumes-trans}
-use Rattle.script.specs.Items.{Numbered, ItemsFrom, done, blank_line, BeginsWithLine, ended, last, IsLine, is_blank}
+use Rattle.script.specs.Items.{ItemsFrom, done, blank_line, ended, last, IsLine, is_blank}
 use Rattle.stream.specs.declared.item.StreamError.{StreamError}
 use Rattle.stream.specs.declared.line.Piece.{Piece}
 use Rattle.stream.specs.declared.line.Piece.TheVariants.{More, LineFeed, InputEnd}

@@ -1,6 +1,6 @@
 -- The items of lines, with puts' bytes.
-use Rattle.std.proofs.Common.{◌≡◌, ◌≢◌, ℕ, ◌+◌, ◌^◌, ◌<◌, List, [], ◌∷◌, ◌++◌, length, Option, Some, None, is_none, unwrap_or, Ok, Err, IfOk, true, false, IsTrue, IsFalse, refl, sym, ap, subst, ◌∙◌, append_assoc, append-nil, true≢false}
-use Rattle.script.specs.Items.{Item, Numbered, numbered, ItemsFrom, done, other_line, closed_put, last_put, malformed_put, missing_body, short_body, open_body, ended, last, IsLine, IsPutLine, is_blank, is_put, item_of_line, line_feeds, put, bad_put, truncated, body_not_closed}
+use Rattle.std.proofs.Common.{◌≡◌, ◌≢◌, ℕ, ◌+◌, ◌^◌, ◌<◌, List, [], ◌∷◌, ◌++◌, length, Option, Some, None, is_none, unwrap_or, Ok, Err, IfOk, IsTrue, IsFalse, refl, sym, ap, subst, ◌∙◌, append_assoc, append-nil, true≢false}
+use Rattle.script.specs.Items.{Item, numbered, ItemsFrom, done, other_line, closed_put, last_put, malformed_put, short_body, open_body, ended, last, IsLine, IsPutLine, is_blank, is_put, item_of_line, line_feeds, put, bad_put, truncated, body_not_closed}
 use Rattle.std.specs.declared.result.Result.{Result}
 use Rattle.stream.specs.declared.item.StreamError.{StreamError}
 use Rattle.stream.specs.declared.item.StreamItem.{StreamItem}

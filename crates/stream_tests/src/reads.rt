@@ -4,7 +4,7 @@ use crate::inputs::Pieces;
 use crate::words::append_taken;
 use std::io::BufReader;
 use std::test::Fail;
-use stream::ItemStream;
+use stream::{ItemStream, StreamError, Taken};
 
 /// Items, each with the number of bytes up to its last one. A reader of one byte a read has then been asked as
 /// often.
@@ -43,8 +43,8 @@ fn nothing_is_read_behind_an_item(rt: HostRuntime) -> Result<(), Fail> {
     Ok(())
 }
 
-fn is_none(result: Result<Option<stream::Taken<'_>>, stream::StreamError>) -> bool {
-    match result {
+fn is_none(found: Result<Option<Taken<'_>>, StreamError>) -> bool {
+    match found {
         Ok(None) => true,
         _ => false,
     }

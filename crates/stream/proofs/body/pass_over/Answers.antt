@@ -1,4 +1,4 @@
-use Rattle.std.proofs.Common.{◌++◌, ◌-◌}
+use Rattle.std.proofs.Common.{◌++◌}
 use Rattle.std.proofs.KnownBytes.{Consumes-trans}
 use Rattle.stream.specs.Private.Bytes.{Passes}
 use Rattle.stream.proofs.ErrLemmas.{at_err}

@@ -1,4 +1,4 @@
-use Rattle.std.proofs.Common.{[], take, refl, sym, subst, arith, length-take, append-nil, rules, true≢false, zero-le}
+use Rattle.std.proofs.Common.{[], take, subst, arith, length-take, rules, true≢false, zero-le}
 use Rattle.std.specs.Io.BufRead.{FillKeeps}
 use Rattle.std.proofs.KnownBytes.{Consumes-nil, Consumes-kept}
 use Rattle.std.proofs.BufReadLemmas.{Consumes_shown}

@@ -1,4 +1,4 @@
-use Rattle.std.proofs.Common.{◌++◌, rules, sym, subst}
+use Rattle.std.proofs.Common.{◌++◌, sym, subst}
 use Rattle.std.specs.Io.KnownBytes.{Consumes}
 use Rattle.std.proofs.KnownBytes.{Consumes-nil, Consumes-trans}
 use Rattle.script.specs.Items.{IsLine}

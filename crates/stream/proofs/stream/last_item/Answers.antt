@@ -1,4 +1,3 @@
-use Rattle.std.proofs.Common.{refl}
 use Rattle.script.specs.Items.{missing_body}
 use Rattle.stream.proofs.TakingLemmas.{last_bad_put, last_other}
 use Rattle.stream.proofs.stream.last_item.Goals as goal

@@ -1,4 +1,4 @@
-use Rattle.std.proofs.Common.{ℕ, List, ◌++◌, [], inl, inr, refl, subst, rules}
+use Rattle.std.proofs.Common.{◌++◌, [], inl, inr, refl, subst, rules}
 use Rattle.std.proofs.KnownBytes.{Consumes-nil, Consumes-trans}
 use Rattle.script.specs.Items.{ItemsFrom, done}
 use Rattle.stream.specs.Stream.{Place}
