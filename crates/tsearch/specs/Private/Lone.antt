@@ -1,7 +1,9 @@
 -- Searches of a run without readers.
 use Rattle.std.specs.Prelude.{◌≡◌, ℕ, ◌+◌, Option, Some}
 use Rattle.index.specs.State.{state_of}
+use Rattle.search.specs.declared.pattern.Prepared.{Prepared}
 use Rattle.search.specs.Pattern.{Pattern}
+use Rattle.search.specs.Prepared.{pattern_of}
 use Rattle.search.specs.Scan.{Answer, IsAnswerOf}
 use Rattle.script.specs.Items.{Item}
 use Rattle.tsearch.specs.declared.transcript.Entry.{Entry}
@@ -22,5 +24,5 @@ counted state = record state { searches = state.searches + 1 }
 
 -- One more search is answered for a pattern that it asks for, or refused.
 pub data IsSearchedAlone (old : LoneState) (item : Item) (entry : Entry) (new : LoneState) : Type 0 where
-  answered : (pattern : Pattern) → Asks item pattern → IsAnsweredAlone (counted old) pattern entry new → IsSearchedAlone old item entry new
+  answered : (prepared : Prepared) → Asks item (pattern_of prepared) → IsAnsweredAlone (counted old) (pattern_of prepared) entry new → IsSearchedAlone old item entry new
   refused : (why : SearchReason) → IsRefusalOf item why → entry ≡ SearchRefused (old.searches + 1) why → new ≡ counted old → IsSearchedAlone old item entry new
