@@ -1,5 +1,5 @@
 -- What a session promises.
-use Rattle.std.specs.Prelude.{◌≡◌, ℕ, List, [], ◌∷◌, ◌++◌, Option}
+use Rattle.std.specs.Prelude.{◌≡◌, ℕ, List, [], ◌∷◌, ◌++◌, Option, OnSome}
 use Rattle.std.specs.Io.KnownBytes.{Appends, Consumes, IsAtEnd}
 use Rattle.tsearch.specs.declared.run.Options.{Options}
 use Rattle.tsearch.specs.declared.transcript.Entry.{Entry}
@@ -20,10 +20,10 @@ pub data EndsReading : Reason → Type 0 where
   bad_put : EndsReading reason.BadPut
   body_not_closed : EndsReading reason.BodyNotClosed
 
--- Nothing is left of the input, or the last entry names a fault that ends the reading.
-pub data IsOver (left : Option (List ℕ)) (entries : List Entry) : Type 0 where
-  at_end : IsAtEnd left → IsOver left entries
-  at_fault : (others : List Entry) (line : ℕ) (why : Reason) → entries ≡ others ++ Refused line why ∷ [] → EndsReading why → IsOver left entries
+-- Nothing is left of the input, if its bytes were known, or the last entry names a fault that ends the reading.
+pub data IsOver (input left : Option (List ℕ)) (entries : List Entry) : Type 0 where
+  at_end : OnSome input (IsAtEnd left) → IsOver input left entries
+  at_fault : (others : List Entry) (line : ℕ) (why : Reason) → entries ≡ others ++ Refused line why ∷ [] → EndsReading why → IsOver input left entries
 
 -- A session whose reading ended: the text that was written is that of a transcript that is legal, without readers, for
 -- the bytes that were read, and the status is its status. Holds: what the source held. failed, failed': how often the
@@ -36,7 +36,7 @@ pub record IsServed (options : LiveOptions) (Holds : List ℕ → List ℕ → T
   pub legal : IsLegal script (run_options options) Holds failed failed' entries
   pub written : Appends old new (text_of_transcript options.stats entries)
   pub is_status : status ≡ status_of entries
-  pub over : IsOver left entries
+  pub over : IsOver input left entries
 
 -- A session that ended early: what was written is a beginning of such a text, for the first of the bytes that were read.
 pub record IsBroken (options : LiveOptions) (Holds : List ℕ → List ℕ → Type 0) (failed failed' : ℕ) (input left old new : Option (List ℕ)) : Type 0 where
