@@ -1,0 +1,1 @@
+//! The bytes after a put's line.

@@ -1,0 +1,1 @@
+//! Lines, read to their ends.
