@@ -7,6 +7,7 @@ use Rattle.std.proofs.KnownBytes.{Consumes-nil, Consumes-trans, Appends-nil, App
 use Rattle.std.proofs.lemmas.Grind.{flat_map-append}
 use Rattle.std.proofs.lemmas.List.Folds.{list_any-append}
 use Rattle.script.specs.Items.{Item, Numbered, numbered, ItemsFrom, done, IsItemsOf, bad_put, body_not_closed}
+use Rattle.stream.specs.declared.item.Taken.{Taken}
 use Rattle.stream.specs.Stream.{Place, IsItemOf, IsFault}
 use Rattle.stream.specs.Stream as stream
 use Rattle.tsearch.specs.declared.transcript.Entry.{Entry}
@@ -55,6 +56,40 @@ serving_held Holds Holds' holds stats start at is = record {
   more = is.more;
 }
 
+done_held : (Holds Holds' : List ℕ → List ℕ → Type 0) → ((path body : List ℕ) → Holds' path body → Holds path body) → (stats : Bool) (start : Start) (at : Now) → IsDone Holds' stats start at → IsDone Holds stats start at
+done_held Holds Holds' holds stats start at is = record {
+  script = is.script;
+  rows = is.rows;
+  read = is.read;
+  items = is.items;
+  limit = is.limit;
+  so_far = so_far_held Holds Holds' holds start.failed at.run at.failed is.rows is.so_far;
+  written = is.written;
+  marks = is.marks;
+  over = is.over;
+}
+
+stopped_held : (Holds Holds' : List ℕ → List ℕ → Type 0) → ((path body : List ℕ) → Holds' path body → Holds path body) → (stats : Bool) (start : Start) (at : Now) → IsStopped Holds' stats start at → IsStopped Holds stats start at
+stopped_held Holds Holds' holds stats start at is = record {
+  script = is.script;
+  others = is.others;
+  rows = is.rows;
+  read = is.read;
+  items = is.items;
+  limit = is.limit;
+  so_far = so_far_held Holds Holds' holds start.failed at.run at.failed is.rows is.so_far;
+  written = is.written;
+}
+
+advanced_held : (Holds Holds' : List ℕ → List ℕ → Type 0) → ((path body : List ℕ) → Holds' path body → Holds path body) → (stats : Bool) (start : Start) (result : Result Bool LiveError) (at : Now) → IsAdvanced Holds' stats start result at → IsAdvanced Holds stats start result at
+advanced_held Holds Holds' holds stats start (Ok true) at is = serving_held Holds Holds' holds stats start at is
+advanced_held Holds Holds' holds stats start (Ok false) at is = done_held Holds Holds' holds stats start at is
+advanced_held Holds Holds' holds stats start (Err error) at is = stopped_held Holds Holds' holds stats start at is
+
+-- A step, where the source holds by then what it held at first.
+pub goes_on_from : (Holds Holds' : List ℕ → List ℕ → Type 0) → ((path body : List ℕ) → (Holds' path body → Holds path body) × (Holds path body → Holds' path body)) → (stats : Bool) (start : Start) (old : Now) (result : Result Bool LiveError) (new : Now) → IsServing Holds stats start old → ((other : Start) → IsServing Holds' stats other old → IsAdvanced Holds' stats other result new) → IsAdvanced Holds stats start result new
+goes_on_from Holds Holds' held stats start old result new serving step = advanced_held Holds Holds' (λ path body. (held path body).0) stats start result new (step start (serving_held Holds' Holds (λ path body. (held path body).1) stats start old serving))
+
 -- The rows with one more.
 record HasPushed (Holds : List ℕ → List ℕ → Type 0) (failed : ℕ) (rows : List Row) (item : Numbered) (entry : Option Entry) (new : LoneState) (after : ℕ) : Type 0 where
   pub row : Row
@@ -93,6 +128,14 @@ more_marks entries (Some entry) = λ i. record { refused = one is_refusal i; hit
   where
     one : (p : Entry → Bool) → (list_any p entries || p entry) ≡ list_any p (entries ++ entry ∷ [])
     one p = ap (λ b. list_any p entries || b) (sym (or_false (p entry))) ∙ sym (list_any-append p entries (entry ∷ []))
+
+-- The entry of a fault that ends the reading.
+fault_entry : (Holds : List ℕ → List ℕ → Type 0) (most : ℕ) (context : Context) (item : Item) (entry : Option Entry) → HasEntry Holds most context item entry → IsFault item → (line : ℕ) × (why : Reason) × (entry ≡ Some (Refused line why)) × EndsReading why
+unfolding IsEntryOf
+fault_entry Holds most context _ None is stream.no_header = absurd is
+fault_entry Holds most context _ (Some entry) is stream.no_header = (context.row.numbered.line, reason.BadPut, ap Some is, served.bad_put)
+fault_entry Holds most context _ None is stream.no_end = absurd is
+fault_entry Holds most context _ (Some entry) is stream.no_end = (context.row.numbered.line, reason.BodyNotClosed, ap Some is, served.body_not_closed)
 
 module _ (Holds : List ℕ → List ℕ → Type 0) (stats : Bool) (start : Start) (old : Now) (serving : IsServing Holds stats start old) (bytes : List ℕ) (left : Option (List ℕ)) (read : Consumes old.left left bytes) where
   read_now : Consumes start.input left (serving.script ++ bytes)
@@ -172,7 +215,7 @@ module _ (Holds : List ℕ → List ℕ → Type 0) (stats : Bool) (start : Star
     limit_now = goes_on.same_limit ∙ serving.limit
 
     is_serving : (place : Place) (marks : Marks) (written : Option (List ℕ)) → IsItemOf old.place.line bytes item false place.line → place.ended ≡ false → marks ≡ marks_after old.marks entry → Appends old.written written (text_of_shown stats entry) → IsServing Holds stats start (now run place marks failed left written)
-    is_serving place marks written whole open same shown = record {
+    is_serving place marks written whole goes same shown = record {
       script = serving.script ++ bytes;
       rows = rows;
       read = read_now;
@@ -181,25 +224,14 @@ module _ (Holds : List ℕ → List ℕ → Type 0) (stats : Bool) (start : Star
       so_far = more.so_far;
       written = written_now written shown;
       marks = marks_now marks same;
-      more = open;
+      more = goes;
     }
-
-    -- the entry of a fault that ends the reading
-    fault_entry : (other : Option Entry) → more.row.entry ≡ other → HasEntry Holds run.limit (record { readers = 0; before = serving.rows; row = more.row; after = [] }) item.item other → IsFault item.item → (line : ℕ) × (why : Reason) × (other ≡ Some (Refused line why)) × EndsReading why
-    fault_entry other same is fault = by_fault item.item fault other is
-      where
-        by_fault : (i : Item) → IsFault i → (o : Option Entry) → HasEntry Holds run.limit (record { readers = 0; before = serving.rows; row = more.row; after = [] }) i o → (line : ℕ) × (why : Reason) × (o ≡ Some (Refused line why)) × EndsReading why
-        unfolding IsEntryOf
-        by_fault _ stream.no_header None h = absurd h
-        by_fault _ stream.no_header (Some e) h = (more.row.numbered.line, reason.BadPut, ap Some h, served.bad_put)
-        by_fault _ stream.no_end None h = absurd h
-        by_fault _ stream.no_end (Some e) h = (more.row.numbered.line, reason.BodyNotClosed, ap Some h, served.body_not_closed)
 
     over_by : OnSome old.left (IsAtEnd left) ⊎ IsFault item.item → IsOver start.input left (entries_of rows)
     over_by (inl ended) = served.at_end (known_end start.input old.left serving.script serving.read ended)
     over_by (inr fault) =
         let is : HasEntry Holds run.limit (record { readers = 0; before = serving.rows; row = more.row; after = [] }) item.item more.row.entry = subst (λ n. HasEntry Holds run.limit (record { readers = 0; before = serving.rows; row = more.row; after = [] }) n.item more.row.entry) more.numbered_is (more.so_far.each serving.rows more.row [] [] refl) in
-        let refused = fault_entry more.row.entry refl is fault in
+        let refused = fault_entry Holds run.limit (record { readers = 0; before = serving.rows; row = more.row; after = [] }) item.item more.row.entry is fault in
         served.at_fault (entries_of serving.rows) refused.0 refused.1 (more.entries ∙ ap (λ e. entries_of serving.rows ++ list_of e) (sym more.is ∙ refused.2)) refused.3
 
     is_done : (place : Place) (marks : Marks) (written : Option (List ℕ)) → ItemsFrom old.place.line bytes (item ∷ []) → OnSome old.left (IsAtEnd left) ⊎ IsFault item.item → marks ≡ marks_after old.marks entry → Appends old.written written (text_of_shown stats entry) → IsDone Holds stats start (now run place marks failed left written)
@@ -232,6 +264,28 @@ module _ (Holds : List ℕ → List ℕ → Type 0) (stats : Bool) (start : Star
       so_far = more.so_far;
       written = front_now written shown;
     }
+
+module _ (Holds : List ℕ → List ℕ → Type 0) (stats : Bool) (start : Start) (old : Now) (bytes : List ℕ) (left : Option (List ℕ)) (serving : IsServing Holds stats start old) (read : Consumes old.left left bytes) (place : Place) where
+  -- The input's end was met.
+  pub advanced_none : stream.IsNext old.place (Ok None) place bytes old.left left → IsAdvanced Holds stats start (Ok false) (now old.run place old.marks old.failed left old.written)
+  advanced_none next = is_over Holds stats start old serving bytes left read next.0 (by_end next.2) place
+    where
+      by_end : IsTrue old.place.ended ⊎ OnSome old.left (IsAtEnd left) → OnSome old.left (IsAtEnd left)
+      by_end (inl over) = absurd (subst (λ b. IsTrue b) serving.more over)
+      by_end (inr ended) = ended
+
+  -- No item could be had, or none is taken any more.
+  pub advanced_error : (error : LiveError) → IsAdvanced Holds stats start (Err error) (now old.run place old.marks old.failed left old.written)
+  advanced_error error = stays Holds stats start old serving bytes left read place old.marks
+
+  module _ (taken : Taken) (takes : stream.Takes old.place taken place bytes old.left left) (entry : Option Entry) (run : LoneState) (failed : ℕ) (goes_on : GoesOn Holds old.run old.failed (numbered taken.line takes.item) entry run failed) (marks : Marks) (written : Option (List ℕ)) where
+    -- An item was carried out, and its text written whole,
+    pub advanced_item : marks ≡ marks_after old.marks entry → Appends old.written written (text_of_shown stats entry) → IsAdvanced Holds stats start (Ok (not taken.ended)) (now run place marks failed left written)
+    advanced_item is shown = shown_whole Holds stats start old serving bytes left read (numbered taken.line takes.item) entry run failed goes_on taken.ended place marks written takes.whole takes.ended takes.end is shown
+
+    -- or in part.
+    pub advanced_in_part : (error : LiveError) → AppendsFront old.written written (text_of_shown stats entry) → IsAdvanced Holds stats start (Err error) (now run place marks failed left written)
+    advanced_in_part error shown = shown_in_part Holds stats start old serving bytes left read (numbered taken.line takes.item) entry run failed goes_on error taken.ended place marks written takes.whole shown
 
 -- What a session has done so far makes a legal transcript.
 legal_so_far : (Holds : List ℕ → List ℕ → Type 0) (options : LiveOptions) (script : List ℕ) (failed failed' : ℕ) (run : LoneState) (rows : List Row) → IsItemsOf script (items_of rows) → run.limit ≡ options.max_commands → AreSoFar Holds failed run failed' rows → IsLegal script (run_options options) Holds failed failed' (entries_of rows)

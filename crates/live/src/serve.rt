@@ -1,6 +1,7 @@
 //! A session, from its first item to its last.
 
 ghost use Rattle.std.specs.Prelude.{◌≡◌, ℕ, ◌<◌, ◌≤◌, List, IfOk, OnErr};
+ghost use Rattle.tsearch.specs.Lone.{first_state};
 ghost use Rattle.live.specs.Served.{IsServed, IsBroken};
 
 use crate::error::{LiveError, of_opening};
@@ -49,26 +50,36 @@ pub fn serve<R: Wait, S: Source, I: BufRead, O: Write>(
         Ok(run) => run,
         Err(error) => return Err(of_opening(error)),
     };
-    let plan = Plan {
-        rt,
-        alloc,
-        stats: options.stats,
-    };
-    let served = serve_items(plan, &mut run, input, source, out);
+    let served = serve_items(rt, alloc, &mut run, options, input, source, out);
     run.close(rt);
     served
 }
 
 /// Serves a session with a run before its first item.
 fn serve_items<R: Wait, S: Source, I: BufRead, O: Write>(
-    plan: Plan<'_, R>,
+    rt: &R,
+    alloc: Global,
     run: &mut LoneRun,
+    options: LiveOptions,
     input: &mut I,
     source: &mut S,
     out: &mut O,
-) -> Result<u8, LiveError> {
-    let mut session = Session::new(plan.alloc);
-    for _ in plan.rt.forever() {
+) -> Result<u8, LiveError>
+    requires { run.old ≡ first_state options.max_commands }
+    ensures ok { IfOk result (IsServed options (S.holds source.old) (S.failed source.old) (S.failed source.new)
+        (I.remaining input.old) (I.remaining input.new) (O.contents out.old) (O.contents out.new)) }
+    ensures err { OnErr result (IsBroken options (S.holds source.old) (S.failed source.old) (S.failed source.new)
+        (I.remaining input.old) (I.remaining input.new) (O.contents out.old) (O.contents out.new)) }
+    ensures same { (path body : List ℕ) → (S.holds source.new path body → S.holds source.old path body) × (S.holds source.old path body → S.holds source.new path body) }
+    ensures counted { S.failed source.old ≤ S.failed source.new }
+{
+    let plan = Plan {
+        rt,
+        alloc,
+        stats: options.stats,
+    };
+    let mut session = Session::new(alloc);
+    for _ in rt.forever() {
         if !advance(plan, run, &mut session, input, source, out)? {
             return Ok(session.marks.status());
         }

@@ -1,11 +1,12 @@
 //! One item after the other.
 
-ghost use Rattle.std.specs.Prelude.{◌≡◌, ℕ, ◌+◌, ◌<◌, ◌≤◌, ◌^◌, List, Option};
-ghost use Rattle.std.specs.Io.KnownBytes.{Consumes};
+ghost use Rattle.std.specs.Prelude.{◌≡◌, ℕ, ◌+◌, ◌<◌, ◌≤◌, ◌^◌, List, [], false, OnOk, OnErr};
+ghost use Rattle.std.specs.Io.KnownBytes.{Appends};
+ghost use Rattle.tsearch.specs.Written.{AppendsFront};
 ghost use Rattle.script.specs.Items.{Item as ItemValue, numbered as numbered_item};
-ghost use Rattle.stream.specs.Stream.{Shows};
+ghost use Rattle.stream.specs.Stream.{Shows, place};
 ghost use Rattle.tsearch.specs.Lone.{GoesOn};
-ghost use Rattle.live.specs.Private.Serving.{IsServing, IsAdvanced, state};
+ghost use Rattle.live.specs.Private.Serving.{Start, now, IsServing, IsAdvanced, marks_of, marks_after, text_of_shown};
 
 use crate::error::{LiveError, of_reading};
 use crate::marks::Marks;
@@ -38,7 +39,10 @@ pub(crate) struct Session {
 
 impl Session {
     /// Before the first item.
-    pub(crate) fn new(alloc: Global) -> Session {
+    pub(crate) fn new(alloc: Global) -> Session
+        ensures stream { result.stream ≡ place 1 false }
+        ensures marks { result.marks ≡ marks_of [] }
+    {
         Session {
             stream: ItemStream::new(alloc),
             marks: Marks {
@@ -48,6 +52,26 @@ impl Session {
             line: Vec::new(alloc),
             text: Vec::new(alloc),
         }
+    }
+
+    /// Notes an entry, if there is one, and writes its text.
+    fn show<O: Write>(
+        &mut self,
+        alloc: Global,
+        stats: bool,
+        entry: Option<Entry>,
+        out: &mut O,
+    ) -> Result<(), LiveError>
+        ensures stream { self.new.stream ≡ self.old.stream }
+        ensures marks { self.new.marks ≡ marks_after self.old.marks entry }
+        ensures ok { OnOk result (Appends (O.contents out.old) (O.contents out.new) (text_of_shown stats entry)) }
+        ensures err { OnErr result (AppendsFront (O.contents out.old) (O.contents out.new) (text_of_shown stats entry)) }
+    {
+        let Some(entry) = entry else {
+            return Ok(());
+        };
+        self.marks = self.marks.with(&entry);
+        write_entry(alloc, &entry, stats, &mut self.text, out)
     }
 }
 
@@ -59,7 +83,12 @@ pub(crate) fn advance<R: Wait, S: Source, I: BufRead, O: Write>(
     input: &mut I,
     source: &mut S,
     out: &mut O,
-) -> Result<bool, LiveError> {
+) -> Result<bool, LiveError>
+    ensures advanced { (start : Start) → IsServing (S.holds source.old) plan.entry.stats start (now run.old session.old.stream session.old.marks (S.failed source.old) (I.remaining input.old) (O.contents out.old))
+        → IsAdvanced (S.holds source.old) plan.entry.stats start result (now run.new session.new.stream session.new.marks (S.failed source.new) (I.remaining input.new) (O.contents out.new)) }
+    ensures same { (path body : List ℕ) → (S.holds source.new path body → S.holds source.old path body) × (S.holds source.old path body → S.holds source.new path body) }
+    ensures counted { S.failed source.old ≤ S.failed source.new }
+{
     let taken = match session.stream.next_item(input, &mut session.line) {
         Ok(Some(taken)) => taken,
         Ok(None) => return Ok(false),
@@ -69,10 +98,8 @@ pub(crate) fn advance<R: Wait, S: Source, I: BufRead, O: Write>(
         return Err(LiveError::TooManySearches);
     }
     let more = !taken.ended;
-    if let Some(entry) = carry_out(plan, run, source, taken) {
-        session.marks = session.marks.with(&entry);
-        write_entry(plan.alloc, &entry, plan.stats, &mut session.text, out)?;
-    }
+    let entry = carry_out(plan, run, source, taken);
+    session.show(plan.alloc, plan.stats, entry, out)?;
     Ok(more)
 }
 

@@ -163,20 +163,24 @@ pub entered_goes_on : (Holds : List ℕ → List ℕ → Type 0) (desk : DeskSta
 entered_goes_on Holds desk told failed item entry desk' told' failed' searches turn is = record {
   by = λ first rows are.
       let row = row_of item is.loaded (Some entry) in
-      let tells = telling_entered desk told searches turn are.others are.begins item is.loaded entry desk' told' is.accepted is.tells in
-      (row, refl, refl, so_far_push Holds first rows (state_at desk told searches turn) failed row (state_at desk' told' searches turn) failed' are (record {
-        legal = λ rest. is.legal 0 rows rest (sym are.accepted);
-        same_limit = is.limit;
-        accepts = is.accepted;
-        others = tells.others;
-        begins = tells.begins;
-        latest = tells.latest;
-        grows = tells.grows;
-        searches = omega (arith, is.no_search);
-        turns = omega arith;
-        answers = λ number reader turn' answer e. absurd (not_found entry is.no_search_entry number reader turn' answer e);
-        fails = is.counted;
-      }));
+      let tells = telling_entered desk told searches turn are.others are.begins item is.loaded entry desk' told' is.accepted is.tells in (
+        row,
+        refl,
+        refl,
+        so_far_push Holds first rows (state_at desk told searches turn) failed row (state_at desk' told' searches turn) failed' are (record {
+          legal = λ rest. is.legal 0 rows rest (sym are.accepted);
+          same_limit = is.limit;
+          accepts = is.accepted;
+          others = tells.others;
+          begins = tells.begins;
+          latest = tells.latest;
+          grows = tells.grows;
+          searches = omega (arith, is.no_search);
+          turns = omega arith;
+          answers = λ number reader turn' answer e. absurd (not_found entry is.no_search_entry number reader turn' answer e);
+          fails = is.counted;
+        }),
+      );
   same_limit = is.limit;
   few = omega arith;
 }
@@ -203,17 +207,24 @@ quiet_next Holds first rows old before are row new after is_legal limit accepts 
       fails = subst (λ n. IsCounted n before after) (sym no_failure) (counted_none before after same);
     }
 
+none_is_no_answer : {A : Type 0} {x : A} → None ≡ Some x → ⊥
+none_is_no_answer e = cc
+
 -- A sync.
 pub sync_goes_on : (Holds : List ℕ → List ℕ → Type 0) (old : LoneState) (failed : ℕ) (item : Numbered) (new : LoneState) (failed' : ℕ) → is_sync item.item ≡ true → new ≡ old → failed' ≡ failed → GoesOn Holds old failed item None new failed'
 sync_goes_on Holds old failed item new failed' is same same_failed = record {
   by = λ first rows are.
-      let row = row_of item None None in
-      (row, refl, refl, so_far_push Holds first rows old failed row new failed' are (quiet_next Holds first rows old failed are row new failed'
-          (λ rest. legal_sync Holds old.limit (context_of 0 rows row rest) item.item is)
-          (ap (λ s. s.limit) same) (ap (λ s. s.accepted) same) (ap (λ s. s.told) same) refl refl refl same_failed
-          (omega (arith, ap (λ s. s.searches) same, sync_is_no_search item.item is))
-          (omega (arith, ap (λ s. s.turn) same))
-          (λ number reader turn answer e. (cc))));
+      let row = row_of item None None in (
+        row,
+        refl,
+        refl,
+        so_far_push Holds first rows old failed row new failed' are (quiet_next Holds first rows old failed are row new failed'
+            (λ rest. legal_sync Holds old.limit (context_of 0 rows row rest) item.item is)
+            (ap (λ s. s.limit) same) (ap (λ s. s.accepted) same) (ap (λ s. s.told) same) refl refl refl same_failed
+            (omega (arith, ap (λ s. s.searches) same, sync_is_no_search item.item is))
+            (omega (arith, ap (λ s. s.turn) same))
+            (λ number reader turn answer e. absurd (none_is_no_answer e))),
+      );
   same_limit = ap (λ s. s.limit) same;
   few = omega (arith, ap (λ s. s.searches) same);
 }
@@ -287,12 +298,16 @@ module _ (Holds : List ℕ → List ℕ → Type 0) (old : LoneState) (failed : 
   refused_goes_on : (why : SearchReason) → IsRefusalOf item.item why → GoesOn Holds old failed item (Some (SearchRefused (old.searches + 1) why)) (counted old) failed
   refused_goes_on why refusal = record {
     by = λ first rows are.
-        let row = row_of item None (Some (SearchRefused (old.searches + 1) why)) in
-        (row, refl, refl, so_far_push Holds first rows old failed row (counted old) failed are (quiet_next Holds first rows old failed are row (counted old) failed
-            (λ rest. subst (λ n. HasEntry Holds old.limit (context_of 0 rows row rest) item.item (Some (SearchRefused (n + 1) why))) (sym are.searches) (legal_refusal Holds old.limit (context_of 0 rows row rest) item.item why one refusal))
-            refl refl refl (no_entry_commands (SearchRefused (old.searches + 1) why) (command_of item.item None) refl) refl refl refl
-            (omega (arith, one)) (omega arith)
-            (λ number reader turn answer e. absurd (refusal_is_no_answer (old.searches + 1) why number reader turn answer e))));
+        let row = row_of item None (Some (SearchRefused (old.searches + 1) why)) in (
+          row,
+          refl,
+          refl,
+          so_far_push Holds first rows old failed row (counted old) failed are (quiet_next Holds first rows old failed are row (counted old) failed
+              (λ rest. subst (λ n. HasEntry Holds old.limit (context_of 0 rows row rest) item.item (Some (SearchRefused (n + 1) why))) (sym are.searches) (legal_refusal Holds old.limit (context_of 0 rows row rest) item.item why one refusal))
+              refl refl refl (no_entry_commands (SearchRefused (old.searches + 1) why) (command_of item.item None) refl) refl refl refl
+              (omega (arith, one)) (omega arith)
+              (λ number reader turn answer e. absurd (refusal_is_no_answer (old.searches + 1) why number reader turn answer e))),
+        );
     same_limit = refl;
     few = omega arith;
   }
@@ -303,12 +318,16 @@ module _ (Holds : List ℕ → List ℕ → Type 0) (old : LoneState) (failed : 
     by = λ first rows are.
         let entry = Found (old.searches + 1) 0 (old.turn + 1) answer in
         let row = row_of item None (Some entry) in
-        let new : LoneState = record old { searches = old.searches + 1; turn = old.turn + 1 } in
-        (row, refl, refl, so_far_push Holds first rows old failed row new failed are (quiet_next Holds first rows old failed are row new failed
-            (λ rest. found_row Holds first rows old failed are item one (pattern_of prepared) answer asks answers (old.searches + 1) (old.turn + 1) refl rest)
-            refl refl refl (no_entry_commands entry (command_of item.item None) refl) refl refl refl
-            (omega (arith, one)) (omega arith)
-            (λ number reader turn answer' e. (let same = same_answer e in (same.0, refl, ap (λ a. a.version) same.1 ∙ answers.version)))));
+        let new : LoneState = record old { searches = old.searches + 1; turn = old.turn + 1 } in (
+          row,
+          refl,
+          refl,
+          so_far_push Holds first rows old failed row new failed are (quiet_next Holds first rows old failed are row new failed
+              (λ rest. found_row Holds first rows old failed are item one (pattern_of prepared) answer asks answers (old.searches + 1) (old.turn + 1) refl rest)
+              refl refl refl (no_entry_commands entry (command_of item.item None) refl) refl refl refl
+              (omega (arith, one)) (omega arith)
+              (λ number reader turn answer' e. (let same = same_answer e in (same.0, refl, ap (λ a. a.version) same.1 ∙ answers.version)))),
+        );
     same_limit = refl;
     few = omega arith;
   }
@@ -361,20 +380,24 @@ put_goes_on Holds old failed name body line entry new is =
       by = λ first rows are.
           let row = row_of (numbered line (put name body)) None (Some entry) in
           let accepts : new.accepted ≡ old.accepted ++ accepted_in row = ap (λ s. s.accepted) is.left in
-          let tells = telling_nothing old are.others are.begins row new accepts none (ap (λ s. s.told) is.left) in
-          (row, refl, refl, so_far_push Holds first rows old failed row new failed are (record {
-            legal = λ rest. subst (λ c. IsPut old.limit (state_of c) name body line entry) are.accepted is.legal;
-            same_limit = ap (λ s. s.limit) is.left;
-            accepts = accepts;
-            others = tells.others;
-            begins = tells.begins;
-            latest = tells.latest;
-            grows = tells.grows;
-            searches = omega (arith, ap (λ s. s.searches) is.left);
-            turns = omega (arith, ap (λ s. s.turn) is.left);
-            answers = λ number reader turn answer e. absurd (not_found entry plain.1 number reader turn answer e);
-            fails = subst (λ n. IsCounted n failed failed) (sym plain.2) (counted_none failed failed refl);
-          }));
+          let tells = telling_nothing old are.others are.begins row new accepts none (ap (λ s. s.told) is.left) in (
+            row,
+            refl,
+            refl,
+            so_far_push Holds first rows old failed row new failed are (record {
+              legal = λ rest. subst (λ c. IsPut old.limit (state_of c) name body line entry) are.accepted is.legal;
+              same_limit = ap (λ s. s.limit) is.left;
+              accepts = accepts;
+              others = tells.others;
+              begins = tells.begins;
+              latest = tells.latest;
+              grows = tells.grows;
+              searches = omega (arith, ap (λ s. s.searches) is.left);
+              turns = omega (arith, ap (λ s. s.turn) is.left);
+              answers = λ number reader turn answer e. absurd (not_found entry plain.1 number reader turn answer e);
+              fails = subst (λ n. IsCounted n failed failed) (sym plain.2) (counted_none failed failed refl);
+            }),
+          );
       same_limit = ap (λ s. s.limit) is.left;
       few = omega (arith, ap (λ s. s.searches) is.left);
     }

@@ -65,12 +65,7 @@ fn put(alloc: Global, desk: &mut Desk, name: &[u8], body: &[u8]) -> Result<u32, 
 }
 
 /// Puts a body that was read already.
-pub fn put_read(
-    alloc: Global,
-    desk: &mut Desk,
-    name: &[u8],
-    body: Vec<u8>,
-) -> Result<u32, Reason>
+pub fn put_read(alloc: Global, desk: &mut Desk, name: &[u8], body: Vec<u8>) -> Result<u32, Reason>
     ensures entry { (line : ℕ) → IsPut desk.old.limit (state_of desk.old.accepted) name.now body.items line (entry_of line result) }
     ensures desk { desk.new ≡ desk_after result (put_command name.now body.items ∷ []) desk.old }
 {

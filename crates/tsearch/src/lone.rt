@@ -126,7 +126,14 @@ impl LoneRun {
 
     /// Ends the run.
     pub fn close<R: Wait>(self, rt: &R) {
-        self.desk.close(rt);
+        let LoneRun {
+            desk,
+            told: _told,
+            reading: _reading,
+            searches: _,
+            turn: _,
+        } = self;
+        desk.close(rt);
     }
 
     /// Answers the next search, or refuses it.
