@@ -1,7 +1,8 @@
 //! Readers and writers that fail in the middle of a session.
 
 use crate::streams::{One, Repeated, Stop, Stopping};
-use live::{LiveError, LiveOptions, serve};
+use live::serve::serve;
+use live::{LiveError, LiveOptions};
 use std::io::BufReader;
 use std::test::Fail;
 

@@ -1,7 +1,8 @@
 //! Scripts whose searches need no readers: a session gives the bytes and the status of a run.
 
 use crate::streams::{One, Repeated};
-use live::{LiveOptions, serve};
+use live::LiveOptions;
+use live::serve::serve;
 use std::io::BufReader;
 use std::process::Abort;
 use std::sync::Wait;

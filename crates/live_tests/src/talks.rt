@@ -1,7 +1,8 @@
 //! Clients that wait for each answer before they send more.
 
 use crate::streams::{Client, One, Repeated, Shown, Turn};
-use live::{LiveOptions, serve};
+use live::LiveOptions;
+use live::serve::serve;
 use std::io::BufReader;
 use std::process::Abort;
 use std::sync::Wait;
