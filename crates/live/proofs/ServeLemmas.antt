@@ -29,8 +29,8 @@ use Rattle.live.specs.Served as served
 use Rattle.live.specs.Private.Serving.{marks_with, marks_of, status_by, Start, Now, now, IsServing, IsDone, IsStopped, IsAdvanced, marks_after, text_of_shown}
 
 -- A session before its first item.
-pub serving_begins : (Holds : List ℕ → List ℕ → Type 0) (stats : Bool) (limit failed : ℕ) (input output : Option (List ℕ)) (marks : Marks) → marks ≡ marks_of [] → IsServing Holds stats (record { limit = limit; failed = failed; input = input; output = output }) (now (first_state limit) (stream.place 1 false) marks failed input output)
-serving_begins Holds stats limit failed input output marks is = record {
+pub serving_begins : (Holds : List ℕ → List ℕ → Type 0) (stats : Bool) (limit failed : ℕ) (input output : Option (List ℕ)) (run : LoneState) (place : Place) (marks : Marks) → run ≡ first_state limit → place ≡ stream.place 1 false → marks ≡ marks_of [] → IsServing Holds stats (record { limit = limit; failed = failed; input = input; output = output }) (now run place marks failed input output)
+serving_begins Holds stats limit failed input output run place marks fresh first is = rw (fresh, first) (record {
   script = [];
   rows = [];
   read = Consumes-nil input;
@@ -40,7 +40,7 @@ serving_begins Holds stats limit failed input output marks is = record {
   written = Appends-nil output;
   marks = is;
   more = refl;
-}
+})
 
 -- A source that held no more later.
 pub serving_held : (Holds Holds' : List ℕ → List ℕ → Type 0) → ((path body : List ℕ) → Holds' path body → Holds path body) → (stats : Bool) (start : Start) (at : Now) → IsServing Holds' stats start at → IsServing Holds stats start at

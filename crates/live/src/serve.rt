@@ -80,7 +80,7 @@ fn serve_items<R: Wait, S: Source, I: BufRead, O: Write>(
     };
     let mut session = Session::new(alloc);
     for _ in rt.forever() {
-        if !advance(plan, run, &mut session, input, source, out)? {
+        if !advance(&plan, run, &mut session, input, source, out)? {
             return Ok(session.marks.status());
         }
     }

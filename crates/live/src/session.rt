@@ -19,7 +19,7 @@ use stream::{ItemStream, StreamItem, Taken};
 use tsearch::{Entry, LoneRun, Source};
 
 /// What a session needs throughout.
-#[derive(Clone, Copy)]
+#[derive(Drop)]
 pub(crate) struct Plan<'a, R> {
     pub(crate) rt: &'a R,
     pub(crate) alloc: Global,
@@ -77,15 +77,15 @@ impl Session {
 
 /// Takes the next item, carries it out and writes the text of its entry. Says whether more is to be read.
 pub(crate) fn advance<R: Wait, S: Source, I: BufRead, O: Write>(
-    plan: Plan<'_, R>,
+    plan: &Plan<'_, R>,
     run: &mut LoneRun,
     session: &mut Session,
     input: &mut I,
     source: &mut S,
     out: &mut O,
 ) -> Result<bool, LiveError>
-    ensures advanced { (start : Start) → IsServing (S.holds source.old) plan.entry.stats start (now run.old session.old.stream session.old.marks (S.failed source.old) (I.remaining input.old) (O.contents out.old))
-        → IsAdvanced (S.holds source.old) plan.entry.stats start result (now run.new session.new.stream session.new.marks (S.failed source.new) (I.remaining input.new) (O.contents out.new)) }
+    ensures advanced { (start : Start) → IsServing (S.holds source.old) plan.now.stats start (now run.old session.old.stream session.old.marks (S.failed source.old) (I.remaining input.old) (O.contents out.old))
+        → IsAdvanced (S.holds source.old) plan.now.stats start result (now run.new session.new.stream session.new.marks (S.failed source.new) (I.remaining input.new) (O.contents out.new)) }
     ensures same { (path body : List ℕ) → (S.holds source.new path body → S.holds source.old path body) × (S.holds source.old path body → S.holds source.new path body) }
     ensures counted { S.failed source.old ≤ S.failed source.new }
 {
@@ -105,7 +105,7 @@ pub(crate) fn advance<R: Wait, S: Source, I: BufRead, O: Write>(
 
 /// Carries out an item. A sync has no entry.
 fn carry_out<R: Wait, S: Source>(
-    plan: Plan<'_, R>,
+    plan: &Plan<'_, R>,
     run: &mut LoneRun,
     source: &mut S,
     taken: Taken<'_>,

@@ -402,18 +402,44 @@ put_goes_on Holds old failed name body line entry new is =
       few = omega (arith, ap (λ s. s.searches) is.left);
     }
 
--- A desk after a put, or after none.
-same_state : {limit limit' searches turn : ℕ} {accepted accepted' told : List Command} → limit ≡ limit' → accepted ≡ accepted' → record { limit = limit; accepted = accepted; told = told; searches = searches; turn = turn } ≡ record { limit = limit'; accepted = accepted'; told = told; searches = searches; turn = turn }
-same_state {searches = searches} {turn = turn} {told = told} a b = λ i. record { limit = a i; accepted = b i; told = told; searches = searches; turn = turn }
+-- From a desk and what was told of, as a run sees them.
+module _ (desk : DeskState) (told : Known) (searches turn : ℕ) (old : LoneState) (view : state_at desk told searches turn ≡ old) where
+  pub entered_goes_from : (Holds : List ℕ → List ℕ → Type 0) (failed : ℕ) (item : Numbered) (entry : Entry) (desk' : DeskState) (told' : Known) (failed' : ℕ) → IsEntered Holds desk told failed item entry desk' told' failed' → GoesOn Holds old failed item (Some entry) (state_at desk' told' searches turn) failed'
+  entered_goes_from Holds failed item entry desk' told' failed' is = subst (λ s. GoesOn Holds s failed item (Some entry) (state_at desk' told' searches turn) failed') view (entered_goes_on Holds desk told failed item entry desk' told' failed' searches turn is)
 
-pub put_done : (desk desk' : DeskState) (told : Known) (searches turn : ℕ) (name body : List ℕ) (line : ℕ) (done : Result ℕ Reason) (entry : Entry) → entry ≡ entry_of line done → IsPut desk.limit (state_of desk.accepted) name body line (entry_of line done) → desk' ≡ desk_after done (Put name body ∷ []) desk → IsPutOn (state_at desk told searches turn) name body line entry (state_at desk' told searches turn)
-put_done desk desk' told searches turn name body line done entry is legal_is left = rw (is, left) (record {
+  left_state : (desk' : DeskState) (told' : Known) → desk' ≡ desk → told' ≡ told → state_at desk' told' searches turn ≡ old
+  left_state desk' told' same same_told = ap (λ d. state_at d told' searches turn) same ∙ ap (λ k. state_at desk k searches turn) same_told ∙ view
+
+  pub search_goes_from : (Holds : List ℕ → List ℕ → Type 0) (failed : ℕ) (item : Numbered) (entry : Entry) (desk' : DeskState) (told' : Known) (failed' : ℕ) (new : LoneState) → (searches_of item.item ≡ 1) × IsLeft desk told failed desk' told' failed' → (searches_of item.item ≡ 1 → IsSearchedAlone (state_at desk' told' searches turn) item.item entry new) → GoesOn Holds old failed item (Some entry) new failed'
+  search_goes_from Holds failed item entry desk' told' failed' new left is = search_goes_on Holds old (state_at desk' told' searches turn) failed item entry new failed' left.0 (left_state desk' told' left.1.0 left.1.1) left.1.2 (is left.0)
+
+  pub sync_goes_from : (Holds : List ℕ → List ℕ → Type 0) (failed : ℕ) (item : Numbered) (desk' : DeskState) (told' : Known) (failed' : ℕ) → (is_sync item.item ≡ true) × IsLeft desk told failed desk' told' failed' → GoesOn Holds old failed item None (state_at desk' told' searches turn) failed'
+  sync_goes_from Holds failed item desk' told' failed' left = sync_goes_on Holds old failed item (state_at desk' told' searches turn) failed' left.0 (left_state desk' told' left.1.0 left.1.1) left.1.2
+
+  pub answered_from : (pattern : Pattern) (answer : Answer) → IsAnswerOf (state_of told.commands) pattern answer → IsAnsweredAlone old pattern (Found searches 0 (turn + 1) answer) (state_at desk told searches (turn + 1))
+  answered_from pattern answer is = subst (λ s. IsAnsweredAlone s pattern (Found searches 0 (turn + 1) answer) (state_at desk told searches (turn + 1))) view (lone.found answer refl is refl)
+
+  pub searched_from : (item : Item) (prepared : Prepared) (entry : Entry) (new : LoneState) → Asks item (pattern_of prepared) → IsAnsweredAlone (state_at desk told (searches + 1) turn) (pattern_of prepared) entry new → IsSearchedAlone old item entry new
+  searched_from item prepared entry new asks is = subst (λ s. IsSearchedAlone s item entry new) view (lone.answered prepared asks is)
+
+  pub refused_from : (item : Item) (why : SearchReason) → IsRefusalOf item why → IsSearchedAlone old item (SearchRefused (searches + 1) why) (state_at desk told (searches + 1) turn)
+  refused_from item why is = subst (λ s. IsSearchedAlone s item (SearchRefused (searches + 1) why) (state_at desk told (searches + 1) turn)) view (lone.refused why is refl refl)
+
+-- A desk after a put, or after none.
+abbrev state_with : ℕ → List Command → List Command → ℕ → ℕ → LoneState
+state_with limit commands told searches turn = record { limit = limit; accepted = commands; told = told; searches = searches; turn = turn }
+
+same_state : (limit limit' : ℕ) (commands commands' told : List Command) (searches turn : ℕ) → limit ≡ limit' → commands ≡ commands' → state_with limit commands told searches turn ≡ state_with limit' commands' told searches turn
+same_state limit limit' commands commands' told searches turn a b = λ i. state_with (a i) (b i) told searches turn
+
+pub put_done : (desk desk' : DeskState) (told : Known) (searches turn : ℕ) (old : LoneState) → state_at desk told searches turn ≡ old → (name body : List ℕ) (line : ℕ) (done : Result ℕ Reason) (entry : Entry) → entry ≡ entry_of line done → IsPut desk.limit (state_of desk.accepted) name body line (entry_of line done) → desk' ≡ desk_after done (Put name body ∷ []) desk → IsPutOn old name body line entry (state_at desk' told searches turn)
+put_done desk desk' told searches turn old view name body line done entry is legal_is left = subst (λ s. IsPutOn s name body line entry (state_at desk' told searches turn)) view (rw (is, left) (record {
   legal = legal_is;
-  left = same_state (same_opening done (Put name body ∷ []) desk).1 (accepted_after line done (Put name body ∷ []) desk);
-})
+  left = same_state (desk_after done (Put name body ∷ []) desk).limit desk.limit (desk_after done (Put name body ∷ []) desk).accepted (desk.accepted ++ accepted_by (Some (entry_of line done)) (Put name body ∷ [])) told.commands searches turn (same_opening done (Put name body ∷ []) desk).1 (accepted_after line done (Put name body ∷ []) desk);
+}))
 
 pub put_not_done : (state : LoneState) (name body : List ℕ) (line : ℕ) (why : Reason) (entry : Entry) → entry ≡ Refused line why → IsPut state.limit (state_of state.accepted) name body line (Refused line why) → IsPutOn state name body line entry state
 put_not_done state name body line why entry is legal_is = rw is (record {
   legal = legal_is;
-  left = same_state refl (sym (append-nil state.accepted));
+  left = same_state state.limit state.limit state.accepted (state.accepted ++ []) state.told state.searches state.turn refl (sym (append-nil state.accepted));
 })

@@ -1,11 +1,12 @@
-use Rattle.std.proofs.Common.{ap, refl}
+use Rattle.std.proofs.Common.{ap, ◌∙◌}
 use Rattle.tsearch.specs.declared.transcript.Entry.TheVariants.{Refused}
 use Rattle.tsearch.specs.Legal.{no_memory}
 use Rattle.tsearch.proofs.ItemLemmas.{named_fault}
 use Rattle.tsearch.proofs.items.reason_of_lost_put.Goals as goal
+use Rattle.tsearch.proofs.items.reason_of_lost_put.Goals.{in-Ok, in-Err}
 
-pub returns-in-Ok : goal.returns-in-Ok
-returns-in-Ok c = λ most state body line. no_memory c.in-Ok.ensures.name.1 refl
-
-pub returns-in-Err : goal.returns-in-Err
-returns-in-Err c = λ most state body line. named_fault c.in-Err.error c.args.name.now line _ _ c.in-Err.ensures.fault (ap (Refused line) c.reason_of_name.ensures)
+pub returns : goal.returns
+returns c = λ most state body line. elim c.match-new.branch [
+  | in-Ok w ↦ no_memory w.in-Ok.ensures.name.1 (ap (Refused line) w.result-is)
+  | in-Err w ↦ named_fault w.in-Err.error c.args.name.now line _ _ w.in-Err.ensures.fault (ap (Refused line) (w.result-is ∙ w.reason_of_name.ensures))
+]
