@@ -307,7 +307,7 @@ def client_that_goes_away():
         # the input is still open
         session.end(2, b"tsearch: cannot write\n", close=False)
     with Session() as session:
-        body = b"x\n" * (MEBIBYTE // 2)
+        body = b"x\n" * 100_000
         session.send(b"put a %d\n%s\npublish\nsearch x\n" % (len(body), body))
         session.read(1_000)
         session.process.stdout.close()
