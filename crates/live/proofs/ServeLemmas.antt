@@ -23,7 +23,7 @@ use Rattle.tsearch.proofs.LoneLemmas.{so_far_begins, so_far_held}
 use Rattle.tsearch.proofs.RowLemmas.{items_of-append, entries_of-append}
 use Rattle.live.specs.declared.error.LiveError.{LiveError}
 use Rattle.live.specs.declared.marks.Marks.{Marks}
-use Rattle.live.specs.declared.serve.LiveOptions.{LiveOptions}
+use Rattle.live.specs.declared.serving.LiveOptions.{LiveOptions}
 use Rattle.live.specs.Served.{run_options, EndsReading, IsOver, IsServed, IsBroken}
 use Rattle.live.specs.Served as served
 use Rattle.live.specs.Private.Serving.{marks_with, marks_of, status_by, Start, Now, now, IsServing, IsDone, IsStopped, IsAdvanced, marks_after, text_of_shown}

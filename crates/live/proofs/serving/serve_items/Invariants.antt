@@ -1,6 +1,6 @@
 use Rattle.std.proofs.Common.{◌≤◌, ℕ, List}
 use Rattle.live.specs.Private.Serving.{now, IsServing}
-use Rattle.live.proofs.serve.serve_items.Given as goal
+use Rattle.live.proofs.serving.serve_items.Given as goal
 
 abbrev pub invariant-loop : goal.invariant-loop
 invariant-loop g l = record {
