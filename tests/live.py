@@ -23,6 +23,7 @@ import threading
 import time
 
 import transcripts
+from changed_scripts import Files
 
 TOP = pathlib.Path(__file__).resolve().parent.parent
 PROGRAM = TOP / "crates/program/out/program"
@@ -242,20 +243,6 @@ def check_cut(script, patterns, cut):
         return
     if fault:
         raise Wrong(f"cut at {cut}, {fault}")
-
-
-class Files(dict):
-    """The bytes of files by their paths, from the top of the repository."""
-
-    def get(self, path, default=None):
-        path = TOP / os.fsdecode(path)
-        return path.read_bytes() if path.is_file() else default
-
-    def __contains__(self, path):
-        return self.get(path) is not None
-
-    def __getitem__(self, path):
-        return self.get(path)
 
 
 def input_cut_at_every_byte():

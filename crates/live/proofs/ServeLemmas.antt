@@ -1,12 +1,13 @@
 -- A session goes on from item to item, and ends.
-use Rattle.std.proofs.Common.{◌≡◌, ℕ, ◌+◌, ◌⊎◌, inl, inr, Bool, true, false, not, List, [], ◌∷◌, ◌++◌, Option, Some, None, Result, Ok, Err, refl, sym, ap, ◌∙◌, subst, append_assoc, append-nil}
+use Rattle.std.proofs.Common.{◌≡◌, ℕ, ◌+◌, ◌<◌, ◌⊎◌, inl, inr, Bool, true, false, not, List, [], ◌∷◌, ◌++◌, Option, Some, None, Result, Ok, Err, refl, sym, ap, ◌∙◌, subst, append_assoc, append-nil, length}
 use Rattle.std.specs.Prelude.{OnSome, IsTrue, ◌||◌, flat_map}
 use Rattle.std.specs.List.{list_any}
 use Rattle.std.specs.Io.KnownBytes.{Appends, Consumes, IsAtEnd}
 use Rattle.std.proofs.KnownBytes.{Consumes-nil, Consumes-trans, Appends-nil, Appends-trans}
 use Rattle.std.proofs.lemmas.Grind.{flat_map-append}
 use Rattle.std.proofs.lemmas.List.Folds.{list_any-append}
-use Rattle.script.specs.Items.{Item, Numbered, numbered, ItemsFrom, done, IsItemsOf, bad_put, body_not_closed}
+use Rattle.index.specs.Text.{greatest_body}
+use Rattle.script.specs.Items.{Item, Numbered, numbered, ItemsFrom, done, IsItemsOf, put, bad_put, body_not_closed}
 use Rattle.stream.specs.declared.item.Taken.{Taken}
 use Rattle.stream.specs.Stream.{Place, IsItemOf, IsFault}
 use Rattle.stream.specs.Stream as stream
@@ -15,18 +16,32 @@ use Rattle.tsearch.specs.declared.transcript.Entry.TheVariants.{Refused}
 use Rattle.tsearch.specs.declared.transcript.Reason.{Reason}
 use Rattle.tsearch.specs.declared.transcript.Reason.TheVariants as reason
 use Rattle.tsearch.specs.Legal.{Context, IsEntryOf, HasEntry, IsLegalRow, IsLegal}
-use Rattle.tsearch.specs.Lone.{LoneState, first_state, AreSoFar, GoesOn}
+use Rattle.tsearch.specs.Lone.{LoneState, first_state, AreSoFar, GoesOn, IsPutOn}
 use Rattle.tsearch.specs.Rows.{Row, items_of, entries_of, list_of}
 use Rattle.tsearch.specs.Transcript.{is_refusal, has_hit, text_of_entry, text_of_transcript}
 use Rattle.tsearch.specs.Written.{AppendsFront}
-use Rattle.tsearch.proofs.LoneLemmas.{so_far_begins, so_far_held}
+use Rattle.tsearch.proofs.LoneLemmas.{so_far_begins, so_far_held, put_goes_on}
 use Rattle.tsearch.proofs.RowLemmas.{items_of-append, entries_of-append}
 use Rattle.live.specs.declared.error.LiveError.{LiveError}
 use Rattle.live.specs.declared.marks.Marks.{Marks}
-use Rattle.live.specs.declared.serve.LiveOptions.{LiveOptions}
+use Rattle.live.specs.declared.serving.LiveOptions.{LiveOptions}
 use Rattle.live.specs.Served.{run_options, EndsReading, IsOver, IsServed, IsBroken}
 use Rattle.live.specs.Served as served
 use Rattle.live.specs.Private.Serving.{marks_with, marks_of, status_by, Start, Now, now, IsServing, IsDone, IsStopped, IsAdvanced, marks_after, text_of_shown}
+
+-- An item that was taken, and then carried out.
+module _ (Holds : List ℕ → List ℕ → Type 0) (old : LoneState) (failed : ℕ) (name : List ℕ) (line : ℕ) (item : Item) (entry : Entry) where
+  pub shown_put : (body : List ℕ) (new : LoneState) → item ≡ put name body → IsPutOn old name body line entry new → GoesOn Holds old failed (numbered line item) (Some entry) new failed
+  shown_put body new is carried = subst (λ i. GoesOn Holds old failed (numbered line i) (Some entry) new failed) (sym is) (put_goes_on Holds old failed name body line entry new carried)
+
+  pub shown_long : (body : List ℕ) × (item ≡ put name body) × (greatest_body < length body) → ((state : LoneState) (body : List ℕ) → greatest_body < length body → IsPutOn state name body line entry state) → GoesOn Holds old failed (numbered line item) (Some entry) old failed
+  shown_long shows carried = shown_put shows.0 old shows.1 (carried old shows.0 shows.2)
+
+  pub shown_lost : (body : List ℕ) × (item ≡ put name body) → ((state : LoneState) (body : List ℕ) → IsPutOn state name body line entry state) → GoesOn Holds old failed (numbered line item) (Some entry) old failed
+  shown_lost shows carried = shown_put shows.0 old shows.1 (carried old shows.0)
+
+pub shown_other : (Holds : List ℕ → List ℕ → Type 0) (old : LoneState) (failed line : ℕ) (item other : Item) (entry : Option Entry) (new : LoneState) (failed' : ℕ) → item ≡ other → GoesOn Holds old failed (numbered line other) entry new failed' → GoesOn Holds old failed (numbered line item) entry new failed'
+shown_other Holds old failed line item other entry new failed' is goes_on = subst (λ i. GoesOn Holds old failed (numbered line i) entry new failed') (sym is) goes_on
 
 -- A session before its first item.
 pub serving_begins : (Holds : List ℕ → List ℕ → Type 0) (stats : Bool) (limit failed : ℕ) (input output : Option (List ℕ)) (run : LoneState) (place : Place) (marks : Marks) → run ≡ first_state limit → place ≡ stream.place 1 false → marks ≡ marks_of [] → IsServing Holds stats (record { limit = limit; failed = failed; input = input; output = output }) (now run place marks failed input output)
@@ -178,7 +193,7 @@ module _ (Holds : List ℕ → List ℕ → Type 0) (stats : Bool) (start : Star
     more : HasPushed Holds start.failed serving.rows item entry run failed
     more = pushed Holds start.failed serving.rows old.run old.failed item entry run failed serving.so_far goes_on
 
-    rows : List Row
+    abbrev rows : List Row
     rows = serving.rows ++ more.row ∷ []
 
     text_now : text_of_transcript stats (entries_of rows) ≡ text_of_transcript stats (entries_of serving.rows) ++ text_of_shown stats entry
@@ -250,7 +265,7 @@ module _ (Holds : List ℕ → List ℕ → Type 0) (stats : Bool) (start : Star
     -- All of the text is written.
     pub shown_whole : (ended : Bool) (place : Place) (marks : Marks) (written : Option (List ℕ)) → IsItemOf old.place.line bytes item ended place.line → place.ended ≡ ended → (IsTrue ended → OnSome old.left (IsAtEnd left) ⊎ IsFault item.item) → marks ≡ marks_after old.marks entry → Appends old.written written (text_of_shown stats entry) → IsAdvanced Holds stats start (Ok (not ended)) (now run place marks failed left written)
     shown_whole false place marks written whole same end is shown = is_serving place marks written whole same is shown
-    shown_whole true place marks written whole same end is shown = is_done place marks written whole (end tt) is shown
+    shown_whole true place marks written whole same end is shown = is_done place marks written whole (end refl) is shown
 
     -- A beginning of it is.
     pub shown_in_part : (error : LiveError) (ended : Bool) (place : Place) (marks : Marks) (written : Option (List ℕ)) → IsItemOf old.place.line bytes item ended place.line → AppendsFront old.written written (text_of_shown stats entry) → IsAdvanced Holds stats start (Err error) (now run place marks failed left written)
@@ -271,7 +286,7 @@ module _ (Holds : List ℕ → List ℕ → Type 0) (stats : Bool) (start : Star
   advanced_none next = is_over Holds stats start old serving bytes left read next.0 (by_end next.2) place
     where
       by_end : IsTrue old.place.ended ⊎ OnSome old.left (IsAtEnd left) → OnSome old.left (IsAtEnd left)
-      by_end (inl over) = absurd (subst (λ b. IsTrue b) serving.more over)
+      by_end (inl over) = absurd (let both : false ≡ true = sym serving.more ∙ over in cc)
       by_end (inr ended) = ended
 
   -- No item could be had, or none is taken any more.
@@ -299,10 +314,10 @@ legal_so_far Holds options script failed failed' run rows items limit are = reco
 }
 
 module _ (Holds : List ℕ → List ℕ → Type 0) (options : LiveOptions) (failed : ℕ) (input output : Option (List ℕ)) (at : Now) where
-  start : Start
-  start = record { limit = options.max_commands; failed = failed; input = input; output = output }
+  abbrev pub start_of : Start
+  start_of = record { limit = options.max_commands; failed = failed; input = input; output = output }
 
-  pub is_served : (status : ℕ) → status ≡ status_by at.marks → IsDone Holds options.stats start at → IsServed options Holds failed at.failed input at.left output at.written status
+  pub is_served : (status : ℕ) → status ≡ status_by at.marks → IsDone Holds options.stats start_of at → IsServed options Holds failed at.failed input at.left output at.written status
   is_served status is is_done = record {
     script = is_done.script;
     entries = entries_of is_done.rows;
@@ -313,7 +328,7 @@ module _ (Holds : List ℕ → List ℕ → Type 0) (options : LiveOptions) (fai
     over = is_done.over;
   }
 
-  pub is_broken : IsStopped Holds options.stats start at → IsBroken options Holds failed at.failed input at.left output at.written
+  pub is_broken : IsStopped Holds options.stats start_of at → IsBroken options Holds failed at.failed input at.left output at.written
   is_broken stopped = record {
     script = stopped.script;
     others = stopped.others;

@@ -9,7 +9,7 @@ use Rattle.tsearch.specs.declared.transcript.Reason.TheVariants as reason
 use Rattle.tsearch.specs.Legal.{IsLegal}
 use Rattle.tsearch.specs.Transcript.{status_of, text_of_transcript}
 use Rattle.tsearch.specs.Written.{AppendsFront}
-use Rattle.live.specs.declared.serve.LiveOptions.{LiveOptions}
+use Rattle.live.specs.declared.serving.LiveOptions.{LiveOptions}
 
 -- a run with these options and no readers
 abbrev pub run_options : LiveOptions → Options

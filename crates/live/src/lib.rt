@@ -4,9 +4,9 @@
 
 mod error;
 mod marks;
-pub mod serve;
+mod serving;
 mod session;
 mod write;
 
 pub use error::LiveError;
-pub use serve::LiveOptions;
+pub use serving::{LiveOptions, serve};

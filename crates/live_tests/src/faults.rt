@@ -1,8 +1,7 @@
 //! Readers and writers that fail in the middle of a session.
 
 use crate::streams::{One, Repeated, Stop, Stopping};
-use live::serve::serve;
-use live::{LiveError, LiveOptions};
+use live::{LiveError, LiveOptions, serve};
 use std::io::BufReader;
 use std::test::Fail;
 

@@ -1,8 +1,7 @@
 //! Scripts whose searches need no readers: a session gives the bytes and the status of a run.
 
 use crate::streams::{One, Repeated};
-use live::LiveOptions;
-use live::serve::serve;
+use live::{LiveOptions, serve};
 use std::io::BufReader;
 use std::process::Abort;
 use std::sync::Wait;

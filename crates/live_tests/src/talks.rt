@@ -1,8 +1,7 @@
 //! Clients that wait for each answer before they send more.
 
 use crate::streams::{Client, One, Repeated, Shown, Turn};
-use live::LiveOptions;
-use live::serve::serve;
+use live::{LiveOptions, serve};
 use std::io::BufReader;
 use std::process::Abort;
 use std::sync::Wait;

@@ -4,7 +4,7 @@ use Rattle.std.specs.Io.Buffered.{reader_buffer, reader_capacity, reader_inner, 
 use Rattle.std.specs.Io.KnownBytes.{prepend_known}
 use Rattle.std.specs.declared.io.buffered.BufReader.{BufReader}
 use Rattle.live.specs.Served.{IsServed}
-use Rattle.live.specs.declared.serve.LiveOptions.{LiveOptions}
+use Rattle.live.specs.declared.serving.LiveOptions.{LiveOptions}
 
 nothing_before : (known : Option (List ℕ)) → prepend_known [] known ≡ known
 nothing_before None = refl

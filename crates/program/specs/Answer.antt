@@ -5,7 +5,7 @@ use Rattle.cli.specs.CommandLine.{AskForHelp, IsRefusalOf, SpellSettings, faults
 use Rattle.cli.specs.declared.arguments.Settings.{Settings}
 use Rattle.cli.specs.declared.help.TheConstants.{HELP}
 use Rattle.live.specs.Served.{IsServed}
-use Rattle.live.specs.declared.serve.LiveOptions.{LiveOptions}
+use Rattle.live.specs.declared.serving.LiveOptions.{LiveOptions}
 use Rattle.tsearch.specs.Legal.{IsLegal}
 use Rattle.tsearch.specs.Transcript.{status_of, text_of_transcript}
 use Rattle.tsearch.specs.declared.run.Options.{Options}
