@@ -42,9 +42,10 @@ SECONDS = 120
 
 # Cases of what holds for a script that is read whole, and not for a session.
 WHOLE_SCRIPTS = {
-    # a session has no limit of its script
+    # a session has no limit of its script, and does not keep it
     "endless_script",
     "endless_standard_input",
+    "memory_refused",
     "script_too_long",
     "script_too_long_on_standard_input",
     "standard_input_is_read_to_one_byte_over_the_limit",
