@@ -1,11 +1,9 @@
 -- Answers, and what keeps the program from one.
-use Rattle.std.proofs.Common.{◌≡◌, ◌∙◌, ap, sym, inl, inr, List, [], ℕ, Option, true, false}
+use Rattle.std.proofs.Common.{◌≡◌, inl, inr, List, [], ℕ, Option, true, false}
 use Rattle.std.specs.Prelude.{Result, Ok, Err, IfOk, IfErr}
 use Rattle.std.specs.Io.KnownBytes.{Appends, Keeps}
 use Rattle.std.proofs.KnownBytes.{Appends-kept}
 use Rattle.cli.specs.CommandLine.{AreRefused, AskForHelp, SpellSettings, faults_of}
-use Rattle.cli.specs.declared.arguments.Request.{Request}
-use Rattle.cli.specs.declared.arguments.Request.TheVariants.{Run, Help}
 use Rattle.cli.specs.declared.arguments.Settings.{Settings}
 use Rattle.cli.specs.declared.help.TheConstants.{HELP}
 use Rattle.program.specs.Answer.{IsAnswer, IsFailure, IsFailureOfRun, IsRunOf, IsSessionOf, helped, ran, served}
@@ -22,14 +20,6 @@ pub refused_have_none : (arguments : List (List ℕ)) (opens : List ℕ → Opti
 refused_have_none arguments opens input failed failed' old new status (ran settings spelled once run) refused = refused.faulty spelled.taken
 refused_have_none arguments opens input failed failed' old new status (served settings spelled live session) refused = refused.faulty spelled.taken
 refused_have_none arguments opens input failed failed' old new status (helped asked written is) refused = refused.no_help asked
-
-settings_or : Settings → Request → Settings
-settings_or other (Run settings) = settings
-settings_or other Help = other
-
--- a request has one list of settings
-pub one_request : (request : Request) (s t : Settings) → request ≡ Run s → request ≡ Run t → s ≡ t
-one_request request s t first second = ap (settings_or s) (sym first ∙ second)
 
 run_failed : (arguments : List (List ℕ)) (e : ProgramError) → faults_of arguments ≡ [] → IsFailureOfRun e → IsFailure arguments e
 run_failed arguments (error.Arguments fault) taken failed = absurd failed

@@ -1,6 +1,4 @@
-use Rattle.std.proofs.Common.{◌≡◌, false, subst}
-use Rattle.cli.specs.declared.arguments.Settings.{Settings}
-use Rattle.program.proofs.AnswerLemmas.{one_request, run_answers, session_answers}
+use Rattle.program.proofs.AnswerLemmas.{run_answers, session_answers}
 use Rattle.program.proofs.answer.answer.Goals as goal
 
 pub returns-in-Ok-Run-clause-answered : goal.returns-in-Ok-Run-clause-answered
@@ -10,7 +8,5 @@ returns-in-Ok-Run-clause-answered g c =
 
 pub returns-in-Ok-Run-2-clause-answered : goal.returns-in-Ok-Run-2-clause-answered
 returns-in-Ok-Run-2-clause-answered g c =
-    let same = one_request _ c.in-Ok-Run.settings c.in-Ok-Run-2.settings c.in-Ok-Run.field-0-is c.in-Ok-Run-2.field-0-is in
-    let once = subst (λ (settings : Settings). settings.live ≡ false) same c.if-settings.false in
-    run_answers g.O.Write.contents _ _ _ _ _ _ c.in-Ok-Run-2.settings c.run_script.result (rw c.in-Ok-Run-2.field-0-is at c.in-Ok-Run.ensures.request)
-    once c.run_script.ensures.run
+    run_answers g.O.Write.contents _ _ _ _ _ _ c.in-Ok-Run.settings c.run_script.result (rw c.in-Ok-Run.field-0-is at c.in-Ok-Run.ensures.request)
+    c.if-settings.false c.run_script.ensures.run
