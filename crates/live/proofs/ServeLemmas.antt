@@ -1,6 +1,6 @@
 -- A session goes on from item to item, and ends.
 use Rattle.std.proofs.Common.{◌≡◌, ℕ, ◌+◌, ◌<◌, ◌⊎◌, inl, inr, Bool, true, false, not, List, [], ◌∷◌, ◌++◌, Option, Some, None, Result, Ok, Err, refl, sym, ap, ◌∙◌, subst, append_assoc, append-nil, length}
-use Rattle.std.specs.Prelude.{OnSome, IsTrue, ◌||◌, flat_map}
+use Rattle.std.specs.Prelude.{OnSome, OnErr, IsTrue, ◌||◌, flat_map}
 use Rattle.std.specs.List.{list_any}
 use Rattle.std.specs.Io.KnownBytes.{Appends, Consumes, IsAtEnd}
 use Rattle.std.proofs.KnownBytes.{Consumes-nil, Consumes-trans, Appends-nil, Appends-trans}
@@ -348,3 +348,25 @@ never_begun Holds options failed input output = record {
   legal = legal_so_far Holds options [] failed failed (first_state options.max_commands) [] done refl (so_far_begins Holds options.max_commands failed);
   written = record { front = []; rest = []; whole = refl; appended = Appends-nil output };
 }
+
+-- A step of a session, and then its end. Holds: what the source held at first. Holds': what it holds by now.
+module _ (Holds Holds' : List ℕ → List ℕ → Type 0) (held : (path body : List ℕ) → (Holds' path body → Holds path body) × (Holds path body → Holds' path body)) (options : LiveOptions) (failed : ℕ) (input output : Option (List ℕ)) (old new : Now) (serving : IsServing Holds options.stats (record { limit = options.max_commands; failed = failed; input = input; output = output }) old) where
+  abbrev first : Start
+  first = record { limit = options.max_commands; failed = failed; input = input; output = output }
+
+  module _ (result : Result Bool LiveError) (step : (other : Start) → IsServing Holds' options.stats other old → IsAdvanced Holds' options.stats other result new) where
+    stepped : IsAdvanced Holds options.stats first result new
+    stepped = goes_on_from Holds Holds' held options.stats first old result new serving step
+
+  pub still_serving : (more : Bool) → more ≡ true → ((other : Start) → IsServing Holds' options.stats other old → IsAdvanced Holds' options.stats other (Ok more) new) → IsServing Holds options.stats (record { limit = options.max_commands; failed = failed; input = input; output = output }) new
+  still_serving more is step = subst (λ b. IsAdvanced Holds options.stats first (Ok b) new) is (stepped (Ok more) step)
+
+  pub now_served : (more : Bool) → more ≡ false → ((other : Start) → IsServing Holds' options.stats other old → IsAdvanced Holds' options.stats other (Ok more) new) → (status : ℕ) → status ≡ status_by new.marks → IsServed options Holds failed new.failed input new.left output new.written status
+  now_served more is step status same = is_served Holds options failed input output new status same (subst (λ b. IsAdvanced Holds options.stats first (Ok b) new) is (stepped (Ok more) step))
+
+  pub now_broken : (error : LiveError) → ((other : Start) → IsServing Holds' options.stats other old → IsAdvanced Holds' options.stats other (Err error) new) → IsBroken options Holds failed new.failed input new.left output new.written
+  now_broken error step = is_broken Holds options failed input output new (stepped (Err error) step)
+
+pub on_err : {A E : Type 0} (result : Result A E) (P : Type 0) → P → OnErr result P
+on_err (Ok a) P is = tt
+on_err (Err e) P is = is
