@@ -1,6 +1,6 @@
 -- A session goes on from item to item, and ends.
 use Rattle.std.proofs.Common.{◌≡◌, ℕ, ◌+◌, ◌<◌, ◌⊎◌, inl, inr, Bool, true, false, not, List, [], ◌∷◌, ◌++◌, Option, Some, None, Result, Ok, Err, refl, sym, ap, ◌∙◌, subst, append_assoc, append-nil, length}
-use Rattle.std.specs.Prelude.{OnSome, OnErr, IsTrue, ◌||◌, flat_map}
+use Rattle.std.specs.Prelude.{OnSome, OnErr, IsErr, IsTrue, ◌||◌, flat_map}
 use Rattle.std.specs.List.{list_any}
 use Rattle.std.specs.Io.KnownBytes.{Appends, Consumes, IsAtEnd}
 use Rattle.std.proofs.KnownBytes.{Consumes-nil, Consumes-trans, Appends-nil, Appends-trans}
@@ -295,12 +295,13 @@ module _ (Holds : List ℕ → List ℕ → Type 0) (stats : Bool) (start : Star
 
   module _ (taken : Taken) (takes : stream.Takes old.place taken place bytes old.left left) (entry : Option Entry) (run : LoneState) (failed : ℕ) (goes_on : GoesOn Holds old.run old.failed (numbered taken.line takes.item) entry run failed) (marks : Marks) (written : Option (List ℕ)) where
     -- An item was carried out, and its text written whole,
-    pub advanced_item : marks ≡ marks_after old.marks entry → Appends old.written written (text_of_shown stats entry) → IsAdvanced Holds stats start (Ok (not taken.ended)) (now run place marks failed left written)
-    advanced_item is shown = shown_whole Holds stats start old serving bytes left read (numbered taken.line takes.item) entry run failed goes_on taken.ended place marks written takes.whole takes.ended takes.end is shown
+    pub advanced_item : (last : Place) → last ≡ place → marks ≡ marks_after old.marks entry → Appends old.written written (text_of_shown stats entry) → IsAdvanced Holds stats start (Ok (not taken.ended)) (now run last marks failed left written)
+    advanced_item last same is shown = subst (λ p. IsAdvanced Holds stats start (Ok (not taken.ended)) (now run p marks failed left written)) (sym same) (shown_whole Holds stats start old serving bytes left read (numbered taken.line takes.item) entry run failed goes_on taken.ended place marks written takes.whole takes.ended takes.end is shown)
 
     -- or in part.
-    pub advanced_in_part : (error : LiveError) → AppendsFront old.written written (text_of_shown stats entry) → IsAdvanced Holds stats start (Err error) (now run place marks failed left written)
-    advanced_in_part error shown = shown_in_part Holds stats start old serving bytes left read (numbered taken.line takes.item) entry run failed goes_on error taken.ended place marks written takes.whole shown
+    pub advanced_in_part : (last : Place) → last ≡ place → (result : Result Bool LiveError) → IsErr result → AppendsFront old.written written (text_of_shown stats entry) → IsAdvanced Holds stats start result (now run last marks failed left written)
+    advanced_in_part last same (Ok more) is_error shown = absurd (let both : false ≡ true = is_error in cc)
+    advanced_in_part last same (Err error) is_error shown = subst (λ p. IsStopped Holds stats start (now run p marks failed left written)) (sym same) (shown_in_part Holds stats start old serving bytes left read (numbered taken.line takes.item) entry run failed goes_on error taken.ended place marks written takes.whole shown)
 
 -- What a session has done so far makes a legal transcript.
 legal_so_far : (Holds : List ℕ → List ℕ → Type 0) (options : LiveOptions) (script : List ℕ) (failed failed' : ℕ) (run : LoneState) (rows : List Row) → IsItemsOf script (items_of rows) → run.limit ≡ options.max_commands → AreSoFar Holds failed run failed' rows → IsLegal script (run_options options) Holds failed failed' (entries_of rows)
