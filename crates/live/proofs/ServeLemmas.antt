@@ -1,6 +1,6 @@
 -- A session goes on from item to item, and ends.
 use Rattle.std.proofs.Common.{◌≡◌, ℕ, ◌+◌, ◌<◌, ◌⊎◌, inl, inr, Bool, true, false, not, List, [], ◌∷◌, ◌++◌, Option, Some, None, Result, Ok, Err, refl, sym, ap, ◌∙◌, subst, append_assoc, append-nil, length}
-use Rattle.std.specs.Prelude.{OnSome, IsTrue, ◌||◌, flat_map}
+use Rattle.std.specs.Prelude.{OnSome, OnErr, IsErr, IsTrue, ◌||◌, flat_map}
 use Rattle.std.specs.List.{list_any}
 use Rattle.std.specs.Io.KnownBytes.{Appends, Consumes, IsAtEnd}
 use Rattle.std.proofs.KnownBytes.{Consumes-nil, Consumes-trans, Appends-nil, Appends-trans}
@@ -295,12 +295,13 @@ module _ (Holds : List ℕ → List ℕ → Type 0) (stats : Bool) (start : Star
 
   module _ (taken : Taken) (takes : stream.Takes old.place taken place bytes old.left left) (entry : Option Entry) (run : LoneState) (failed : ℕ) (goes_on : GoesOn Holds old.run old.failed (numbered taken.line takes.item) entry run failed) (marks : Marks) (written : Option (List ℕ)) where
     -- An item was carried out, and its text written whole,
-    pub advanced_item : marks ≡ marks_after old.marks entry → Appends old.written written (text_of_shown stats entry) → IsAdvanced Holds stats start (Ok (not taken.ended)) (now run place marks failed left written)
-    advanced_item is shown = shown_whole Holds stats start old serving bytes left read (numbered taken.line takes.item) entry run failed goes_on taken.ended place marks written takes.whole takes.ended takes.end is shown
+    pub advanced_item : (last : Place) → last ≡ place → marks ≡ marks_after old.marks entry → Appends old.written written (text_of_shown stats entry) → IsAdvanced Holds stats start (Ok (not taken.ended)) (now run last marks failed left written)
+    advanced_item last same is shown = subst (λ p. IsAdvanced Holds stats start (Ok (not taken.ended)) (now run p marks failed left written)) (sym same) (shown_whole Holds stats start old serving bytes left read (numbered taken.line takes.item) entry run failed goes_on taken.ended place marks written takes.whole takes.ended takes.end is shown)
 
     -- or in part.
-    pub advanced_in_part : (error : LiveError) → AppendsFront old.written written (text_of_shown stats entry) → IsAdvanced Holds stats start (Err error) (now run place marks failed left written)
-    advanced_in_part error shown = shown_in_part Holds stats start old serving bytes left read (numbered taken.line takes.item) entry run failed goes_on error taken.ended place marks written takes.whole shown
+    pub advanced_in_part : (last : Place) → last ≡ place → (result : Result Bool LiveError) → IsErr result → AppendsFront old.written written (text_of_shown stats entry) → IsAdvanced Holds stats start result (now run last marks failed left written)
+    advanced_in_part last same (Ok more) is_error shown = absurd (let both : false ≡ true = is_error in cc)
+    advanced_in_part last same (Err error) is_error shown = subst (λ p. IsStopped Holds stats start (now run p marks failed left written)) (sym same) (shown_in_part Holds stats start old serving bytes left read (numbered taken.line takes.item) entry run failed goes_on error taken.ended place marks written takes.whole shown)
 
 -- What a session has done so far makes a legal transcript.
 legal_so_far : (Holds : List ℕ → List ℕ → Type 0) (options : LiveOptions) (script : List ℕ) (failed failed' : ℕ) (run : LoneState) (rows : List Row) → IsItemsOf script (items_of rows) → run.limit ≡ options.max_commands → AreSoFar Holds failed run failed' rows → IsLegal script (run_options options) Holds failed failed' (entries_of rows)
@@ -348,3 +349,25 @@ never_begun Holds options failed input output = record {
   legal = legal_so_far Holds options [] failed failed (first_state options.max_commands) [] done refl (so_far_begins Holds options.max_commands failed);
   written = record { front = []; rest = []; whole = refl; appended = Appends-nil output };
 }
+
+-- A step of a session, and then its end. Holds: what the source held at first. Holds': what it holds by now.
+module _ (Holds Holds' : List ℕ → List ℕ → Type 0) (held : (path body : List ℕ) → (Holds' path body → Holds path body) × (Holds path body → Holds' path body)) (options : LiveOptions) (failed : ℕ) (input output : Option (List ℕ)) (old new : Now) (serving : IsServing Holds options.stats (record { limit = options.max_commands; failed = failed; input = input; output = output }) old) where
+  abbrev first : Start
+  first = record { limit = options.max_commands; failed = failed; input = input; output = output }
+
+  module _ (result : Result Bool LiveError) (step : (other : Start) → IsServing Holds' options.stats other old → IsAdvanced Holds' options.stats other result new) where
+    stepped : IsAdvanced Holds options.stats first result new
+    stepped = goes_on_from Holds Holds' held options.stats first old result new serving step
+
+  pub still_serving : (more : Bool) → more ≡ true → ((other : Start) → IsServing Holds' options.stats other old → IsAdvanced Holds' options.stats other (Ok more) new) → IsServing Holds options.stats (record { limit = options.max_commands; failed = failed; input = input; output = output }) new
+  still_serving more is step = subst (λ b. IsAdvanced Holds options.stats first (Ok b) new) is (stepped (Ok more) step)
+
+  pub now_served : (more : Bool) → more ≡ false → ((other : Start) → IsServing Holds' options.stats other old → IsAdvanced Holds' options.stats other (Ok more) new) → (status : ℕ) → status ≡ status_by new.marks → IsServed options Holds failed new.failed input new.left output new.written status
+  now_served more is step status same = is_served Holds options failed input output new status same (subst (λ b. IsAdvanced Holds options.stats first (Ok b) new) is (stepped (Ok more) step))
+
+  pub now_broken : (error : LiveError) → ((other : Start) → IsServing Holds' options.stats other old → IsAdvanced Holds' options.stats other (Err error) new) → IsBroken options Holds failed new.failed input new.left output new.written
+  now_broken error step = is_broken Holds options failed input output new (stepped (Err error) step)
+
+pub on_err : {A E : Type 0} (result : Result A E) (P : Type 0) → P → OnErr result P
+on_err (Ok a) P is = tt
+on_err (Err e) P is = is

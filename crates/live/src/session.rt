@@ -89,19 +89,18 @@ pub(crate) fn advance<R: Wait, S: Source, I: BufRead, O: Write>(
     ensures same { (path body : List ℕ) → (S.holds source.new path body → S.holds source.old path body) × (S.holds source.old path body → S.holds source.new path body) }
     ensures counted { S.failed source.old ≤ S.failed source.new }
 {
-    match session.stream.next_item(input, &mut session.line) {
-        Ok(None) => Ok(false),
-        Err(error) => Err(of_reading(error)),
-        Ok(Some(taken)) => {
-            if run.is_full() {
-                return Err(LiveError::TooManySearches);
-            }
-            let more = !taken.ended;
-            let entry = carry_out(plan, run, source, taken);
-            session.show(plan.alloc, plan.stats, entry, out)?;
-            Ok(more)
-        }
+    if run.is_full() {
+        return Err(LiveError::TooManySearches);
     }
+    let taken = match session.stream.next_item(input, &mut session.line) {
+        Ok(Some(taken)) => taken,
+        Ok(None) => return Ok(false),
+        Err(error) => return Err(of_reading(error)),
+    };
+    let more = !taken.ended;
+    let entry = carry_out(plan, run, source, taken);
+    session.show(plan.alloc, plan.stats, entry, out)?;
+    Ok(more)
 }
 
 /// Carries out an item. A sync has no entry.
