@@ -65,11 +65,11 @@ fn each_answer_comes_before_the_next_command(rt: HostRuntime) -> Result<(), Fail
             sent: b"sync\nbad\n",
         },
         Turn {
-            shown: 27 + 27 + 8 + 24,
+            shown: 27 + 27 + 8 + 25,
             sent: b"put f 3\nnew\npublish\nsearch old\n",
         },
         Turn {
-            shown: 27 + 27 + 8 + 24 + 27,
+            shown: 27 + 27 + 8 + 25 + 27,
             sent: b"# the end\n\nsearch (\n",
         },
     ];
