@@ -233,8 +233,8 @@ sync_goes_on Holds old failed item new failed' is same same_failed = record {
 module _ (Holds : List ℕ → List ℕ → Type 0) (most : ℕ) (context : Context) (pattern : Pattern) (entry : Entry) (is_searched : (IsIt : Pattern → Type 0) → IsIt pattern → IsSearched context IsIt entry) where
   answered_item : (item : Item) → searches_of item ≡ 1 → Asks item pattern → HasEntry Holds most context item (Some entry)
   unfolding IsEntryOf
-  answered_item (search text) one asks = legal.searched (is_searched (IsPatternOf text) asks)
-  answered_item (search_in name_text text) one asks = legal.searched (is_searched (IsPatternWithin name_text text) asks)
+  answered_item (search case text) one asks = legal.searched (is_searched (IsPatternOf case text) asks)
+  answered_item (search_in case name_text text) one asks = legal.searched (is_searched (IsPatternWithin case name_text text) asks)
   answered_item (put name body) one asks = absurd (omega (arith, one))
   answered_item (load name path) one asks = absurd (omega (arith, one))
   answered_item (remove name) one asks = absurd (omega (arith, one))
