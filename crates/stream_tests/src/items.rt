@@ -20,7 +20,7 @@ fn expect_items(rt: &impl Abort, alloc: Global, input: &[u8], want: &[u8]) -> Re
 }
 
 /// Each kind of item, and lines that are skipped. The numbers are those of the lines, of which bodies have some.
-const CASES: [(&[u8], &[u8]); 24] = [
+const CASES: [(&[u8], &[u8]); 25] = [
     (b"", b""),
     (b"\n", b""),
     (b"#", b""),
@@ -38,6 +38,10 @@ const CASES: [(&[u8], &[u8]); 24] = [
     (
         b"searchin a b c\nsearchin a\n",
         b"1:searchin|a|b c;2:bad line;",
+    ),
+    (
+        b"isearch a b\nisearch\nisearchin a b c\nisearchin a\n",
+        b"1:isearch|a b;2:isearch|;3:isearchin|a|b c;4:bad line;",
     ),
     (
         b"remove a b\nload a b c\nload a\n",

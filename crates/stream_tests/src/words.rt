@@ -1,5 +1,6 @@
 //! Items in words, and the items of a whole input.
 
+use ere::Case;
 use script::{Item, MAX_SCRIPT, ScriptReader};
 use std::alloc::Global;
 use std::io::BufRead;
@@ -31,14 +32,17 @@ fn append_item(out: &mut Vec<u8>, item: Item<'_>) -> Result<(), Fail> {
             out.extend_from_slice(b"remove")?;
             append_words(out, &[name])
         }
-        Item::Search { pattern } => {
+        Item::Search { case, pattern } => {
+            append_case(out, case)?;
             out.extend_from_slice(b"search")?;
             append_words(out, &[pattern])
         }
         Item::SearchIn {
+            case,
             name_pattern,
             pattern,
         } => {
+            append_case(out, case)?;
             out.extend_from_slice(b"searchin")?;
             append_words(out, &[name_pattern, pattern])
         }
@@ -48,6 +52,13 @@ fn append_item(out: &mut Vec<u8>, item: Item<'_>) -> Result<(), Fail> {
         Item::BadPut => Ok(out.extend_from_slice(b"bad put")?),
         Item::Truncated => Ok(out.extend_from_slice(b"truncated")?),
         Item::BodyNotClosed => Ok(out.extend_from_slice(b"body not closed")?),
+    }
+}
+
+fn append_case(out: &mut Vec<u8>, case: Case) -> Result<(), Fail> {
+    match case {
+        Case::Exact => Ok(()),
+        Case::Ignore => Ok(out.extend_from_slice(b"i")?),
     }
 }
 
