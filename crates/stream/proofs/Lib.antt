@@ -1,6 +1,6 @@
 pub mod EndLemmas
 pub mod ErrLemmas
-pub mod TestLemmas
+pub mod NotLemmas
 pub mod LineLemmas
 pub mod BodyLemmas
 pub mod TakingLemmas

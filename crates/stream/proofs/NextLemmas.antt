@@ -11,7 +11,7 @@ use Rattle.stream.specs.Stream.{Place, place, Takes, IsItemOf, IsFault}
 use Rattle.stream.specs.Private.Lines.{TakesLine, line_feed_if}
 use Rattle.stream.specs.Private.Taking.{TakesStep}
 use Rattle.stream.proofs.EndLemmas.{end_later}
-use Rattle.stream.proofs.TestLemmas.{if_not, unless_not}
+use Rattle.stream.proofs.NotLemmas.{if_not, unless_not}
 use Rattle.stream.proofs.TakingLemmas.{item_after_skipped, last_after_skipped}
 
 none_if : (next : Option ℕ) → IsTrue (is_none next) → next ≡ None

@@ -8,13 +8,10 @@ use std::process::Abort;
 use std::test::Fail;
 use stream::{ItemStream, StreamError, StreamItem, Taken};
 
-/// The words of an item, joined by bars.
-fn append_words(out: &mut Vec<u8>, words: &[&[u8]]) -> Result<(), Fail> {
-    for word in words {
-        out.push(b'|')?;
-        out.extend_from_slice(word)?;
-    }
-    Ok(())
+/// A bar, and a word of an item.
+fn append_word(out: &mut Vec<u8>, word: &[u8]) -> Result<(), Fail> {
+    out.push(b'|')?;
+    Ok(out.extend_from_slice(word)?)
 }
 
 /// An item in one line: its form and its words, as `put|NAME|BODY`.
@@ -22,20 +19,22 @@ fn append_item(out: &mut Vec<u8>, item: Item<'_>) -> Result<(), Fail> {
     match item {
         Item::Put { name, body } => {
             out.extend_from_slice(b"put")?;
-            append_words(out, &[name, body])
+            append_word(out, name)?;
+            append_word(out, body)
         }
         Item::Load { name, path } => {
             out.extend_from_slice(b"load")?;
-            append_words(out, &[name, path])
+            append_word(out, name)?;
+            append_word(out, path)
         }
         Item::Remove { name } => {
             out.extend_from_slice(b"remove")?;
-            append_words(out, &[name])
+            append_word(out, name)
         }
         Item::Search { case, pattern } => {
             append_case(out, case)?;
             out.extend_from_slice(b"search")?;
-            append_words(out, &[pattern])
+            append_word(out, pattern)
         }
         Item::SearchIn {
             case,
@@ -44,7 +43,8 @@ fn append_item(out: &mut Vec<u8>, item: Item<'_>) -> Result<(), Fail> {
         } => {
             append_case(out, case)?;
             out.extend_from_slice(b"searchin")?;
-            append_words(out, &[name_pattern, pattern])
+            append_word(out, name_pattern)?;
+            append_word(out, pattern)
         }
         Item::Publish => Ok(out.extend_from_slice(b"publish")?),
         Item::Sync => Ok(out.extend_from_slice(b"sync")?),
@@ -66,15 +66,16 @@ fn append_stream_item(out: &mut Vec<u8>, item: &StreamItem<'_>) -> Result<(), Fa
     match item {
         StreamItem::Put { name, body } => {
             out.extend_from_slice(b"put")?;
-            append_words(out, &[*name, body.as_slice()])
+            append_word(out, name)?;
+            append_word(out, body.as_slice())
         }
         StreamItem::LongPut { name } => {
             out.extend_from_slice(b"long put")?;
-            append_words(out, &[*name])
+            append_word(out, name)
         }
         StreamItem::LostPut { name } => {
             out.extend_from_slice(b"lost put")?;
-            append_words(out, &[*name])
+            append_word(out, name)
         }
         StreamItem::Other(item) => append_item(out, *item),
     }
@@ -93,17 +94,22 @@ fn append_number(out: &mut Vec<u8>, line: u32) -> Result<(), Fail> {
     Ok(out.push(b':')?)
 }
 
-/// The items of a whole script, as the reader of scripts gives them.
+/// The items of a whole script, as the reader of scripts gives them. There are fewer than 1,000.
 pub fn items_of_script(rt: &impl Abort, alloc: Global, script: &[u8]) -> Result<Vec<u8>, Fail> {
     assert!(rt; script.len() <= MAX_SCRIPT);
     let mut reader = ScriptReader::new(script);
     let mut out = Vec::new(alloc);
-    while let Some(found) = reader.next_item() {
-        append_number(&mut out, found.line)?;
-        append_item(&mut out, found.item)?;
-        out.push(b';')?;
+    for _ in 0..1000 {
+        match reader.next_item() {
+            Some(found) => {
+                append_number(&mut out, found.line)?;
+                append_item(&mut out, found.item)?;
+                out.push(b';')?;
+            }
+            None => return Ok(out),
+        }
     }
-    Ok(out)
+    Err(Fail::from("over a thousand items"))
 }
 
 /// The items of an input, and why they end, if it is an error. There are fewer than 1,000.

@@ -2,7 +2,7 @@ use Rattle.std.proofs.Common.{◌++◌}
 use Rattle.std.proofs.KnownBytes.{Consumes-trans}
 use Rattle.stream.specs.Private.Bytes.{Passes}
 use Rattle.stream.proofs.ErrLemmas.{at_err}
-use Rattle.stream.proofs.TestLemmas.{if_not}
+use Rattle.stream.proofs.NotLemmas.{if_not}
 use Rattle.stream.proofs.BodyLemmas.{passes_more, passes_to_end}
 use Rattle.stream.proofs.body.pass_over.Goals as goal
 

@@ -2,7 +2,7 @@ use Rattle.std.proofs.Common.{◌++◌, [], inl, inr, refl, subst, rules}
 use Rattle.std.proofs.KnownBytes.{Consumes-nil, Consumes-trans}
 use Rattle.script.specs.Items.{ItemsFrom, done}
 use Rattle.stream.specs.Stream.{Place}
-use Rattle.stream.proofs.TestLemmas.{if_not, unless_not}
+use Rattle.stream.proofs.NotLemmas.{if_not, unless_not}
 use Rattle.stream.proofs.NextLemmas.{takes_last, takes_step, none_by_test}
 use Rattle.stream.proofs.stream.ItemStream.next_item.Goals as goal
 
