@@ -1,6 +1,6 @@
 -- How a report grows.
-use Rattle.std.proofs.Common.{◌≡◌, ⊎_elim, ℕ, ◌-◌, ◌<◌, List, ◌++◌, Option, Some, All, slice_get, sym, ap, subst, ◌∙◌, append_assoc}
-use Rattle.std.proofs.lemmas.List.Elements.{All-weaker, All-push}
+use Rattle.std.proofs.Common.{◌≡◌, ⊎_elim, ℕ, ◌+◌, ◌-◌, ◌<◌, List, [], ◌∷◌, ◌++◌, Option, Some, All, slice_get, refl, sym, ap, subst, ◌∙◌, append_assoc}
+use Rattle.std.proofs.lemmas.List.Elements.{All-nil, All-weaker, All-push}
 use mathlib.Core.List.{IsPrefix}
 use Rattle.index.specs.declared.command.Command.{Command}
 use Rattle.index.specs.State.{state_of}
@@ -11,7 +11,7 @@ use Rattle.shared.specs.History.{Known}
 use Rattle.shared.proofs.Beginnings.{prefix_self}
 use Rattle.readers.specs.declared.report.Given.{Given}
 use Rattle.readers.specs.declared.report.Report.{Report}
-use Rattle.readers.specs.Report.{IsGiven, IsReport}
+use Rattle.readers.specs.Report.{IsGiven, IsReport, AreInTurn}
 use Rattle.readers.specs.Private.Giving.{given, Gives}
 
 -- a beginning of a beginning
@@ -22,16 +22,34 @@ given_later : (searches : List (Option Prepared)) (seen later : List Command) �
 given_later searches seen later more given is =
     record { prepared = is.prepared; numbered = is.numbered; listed = is.listed; commands = is.commands; begins = prefix_further is.commands seen later is.begins more; exact = is.exact }
 
+-- a report with no answers
+pub no_answers : (searches : List (Option Prepared)) (report : Report) → report.given.items ≡ [] → IsReport searches report.reading report
+no_answers searches report none = record {
+  opening = refl;
+  seen = prefix_self report.reading.commands;
+  given = subst (All (IsGiven searches report.reading.commands)) (sym none) (All-nil (IsGiven searches report.reading.commands));
+  first = report.turns;
+  turned = subst (λ items. AreInTurn report.turns items report.turns) (sym none) refl;
+}
+
+-- one more answer, in the next turn
+turned_more : (first last search : ℕ) (answer : Answer) (items : List Given) → AreInTurn first items last
+    → AreInTurn first (items ++ given search (last + 1) answer ∷ []) (last + 1)
+turned_more first last search answer [] is = let e = ap (λ n. n + 1) is in (e, e)
+turned_more first last search answer (item ∷ items) is = (is.0, turned_more (first + 1) last search answer items is.1)
+
 -- the reading has seen more, and no answer is added
 pub sees_more : (searches : List (Option Prepared)) (before : Known) (old new : Report)
-    → new.reading.opening ≡ old.reading.opening → IsPrefix old.reading.commands new.reading.commands → new.given.items ≡ old.given.items
+    → new.reading.opening ≡ old.reading.opening → IsPrefix old.reading.commands new.reading.commands → new.given.items ≡ old.given.items → new.turns ≡ old.turns
     → IsReport searches before old → IsReport searches before new
-sees_more searches before old new opening seen same is =
+sees_more searches before old new opening seen same turns is =
     let all = All-weaker (IsGiven searches old.reading.commands) (IsGiven searches new.reading.commands) (given_later searches old.reading.commands new.reading.commands seen) old.given.items is.given in
     record {
       opening = opening ∙ is.opening;
       seen = prefix_further before.commands old.reading.commands new.reading.commands is.seen seen;
       given = subst (All (IsGiven searches new.reading.commands)) (sym same) all;
+      first = is.first;
+      turned = subst (λ last. AreInTurn is.first new.given.items last) (sym turns) (subst (λ items. AreInTurn is.first items old.turns) (sym same) is.turned);
     }
 
 -- and then an answer of all that it has seen is added, or none
@@ -43,11 +61,17 @@ gives_more searches before search prepared answer old new numbered listed exact 
     let one : (turn : ℕ) → IsGiven searches old.reading.commands (given search turn answer) =
     λ turn. record { prepared = prepared; numbered = numbered; listed = listed; commands = old.reading.commands; begins = prefix_self old.reading.commands; exact = exact } in
     let all : All (IsGiven searches old.reading.commands) new.given.items = ⊎_elim
-    (λ more. subst (All (IsGiven searches old.reading.commands)) (sym more.1) (All-push (IsGiven searches old.reading.commands) old.given.items (given search more.0 answer) is.given (one more.0)))
-    (λ same. subst (All (IsGiven searches old.reading.commands)) (sym same) is.given)
+    (λ more. subst (All (IsGiven searches old.reading.commands)) (sym more.1) (All-push (IsGiven searches old.reading.commands) old.given.items (given search (old.turns + 1) answer) is.given (one (old.turns + 1))))
+    (λ same. subst (All (IsGiven searches old.reading.commands)) (sym same.1) is.given)
+    gives.given in
+    let turned : AreInTurn is.first new.given.items new.turns = ⊎_elim
+    (λ more. subst (λ last. AreInTurn is.first new.given.items last) (sym more.0) (subst (λ items. AreInTurn is.first items (old.turns + 1)) (sym more.1) (turned_more is.first old.turns search answer old.given.items is.turned)))
+    (λ same. subst (λ last. AreInTurn is.first new.given.items last) (sym same.0) (subst (λ items. AreInTurn is.first items old.turns) (sym same.1) is.turned))
     gives.given in
     record {
       opening = ap (λ reading. reading.opening) gives.reading ∙ is.opening;
       seen = subst (λ reading. IsPrefix before.commands reading.commands) (sym gives.reading) is.seen;
       given = subst (λ reading. All (IsGiven searches reading.commands) new.given.items) (sym gives.reading) all;
+      first = is.first;
+      turned = turned;
     }

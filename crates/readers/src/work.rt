@@ -17,6 +17,7 @@ use std::sync::Wait;
 
 /// Answers the searches whose numbers come from the channel, until it is closed. A number that is not in the
 /// list, or has no search there, is skipped.
+#[tactic(auto, using(crate::proofs::ReportLemmas::no_answers))]
 pub fn work<R: Wait, G: Gate>(
     rt: &R,
     alloc: Global,

@@ -56,6 +56,7 @@ impl<'a> Worker<'a> {
     /// Starts a thread that answers searches of this list with this reading. Its first answer is the turn after
     /// `turns`. An `Err` means that there is no thread, or no memory for its channel: the reading comes back in a
     /// report with no answers.
+    #[tactic(auto, using(crate::proofs::ReportLemmas::no_answers))]
     pub fn start<'s, E, R: Wait + Sync, G: Gate>(
         scope: &Scope<'s, E>,
         rt: &'a R,

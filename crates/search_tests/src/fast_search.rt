@@ -251,6 +251,25 @@ fn patterns_of_each_kind(rt: HostRuntime) -> Result<(), Fail> {
     expect_hits(&rt, rt.alloc(), KINDS)
 }
 
+/// Thirty stars, each inside the next one. Line by line, each of them doubles the time, so the test ends only if the
+/// pattern is compiled.
+#[test]
+fn many_stars_inside_stars(rt: HostRuntime) -> Result<(), Fail> {
+    let alloc = rt.alloc();
+    let pieces: [(&[u8], usize); 5] = [
+        (b"^(aa)*", 1),
+        (b"(a", 30),
+        (b"a*", 1),
+        (b")*", 30),
+        (b"b$", 1),
+    ];
+    let pattern = built(alloc, &pieces)?;
+    let body = built(alloc, &[(b"a", 1000), (b"c\n", 1), (b"a", 1000), (b"b", 1)])?;
+    let want = built(alloc, &[(b"f:2:", 1), (b"a", 1000), (b"b\n", 1)])?;
+    assert!(rt; finds(&rt, alloc, &[&body, &pattern, &want])?);
+    Ok(())
+}
+
 /// Lines of the letter a and then c: for each number from `first` to 649, one line with this number of a.
 fn letters_and_c(alloc: Global, first: usize) -> Result<Vec<u8>, Fail> {
     let mut lines = Vec::new(alloc);
