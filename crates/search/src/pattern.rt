@@ -1,31 +1,24 @@
 //! Patterns, read once and used by many searches.
 
-ghost use Rattle.std.specs.Prelude.{◌≢◌, IfOk, IfErr, MatchBool};
 ghost use Rattle.std.specs.Option.{ForSome};
 ghost use Rattle.ere.specs.Tree.{form};
-ghost use Rattle.ere.specs.Limits.{IsWithinLimits, HasNoTree, IsTreeOf};
+ghost use Rattle.ere.specs.Limits.{IsWithinLimits};
 ghost use Rattle.ere.proofs.OneWay.{IsWithinLimits-prop, ForSome-prop};
-ghost use Rattle.query.specs.Query.{formula_of, is_met};
-ghost use Rattle.trigram.specs.Analysis.{condition};
-ghost use Rattle.trigram.proofs.Sameness.{same-prop};
-ghost use Rattle.search.specs.Queries.{IsQueryOf};
 
-use ere::{Ere, EreError, EreErrorKind, parse};
-use std::alloc::Global;
+use ere::{Ere, EreError, parse};
+use std::alloc::{AllocError, Global};
 use trigram::{Query, analyse};
 
 /// A pattern, and a pattern for names if there is one, read and ready to search.
 ///
-/// A search never changes it, so one value serves many searches at a time.
+/// A search never changes it, so one value serves many searches at a time. Each search makes the query of the
+/// pattern's condition anew: it can take some thousand times the memory of the pattern.
 #[derive(Debug, Drop)]
 pub struct Prepared {
     pub(crate) tree: Ere,
     pub(crate) name_tree: Option<Ere>,
-    // What the trigrams of a document with a hit satisfy.
-    pub(crate) query: Query,
     pub ghost limits: { IsWithinLimits (form tree) } by { IsWithinLimits-prop (form tree) },
     pub ghost name_limits: { ForSome name_tree (λ e. IsWithinLimits (form e)) } by { ForSome-prop name_tree },
-    pub ghost filter: { IsQueryOf tree query } by { same-prop (is_met (formula_of query)) (condition (form tree)) },
 }
 
 /// Why a search with a name pattern is refused.
@@ -42,17 +35,17 @@ impl Prepared {
     ghost use Rattle.ere.specs.Limits.{HasNoTree};
     ghost use Rattle.search.specs.Pattern.{IsPatternOf, IsPatternWithin, HasTree};
     ghost use Rattle.search.specs.Prepared.{pattern_of};
+    ghost use Rattle.search.specs.Queries.{IsQueryOf};
 
     /// Reads the pattern of a search. An `Err` gives its fault, or says that memory ran out.
     pub fn new(alloc: Global, pattern: &[u8]) -> Result<Prepared, EreError>
         ensures pattern { IfOk result (λ p. IsPatternOf pattern.now (pattern_of p)) }
         ensures refused { IfErr result (λ e. e.kind ≢ EreErrorKind.OutOfMemory → HasNoTree pattern.now) }
     {
-        let (tree, query) = analysed(alloc, pattern)?;
+        let tree = parse(alloc, pattern)?;
         Ok(Prepared {
             tree,
             name_tree: None,
-            query,
         })
     }
 
@@ -76,11 +69,10 @@ impl Prepared {
                 });
             }
         };
-        match analysed(alloc, pattern) {
-            Ok((tree, query)) => Ok(Prepared {
+        match parse(alloc, pattern) {
+            Ok(tree) => Ok(Prepared {
                 tree,
                 name_tree: Some(name_tree),
-                query,
             }),
             Err(error) => Err(WithinError {
                 in_name: false,
@@ -88,21 +80,12 @@ impl Prepared {
             }),
         }
     }
-}
 
-// The tree of a pattern, and the query of its condition.
-fn analysed(alloc: Global, pattern: &[u8]) -> Result<(Ere, Query), EreError>
-    ensures tree { IfOk result (λ both. IsTreeOf pattern.now (form both.0)) }
-    ensures limits { IfOk result (λ both. IsWithinLimits (form both.0)) }
-    ensures query { IfOk result (λ both. IsQueryOf both.0 both.1) }
-    ensures refused { IfErr result (λ e. e.kind ≢ EreErrorKind.OutOfMemory → HasNoTree pattern.now) }
-{
-    let tree = parse(alloc, pattern)?;
-    match analyse(alloc, &tree) {
-        Ok(query) => Ok((tree, query)),
-        Err(_) => Err(EreError {
-            kind: EreErrorKind::OutOfMemory,
-            at: 0,
-        }),
+    /// What the trigrams of a document with a hit satisfy. An `Err` means that memory ran out.
+    pub(crate) fn query(&self, alloc: Global) -> Result<Query, AllocError>
+        ensures { IfOk result (IsQueryOf self.now.tree) }
+    {
+        let query = analyse(alloc, &self.tree)?;
+        Ok(query)
     }
 }

@@ -38,7 +38,8 @@ pub fn take<'p>(
 ) -> Result<Taken<'p>, AllocError>
     ensures { IfOk result (IsTakenOf index.now (pattern_of prepared.now)) }
 {
-    let candidates = index.candidates(alloc, &prepared.query)?;
+    let query = prepared.query(alloc)?;
+    let candidates = index.candidates(alloc, &query)?;
     let numbers = index.chosen_by_name(alloc, &candidates)?;
     let kept = named(alloc, index, prepared, numbers)?;
     let wanted = documents_with(alloc, index, kept.as_slice())?;
