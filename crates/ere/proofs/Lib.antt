@@ -14,5 +14,6 @@ mod GrammarLemmas
 mod PartLemmas
 mod ReaderSteps
 mod TreeLaws
+mod CaseLaws
 mod Sizes
 pub mod OneWay

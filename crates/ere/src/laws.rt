@@ -5,7 +5,7 @@ ghost use Rattle.ere.specs.Anchors.{ForgetsSurroundings};
 ghost use Rattle.ere.specs.ByteSet.{has};
 ghost use Rattle.ere.specs.Language.{ContainsMatch, InLanguage};
 ghost use Rattle.ere.specs.Lines.{greatest_line};
-ghost use Rattle.ere.specs.Limits.{IsTreeOf, IsWithinLimits};
+ghost use Rattle.ere.specs.Limits.{HasNoTree, IsTreeOf, IsWithinLimits};
 ghost use Rattle.ere.specs.Spelling.{Spells};
 ghost use Rattle.ere.specs.Tree.{at_end, at_start, cat, empty, more, none, repeat, set, Tree};
 
@@ -20,6 +20,11 @@ pub fn line_limit()
 /// A text spells at most one tree in each case, however many groups may be open.
 pub fn one_tree()
     ensures { (case : Case) (limit other : ℕ) (text : List ℕ) (left right : Tree) → Spells case limit text left → Spells case other text right → left ≡ right }
+{}
+
+/// Whether a pattern is refused does not depend on the case in which it is read.
+pub fn case_refuses_no_pattern()
+    ensures { (case other : Case) (pattern : List ℕ) → HasNoTree case pattern → HasNoTree other pattern }
 {}
 
 /// The tree of a pattern is within the limits.
