@@ -3,7 +3,7 @@
 ghost use Rattle.std.specs.Prelude.{◌≡◌, ℕ, List, ◌+◌, ◌^◌, ◌<◌, ◌≤◌, ◌++◌, All, IfSome, IfNone, length, take, drop};
 ghost use Rattle.smallvec.specs.SmallVec.{HasRoomFor};
 ghost use Rattle.posting.specs.Stored.{groups, bytes_of};
-ghost use Rattle.posting.specs.Private.Gaps.{IsSpelled, IsFirstNumber, IsPassed, IsBlock, IsLastPlace, IsCut, numbers_after, last_of, limit};
+ghost use Rattle.posting.specs.Private.Gaps.{IsSpelled, IsFirstNumber, IsPassed, IsBlock, IsLastPlace, IsCut, IsMark, IsMarkAfter, numbers_after, last_of, limit};
 
 use smallvec::SmallVec;
 
@@ -102,29 +102,82 @@ fn pass_few(bytes: &[u8], before: u32, number: u32) -> (&[u8], u32)
     (rest, at)
 }
 
-/// The bytes that start at the first number not below this one, and the number before it, given the last number of
-/// all. They are looked for from the end that seems nearer.
-pub(crate) fn seek(bytes: &[u8], last: u32, number: u32) -> (&[u8], u32)
+/// A place between two of a list's numbers, and the number before it. Before the first number it is 0.
+#[derive(Clone, Copy)]
+pub(crate) struct Mark {
+    pub(crate) place: u32,
+    pub(crate) number: u32,
+}
+
+/// The bytes that start at the first number not below this one, and the number before it, given a mark and the last
+/// number of all. They are looked for from the start, the mark or the end, whichever seems nearest.
+pub(crate) fn seek(bytes: &[u8], mark: Mark, last: u32, number: u32) -> (&[u8], u32)
     requires spelled { IsSpelled 0 bytes.now }
+    requires mark { IsMark (numbers_after 0 bytes.now) mark.place mark.number }
     requires last { last ≡ last_of 0 (numbers_after 0 bytes.now) }
     ensures passed { IsPassed 0 bytes.now number result.1 result.0.now }
     ensures next { All (λ n. number ≤ n) (numbers_after result.1 result.0.now) }
 {
-    if number > last / 2 {
-        pass_back(bytes, last, number)
+    let place = mark.place as usize;
+    if number <= mark.number {
+        if number <= mark.number / 2 {
+            return pass(bytes, 0, number);
+        }
+        return pass_back(bytes, place, mark.number, number);
+    }
+    if number - mark.number <= last.saturating_sub(mark.number) / 2 {
+        return pass(&bytes[place..], mark.number, number);
+    }
+    pass_back(bytes, bytes.len(), last, number)
+}
+
+/// The mark after a number was taken out from a place, before which there is the number `before`, and the bytes became
+/// so many fewer: the old mark, or that place if it is nearer to the middle.
+pub(crate) fn mark_after(
+    mark: Mark,
+    number: u32,
+    from: usize,
+    before: u32,
+    fewer: usize,
+    long: usize,
+) -> Mark
+    requires { number < mark.number → fewer ≤ mark.place }
+    ensures { IsMarkAfter mark.place mark.number number from before fewer result.place result.number }
+{
+    let place = mark.place as usize;
+    let nearer = from.abs_diff(long / 2) < place.abs_diff(long / 2);
+    if nearer || mark.number == number {
+        // a list of so many bytes has no better mark than its start
+        if from > u32::MAX as usize {
+            return Mark {
+                place: 0,
+                number: 0,
+            };
+        }
+        return Mark {
+            place: from as u32,
+            number: before,
+        };
+    }
+    if mark.number < number {
+        mark
     } else {
-        pass(bytes, 0, number)
+        Mark {
+            place: (place - fewer) as u32,
+            number: mark.number,
+        }
     }
 }
 
-// The same, looked for from the end.
-fn pass_back(bytes: &[u8], last: u32, number: u32) -> (&[u8], u32)
+// The same, looked for from a place back, before which the last number is known.
+fn pass_back(bytes: &[u8], place: usize, last: u32, number: u32) -> (&[u8], u32)
     requires spelled { IsSpelled 0 bytes.now }
-    requires last { last ≡ last_of 0 (numbers_after 0 bytes.now) }
+    requires inside { place ≤ length bytes.now }
+    requires cut { IsCut bytes.now number (take place bytes.now) last }
     ensures passed { IsPassed 0 bytes.now number result.1 result.0.now }
     ensures next { All (λ n. number ≤ n) (numbers_after result.1 result.0.now) }
 {
-    let mut front = bytes;
+    let mut front = &bytes[..place];
     let mut at = last;
     while !front.is_empty() {
         match step_back(front, at, number) {

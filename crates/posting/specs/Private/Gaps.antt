@@ -93,3 +93,24 @@ pub record IsCut (bytes : List ℕ) (number : ℕ) (front : List ℕ) (last : �
   pub ends : last ≡ last_of 0 (numbers_after 0 front)
   pub above : All (λ n. number ≤ n) left
   pub spelled : IsSpelled 0 front
+
+-- A place between two of the numbers, or at an end of them, and the number before it.
+pub record IsMark (numbers : List ℕ) (place number : ℕ) : Type 0 where
+  pub front : List ℕ
+  pub back : List ℕ
+  pub parts : numbers ≡ front ++ back
+  pub place_is : place ≡ length (bytes_after 0 front)
+  pub number_is : number ≡ last_of 0 front
+
+-- what a list keeps, and the mark beside it
+pub record IsMarked (bytes : List ℕ) (others last place number : ℕ) : Type 0 where
+  pub stored : IsStored bytes others last
+  pub mark : IsMark (numbers_after 0 bytes) place number
+
+-- After a number was taken out, a mark is at the start, where the number was, or where it was itself, of which the bytes that
+-- went before it are taken off.
+pub data IsMarkAfter (place number taken from before fewer : ℕ) : ℕ → ℕ → Type 0 where
+  pub at_start : IsMarkAfter place number taken from before fewer 0 0
+  pub at_taken : IsMarkAfter place number taken from before fewer from before
+  pub stays : number < taken → IsMarkAfter place number taken from before fewer place number
+  pub moves : taken < number → IsMarkAfter place number taken from before fewer (place - fewer) number
