@@ -83,14 +83,14 @@ rising-front xs ys h = λ k inside. (
     let both = h k (omega (arith, inside, length-append xs ys)) in
     omega (arith, both, get_or_append_left xs ys 0 k (omega (arith, inside)), get_or_append_left xs ys 0 (k + 1) inside))
 
-rise-front : (before : ℕ) (xs ys : List ℕ) → Rise before (xs ++ ys) → Rise before xs
+pub rise-front : (before : ℕ) (xs ys : List ℕ) → Rise before (xs ++ ys) → Rise before xs
 rise-front before xs ys h = record {
   rising = rising-front xs ys h.rising;
   from = All-left (λ n. before ≤ n) xs ys h.from;
   bound = All-left (λ n. n < 2 ^ 32) xs ys h.bound;
 }
 
-rise-later : (before : ℕ) (xs ys : List ℕ) → Rise before (xs ++ ys) → Rise (last_of before xs) ys
+pub rise-later : (before : ℕ) (xs ys : List ℕ) → Rise before (xs ++ ys) → Rise (last_of before xs) ys
 rise-later before [] ys h = rw (last_of-nil before) h
 rise-later before (x ∷ xs) ys h = rw (last_of-cons before x xs) (rise-later x xs ys (rise-tail before x (xs ++ ys) h))
 
@@ -102,7 +102,7 @@ last_from before (n ∷ numbers) h =
     rw (last_of-cons before n numbers) (omega (arith, first, later))
 
 -- none is above the last one
-up_to_last : (before : ℕ) (numbers : List ℕ) → Rise before numbers → All (λ n. n ≤ last_of before numbers) numbers
+pub up_to_last : (before : ℕ) (numbers : List ℕ) → Rise before numbers → All (λ n. n ≤ last_of before numbers) numbers
 up_to_last before [] h = All-nil (λ n. n ≤ last_of before [])
 up_to_last before (n ∷ numbers) h =
     let rest = rise-tail before n numbers h in

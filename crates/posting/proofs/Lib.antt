@@ -4,6 +4,7 @@ pub mod Groups
 pub mod Members
 pub mod Walks
 pub mod Cuts
+pub mod Marks
 pub mod Meeting
 pub mod Merging
 pub mod Slots

@@ -158,7 +158,7 @@ module _ (bytes : List ℕ) (number at : ℕ) (rest after : List ℕ) (stored : 
   above : All (λ n. number < n) (numbers_after number after)
   above = rising-head number (numbers_after number after) (rw first.numbers at h.spelled.rising)
 
-  without_is : without number (numbers_after 0 bytes) ≡ h.passed ++ numbers_after number after
+  pub without_is : without number (numbers_after 0 bytes) ≡ h.passed ++ numbers_after number after
   without_is =
       ap (without number) numbers_are ∙ filter-append (λ m. not (m == number)) h.passed (number ∷ numbers_after number after)
       ∙ ap (λ ns. ns ++ without number (number ∷ numbers_after number after)) (without_absent h.passed number (All-weaker (λ n. n < number) (λ n. n ≢ number) (λ n lt e. omega arith) h.passed h.below))
