@@ -16,9 +16,10 @@ some of these files:
 
 Each case is run in a new folder with each of several numbers of readers, and must give the same. With arguments it is
 also run without such a number. The number comes before the arguments, or is READERS for a bash script. A case whose
-arguments set the readers or ask for the help, or whose bash script does not use READERS, is run once. An example
-NAME.script of examples/ is run from the top of the repository, as FILE, and must write NAME.stdout and end with
-NAME.status.
+arguments set the readers or ask for the help, or whose bash script does not use READERS, is run once. Each case is
+also run as a session, and must give the same: with --live before its arguments, and a bash script with 0 for READERS and
+a PROGRAM that puts --live before its own. The cases of WHOLE_SCRIPTS are not. An example NAME.script of examples/ is run
+from the top of the repository, as FILE, and must write NAME.stdout and end with NAME.status.
 
 The case `architecture` runs nothing: it compares docs/ARCHITECTURE.md with the sources. Each line of an example must be in
 the test that the document names, and each function of its tables in one of the files that are named next to it.
@@ -42,7 +43,19 @@ ARCHITECTURE = TOP / "docs/architecture"
 EMBEDDING = "## Using the crates by themselves\n"
 READERS = ["0", "1", "2", "16"]
 SUFFIXES = {".script", ".args", ".run", ".setup", ".stdout", ".stdout-has", ".stderr", ".stderr-has", ".status"}
+LIVE = "--live"
 SECONDS = 120
+
+# Cases of what holds for a script that is read whole, and not for a session.
+WHOLE_SCRIPTS = {
+    # a session has no limit of its script, and does not keep it
+    "endless_script",
+    "endless_standard_input",
+    "memory_refused",
+    "script_too_long",
+    "script_too_long_on_standard_input",
+    "standard_input_is_read_to_one_byte_over_the_limit",
+}
 
 
 class Wrong(Exception):
@@ -97,13 +110,28 @@ def words_of(base):
     return args.read_text().splitlines() if args.exists() else []
 
 
+def make_live_program(folder):
+    """Makes a program that runs the built one as a session. The documents of the repository are where they are to it."""
+    program = folder / PROGRAM.relative_to(TOP)
+    program.parent.mkdir(parents=True)
+    program.write_text(f'#!/bin/sh\nexec "{PROGRAM}" {LIVE} "$@"\n')
+    # so that a case may run it as another user too
+    program.chmod(0o755)
+    folder.chmod(0o755)
+    for name in ("docs", "examples"):
+        (folder / name).symlink_to(TOP / name)
+    return program
+
+
 def run_once(base, readers):
-    """Runs a case with a number of readers, or without one."""
+    """Runs a case with a number of readers, or without one, or as a session."""
     script = base.with_suffix(".script")
     own_run = base.with_suffix(".run")
     setup = base.with_suffix(".setup")
-    with tempfile.TemporaryDirectory() as folder:
+    with tempfile.TemporaryDirectory() as folder, tempfile.TemporaryDirectory() as other:
         env = dict(os.environ, PROGRAM=str(PROGRAM), SCRIPT=str(script), READERS=readers or "", LC_ALL="C")
+        if readers == LIVE:
+            env.update(PROGRAM=str(make_live_program(pathlib.Path(other))), READERS="0")
         if setup.exists():
             made = run(["bash", "-eu", str(setup)], folder, b"", env)
             if made[0] != 0:
@@ -113,34 +141,42 @@ def run_once(base, readers):
             return
         words = words_of(base)
         stdin = b"" if "{script}" in words else read_bytes(script)
-        command = [str(PROGRAM)] + (["--readers", readers] if readers else [])
-        compare(base, run(command + [str(script) if word == "{script}" else word for word in words], folder, stdin, env))
+        options = [LIVE] if readers == LIVE else ["--readers", readers] if readers else []
+        words = [str(script) if word == "{script}" else word for word in words]
+        compare(base, run([str(PROGRAM), *options, *words], folder, stdin, env))
 
 
-def numbers_of_readers(base):
-    """The numbers of readers that a case is run with; None is none."""
+def ways_to_run(base):
+    """The numbers of readers that a case is run with, where None is none, and LIVE where it is a session too."""
     own_run = base.with_suffix(".run")
+    live = [] if base.name in WHOLE_SCRIPTS else [LIVE]
     if own_run.exists():
-        return READERS if "$READERS" in own_run.read_text() else [None]
+        return READERS + live if "$READERS" in own_run.read_text() else [None]
     fixed = any(word.startswith("--readers") or word == "--help" for word in words_of(base))
-    return [None] if fixed else [None] + READERS
+    return [None] if fixed else [None] + READERS + live
+
+
+def words_on(readers):
+    """How a case was run, for the message that it failed."""
+    return "" if readers is None else "as a session: " if readers == LIVE else f"with {readers} readers: "
 
 
 def run_case(base):
-    for readers in numbers_of_readers(base):
+    for readers in ways_to_run(base):
         try:
             run_once(base, readers)
         except Wrong as wrong:
-            raise Wrong(f"with {readers} readers {wrong}" if readers else wrong) from None
+            raise Wrong(f"{words_on(readers)}{wrong}") from None
 
 
 def run_example(base):
     script = base.with_suffix(".script").relative_to(TOP)
-    for readers in READERS:
+    for readers in READERS + [LIVE]:
+        options = [LIVE] if readers == LIVE else ["--readers", readers]
         try:
-            compare(base, run([str(PROGRAM), "--readers", readers, str(script)], TOP, b""))
+            compare(base, run([str(PROGRAM), *options, str(script)], TOP, b""))
         except Wrong as wrong:
-            raise Wrong(f"with {readers} readers {wrong}") from None
+            raise Wrong(f"{words_on(readers)}{wrong}") from None
 
 
 def lines_of_function(path, name):

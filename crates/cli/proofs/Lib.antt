@@ -1,3 +1,4 @@
 pub mod NumberLemmas
 pub mod Options
 pub mod Settled
+pub mod SessionLemmas

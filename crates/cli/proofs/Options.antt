@@ -25,7 +25,7 @@ TakesNumber c place low high =
 -- the command has the program's options, of which two take a number in its limits, and none excludes another
 pub record HasOptions (c : Command) : Type 0 where
   pub names : map (λ a. a.id.now) (args_of c)
-      ≡ codes "readers" ∷ codes "stats" ∷ codes "max-commands" ∷ codes "FILE" ∷ []
+      ≡ codes "readers" ∷ codes "stats" ∷ codes "max-commands" ∷ codes "live" ∷ codes "FILE" ∷ []
   pub readers : TakesNumber c 0 0 16
   pub max_commands : TakesNumber c 2 1 1000000
   pub plain : IsPlain c
@@ -51,7 +51,7 @@ fields : {X : Type 0} (f : Rule → X) (c : Command) → app_of c ≡ command_li
 fields f c is = map_rules f (args_of c) ∙ ap (λ (a : App). map f a.top.rules) is
 
 abbrev parsers : List (Option ValueParser)
-parsers = Some (Signed (pos 0) (pos 16)) ∷ None ∷ Some (Signed (pos 1) (pos 1000000)) ∷ None ∷ []
+parsers = Some (Signed (pos 0) (pos 16)) ∷ None ∷ Some (Signed (pos 1) (pos 1000000)) ∷ None ∷ None ∷ []
 
 pub has_options : (c : Command) → app_of c ≡ command_line → HasOptions c
 has_options c is =
@@ -61,14 +61,14 @@ has_options c is =
     let alone = simple_groups c (ap (λ (s : Shape). list_all (λ (a : Rule). a.is_simple) s.rules) shape) in
     let names = fields (λ (r : Rule). r.id) c is in
     let takes : map (λ (a : Arg). a.value_parser) (args_of c) ≡ parsers = fields (λ (r : Rule). r.parser) c is in
-    let four : length (args_of c) ≡ 4 = sym (length-map (args_of c) (λ (a : Arg). a.value_parser)) ∙ ap length takes in
+    let five : length (args_of c) ≡ 5 = sym (length-map (args_of c) (λ (a : Arg). a.value_parser)) ∙ ap length takes in
     record {
       names = names;
       readers = λ d.
-          let low : 0 < length (args_of c) = rw four (omega arith) in
+          let low : 0 < length (args_of c) = rw five (omega arith) in
           sym (get_or-map (λ (a : Arg). a.value_parser) (args_of c) 0 d None low) ∙ ap (λ (l : List (Option ValueParser)). slice_index_or l 0 None) takes;
       max_commands = λ d.
-          let low : 2 < length (args_of c) = rw four (omega arith) in
+          let low : 2 < length (args_of c) = rw five (omega arith) in
           sym (get_or-map (λ (a : Arg). a.value_parser) (args_of c) 2 d None low) ∙ ap (λ (l : List (Option ValueParser)). slice_index_or l 2 None) takes;
       plain = (λ k d low. ((free k d low).exclusive, (free k d low).conflicts, (free k d low).overrides, alone k d low), simple.groups);
       local = simple.globals;

@@ -1,9 +1,11 @@
 //! The arguments of the program, and the settings that they give.
 
 ghost use Rattle.std.specs.Prelude.{◌≡◌, IfOk, IfErr, map, string_bytes};
+ghost use Rattle.clap.specs.Faults.{fault_of};
 ghost use Rattle.clap.specs.Kinds.{FailsBy};
 ghost use Rattle.clap.specs.Simple.{app_of};
-ghost use Rattle.cli.specs.CommandLine.{IsRefusalOf, IsRequestOf, SpellSettings, command_line, faults_of};
+ghost use Rattle.clap.specs.Values.{kind_of};
+ghost use Rattle.cli.specs.CommandLine.{IsInLimits, IsRefusalOf, IsRequestOf, IsSettingsIn, SpellSettings, command_line, default_max_commands, default_readers, faults_of, found_in};
 
 use crate::error::ArgumentError;
 use crate::help::HELP;
@@ -11,18 +13,24 @@ use clap::error::ErrorKind;
 use clap::{Arg, ArgAction, Command, Error, value_parser};
 use std::alloc::{AllocError, Global};
 
-/// The number of readers if the arguments give none.
+/// The number of readers of a run if the arguments give none.
 const DEFAULT_READERS: u32 = 2;
 
-/// The greatest number of accepted commands if the arguments give none.
+/// The greatest number of accepted commands of a run if the arguments give none.
 const DEFAULT_MAX_COMMANDS: u32 = 65536;
 
-/// How the arguments set a run.
+/// The greatest number of accepted commands of a session if the arguments give none.
+const DEFAULT_MAX_COMMANDS_LIVE: u32 = 1_000_000;
+
+/// How the arguments set a run or a session.
 #[derive(Clone, Copy, Debug, PartialEq, Eq)]
 pub struct Settings<'a> {
-    /// `--readers`: how many readers there are, 0 to 16, by default 2.
+    /// `--live`: whether it is a session, which carries out each item of the script as it comes.
+    pub live: bool,
+    /// `--readers`: how many readers there are, 0 to 16, by default 2. A session has none.
     pub readers: u32,
-    /// `--max-commands`: how many commands are accepted at most, 1 to 1,000,000, by default 65,536.
+    /// `--max-commands`: how many commands are accepted at most, 1 to 1,000,000, by default 65,536, or
+    /// 1,000,000 in a session.
     pub max_commands: u32,
     /// `--stats`: whether each answer shows its number of candidates.
     pub stats: bool,
@@ -33,7 +41,7 @@ pub struct Settings<'a> {
 /// What arguments ask for.
 #[derive(Clone, Copy, Debug, PartialEq, Eq)]
 pub enum Request<'a> {
-    /// A run with these settings.
+    /// A run or a session with these settings.
     Run(Settings<'a>),
     /// The help, which is `HELP`.
     Help,
@@ -72,21 +80,64 @@ pub fn not_text(alloc: Global) -> ArgumentError {
     }
 }
 
-/// Reads the arguments by the command line, with the defaults for those that are missing.
+/// Reads the arguments by the command line, and refuses readers of a session.
+#[tactic(auto, using(crate::proofs::SessionLemmas::spells, crate::proofs::SessionLemmas::conflicts))]
 fn parse<'a>(alloc: Global, arguments: &'a [String]) -> Result<Settings<'a>, Error>
     ensures settings { IfOk result (SpellSettings (map string_bytes arguments.entry.now)) }
     ensures kinds { FailsBy (faults_of (map string_bytes arguments.entry.now)) result }
+{
+    match read_settings(alloc, arguments) {
+        Ok(settings) if settings.live && settings.readers != 0 => Err(readers_of_session(alloc)?),
+        Ok(settings) => Ok(settings),
+        Err(error) => Err(error),
+    }
+}
+
+/// The error that refuses readers of a session.
+fn readers_of_session(alloc: Global) -> Result<Error, AllocError>
+    ensures kind { IfOk result (λ error. kind_of error ≡ ErrorKind.ArgumentConflict) }
+{
+    let message = "the argument '--readers <N>' cannot be used with '--live' unless N is 0: \
+        a session answers each search in its place";
+    command(alloc)?.error(ErrorKind::ArgumentConflict, message)
+}
+
+/// Reads the arguments by the command line, with the defaults for those that are missing.
+fn read_settings<'a>(alloc: Global, arguments: &'a [String]) -> Result<Settings<'a>, Error>
+    ensures found { IfOk result (IsSettingsIn (found_in (map string_bytes arguments.entry.now))) }
+    ensures limits { IfOk result IsInLimits }
+    ensures kinds { FailsBy (fault_of command_line (map string_bytes arguments.entry.now)) result }
 {
     let matches = command(alloc)?.try_get_matches_from(arguments)?;
     let readers = matches.get_one::<u32>("readers");
     let max_commands = matches.get_one::<u32>("max-commands");
     let stats = matches.get_one::<bool>("stats");
+    let live = matches.get_one::<bool>("live").unwrap_or(false);
     Ok(Settings {
-        readers: readers.unwrap_or(DEFAULT_READERS),
-        max_commands: max_commands.unwrap_or(DEFAULT_MAX_COMMANDS),
+        live,
+        readers: readers.unwrap_or(default_readers(live)),
+        max_commands: max_commands.unwrap_or(default_max_commands(live)),
         stats: stats.unwrap_or(false),
         file: matches.get_str("FILE"),
     })
+}
+
+/// The number of readers if the arguments give none.
+fn default_readers(live: bool) -> u32
+    ensures { result ≡ default_readers live }
+{
+    if live { 0 } else { DEFAULT_READERS }
+}
+
+/// The greatest number of accepted commands if the arguments give none.
+fn default_max_commands(live: bool) -> u32
+    ensures { result ≡ default_max_commands live }
+{
+    if live {
+        DEFAULT_MAX_COMMANDS_LIVE
+    } else {
+        DEFAULT_MAX_COMMANDS
+    }
 }
 
 /// The command line, by which `clap` reads the arguments.
@@ -104,11 +155,15 @@ fn command<'a>(alloc: Global) -> Result<Command<'a>, AllocError>
         .long("max-commands")
         .value_name("N")
         .value_parser(value_parser!(u32).range(1..=1_000_000));
+    let live = Arg::new(alloc, "live")
+        .long("live")
+        .action(ArgAction::SetTrue);
     let file = Arg::new(alloc, "FILE");
     Command::new(alloc, "tsearch")
         .override_help(HELP)
         .arg(readers)?
         .arg(stats)?
         .arg(max_commands)?
+        .arg(live)?
         .arg(file)
 }

@@ -15,7 +15,10 @@ Options:
                           where many searches between two syncs match much, up to the
                           number of processors
       --stats             Tells of each answer how many documents its trigrams left to be searched
-      --max-commands <N>  How many puts, loads and removes are accepted, 1 to 1000000 [default: 65536]
+      --max-commands <N>  How many puts, loads and removes are accepted, 1 to 1000000
+                          [default: 65536, and 1000000 with --live]
+      --live              Carries out each line as it comes, and writes what it causes before
+                          the next one is waited for. Each search is answered in its place
   -h, --help              Print help
 
 A script is a list of lines:

@@ -29,6 +29,7 @@ fn assert_gives(
 #[test]
 fn settings_have_defaults(rt: HostRuntime) -> Result<(), Fail> {
     let wanted = Settings {
+        live: false,
         readers: 2,
         max_commands: 65536,
         stats: false,
@@ -47,6 +48,7 @@ fn each_option_is_read_by_its_name(rt: HostRuntime) -> Result<(), Fail> {
         "--max-commands=1000000",
     ];
     let wanted = Settings {
+        live: false,
         readers: 16,
         max_commands: 1_000_000,
         stats: true,
@@ -56,8 +58,45 @@ fn each_option_is_read_by_its_name(rt: HostRuntime) -> Result<(), Fail> {
 }
 
 #[test]
+fn a_session_has_defaults_of_its_own(rt: HostRuntime) -> Result<(), Fail> {
+    let wanted = Settings {
+        live: true,
+        readers: 0,
+        max_commands: 1_000_000,
+        stats: false,
+        file: None,
+    };
+    assert_gives(&rt, rt.alloc(), &["--live"], wanted)?;
+    assert_gives(&rt, rt.alloc(), &["--readers", "0", "--live"], wanted)?;
+    let with_all = Settings {
+        live: true,
+        readers: 0,
+        max_commands: 65536,
+        stats: true,
+        file: Some("a"),
+    };
+    let texts = ["--live", "--stats", "--max-commands", "65536", "a"];
+    assert_gives(&rt, rt.alloc(), &texts, with_all)
+}
+
+#[test]
+fn readers_of_a_session_are_refused_by_name(rt: HostRuntime) -> Result<(), Fail> {
+    let begin =
+        "error: the argument '--readers <N>' cannot be used with '--live' unless N is 0: a session answers each search in its place\n";
+    assert_refused(&rt, rt.alloc(), &["--readers", "2", "--live"], begin)?;
+    assert_refused(&rt, rt.alloc(), &["--live", "--readers=16", "a"], begin)?;
+    let number = "error: invalid value '17' for '--readers <N>'";
+    assert_refused(&rt, rt.alloc(), &["--live", "--readers", "17"], number)?;
+    let twice = "error: the argument '--live' cannot be used multiple times";
+    assert_refused(&rt, rt.alloc(), &["--live", "--live"], twice)?;
+    let value = "error: unexpected value";
+    assert_refused(&rt, rt.alloc(), &["--live=true"], value)
+}
+
+#[test]
 fn least_numbers_are_read(rt: HostRuntime) -> Result<(), Fail> {
     let wanted = Settings {
+        live: false,
         readers: 0,
         max_commands: 1,
         stats: false,
@@ -119,7 +158,7 @@ fn other_arguments_are_refused(rt: HostRuntime) -> Result<(), Fail> {
 #[test]
 fn arguments_ask_for_the_help(rt: HostRuntime) -> Result<(), Fail> {
     for text in ["--help", "-h"] {
-        let arguments = arguments(rt.alloc(), &["--stats", text])?;
+        let arguments = arguments(rt.alloc(), &["--live", "--readers", "2", text])?;
         assert!(rt; read_arguments(rt.alloc(), &arguments)? == Request::Help);
     }
     assert!(rt; HELP.ends_with('\n'));

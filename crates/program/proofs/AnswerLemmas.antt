@@ -1,12 +1,12 @@
 -- Answers, and what keeps the program from one.
-use Rattle.std.proofs.Common.{◌≡◌, inl, inr, List, [], ℕ, Option}
+use Rattle.std.proofs.Common.{◌≡◌, inl, inr, List, [], ℕ, Option, true, false}
 use Rattle.std.specs.Prelude.{Result, Ok, Err, IfOk, IfErr}
 use Rattle.std.specs.Io.KnownBytes.{Appends, Keeps}
 use Rattle.std.proofs.KnownBytes.{Appends-kept}
 use Rattle.cli.specs.CommandLine.{AreRefused, AskForHelp, SpellSettings, faults_of}
 use Rattle.cli.specs.declared.arguments.Settings.{Settings}
 use Rattle.cli.specs.declared.help.TheConstants.{HELP}
-use Rattle.program.specs.Answer.{IsAnswer, IsFailure, IsFailureOfRun, IsRunOf, helped, ran}
+use Rattle.program.specs.Answer.{IsAnswer, IsFailure, IsFailureOfRun, IsRunOf, IsSessionOf, helped, ran, served}
 use Rattle.program.specs.declared.error.ProgramError.{ProgramError}
 use Rattle.program.specs.declared.error.ProgramError.TheVariants as error
 
@@ -15,10 +15,11 @@ pub written_and_kept : (a b c : Option (List ℕ)) (bs : List ℕ) → Appends a
 written_and_kept = Appends-kept
 
 -- refused arguments have no answer
-pub refused_have_none : (arguments : List (List ℕ)) (has : List ℕ → ℕ → List ℕ → Type 0) (input : Option (List ℕ)) (failed failed' : ℕ)
-    (old new : Option (List ℕ)) (status : ℕ) → IsAnswer arguments has input failed failed' old new status → AreRefused arguments → ⊥
-refused_have_none arguments has input failed failed' old new status (ran settings spelled run) refused = refused.faulty spelled.taken
-refused_have_none arguments has input failed failed' old new status (helped asked written is) refused = refused.no_help asked
+pub refused_have_none : (arguments : List (List ℕ)) (opens : List ℕ → Option (List ℕ) → Type 0) (input : Option (List ℕ)) (failed failed' : ℕ)
+    (old new : Option (List ℕ)) (status : ℕ) → IsAnswer arguments opens input failed failed' old new status → AreRefused arguments → ⊥
+refused_have_none arguments opens input failed failed' old new status (ran settings spelled once run) refused = refused.faulty spelled.taken
+refused_have_none arguments opens input failed failed' old new status (served settings spelled live session) refused = refused.faulty spelled.taken
+refused_have_none arguments opens input failed failed' old new status (helped asked written is) refused = refused.no_help asked
 
 run_failed : (arguments : List (List ℕ)) (e : ProgramError) → faults_of arguments ≡ [] → IsFailureOfRun e → IsFailure arguments e
 run_failed arguments (error.Arguments fault) taken failed = absurd failed
@@ -26,21 +27,29 @@ run_failed arguments error.CannotRead taken failed = taken
 run_failed arguments error.OutOfMemory taken failed = taken
 run_failed arguments (error.Run fault) taken failed = taken
 run_failed arguments (error.Write fault) taken failed = taken
+run_failed arguments (error.Live fault) taken failed = taken
 run_failed arguments error.CannotWrite taken failed = inl taken
 
-module _ {O : Type 0} (contents : O → Option (List ℕ)) (arguments : List (List ℕ)) (has : List ℕ → ℕ → List ℕ → Type 0) (input : Option (List ℕ))
+module _ {O : Type 0} (contents : O → Option (List ℕ)) (arguments : List (List ℕ)) (opens : List ℕ → Option (List ℕ) → Type 0) (input : Option (List ℕ))
     (failed failed' : ℕ) (old : Option (List ℕ)) where
   -- a run of the settings that the arguments spell is an answer to them
-  pub run_answers : (settings : Settings) (r : Result (ℕ × O) ProgramError) → SpellSettings arguments settings
-      → IfOk r (λ done. IsRunOf has input failed failed' old (contents done.1) settings done.0)
-      → IfOk r (λ done. IsAnswer arguments has input failed failed' old (contents done.1) done.0)
-  run_answers settings (Ok done) spelled run = ran settings spelled run
-  run_answers settings (Err e) spelled run = run
+  pub run_answers : (settings : Settings) (r : Result (ℕ × O) ProgramError) → SpellSettings arguments settings → settings.live ≡ false
+      → IfOk r (λ done. IsRunOf opens input failed failed' old (contents done.1) settings done.0)
+      → IfOk r (λ done. IsAnswer arguments opens input failed failed' old (contents done.1) done.0)
+  run_answers settings (Ok done) spelled once run = ran settings spelled once run
+  run_answers settings (Err e) spelled once run = run
+
+  -- and so is a session
+  pub session_answers : (settings : Settings) (r : Result (ℕ × O) ProgramError) → SpellSettings arguments settings → settings.live ≡ true
+      → IfOk r (λ done. IsSessionOf opens input failed failed' old (contents done.1) settings done.0)
+      → IfOk r (λ done. IsAnswer arguments opens input failed failed' old (contents done.1) done.0)
+  session_answers settings (Ok done) spelled live session = served settings spelled live session
+  session_answers settings (Err e) spelled live session = session
 
   -- and so is the help where they ask for it
   pub help_answers : (r : Result (ℕ × O) ProgramError) → AskForHelp arguments
       → IfOk r (λ done. (done.0 ≡ 0) × Appends old (contents done.1) HELP.now)
-      → IfOk r (λ done. IsAnswer arguments has input failed failed' old (contents done.1) done.0)
+      → IfOk r (λ done. IsAnswer arguments opens input failed failed' old (contents done.1) done.0)
   help_answers (Ok done) asked shown = helped asked shown.1 shown.0
   help_answers (Err e) asked shown = shown
 

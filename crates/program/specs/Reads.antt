@@ -5,19 +5,25 @@ use Rattle.std.specs.Str.{IsUtf8}
 use Rattle.index.specs.declared.body.TheConstants.{MAX_BODY}
 use Rattle.script.specs.declared.reader.TheConstants.{MAX_SCRIPT}
 
--- The bytes are what some reader has left, up to the first `most` of them. Of a reader whose bytes are not
--- known nothing more is said.
-pub record IsReadFrom {R : Type 0} (remaining : R → Option (List ℕ)) (most : ℕ) (bytes : List ℕ) : Type 0 where
-  pub reader : R
-  pub read : IfSome (remaining reader) (λ all. bytes ≡ take most all)
+-- The bytes are those of the file at the path, up to the first `most` of them. Of a file whose bytes are not known
+-- nothing more is said. `opens path all`: the file at the path has all these bytes, where they are known.
+pub record IsReadFrom (opens : List ℕ → Option (List ℕ) → Type 0) (path : List ℕ) (most : ℕ) (bytes : List ℕ) : Type 0 where
+  pub all : Option (List ℕ)
+  pub opened : opens path all
+  pub read : IfSome all (λ all. bytes ≡ take most all)
 
 -- The script is the file at the path that is named, and else what the input has left. One byte more than a
--- script may have is read. `has path most bytes`: these are the first `most` bytes of the file at the path.
-abbrev pub IsScriptFrom : (List ℕ → ℕ → List ℕ → Type 0) → Option (List ℕ) → Option (Bor (List ℕ)) → List ℕ → Type 0
-IsScriptFrom has input (Some path) script = has path.now (MAX_SCRIPT + 1) script
-IsScriptFrom has input None script = IfSome input (λ all. script ≡ take (MAX_SCRIPT + 1) all)
+-- script may have is read.
+abbrev pub IsScriptFrom : (List ℕ → Option (List ℕ) → Type 0) → Option (List ℕ) → Option (Bor (List ℕ)) → List ℕ → Type 0
+IsScriptFrom opens input (Some path) script = IsReadFrom opens path.now (MAX_SCRIPT + 1) script
+IsScriptFrom opens input None script = IfSome input (λ all. script ≡ take (MAX_SCRIPT + 1) all)
+
+-- A session reads the file at the path that is named, and else the input.
+abbrev pub IsInputFrom : (List ℕ → Option (List ℕ) → Type 0) → Option (List ℕ) → Option (Bor (List ℕ)) → Option (List ℕ) → Type 0
+IsInputFrom opens input (Some path) all = opens path.now all
+IsInputFrom opens input None all = all ≡ input
 
 -- A load takes the file at its path, which is text. One byte more than a text may have is read.
-pub record IsLoadFrom (has : List ℕ → ℕ → List ℕ → Type 0) (path bytes : List ℕ) : Type 0 where
+pub record IsLoadFrom (opens : List ℕ → Option (List ℕ) → Type 0) (path bytes : List ℕ) : Type 0 where
   pub text : IsUtf8 path
-  pub read : has path (MAX_BODY + 1) bytes
+  pub read : IsReadFrom opens path (MAX_BODY + 1) bytes

@@ -10,6 +10,7 @@ use crate::error::ProgramError;
 use crate::files::FileSource;
 use crate::input::read_script;
 use crate::output::write_text;
+use crate::session::serve_session;
 use cli::{HELP, Request, Settings, read_arguments};
 use std::alloc::Global;
 use std::io::{Read, Write};
@@ -24,9 +25,9 @@ const REFUSED: u8 = 2;
 
 /// Does what the arguments ask for and returns the status. The first argument is the program's name.
 ///
-/// A run reads its script from the file that the arguments name, or from `input`, and its loads from
-/// the files of the source. Its transcript is written to `out`, or the help if the arguments ask for
-/// that. If the program cannot do this, it says why on standard error. If standard error fails too,
+/// A run or a session reads its script from the file that the arguments name, or from `input`, and its loads
+/// from the files of the source. A run's transcript is written to `out` at its end, the text of a session as its
+/// items come, and the help if the arguments ask for that. If the program cannot do this, it says why on standard error. If standard error fails too,
 /// only the status tells.
 #[tactic(auto, using(crate::proofs::AnswerLemmas::refused_have_none))]
 pub fn respond<R: Eprint + Threads + Wait + Sync, D: Disk, I: Read + Drop, O: Write + Drop>(
@@ -37,7 +38,7 @@ pub fn respond<R: Eprint + Threads + Wait + Sync, D: Disk, I: Read + Drop, O: Wr
     input: I,
     out: O,
 ) -> u8
-    ensures answered { ((written : O) × IsAnswer (map string_bytes arguments.now) (D.has source.old.disk.now) (I.remaining input)
+    ensures answered { ((written : O) × IsAnswer (map string_bytes arguments.now) (D.opens source.old.disk.now) (I.remaining input)
         source.old.failures source.new.failures (O.contents out) (O.contents written) result) ⊎ (result ≡ 2) }
     ensures refused { AreRefused (map string_bytes arguments.now) → result ≡ 2 }
 {
@@ -69,11 +70,14 @@ fn answer<R: Threads + Wait + Sync, D: Disk, I: Read + Drop, O: Write + Drop>(
     input: I,
     out: O,
 ) -> Result<(u8, O), ProgramError>
-    ensures answered { IfOk result (λ answered. IsAnswer (map string_bytes arguments.now) (D.has source.old.disk.now) (I.remaining input)
+    ensures answered { IfOk result (λ answered. IsAnswer (map string_bytes arguments.now) (D.opens source.old.disk.now) (I.remaining input)
         source.old.failures source.new.failures (O.contents out) (O.contents answered.1) answered.0) }
     ensures failed { IfErr result (IsFailure (map string_bytes arguments.now)) }
 {
     match read_arguments(alloc, arguments) {
+        Ok(Request::Run(settings)) if settings.live => {
+            serve_session(rt, alloc, &settings, source, input, out)
+        }
         Ok(Request::Run(settings)) => run_script(rt, alloc, &settings, source, input, out),
         Ok(Request::Help) => show_help(out),
         Err(error) => Err(ProgramError::Arguments(error)),
@@ -113,7 +117,7 @@ fn run_script<R: Threads + Wait + Sync, D: Disk, I: Read + Drop, O: Write + Drop
     out: O,
 ) -> Result<(u8, O), ProgramError>
     requires limits { IsInLimits settings.now }
-    ensures run { IfOk result (λ done. IsRunOf (D.has source.old.disk.now) (I.remaining input) source.old.failures source.new.failures
+    ensures run { IfOk result (λ done. IsRunOf (D.opens source.old.disk.now) (I.remaining input) source.old.failures source.new.failures
         (O.contents out) (O.contents done.1) settings.now done.0) }
     ensures failed { IfErr result IsFailureOfRun }
 {

@@ -1,6 +1,6 @@
 //! Files, by their paths.
 
-ghost use Rattle.std.specs.Prelude.{◌≡◌, ℕ, List, IfOk, IfSome, take};
+ghost use Rattle.std.specs.Prelude.{◌≡◌, ℕ, List, Option, IfOk, IfSome, take};
 ghost use Rattle.program.specs.Reads.{IsReadFrom};
 
 use std::alloc::Global;
@@ -8,14 +8,17 @@ use std::fs;
 use std::io::{self, Read};
 use std::rt::Files;
 
-/// Gives the bytes of files by their paths.
+/// Opens files by their paths.
 pub trait Disk {
-    /// The bytes are those of the file at the path, at most this many from its start.
-    ghost has: { Self → List ℕ → ℕ → List ℕ → Type 0 };
+    /// A file that is open.
+    type File: Read + Drop;
 
-    /// Reads the file at the path to its end, or its first `most` bytes if it has more.
-    fn read_at_most(&self, alloc: Global, path: &str, most: u64) -> io::Result<Vec<u8>>
-        ensures { IfOk result (λ bytes. has self.now path.now most bytes.items) };
+    /// The file at the path has these bytes, where they are known.
+    ghost opens: { Self → List ℕ → Option (List ℕ) → Type 0 };
+
+    /// Opens the file at the path, at its start.
+    fn open(&self, path: &str) -> io::Result<Self::File>
+        ensures { IfOk result (λ file. opens self.now path.now (Self.File.remaining file)) };
 }
 
 /// The files of the machine on which the program runs.
@@ -36,13 +39,22 @@ impl<'a, R> HostDisk<'a, R> {
 }
 
 impl<R: Files> Disk for HostDisk<'_, R> {
-    ghost has = { λ _ _ most bytes. IsReadFrom R.File.remaining most bytes };
+    type File = R::File;
 
-    fn read_at_most(&self, alloc: Global, path: &str, most: u64) -> io::Result<Vec<u8>> {
-        match fs::open(self.files, path) {
-            Ok(file) => read_at_most(alloc, file, most),
-            Err(error) => Err(error),
-        }
+    ghost opens = { λ _ _ bytes. (file : R.File) × (R.File.remaining file ≡ bytes) };
+
+    fn open(&self, path: &str) -> io::Result<R::File> {
+        fs::open(self.files, path)
+    }
+}
+
+/// Reads the file at the path to its end, or its first `most` bytes if it has more.
+pub fn read_path<D: Disk>(alloc: Global, disk: &D, path: &str, most: u64) -> io::Result<Vec<u8>>
+    ensures { IfOk result (λ bytes. IsReadFrom (D.opens disk.now) path.now most bytes.items) }
+{
+    match disk.open(path) {
+        Ok(file) => read_at_most(alloc, file, most),
+        Err(error) => Err(error),
     }
 }
 

@@ -1,6 +1,7 @@
 //! Why the program has no answer.
 
 use cli::ArgumentError;
+use live::LiveError;
 use thiserror::Error;
 use tsearch::{RunError, WriteError};
 
@@ -22,6 +23,9 @@ pub enum ProgramError {
     /// The transcript was not written whole.
     #[error(transparent)]
     Write(WriteError),
+    /// The session ended early.
+    #[error(transparent)]
+    Live(LiveError),
     /// Standard output failed.
     #[error("tsearch: cannot write")]
     CannotWrite,

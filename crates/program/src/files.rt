@@ -5,7 +5,7 @@ ghost use Rattle.std.specs.IoError.{error_kind};
 ghost use Rattle.std.specs.Str.{IsUtf8};
 ghost use Rattle.program.specs.Reads.{IsLoadFrom};
 
-use crate::disk::Disk;
+use crate::disk::{Disk, read_path};
 use index::MAX_BODY;
 use std::alloc::Global;
 use std::io::{self, ErrorKind};
@@ -33,14 +33,14 @@ impl<'a, D: Disk> FileSource<'a, D> {
     /// `OutOfMemory` means that memory ran out for the bytes, and `Failed` that the path is not UTF-8, or that
     /// the file cannot be opened, or that the reading fails.
     fn read_file(&self, alloc: Global, path: &[u8]) -> Result<Vec<u8>, Fault>
-        ensures bytes { IfOk result (λ bytes. IsLoadFrom (D.has self.now.disk.now) path.now bytes.items) }
+        ensures bytes { IfOk result (λ bytes. IsLoadFrom (D.opens self.now.disk.now) path.now bytes.items) }
         ensures no_text { ¬ IsUtf8 path.now → IsErrOf result Fault.Failed }
     {
         let Ok(path) = str::from_utf8(path) else {
             return Err(Fault::Failed);
         };
         let most = MAX_BODY as u64 + 1;
-        match self.disk.read_at_most(alloc, path, most) {
+        match read_path(alloc, self.disk, path, most) {
             Ok(bytes) => Ok(bytes),
             Err(error) => Err(fault_of_load(&error)),
         }
@@ -74,7 +74,7 @@ fn failures_after(failures: u64, read: &Result<Vec<u8>, Fault>) -> u64
 }
 
 impl<D: Disk> Source for FileSource<'_, D> {
-    ghost holds = { λ source path bytes. IsLoadFrom (D.has source.disk.now) path bytes };
+    ghost holds = { λ source path bytes. IsLoadFrom (D.opens source.disk.now) path bytes };
 
     ghost failed = { λ source. source.failures };
 

@@ -4,7 +4,7 @@ ghost use Rattle.std.specs.Prelude.{◌≡◌, ◌≢◌, ◌⊎◌, IfOk, IfErr
 ghost use Rattle.std.specs.IoError.{error_kind};
 ghost use Rattle.program.specs.Reads.{IsScriptFrom};
 
-use crate::disk::{Disk, read_at_most};
+use crate::disk::{Disk, read_at_most, read_path};
 use crate::error::ProgramError;
 use script::MAX_SCRIPT;
 use std::alloc::Global;
@@ -21,12 +21,12 @@ pub fn read_script<D: Disk, I: Read + Drop>(
     file: Option<&str>,
     input: I,
 ) -> Result<Vec<u8>, ProgramError>
-    ensures script { IfOk result (λ script. IsScriptFrom (D.has disk.now) (I.remaining input) file.entry script.items) }
+    ensures script { IfOk result (λ script. IsScriptFrom (D.opens disk.now) (I.remaining input) file.entry script.items) }
     ensures fault { IfErr result (λ error. (error ≡ ProgramError.CannotRead) ⊎ (error ≡ ProgramError.OutOfMemory)) }
 {
     let most = MAX_SCRIPT as u64 + 1;
     let read = match file {
-        Some(path) => disk.read_at_most(alloc, path, most),
+        Some(path) => read_path(alloc, disk, path, most),
         None => read_at_most(alloc, input, most),
     };
     match read {
@@ -35,8 +35,8 @@ pub fn read_script<D: Disk, I: Read + Drop>(
     }
 }
 
-/// What the program says of an error that it met while it read the script.
-fn fault_of_script(error: &io::Error) -> ProgramError
+/// What the program says of an error that it met while it opened or read the script.
+pub fn fault_of_script(error: &io::Error) -> ProgramError
     ensures memory { error_kind error.now ≡ ErrorKind.OutOfMemory → result ≡ ProgramError.OutOfMemory }
     ensures other { error_kind error.now ≢ ErrorKind.OutOfMemory → result ≡ ProgramError.CannotRead }
 {

@@ -9,6 +9,7 @@ mod error;
 mod files;
 mod input;
 mod output;
+mod session;
 
 use answer::{report, respond};
 use cli::arguments::not_text;

@@ -22,11 +22,13 @@ struct Memory {
 }
 
 impl Disk for Memory {
-    ghost has = { λ _ _ _ _. Unit {0} };
+    type File = &'static [u8];
 
-    fn read_at_most(&self, alloc: Global, path: &str, most: u64) -> io::Result<Vec<u8>> {
+    ghost opens = { λ _ _ _. Unit {0} };
+
+    fn open(&self, path: &str) -> io::Result<&'static [u8]> {
         match self.files.iter().find(|file| file.0 == path) {
-            Some(file) => read_at_most(alloc, file.1, most),
+            Some(file) => Ok(file.1),
             None => Err(io::Error::from(io::ErrorKind::NotFound)),
         }
     }
@@ -76,6 +78,20 @@ fn the_script_is_run_from_the_input_where_no_file_is_named(rt: HostRuntime) -> R
     let full: &[u8] = b"line 2 refused: full\n";
     let script = b"load a notes\nload b notes\n";
     assert_answers(&rt, &["--max-commands", "1"], script, (2, full))
+}
+
+#[test]
+fn a_session_writes_what_a_run_does(rt: HostRuntime) -> Result<(), Fail> {
+    let found: &[u8] = b"search 1 version 1 lines 1\na:2:abba\n";
+    assert_answers(&rt, &["--live", "script"], b"", (0, found))?;
+    let with_stats: &[u8] = b"search 1 version 1 lines 1 candidates 1 of 1\na:2:abba\n";
+    let script = b"load a notes\npublish\nsearch bb\n";
+    assert_answers(&rt, &["--live", "--stats"], script, (0, with_stats))?;
+    let full: &[u8] = b"line 2 refused: full\n";
+    let two = b"load a notes\nload b notes\n";
+    assert_answers(&rt, &["--live", "--max-commands", "1"], two, (2, full))?;
+    assert_answers(&rt, &["--live", "missing"], b"search x\n", (2, b""))?;
+    assert_answers(&rt, &["--live", "--readers", "1"], b"search x\n", (2, b""))
 }
 
 #[test]

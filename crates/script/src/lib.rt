@@ -4,8 +4,10 @@
 mod cuts;
 mod item;
 mod laws;
+mod line;
 mod reader;
 
 pub use item::{Item, Numbered};
 pub use laws::items_are_one;
+pub use line::{Line, read_line};
 pub use reader::{MAX_SCRIPT, ScriptReader};

@@ -109,7 +109,7 @@ fn skip_blank(text: &[u8], line: u32) -> Start<'_>
     start
 }
 
-fn is_blank_line(line: &[u8]) -> bool
+pub fn is_blank_line(line: &[u8]) -> bool
     ensures { result ≡ is_blank line.now }
 {
     match line.first() {
@@ -151,7 +151,7 @@ fn take_item(start: Start<'_>) -> Taken<'_>
 }
 
 /// The item of a line that is not a put, by its keyword and what follows the space after it.
-fn item_of<'a>(keyword: &'a [u8], others: Option<&'a [u8]>) -> Item<'a>
+pub fn item_of<'a>(keyword: &'a [u8], others: Option<&'a [u8]>) -> Item<'a>
     ensures { shown_item result ≡ item_of keyword.now (option_map (λ rest. rest.now) others.entry) }
 {
     match others {
@@ -232,9 +232,9 @@ fn load(fields: &[u8]) -> Item<'_>
 
 /// The name and the size of a put.
 #[derive(Clone, Copy, Debug)]
-struct Header<'a> {
-    name: &'a [u8],
-    size: usize,
+pub struct Header<'a> {
+    pub name: &'a [u8],
+    pub size: usize,
 }
 
 /// The name and the size in what follows `put `.
@@ -249,7 +249,7 @@ fn put_header(fields: &[u8]) -> Option<Header<'_>>
     })
 }
 
-fn header_in(others: Option<&[u8]>) -> Option<Header<'_>>
+pub fn header_in(others: Option<&[u8]>) -> Option<Header<'_>>
     ensures { MatchOption result
         (LacksHeader (option_map (λ rest. rest.now) others.entry))
         (λ header. HasHeader (option_map (λ rest. rest.now) others.entry) header.name.now header.size) }

@@ -28,11 +28,11 @@ pub no_search_entry : (line : ℕ) (done : Result ℕ Reason) → searches_in (e
 no_search_entry line (Ok count) = refl
 no_search_entry line (Err why) = refl
 
-accepted_after : (line : ℕ) (done : Result ℕ Reason) (commands : List Command) (desk : DeskState) → (desk_after done commands desk).accepted ≡ desk.accepted ++ accepted_by (Some (entry_of line done)) commands
+pub accepted_after : (line : ℕ) (done : Result ℕ Reason) (commands : List Command) (desk : DeskState) → (desk_after done commands desk).accepted ≡ desk.accepted ++ accepted_by (Some (entry_of line done)) commands
 accepted_after line (Ok count) commands desk = refl
 accepted_after line (Err why) commands desk = sym (append-nil desk.accepted)
 
-same_opening : (done : Result ℕ Reason) (commands : List Command) (desk : DeskState) → ((desk_after done commands desk).opening ≡ desk.opening) × ((desk_after done commands desk).limit ≡ desk.limit)
+pub same_opening : (done : Result ℕ Reason) (commands : List Command) (desk : DeskState) → ((desk_after done commands desk).opening ≡ desk.opening) × ((desk_after done commands desk).limit ≡ desk.limit)
 same_opening (Ok count) commands desk = (refl, refl)
 same_opening (Err why) commands desk = (refl, refl)
 

@@ -12,3 +12,4 @@ pub mod LoopLemmas
 pub mod DriveLemmas
 pub mod SessionLemmas
 pub mod WriteLemmas
+pub mod LoneLemmas

@@ -199,7 +199,7 @@ next_row Holds Holds' holds most desk told failed count item _ desk' told' faile
   counted = counted_none failed failed' left.2;
 }
 
-count_more : (failures more failed before after : ℕ) → IsFailedTimes failures failed before → IsCounted more before after → IsFailedTimes (failures + more) failed after
+pub count_more : (failures more failed before after : ℕ) → IsFailedTimes failures failed before → IsCounted more before after → IsFailedTimes (failures + more) failed after
 count_more failures more failed before after (inl few) counted = by_rise counted.rises
   where
     by_rise : IsFailedTimes more before after → IsFailedTimes (failures + more) failed after

@@ -79,7 +79,7 @@ pub data IsAlone (told : List Command) (rows : List Row) : List Row → Type 0 w
   one : (row : Row) → (row.entry ≡ None → length told ≤ published_last rows) → IsAlone told rows (row ∷ [])
 
 -- The last of some numbers is one of them, or the default.
-last_is_one : (default : ℕ) (xs : List ℕ) → (last_or default xs ≡ default) ⊎ Contains xs (last_or default xs)
+pub last_is_one : (default : ℕ) (xs : List ℕ) → (last_or default xs ≡ default) ⊎ Contains xs (last_or default xs)
 last_is_one default [] = inl refl
 last_is_one default (x ∷ xs) = by_rest (last_is_one x xs)
   where

@@ -6,3 +6,4 @@ pub mod Tallies
 pub mod Seats
 pub mod Sessions
 pub mod Runs
+pub mod Lone

@@ -171,7 +171,7 @@ fn search_at(searches: &[Option<Prepared>], number: u32) -> Option<&Prepared>
 }
 
 /// Searches until the answer is of what was published last. `None` if memory ran out.
-fn answer_last<R: Wait>(
+pub fn answer_last<R: Wait>(
     rt: &R,
     alloc: Global,
     reading: &mut Reading,

@@ -2,7 +2,8 @@
 
 ghost use Rattle.std.specs.Prelude.{◌≡◌, ℕ, ◌+◌, ◌<◌, ◌^◌, ◌≤◌, List, [], ◌∷◌, length, IfOk, IfErr};
 ghost use Rattle.index.specs.declared.command.Command.TheVariants.{Put as put_command, Remove as remove_command};
-ghost use Rattle.index.specs.State.{state_of};
+ghost use Rattle.index.specs.State.{State, state_of};
+ghost use Rattle.index.specs.Text.{greatest_body};
 ghost use Rattle.script.specs.Reading.{shown_item};
 ghost use Rattle.script.specs.Items.{numbered as numbered_item};
 ghost use Rattle.shared.specs.Desk.{DeskState, IsPutFault};
@@ -63,6 +64,37 @@ fn put(alloc: Global, desk: &mut Desk, name: &[u8], body: &[u8]) -> Result<u32, 
     }
 }
 
+/// Puts a body that was read already.
+pub fn put_read(alloc: Global, desk: &mut Desk, name: &[u8], body: Vec<u8>) -> Result<u32, Reason>
+    ensures entry { (line : ℕ) → IsPut desk.old.limit (state_of desk.old.accepted) name.now body.items line (entry_of line result) }
+    ensures desk { desk.new ≡ desk_after result (put_command name.now body.items ∷ []) desk.old }
+{
+    match Name::new(alloc, name) {
+        Ok(name) => put_body(desk, name, body),
+        Err(error) => Err(reason_of_name(error)),
+    }
+}
+
+/// Why a put is refused whose body is too long.
+pub fn reason_of_long_put(alloc: Global, name: &[u8]) -> Reason
+    ensures { (most : ℕ) (state : State) (body : List ℕ) (line : ℕ) → greatest_body < length body → IsPut most state name.now body line (Entry.Refused line result) }
+{
+    match Name::new(alloc, name) {
+        Ok(_) => Reason::Body(BodyErrorKind::TooLong),
+        Err(error) => reason_of_name(error),
+    }
+}
+
+/// Why a put is refused for whose bytes there is no memory.
+pub fn reason_of_lost_put(alloc: Global, name: &[u8]) -> Reason
+    ensures { (most : ℕ) (state : State) (body : List ℕ) (line : ℕ) → IsPut most state name.now body line (Entry.Refused line result) }
+{
+    match Name::new(alloc, name) {
+        Ok(_) => Reason::OutOfMemory,
+        Err(error) => reason_of_name(error),
+    }
+}
+
 /// Asks the source once if the name is valid, and gives `CannotLoad` exactly when the source then failed.
 fn load<S: Source>(
     alloc: Global,
@@ -103,7 +135,7 @@ fn remove(alloc: Global, desk: &mut Desk, name: &[u8]) -> Result<u32, Reason>
 }
 
 /// The entry of a command.
-fn entry_of(line: u32, done: Result<u32, Reason>) -> Entry
+pub fn entry_of(line: u32, done: Result<u32, Reason>) -> Entry
     ensures { result ≡ entry_of line done }
 {
     match done {

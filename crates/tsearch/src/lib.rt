@@ -7,6 +7,7 @@
 mod closing;
 mod drive;
 mod items;
+mod lone;
 mod output;
 pub mod run;
 mod searches;
@@ -17,8 +18,10 @@ mod source;
 mod texts;
 mod transcript;
 
-pub use output::{WriteError, write_transcript};
+pub use lone::LoneRun;
+pub use output::{WriteError, write_transcript, write_whole};
 pub use readers::{Gate, Place};
 pub use run::{Options, RunError};
 pub use source::{Fault, Source};
-pub use transcript::{Entry, Reason, SearchReason, Transcript, status};
+pub use texts::append_entry;
+pub use transcript::{Entry, Reason, SearchReason, Transcript, has_hit, is_refusal, status};

@@ -53,8 +53,9 @@ pub fn write_transcript<W: Write>(
     Ok(())
 }
 
-/// Writes all bytes. It takes no memory.
-fn write_whole<W: Write>(out: &mut W, bytes: &[u8]) -> Result<(), WriteError>
+/// Writes all bytes. It takes no memory. `Failed` means that the writer failed, and `Stopped` that it took no byte;
+/// what was written is then a beginning of the bytes.
+pub fn write_whole<W: Write>(out: &mut W, bytes: &[u8]) -> Result<(), WriteError>
     ensures ok { OnOk result (Appends (W.contents out.old) (W.contents out.new) bytes.now) }
     ensures err { OnErr result (AppendsFront (W.contents out.old) (W.contents out.new) bytes.now) }
     ensures no_memory { ¬ IsErrOf result WriteError.OutOfMemory }

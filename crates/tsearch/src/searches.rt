@@ -53,7 +53,7 @@ fn is_search(item: &Item<'_>) -> bool
 }
 
 /// Prepares a search.
-fn prepare(alloc: Global, item: Item<'_>) -> Option<Prepared>
+pub fn prepare(alloc: Global, item: Item<'_>) -> Option<Prepared>
     ensures { IfSome result (λ prepared. Asks (shown_item item.entry) (pattern_of prepared)) }
 {
     match item {

@@ -110,7 +110,8 @@ fn any_hit(entries: &[Entry]) -> bool
     entries.iter().any(|entry| has_hit(entry))
 }
 
-fn is_refusal(entry: &Entry) -> bool
+/// Whether a line or a search is refused.
+pub fn is_refusal(entry: &Entry) -> bool
     ensures { result ≡ is_refusal entry.now }
 {
     match entry {
@@ -120,7 +121,8 @@ fn is_refusal(entry: &Entry) -> bool
     }
 }
 
-fn has_hit(entry: &Entry) -> bool
+/// Whether it is the entry of a search with a hit.
+pub fn has_hit(entry: &Entry) -> bool
     ensures { result ≡ has_hit entry.now }
 {
     match entry {

@@ -3,6 +3,7 @@ use Rattle.std.specs.Prelude.{Some, pos}
 use Rattle.std.proofs.lemmas.Result.{IfOk-weaker}
 use Rattle.clap.specs.Simple.{app_of, new_app, new_rule, with_rule}
 use Rattle.clap.specs.Walk.{Rule, rule_of}
+use Rattle.clap.specs.declared.builder.action.ArgAction.TheVariants.{SetTrue}
 use Rattle.clap.specs.declared.builder.value_parser.ValueParser.{ValueParser}
 use Rattle.clap.specs.declared.builder.value_parser.ValueParser.TheVariants as vp
 use Rattle.cli.specs.CommandLine.{flag, number_option}
@@ -23,14 +24,23 @@ returns c =
     ap rule_of c.value_name-2.ensures ∙ ap (λ (r : Rule). record r { value_names = 1 }) (ap rule_of c.long-3.ensures ∙ ap (λ (r : Rule). record r { long = Some (codes "max-commands") }) c.new-4.ensures.rule) in
     let commands_is : rule_of c.value_parser-max_commands.result ≡ number_option (codes "max-commands") 1 1000000 =
     ap rule_of c.value_parser-max_commands.ensures.others ∙ ap₂ (λ (r : Rule) (q : Option ValueParser). record r { parser = q }) commands_named commands_parser in
-    let stats_is : rule_of c.action-stats.result ≡ flag (codes "stats") = search rules in
+    let stats_named : rule_of c.long-2.result ≡ record (new_rule (codes "stats")) { long = Some (codes "stats") } =
+    ap rule_of c.long-2.ensures ∙ ap (λ (r : Rule). record r { long = Some (codes "stats") }) c.new-3.ensures.rule in
+    let stats_is : rule_of c.action-stats.result ≡ flag (codes "stats") =
+    ap rule_of c.action-stats.ensures ∙ ap (λ (r : Rule). record r { action = Some SetTrue }) stats_named in
+    let live_named : rule_of c.long-4.result ≡ record (new_rule (codes "live")) { long = Some (codes "live") } =
+    ap rule_of c.long-4.ensures ∙ ap (λ (r : Rule). record r { long = Some (codes "live") }) c.new-6.ensures.rule in
+    let live_is : rule_of c.action-live.result ≡ flag (codes "live") =
+    ap rule_of c.action-live.ensures ∙ ap (λ (r : Rule). record r { action = Some SetTrue }) live_named in
     let file_is : rule_of c.new-file.result ≡ new_rule (codes "FILE") = search rules in
     let readers_local : c.value_parser-readers.result.global ≡ false = rw (c.value_parser-readers.ensures.others, c.value_name.ensures, c.long.ensures) c.new.ensures.optional.1 in
     let stats_local : c.action-stats.result.global ≡ false = rw (c.action-stats.ensures, c.long-2.ensures) c.new-3.ensures.optional.1 in
     let commands_local : c.value_parser-max_commands.result.global ≡ false = rw (c.value_parser-max_commands.ensures.others, c.value_name-2.ensures, c.long-3.ensures) c.new-4.ensures.optional.1 in
+    let live_local : c.action-live.result.global ≡ false = rw (c.action-live.ensures, c.long-4.ensures) c.new-6.ensures.optional.1 in
     let one = c.in_ok-arg.ensures.shape readers_local ∙ ap₂ with_rule start readers_is in
     let two = c.in_ok-arg-2.ensures.shape stats_local ∙ ap₂ with_rule one stats_is in
     let three = c.in_ok-arg-3.ensures.shape commands_local ∙ ap₂ with_rule two commands_is in
+    let four = c.in_ok-arg-4.ensures.shape live_local ∙ ap₂ with_rule three live_is in
     record {
-      command_line = IfOk-weaker c.arg-4.result _ _ (λ last added. added.shape c.new-file.ensures.optional.1 ∙ ap₂ with_rule three file_is) c.arg-4.ensures;
+      command_line = IfOk-weaker c.arg-5.result _ _ (λ last added. added.shape c.new-file.ensures.optional.1 ∙ ap₂ with_rule four file_is) c.arg-5.ensures;
     }

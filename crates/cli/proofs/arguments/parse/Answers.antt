@@ -1,54 +1,6 @@
-use Rattle.std.proofs.Common.{◌≡◌, ◌∙◌, ap, codes, arith, sym, subst, ℕ, List, [], true, Option, Some, map}
-use Rattle.std.specs.Prelude.{◌↔◌, string_bytes}
-use Rattle.std.specs.Str.Parse.{ParsesUnsigned, ExplainsUnsignedError, HasUnsignedDigitsIfOk}
-use Rattle.clap.specs.Faults.{fault_of, is_simple_and_free}
-use Rattle.clap.specs.Matches.{found_of, one_text}
-use Rattle.clap.specs.Simple.{App, app_of, is_simple, matches_of}
-use Rattle.clap.specs.Walk.{first_of, one_of, rows_of}
-use Rattle.clap.proofs.WalkLemmas.{first_value-rows, one_text-rows}
-use Rattle.cli.specs.CommandLine.{command_line, faults_of, found_in, number_or}
-use Rattle.cli.proofs.NumberLemmas.{max_commands_option, number_given, readers_option}
-use Rattle.cli.proofs.Options.{HasOptions, has_options, line_is_free, line_is_simple}
-use Rattle.cli.proofs.Settled.{settled_flag, settled_number}
+use Rattle.std.specs.Prelude.{map, string_bytes}
+use Rattle.cli.proofs.SessionLemmas.{refuses}
 use Rattle.cli.proofs.arguments.parse.Goals as goal
 
-pub returns : goal.returns
-returns c =
-    let command = c.in_ok-command.field-0 in
-    let m = c.in_ok-matches.matches in
-    let is : app_of command ≡ command_line = c.in_ok-command.ensures.command_line in
-    let options : HasOptions command = has_options command is in
-    let parsed = c.in_ok-matches.ensures.parsed in
-    let rows : rows_of (found_of m) ≡ found_in (map string_bytes c.args.arguments.now) =
-    (c.in_ok-matches.ensures.matches (ap is_simple is ∙ line_is_simple)).0 ∙ ap (λ (a : App). matches_of a (map string_bytes c.args.arguments.now)) is in
-    let taken : faults_of (map string_bytes c.args.arguments.now) ≡ [] =
-    sym (ap (λ (a : App). fault_of a (map string_bytes c.args.arguments.now)) is) ∙ c.in_ok-matches.ensures.kinds (ap is_simple_and_free is ∙ line_is_free) in
-    let text_in : (id : List ℕ) → one_text (found_of m) id ≡ one_of id (found_in (map string_bytes c.args.arguments.now)) =
-    λ id. one_text-rows (found_of m) id ∙ ap (one_of id) rows in
-    let some_readers = number_given command m parsed options 0 (codes "readers") (readers_option command options) 0 16 options.readers
-    _ (λ bs r. ParsesUnsigned 32 10 bs r × ExplainsUnsignedError 10 bs r × HasUnsignedDigitsIfOk bs r) (λ u x g. g.0) (omega arith)
-    c.get_one-readers.result c.get_one-readers.ensures.value in
-    let some_commands = number_given command m parsed options 2 (codes "max-commands") (max_commands_option command options) 1 1000000 options.max_commands
-    _ (λ bs r. ParsesUnsigned 32 10 bs r × ExplainsUnsignedError 10 bs r × HasUnsignedDigitsIfOk bs r) (λ u x g. g.0) (omega arith)
-    c.get_one-max_commands.result c.get_one-max_commands.ensures.value in
-    let readers = settled_number _ (λ bs r. ParsesUnsigned 32 10 bs r × ExplainsUnsignedError 10 bs r × HasUnsignedDigitsIfOk bs r) (λ u x g. g.0)
-    (one_text (found_of m) (codes "readers")) c.get_one-readers.result c.unwrap_or.result 0 16 2 c.unwrap_or.ensures
-    c.get_one-readers.ensures.none c.get_one-readers.ensures.value some_readers (omega arith) (omega arith) in
-    let commands = settled_number _ (λ bs r. ParsesUnsigned 32 10 bs r × ExplainsUnsignedError 10 bs r × HasUnsignedDigitsIfOk bs r) (λ u x g. g.0)
-    (one_text (found_of m) (codes "max-commands")) c.get_one-max_commands.result c.unwrap_or-2.result 1 1000000 65536 c.unwrap_or-2.ensures
-    c.get_one-max_commands.ensures.none c.get_one-max_commands.ensures.value some_commands (omega arith) (omega arith) in
-    let flag = settled_flag _ (one_text (found_of m) (codes "stats")) c.get_one-stats.result c.unwrap_or-3.result c.unwrap_or-3.ensures
-    c.get_one-stats.ensures.none c.get_one-stats.ensures.value in
-    record {
-      settings = record {
-        taken = taken;
-        found = record {
-          readers = readers.0 ∙ ap (number_or 2) (text_in (codes "readers"));
-          max_commands = commands.0 ∙ ap (number_or 65536) (text_in (codes "max-commands"));
-          stats = subst (λ (text : Option (List ℕ)). (c.unwrap_or-3.result ≡ true) ↔ (text ≡ Some (codes "true"))) (text_in (codes "stats")) flag;
-          file = c.get_str.ensures ∙ first_value-rows (found_of m) (codes "FILE") ∙ ap (first_of (codes "FILE")) rows;
-        };
-        limits = record { readers = readers.2; some_commands = commands.1; few_commands = commands.2 };
-      };
-      kinds = taken;
-    }
+pub returns-in-Err-clause-kinds : goal.returns-in-Err-clause-kinds
+returns-in-Err-clause-kinds c = refuses (map string_bytes c.args.arguments.now) c.in-Err.error c.in-Err.ensures.kinds

@@ -1,0 +1,39 @@
+//! What the entries of a session say of its status.
+
+ghost use Rattle.std.specs.Prelude.{◌≡◌, ◌||◌, if◌then◌else◌};
+ghost use Rattle.tsearch.specs.Transcript.{is_refusal, has_hit};
+ghost use Rattle.live.specs.Private.Serving.{marks_with, status_by};
+
+use tsearch::{Entry, has_hit, is_refusal};
+
+/// Whether an entry so far refuses something, and whether one has a hit.
+#[derive(Clone, Copy, Debug, PartialEq, Eq)]
+pub(crate) struct Marks {
+    pub(crate) refused: bool,
+    pub(crate) hit: bool,
+}
+
+impl Marks {
+    /// After one more entry.
+    pub(crate) fn with(self, entry: &Entry) -> Marks
+        ensures { result ≡ marks_with self entry.now }
+    {
+        Marks {
+            refused: self.refused || is_refusal(entry),
+            hit: self.hit || has_hit(entry),
+        }
+    }
+
+    /// The status of a session with these entries.
+    pub(crate) fn status(self) -> u8
+        ensures { result ≡ status_by self }
+    {
+        if self.refused {
+            2
+        } else if self.hit {
+            0
+        } else {
+            1
+        }
+    }
+}

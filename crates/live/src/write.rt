@@ -1,0 +1,54 @@
+//! The text of an entry, written at once.
+
+ghost use Rattle.std.specs.Prelude.{◌≡◌, OnOk, OnErr};
+ghost use Rattle.std.specs.Io.KnownBytes.{Appends};
+ghost use Rattle.tsearch.specs.Transcript.{text_of_entry};
+ghost use Rattle.tsearch.specs.Written.{AppendsFront};
+
+use crate::error::{LiveError, of_writing};
+use std::alloc::Global;
+use std::io::Write;
+use tsearch::{Entry, append_entry, write_whole};
+
+/// A buffer of more bytes than this is let go once its text is written.
+const LARGE: usize = 1_048_576;
+
+/// Writes the text of an entry and flushes it. An entry without text writes nothing, and flushes nothing. `text` is a
+/// buffer, whose bytes do not matter.
+pub(crate) fn write_entry<O: Write>(
+    alloc: Global,
+    entry: &Entry,
+    stats: bool,
+    text: &mut Vec<u8>,
+    out: &mut O,
+) -> Result<(), LiveError>
+    ensures ok { OnOk result (Appends (O.contents out.old) (O.contents out.new) (text_of_entry stats entry.now)) }
+    ensures err { OnErr result (AppendsFront (O.contents out.old) (O.contents out.new) (text_of_entry stats entry.now)) }
+{
+    text.clear();
+    if append_entry(entry, stats, text).is_err() {
+        return Err(LiveError::OutOfMemory);
+    }
+    if text.is_empty() {
+        return Ok(());
+    }
+    let written = write_now(text, out);
+    if text.capacity() > LARGE {
+        *text = Vec::new(alloc);
+    }
+    written
+}
+
+/// Writes all bytes and flushes them.
+fn write_now<O: Write>(bytes: &[u8], out: &mut O) -> Result<(), LiveError>
+    ensures ok { OnOk result (Appends (O.contents out.old) (O.contents out.new) bytes.now) }
+    ensures err { OnErr result (AppendsFront (O.contents out.old) (O.contents out.new) bytes.now) }
+{
+    if let Err(error) = write_whole(out, bytes) {
+        return Err(of_writing(error));
+    }
+    match out.flush() {
+        Ok(()) => Ok(()),
+        Err(_) => Err(LiveError::CannotWrite),
+    }
+}

@@ -1,0 +1,139 @@
+//! Clients that wait for each answer before they send more.
+
+use crate::streams::{Client, One, Repeated, Shown, Turn};
+use live::{LiveOptions, serve};
+use std::io::BufReader;
+use std::process::Abort;
+use std::sync::Wait;
+use std::sync::atomic::AtomicUsize;
+use std::test::Fail;
+
+const OPTIONS: LiveOptions = LiveOptions {
+    max_commands: 1_000_000,
+    stats: false,
+};
+
+/// The client sends all of its turns, the text has these bytes, and the status is this one, whatever the size of the
+/// pieces in which its bytes come.
+fn expect<R: AllocGlobal + Wait + Abort>(
+    rt: &R,
+    turns: &[Turn<'_>],
+    text: &[u8],
+    status: u8,
+) -> Result<(), Fail> {
+    let alloc = rt.alloc();
+    for most in [1, 2, 3, 1000] {
+        let flushed = AtomicUsize::new(0);
+        let mut input = BufReader::with_capacity(alloc, 1000, Client::new(turns, &flushed, most))?;
+        let mut out = Shown {
+            bytes: Vec::new(alloc),
+            flushed: &flushed,
+        };
+        match serve(rt, alloc, &mut input, OPTIONS, &mut One::new(), &mut out) {
+            Ok(found) => assert_eq!(rt; found, status, "pieces of {most}"),
+            Err(error) => return Err(Fail::from(error)),
+        }
+        assert_eq!(rt; out.bytes.as_slice(), text, "pieces of {most}");
+    }
+    Ok(())
+}
+
+const FIRST: &[u8] = b"search 1 version 0 lines 0\n";
+
+/// No byte behind a search's line is waited for, nor behind the line feed of a put's body.
+#[test]
+fn each_answer_comes_before_the_next_command(rt: HostRuntime) -> Result<(), Fail> {
+    let turns = [
+        Turn {
+            shown: 0,
+            sent: b"search old\n",
+        },
+        Turn {
+            shown: 27,
+            sent: b"put f 3\nold\n",
+        },
+        Turn {
+            shown: 27,
+            sent: b"publish\n",
+        },
+        Turn {
+            shown: 27,
+            sent: b"search old\n",
+        },
+        Turn {
+            shown: 27 + 27 + 8,
+            sent: b"sync\nbad\n",
+        },
+        Turn {
+            shown: 27 + 27 + 8 + 25,
+            sent: b"put f 3\nnew\npublish\nsearch old\n",
+        },
+        Turn {
+            shown: 27 + 27 + 8 + 25 + 27,
+            sent: b"# the end\n\nsearch (\n",
+        },
+    ];
+    assert_eq!(rt; FIRST.len(), 27);
+    expect(
+        &rt,
+        &turns,
+        b"search 1 version 0 lines 0\nsearch 2 version 1 lines 1\nf:1:old\nline 7 refused: bad line\nsearch 3 version 2 lines 0\nsearch 4 refused: group not closed at 0\n",
+        2,
+    )
+}
+
+/// What ends the reading is refused at once, and the session ends without a look at what follows.
+#[test]
+fn a_fault_ends_the_session(rt: HostRuntime) -> Result<(), Fail> {
+    let turns = [
+        Turn {
+            shown: 0,
+            sent: b"search a\nput f x\n",
+        },
+        Turn {
+            shown: 1000,
+            sent: b"search never\n",
+        },
+    ];
+    expect(
+        &rt,
+        &turns,
+        b"search 1 version 0 lines 0\nline 2 refused: bad put\n",
+        2,
+    )?;
+    let open_body = [
+        Turn {
+            shown: 0,
+            sent: b"put f 3\nabcd",
+        },
+        Turn {
+            shown: 1000,
+            sent: b"search never\n",
+        },
+    ];
+    expect(&rt, &open_body, b"line 1 refused: body not closed\n", 2)
+}
+
+/// 20,000 replacements of a document leave the last one.
+#[test]
+fn replacements(rt: HostRuntime) -> Result<(), Fail> {
+    let alloc = rt.alloc();
+    let reader = Repeated {
+        round: b"put f 3\nold\npublish\nput f 3\nnew\npublish\n",
+        times: 10_000,
+        last: b"search old\nsearch new",
+        rest: &[],
+        most: 1000,
+        reads: 0,
+        failing: 0,
+    };
+    let mut input = BufReader::with_capacity(alloc, 4096, reader)?;
+    let mut out = Vec::new(alloc);
+    match serve(&rt, alloc, &mut input, OPTIONS, &mut One::new(), &mut out) {
+        Ok(status) => assert_eq!(rt; status, 0),
+        Err(error) => return Err(Fail::from(error)),
+    }
+    let text: &[u8] = b"search 1 version 20000 lines 0\nsearch 2 version 20000 lines 1\nf:1:new\n";
+    assert_eq!(rt; out.as_slice(), text);
+    Ok(())
+}

@@ -1,0 +1,13 @@
+-- What one line of a script says by itself.
+use Rattle.std.specs.Prelude.{◌≡◌, ℕ, List, IsTrue, IsFalse}
+use Rattle.script.specs.Items.{is_blank, is_put, item_of_line, IsPutLine}
+use Rattle.script.specs.Reading.{shown_item}
+use Rattle.script.specs.declared.line.Line as program
+use Rattle.script.specs.declared.line.Line.TheVariants as variants
+
+-- the line, which is given without its line feed, says this
+abbrev pub Says : List ℕ → program.Line → Type 0
+Says line variants.Blank = IsTrue (is_blank line)
+Says line (variants.Put name size) = IsPutLine line name.now size
+Says line variants.BadPut = IsTrue (is_put line) × ((name : List ℕ) (size : ℕ) → IsPutLine line name size → ⊥)
+Says line (variants.Other item) = IsFalse (is_blank line) × IsFalse (is_put line) × (shown_item item ≡ item_of_line line)

@@ -1,0 +1,10 @@
+-- The body is what was read so far, and no longer than it is to be.
+use Rattle.std.proofs.Common.{◌≤◌, length}
+use Rattle.std.specs.Io.KnownBytes.{Consumes}
+use Rattle.stream.proofs.body.fill.Given as goal
+
+abbrev pub invariant-loop : goal.invariant-loop
+invariant-loop g l = record {
+  within : length l.body.items ≤ l.size;
+  taken : Consumes (g.I.Read.remaining l.initial.input) (g.I.Read.remaining l.input) l.body.items;
+}

@@ -1,0 +1,50 @@
+-- What a stream of items takes from its input.
+use Rattle.std.specs.Prelude.{◌≡◌, ◌⊎◌, ℕ, ◌<◌, List, [], ◌∷◌, ◌++◌, length, Option, Some, None, Ok, Err, Bool, true, false, IsTrue, OnSome, ⊤}
+use Rattle.std.specs.declared.result.Result.{Result}
+use Rattle.std.specs.Io.KnownBytes.{IsAtEnd}
+use Rattle.index.specs.declared.body.TheConstants.{MAX_BODY}
+use Rattle.script.specs.Items.{Item, Numbered, numbered, ItemsFrom, put, bad_put, body_not_closed}
+use Rattle.script.specs.Reading.{shown_item}
+use Rattle.stream.specs.declared.item.StreamItem.{StreamItem}
+use Rattle.stream.specs.declared.item.StreamItem.TheVariants as variants
+use Rattle.stream.specs.declared.item.Taken.{Taken}
+use Rattle.stream.specs.declared.item.StreamError.{StreamError}
+
+-- the number of the line that comes next, and whether the reading has ended
+pub record Place : Type 0 where
+  pub line : ℕ
+  pub ended : Bool
+
+abbrev pub place : ℕ → Bool → Place
+place line ended = record { line = line; ended = ended }
+
+-- the item, without where its bytes lie; of a body that was passed over only its length is known, or nothing
+abbrev pub Shows : StreamItem → Item → Type 0
+Shows (variants.Put name body) item = item ≡ put name.now body.items
+Shows (variants.LongPut name) item = (body : List ℕ) × (item ≡ put name.now body) × (MAX_BODY < length body)
+Shows (variants.LostPut name) item = (body : List ℕ) × (item ≡ put name.now body)
+Shows (variants.Other other) item = item ≡ shown_item other
+
+-- A fault after which bytes may be left.
+pub data IsFault : Item → Type 0 where
+  no_header : IsFault bad_put
+  no_end : IsFault body_not_closed
+
+-- The bytes are those of this item, from its line's number on; the next line's number follows them, or nothing does.
+abbrev pub IsItemOf : ℕ → List ℕ → Numbered → Bool → ℕ → Type 0
+IsItemOf line bytes item false next = (rest : List ℕ) (items : List Numbered) → ItemsFrom next rest items → ItemsFrom line (bytes ++ rest) (item ∷ items)
+IsItemOf line bytes item true next = ItemsFrom line bytes (item ∷ [])
+
+-- An item was taken from an input, as these bytes. This was left of the input, and this is left of it then.
+pub record Takes (old : Place) (taken : Taken) (new : Place) (bytes : List ℕ) (was left : Option (List ℕ)) : Type 0 where
+  pub item : Item
+  pub shows : Shows taken.item item
+  pub whole : IsItemOf old.line bytes (numbered taken.line item) taken.ended new.line
+  pub ended : new.ended ≡ taken.ended
+  pub end : IsTrue taken.ended → OnSome was (IsAtEnd left) ⊎ IsFault item
+
+-- What a call gives, where these bytes were taken from the input.
+abbrev pub IsNext : Place → Result (Option Taken) StreamError → Place → List ℕ → Option (List ℕ) → Option (List ℕ) → Type 0
+IsNext old (Ok (Some taken)) new bytes was left = Takes old taken new bytes was left
+IsNext old (Ok None) new bytes was left = ItemsFrom old.line bytes [] × IsTrue new.ended × (IsTrue old.ended ⊎ OnSome was (IsAtEnd left))
+IsNext old (Err error) new bytes was left = ⊤

@@ -1,0 +1,11 @@
+//! The items of a script that comes from a reader, taken one by one as they come. `docs/SCRIPT.md` describes
+//! the language.
+#![tactic(auto)]
+
+mod body;
+mod item;
+mod line;
+mod stream;
+
+pub use item::{StreamError, StreamItem, Taken};
+pub use stream::ItemStream;

@@ -1,0 +1,225 @@
+//! The stream of items.
+
+ghost use Rattle.std.specs.Prelude.{◌≡◌, ◌+◌, ◌<◌, ◌^◌, List, [], ◌∷◌, ℕ, Ok, Some, None, true, false, length, is_none, unwrap_or, OnErr, IfOk, IfSome, IsFalse};
+ghost use Rattle.std.specs.Io.KnownBytes.{Consumes};
+ghost use Rattle.script.specs.Items.{numbered, put, IsLine, IsPutLine, ItemsFrom, is_blank};
+ghost use Rattle.script.specs.Reading.{shown_item};
+ghost use Rattle.stream.specs.Stream.{Place, place, IsNext, Shows};
+ghost use Rattle.stream.specs.Private.Bytes.{Holds};
+ghost use Rattle.stream.specs.Private.Taking.{TakesItem};
+
+use crate::body::{Body, Closing, close, take_bytes};
+use crate::item::{StreamError, StreamItem, Taken};
+use crate::line::next_line;
+use script::{Item, Line, read_line};
+use std::alloc::Global;
+use std::io::BufRead;
+use std::marker::Model;
+
+/// A text of more bytes than this is let go before the next line is read.
+const KEPT_TEXT: usize = 65_536;
+
+/// Where the reading of an input stands.
+#[derive(Debug, Drop)]
+pub struct ItemStream {
+    alloc: Global,
+    line: u32,
+    ended: bool,
+}
+
+impl Model for ItemStream {
+    ghost use Rattle.stream.specs.Stream.{Place, place};
+
+    ghost Value = { Place };
+
+    ghost view = { λ s. place s.line s.ended };
+}
+
+impl ItemStream {
+    /// Before the first byte of an input. The first line has the number 1.
+    pub fn new(alloc: Global) -> ItemStream
+        ensures { result ≡ place 1 false }
+    {
+        ItemStream {
+            alloc,
+            line: 1,
+            ended: false,
+        }
+    }
+
+    /// Takes the next item from the input, and waits for no byte behind the item's last one. This is the line
+    /// feed of its line, or the byte after a put's body. Empty lines and comments are skipped.
+    ///
+    /// All calls on a stream are given the same input. `text` is changed: the item's name and texts lie in it.
+    ///
+    /// `None` means that the input's end was met, or that the reading had ended before: at an item of which
+    /// `Taken::ended` says so, or at an error.
+    ///
+    /// # Errors
+    ///
+    /// `StreamError` tells them. Reads that are interrupted are tried again.
+    pub fn next_item<'t, I: BufRead>(
+        &mut self,
+        input: &mut I,
+        text: &'t mut Vec<u8>,
+    ) -> Result<Option<Taken<'t>>, StreamError>
+        ensures taken { (bytes : List ℕ) × Consumes (I.remaining input.old) (I.remaining input.new) bytes
+            × IsNext self.old result self.new bytes (I.remaining input.old) (I.remaining input.new) }
+        ensures over { self.old.ended ≡ true → (result ≡ Ok None) × (input.new ≡ input.old) }
+        ensures failed { OnErr result (self.new.ended ≡ true) }
+    {
+        if self.ended {
+            return Ok(None);
+        }
+        self.ended = true;
+        renew(self.alloc, text);
+        let start = match next_line(input, self.line, text) {
+            Ok(Some(start)) => start,
+            Ok(None) => return Ok(None),
+            Err(error) => return Err(error),
+        };
+        if !start.closed {
+            return Ok(Some(Taken {
+                line: start.line,
+                item: StreamItem::Other(last_item(text.as_slice())),
+                ended: true,
+            }));
+        }
+        match take_item(self.alloc, input, start.line, text.as_slice()) {
+            Ok(step) => {
+                self.go_on(step.next);
+                Ok(Some(Taken {
+                    line: start.line,
+                    item: step.item,
+                    ended: step.next.is_none(),
+                }))
+            }
+            Err(error) => Err(error),
+        }
+    }
+
+    /// Goes on with the line of this number, if there is one.
+    fn go_on(&mut self, next: Option<u32>)
+        requires { self.old.ended ≡ true }
+        ensures { self.new ≡ place (unwrap_or next self.old.line) (is_none next) }
+    {
+        if let Some(line) = next {
+            self.line = line;
+            self.ended = false;
+        }
+    }
+}
+
+/// Lets the memory of a long text go.
+fn renew(alloc: Global, text: &mut Vec<u8>) {
+    if text.capacity() > KEPT_TEXT {
+        *text = Vec::new(alloc);
+    }
+}
+
+/// The item of a line that the input's end closes.
+fn last_item(line: &[u8]) -> Item<'_>
+    requires is_line { IsLine line.now }
+    requires not_blank { IsFalse (is_blank line.now) }
+    ensures { (number : ℕ) → ItemsFrom number line.now (numbered number (shown_item result) ∷ []) }
+{
+    match read_line(line) {
+        Line::Blank => unreachable!(),
+        Line::Put { name: _, size: _ } => Item::Truncated,
+        Line::BadPut => Item::BadPut,
+        Line::Other(item) => item,
+    }
+}
+
+/// An item, and the number of the line after it. There is none if the reading ends with the item.
+#[derive(Debug, Drop)]
+struct Step<'t> {
+    item: StreamItem<'t>,
+    next: Option<u32>,
+}
+
+/// The item of a line that a line feed closed, with a put's bytes.
+fn take_item<'t, I: BufRead>(
+    alloc: Global,
+    input: &mut I,
+    number: u32,
+    line: &'t [u8],
+) -> Result<Step<'t>, StreamError>
+    requires is_line { IsLine line.now }
+    requires not_blank { IsFalse (is_blank line.now) }
+    ensures { (bytes : List ℕ) × Consumes (I.remaining input.old) (I.remaining input.new) bytes
+        × TakesItem number line.now result bytes (I.remaining input.old) (I.remaining input.new) }
+{
+    match read_line(line) {
+        Line::Blank => unreachable!(),
+        Line::Put { name, size } => take_put(alloc, input, number, name, size),
+        Line::BadPut => Ok(Step {
+            item: StreamItem::Other(Item::BadPut),
+            next: None,
+        }),
+        Line::Other(item) => go_on_after(StreamItem::Other(item), number, 1),
+    }
+}
+
+/// An item after which so many lines more are counted.
+fn go_on_after(item: StreamItem<'_>, number: u32, lines: usize) -> Result<Step<'_>, StreamError>
+    ensures { IfOk result (λ step. (step.item ≡ item.entry) × (step.next ≡ Some (number + lines)) × (number + lines < 2 ^ 32)) }
+{
+    match number_after(number, lines) {
+        Some(next) => Ok(Step {
+            item,
+            next: Some(next),
+        }),
+        None => Err(StreamError::TooManyLines),
+    }
+}
+
+fn number_after(number: u32, lines: usize) -> Option<u32>
+    ensures { IfSome result (λ next. (next ≡ number + lines) × (next < 2 ^ 32)) }
+{
+    if lines > u32::MAX as usize {
+        return None;
+    }
+    number.checked_add(lines as u32)
+}
+
+/// Takes the bytes of a put and the byte after them.
+fn take_put<'t, I: BufRead>(
+    alloc: Global,
+    input: &mut I,
+    number: u32,
+    name: &'t [u8],
+    size: usize,
+) -> Result<Step<'t>, StreamError>
+    ensures { (bytes : List ℕ) × Consumes (I.remaining input.old) (I.remaining input.new) bytes
+        × ((line : List ℕ) → IsPutLine line name.now size → TakesItem number line result bytes (I.remaining input.old) (I.remaining input.new)) }
+{
+    let put = take_bytes(alloc, input, size)?;
+    if put.passed.count < size {
+        return Ok(Step {
+            item: StreamItem::Other(Item::Truncated),
+            next: None,
+        });
+    }
+    let lines = put.passed.line_feeds.saturating_add(2);
+    let item = put_item(name, put.body);
+    let closing = close(input)?;
+    match closing {
+        Closing::LineFeed => go_on_after(item, number, lines),
+        Closing::InputEnd => Ok(Step { item, next: None }),
+        Closing::OtherByte => Ok(Step {
+            item: StreamItem::Other(Item::BodyNotClosed),
+            next: None,
+        }),
+    }
+}
+
+fn put_item(name: &[u8], body: Body) -> StreamItem<'_>
+    ensures { (size : ℕ) (bytes : List ℕ) → Holds body size bytes → length bytes ≡ size → Shows result (put name.now bytes) }
+{
+    match body {
+        Body::Kept(body) => StreamItem::Put { name, body },
+        Body::Long => StreamItem::LongPut { name },
+        Body::Lost => StreamItem::LostPut { name },
+    }
+}

@@ -1,0 +1,472 @@
+#!/usr/bin/env python3
+"""Talks to sessions of the built program (--live) as clients do, and checks what they write, and when.
+
+A client here waits for each answer before it sends what follows. An answer that waited for a byte behind its item would
+never come, and shows as a time that runs out. What has to come is written by hand, or is what a run writes for the same
+script, which tests/run.py and tests/check_transcripts.py check.
+
+Usage: tests/live.py [NAME..]   The last line counts: N passed, M failed.
+"""
+
+import collections
+import concurrent.futures
+import fcntl
+import os
+import pathlib
+import select
+import struct
+import subprocess
+import sys
+import tempfile
+import termios
+import threading
+import time
+
+import transcripts
+from changed_scripts import Files
+
+TOP = pathlib.Path(__file__).resolve().parent.parent
+PROGRAM = TOP / "crates/program/out/program"
+CLIENT = TOP / "examples/live_folder.py"
+EXAMPLES = sorted((TOP / "examples").glob("*.script"))
+SECONDS = 60
+# How long nothing has to come until a test takes it that nothing comes.
+QUIET = 0.05
+REPLACEMENTS = 20_000
+MEBIBYTE = 1_048_576
+
+# Items, each with the text that it causes.
+TALK = [
+    (b"put a.txt 11\nhello world\n", b""),
+    (b"search o w\n", b"search 1 version 0 lines 0\n"),
+    (b"publish\n", b""),
+    (b"search o w\n", b"search 2 version 1 lines 1\na.txt:1:hello world\n"),
+    (b"remove b.txt\n", b"line 6 refused: no such file\n"),
+    (b"search (\n", b"search 3 refused: group not closed at 0\n"),
+    (b"# a remark\n", b""),
+    (b"\n", b""),
+    (b"what\n", b"line 10 refused: bad line\n"),
+    (b"put b.txt 3\nx\0y\n", b"line 11 refused: byte 0 in body\n"),
+    (b"put b:1.txt 6\nx\ny\n:z\n", b""),
+    (b"sync\n", b""),
+    (b"publish\n", b""),
+    (b"searchin ^b ^[^y]\n", b"search 4 version 2 lines 2\nb:1.txt:1:x\nb:1.txt:3::z\n"),
+    (b"load c nothing/here\n", b"line 20 refused: cannot load\n"),
+    (b"put c 0\n\n", b""),
+    (b"remove a.txt\n", b""),
+    (b"publish\n", b""),
+    (b"search .\n", b"search 5 version 4 lines 3\nb:1.txt:1:x\nb:1.txt:2:y\nb:1.txt:3::z\n"),
+    (b"searchin a (\n", b"search 6 refused: group not closed at 0\n"),
+    (b"search\n", b"search 7 version 4 lines 3\nb:1.txt:1:x\nb:1.txt:2:y\nb:1.txt:3::z\n"),
+]
+TALK_SCRIPT = b"".join(item for item, _ in TALK)
+TALK_PATTERNS = {b"(": "group not closed at 0"}
+
+
+class Wrong(Exception):
+    """A session did something else than it should."""
+
+
+class Session:
+    """A session of the program, whose output is read with a limit of time. It is ended with the block that uses it."""
+
+    def __init__(self, *words, program=None):
+        pipe = subprocess.PIPE
+        command = program or [str(PROGRAM), "--live"]
+        self.process = subprocess.Popen([*command, *words], cwd=TOP, stdin=pipe, stdout=pipe, stderr=pipe, bufsize=0)
+        self.pid = self.process.pid
+        self.input, self.output = self.process.stdin.fileno(), self.process.stdout.fileno()
+        os.set_blocking(self.input, False)
+        self.lines, self.begun = collections.deque(), b""
+
+    def __enter__(self):
+        return self
+
+    def __exit__(self, *_):
+        self.process.kill()
+        self.process.wait()
+        for stream in (self.process.stdin, self.process.stdout, self.process.stderr):
+            stream.close()
+
+    def send(self, data):
+        data = memoryview(data)
+        while data:
+            if not select.select([], [self.input], [], SECONDS)[1]:
+                raise Wrong(f"no input was taken in {SECONDS} seconds")
+            data = data[os.write(self.input, data) :]
+
+    def send_byte(self, byte):
+        """Sends a byte once the session has taken all that was sent before it."""
+        self.send(byte)
+        end = time.monotonic() + SECONDS
+        while struct.unpack("i", fcntl.ioctl(self.input, termios.FIONREAD, b"\0" * 4))[0] and self.process.poll() is None:
+            if time.monotonic() > end:
+                raise Wrong(f"a byte was not taken in {SECONDS} seconds")
+
+    def read(self, most=65_536):
+        if not select.select([self.output], [], [], SECONDS)[0]:
+            raise Wrong(f"nothing was written in {SECONDS} seconds")
+        return os.read(self.output, most)
+
+    def read_line(self):
+        while not self.lines:
+            text = self.read()
+            if not text:
+                raise Wrong(f"the output ended: {self.process.stderr.read()!r}")
+            *whole, self.begun = (self.begun + text).split(b"\n")
+            self.lines.extend(line + b"\n" for line in whole)
+        return self.lines.popleft()
+
+    def expect(self, wanted):
+        """Reads as many lines as a text has. They have to be the text."""
+        same("the text", b"".join(self.read_line() for _ in range(wanted.count(b"\n"))), wanted)
+
+    def expect_quiet(self):
+        if self.lines or self.begun or select.select([self.output], [], [], QUIET)[0]:
+            raise Wrong("text was written too early")
+
+    def ask(self, item, wanted):
+        self.send(item)
+        self.expect(wanted)
+
+    def search(self, pattern):
+        """Searches as a client does that knows only what the page on scripts says, and gives the whole answer."""
+        self.send(b"search %s\n" % pattern)
+        head = self.read_line()
+        return head + b"".join(self.read_line() for _ in range(int(head.split()[5])))
+
+    def end(self, status, messages=b"", close=True):
+        """Closes the input, and compares what is left of the output, the messages and the status."""
+        if close:
+            self.process.stdin.close()
+        try:
+            got = self.process.wait(SECONDS)
+        except subprocess.TimeoutExpired:
+            raise Wrong(f"did not end in {SECONDS} seconds") from None
+        left = b"".join(self.lines) + self.begun
+        same("what is left of the output", left if self.process.stdout.closed else left + self.process.stdout.read(), b"")
+        same("standard error", self.process.stderr.read(), messages)
+        same("the status", got, status)
+
+    def memory(self, name):
+        """A number of bytes from the system's words on the process: VmRSS is what it has, VmHWM the most that it had."""
+        words = pathlib.Path(f"/proc/{self.pid}/status").read_text().split(f"{name}:")[1].split()
+        return int(words[0]) * 1024
+
+
+def same(what, got, wanted):
+    if got != wanted:
+        raise Wrong(f"{what}: {str(got)[:2000]}, and should be {str(wanted)[:2000]}")
+
+
+def run(words, script):
+    done = subprocess.run([str(PROGRAM), *words], cwd=TOP, input=script, capture_output=True, check=False, timeout=SECONDS)
+    return done.returncode, done.stdout, done.stderr
+
+
+def client_that_waits_for_each_answer():
+    with Session() as session:
+        for item, wanted in TALK:
+            session.ask(item, wanted)
+        session.end(2)
+    with Session("--stats") as session:
+        session.ask(b"put a 3\nabc\npublish\nsearch b\n", b"search 1 version 1 lines 1 candidates 1 of 1\na:1:abc\n")
+        session.ask(b"search abd\n", b"search 2 version 1 lines 0 candidates 0 of 1\n")
+        session.end(0)
+    with Session("--max-commands", "1") as session:
+        session.ask(b"put a 1\nx\nput b 1\nx\n", b"line 3 refused: full\n")
+        session.end(2)
+    with Session() as session:
+        session.ask(b"search x\n", b"search 1 version 0 lines 0\n")
+        session.end(1)
+
+
+def nothing_comes_before_an_item_is_whole():
+    with Session() as session:
+        for begin, end, wanted in [
+            (b"search x", b"\n", b"search 1 version 0 lines 0\n"),
+            (b"put a 3\nx\0y", b"\n", b"line 2 refused: byte 0 in body\n"),
+            (b"put a 7\nbox\n", b"boy\n", b""),
+            (b"publish\nsearch bo[xy", b"]\n", b"search 2 version 1 lines 2\na:1:box\na:2:boy\n"),
+        ]:
+            session.send(begin)
+            session.expect_quiet()
+            session.ask(end, wanted)
+        session.end(2)
+
+
+def bytes_one_by_one():
+    with Session() as session:
+        for item, wanted in TALK:
+            for byte in item:
+                session.send_byte(bytes([byte]))
+            session.expect(wanted)
+        body = b"".join(b"line %d\n" % number for number in range(300))
+        for byte in b"put d %d\n%s\npublish\n" % (len(body), body):
+            session.send_byte(bytes([byte]))
+        session.ask(b"search ^line 2?7$\n", b"search 8 version 5 lines 2\nd:8:line 7\nd:28:line 27\n")
+        session.end(2)
+
+
+def faults_end_a_session_whose_input_is_open():
+    for begin, last, wanted in [
+        (b"put a 1", b"\n", None),
+        (b"put", b"\n", b"line 2 refused: bad put\n"),
+        (b"put a", b"\n", b"line 2 refused: bad put\n"),
+        (b"put a 3\nabc", b"d", b"line 2 refused: body not closed\n"),
+    ]:
+        with Session() as session:
+            session.send(b"\n" + begin)
+            session.expect_quiet()
+            session.send(last)
+            if wanted is None:
+                session.expect_quiet()
+                session.process.stdin.close()
+                session.expect(b"line 2 refused: truncated\n")
+                session.end(2)
+            else:
+                session.expect(wanted)
+                session.end(2, close=False)
+
+
+def check_cut(script, patterns, cut):
+    """A session of the beginning of a script has to write what a run of it does, and that has to be legal."""
+    begin = script[:cut]
+    status, text, messages = run(["--live"], begin)
+    same(f"messages, cut at {cut}", messages, b"")
+    same(f"text and status, cut at {cut}", (text, status), run(["--readers", "0"], begin)[1::-1])
+    if status not in (0, 1, 2):
+        raise Wrong(f"cut at {cut}, the status is {status}")
+    try:
+        fault = transcripts.fault_of(begin, text, status, readers=0, max_commands=1_000_000, files=Files(), table=patterns)
+    except transcripts.NotPlain:
+        return
+    if fault:
+        raise Wrong(f"cut at {cut}, {fault}")
+
+
+def input_cut_at_every_byte():
+    scripts = [(path.read_bytes(), {}) for path in EXAMPLES] + [(TALK_SCRIPT, TALK_PATTERNS)]
+    with concurrent.futures.ThreadPoolExecutor(os.cpu_count()) as pool:
+        jobs = [pool.submit(check_cut, script, patterns, cut) for script, patterns in scripts for cut in range(len(script) + 1)]
+        for job in jobs:
+            job.result()
+
+
+def replacements_leave_memory_level():
+    with Session() as session:
+        filler = b"".join(b"of no use %d\n" % number for number in range(300))
+        for number in range(1, REPLACEMENTS + 1):
+            body = filler + b"text %d\n" % number
+            session.ask(
+                b"put f %d\n%s\npublish\nsearch ^text %d$\n" % (len(body), body, number),
+                b"search %d version %d lines 1\nf:301:text %d\n" % (number, number, number),
+            )
+            if number == REPLACEMENTS // 10:
+                early = session.memory("VmRSS")
+        late = session.memory("VmRSS")
+        if late - early > 2 * MEBIBYTE:
+            raise Wrong(f"{early} bytes after {REPLACEMENTS // 10} replacements, and {late} after {REPLACEMENTS}")
+        session.end(0)
+
+
+def client_that_reads_slowly():
+    lines = [b"%015d\n" % number for number in range(MEBIBYTE // 16)]
+    wanted = b"search 1 version 1 lines %d\n" % len(lines) + b"".join(b"big:%d:%s" % pair for pair in enumerate(lines, 1))
+    with Session() as session:
+        session.send(b"put big %d\n%s\npublish\nsearch .\n" % (MEBIBYTE, b"".join(lines)))
+        time.sleep(0.3)
+        text = b""
+        while len(text) < len(wanted):
+            text += session.read(2_000)
+            if len(text) % 7 == 0:
+                time.sleep(0.01)
+        same("the slow answer", text, wanted)
+        session.ask(b"search ^0*5$\n", b"search 2 version 1 lines 1\nbig:6:000000000000005\n")
+        session.end(0)
+
+
+def client_that_goes_away():
+    with Session() as session:
+        session.send(b"put a 1\nx\npublish\n")
+        session.process.stdout.close()
+        session.send(b"search x\n")
+        # the input is still open
+        session.end(2, b"tsearch: cannot write\n", close=False)
+    with Session() as session:
+        body = b"x\n" * 100_000
+        session.send(b"put a %d\n%s\npublish\nsearch x\n" % (len(body), body))
+        session.read(1_000)
+        session.process.stdout.close()
+        session.end(2, b"tsearch: cannot write\n", close=False)
+    with Session() as session:
+        session.process.stdout.close()
+        session.send(b"what\n")
+        session.end(2, b"tsearch: cannot write\n", close=False)
+
+
+def session_from_a_fifo():
+    with tempfile.TemporaryDirectory() as folder:
+        path = os.path.join(folder, "fifo")
+        os.mkfifo(path)
+        with Session(path) as session:
+            # A FIFO that is opened to be written to waits for the one that reads. So this one reads too.
+            fifo = os.open(path, os.O_RDWR)
+            session.process.stdin.close()
+            try:
+                for item, wanted in TALK:
+                    os.write(fifo, item)
+                    session.expect(wanted)
+            finally:
+                os.close(fifo)
+            session.end(2)
+
+
+def options_of_a_session():
+    with Session("--readers", "2") as session:
+        begin = b"error: the argument '--readers <N>' cannot be used with '--live' unless N is 0"
+        session.send(b"search x\n")
+        same("the status", session.process.wait(SECONDS), 2)
+        same("the output", session.process.stdout.read(), b"")
+        same("the message", session.process.stderr.read()[: len(begin)], begin)
+    with Session("--readers", "0") as session:
+        session.ask(b"search x\n", b"search 1 version 0 lines 0\n")
+        session.end(1)
+    with Session("nothing/here") as session:
+        session.end(2, b"tsearch: cannot read the script\n")
+    with Session(".") as session:
+        session.end(2, b"tsearch: cannot read the script\n")
+
+
+def input_longer_than_a_script():
+    """Remarks and texts that are too long are passed over without being kept, and the numbers of lines go on."""
+    with Session() as session:
+        remark = b"#" * (MEBIBYTE - 1) + b"\n"
+        for _ in range(70):
+            session.send(remark)
+        session.send(b"put a 1\nx\npublish\n")
+        session.ask(b"search x\n", b"search 1 version 1 lines 1\na:1:x\n")
+        session.send(b"put a 100000000\n")
+        for _ in range(100):
+            session.send(b"y" * 999_999 + b"\n")
+        session.ask(b"\n", b"line 75 refused: body too long\n")
+        session.ask(b"what\n", b"line 177 refused: bad line\n")
+        session.ask(b"publish\nsearch .\n", b"search 2 version 1 lines 1\na:1:x\n")
+        most = session.memory("VmHWM")
+        if most > 16 * MEBIBYTE:
+            raise Wrong(f"the session has taken {most} bytes")
+        session.end(2)
+
+
+def line_longer_than_any():
+    with Session() as session:
+        session.ask(b"search x\n", b"search 1 version 0 lines 0\n")
+        with_room = b"search " + b"x" * (64 * MEBIBYTE)
+        threading.Thread(target=send_all, args=(session, with_room), daemon=True).start()
+        session.end(2, b"tsearch: line too long\n", close=False)
+
+
+def send_all(session, data):
+    try:
+        session.send(data)
+    except (OSError, ValueError, Wrong):
+        pass  # the session ends before it takes all
+
+
+def read_to_prompt(session):
+    text = b""
+    while not text.endswith(b"> "):
+        more = session.read()
+        if not more:
+            raise Wrong(f"the client ended: {session.process.stderr.read()!r}")
+        text += more
+    return text[:-2]
+
+
+def client_of_a_folder():
+    with tempfile.TemporaryDirectory() as folder:
+        top = pathlib.Path(folder)
+        times = iter(range(1_000_000_000, 1_000_001_000))
+
+        def write(name, body):
+            path = top / os.fsdecode(name)
+            path.parent.mkdir(exist_ok=True)
+            path.write_bytes(body)
+            moment = next(times)
+            os.utime(path, (moment, moment))
+
+        write("a.txt", b"hello world\nbye\n")
+        write("sub/b c:d%.txt", b"say hello\n")
+        write(".git/index", b"hello\n")
+        write("feed\n.txt", b"one\nhello\n")
+        write("binary", b"hello\0\n")
+        write("long", b"hello\n" * 200_000)
+        write("wide", b"hello" * 4_000)
+        write("n" * 200 + " " * 50, b"hello\n")
+        os.symlink("a.txt", top / "link")
+        os.environ["TSEARCH"] = str(PROGRAM)
+        with Session(folder, program=[sys.executable, str(CLIENT)]) as client:
+            def ask(pattern, wanted):
+                client.send(pattern + b"\n")
+                same(f"the answer to {pattern!r}", sorted(read_to_prompt(client).splitlines(True)), sorted(wanted))
+
+            same("what is shown first", read_to_prompt(client), b"")
+            left_out = [b"left out: binary: binary\n", b"left out: long: body too long\n", b"left out: wide: line too long\n"]
+            left_out.append(b"left out: %s%s: name too long\n" % (b"n" * 200, b"%20" * 50))
+            found = [b"a.txt:1:hello world\n", b"sub/b c:d%.txt:1:say hello\n", b"feed\n", b".txt:2:hello\n"]
+            ask(b"hello", left_out + found)
+            ask(b"^b", [b"a.txt:2:bye\n"])
+            ask(b"(", [b"search 3 refused: group not closed at 0\n"])
+            write("a.txt", b"hello again\n")
+            (top / "feed\n.txt").unlink()
+            write("binary", b"hello, text\n")
+            ask(b"hello", [b"a.txt:1:hello again\n", b"binary:1:hello, text\n", b"sub/b c:d%.txt:1:say hello\n"])
+            # the old text is not found where the new one is left out
+            write("a.txt", b"hello\0\n")
+            ask(b"hello", [b"left out: a.txt: binary\n", b"binary:1:hello, text\n", b"sub/b c:d%.txt:1:say hello\n"])
+            write("a.txt", b"well\n")
+            ask(b"^[a-z]*$", [b"a.txt:1:well\n"])
+            client.end(0)
+
+
+TESTS = [
+    client_that_waits_for_each_answer,
+    nothing_comes_before_an_item_is_whole,
+    bytes_one_by_one,
+    faults_end_a_session_whose_input_is_open,
+    input_cut_at_every_byte,
+    replacements_leave_memory_level,
+    client_that_reads_slowly,
+    client_that_goes_away,
+    session_from_a_fifo,
+    options_of_a_session,
+    input_longer_than_a_script,
+    line_longer_than_any,
+    client_of_a_folder,
+]
+
+
+def main():
+    if not PROGRAM.exists():
+        sys.exit("tests/live.py: build the program first: ./tsearch --help")
+    wanted = sys.argv[1:]
+    missing = sorted(set(wanted) - {test.__name__ for test in TESTS})
+    if missing:
+        sys.exit(f"tests/live.py: no such test: {', '.join(missing)}")
+    passed = failed = 0
+    for test in TESTS:
+        if wanted and test.__name__ not in wanted:
+            continue
+        try:
+            test()
+        except (Wrong, OSError, IndexError, ValueError) as wrong:
+            failed += 1
+            print(f"FAILED {test.__name__}: {wrong!r}")
+        else:
+            passed += 1
+    print(f"{passed} passed, {failed} failed")
+    sys.exit(1 if failed else 0)
+
+
+if __name__ == "__main__":
+    main()
