@@ -1,5 +1,6 @@
 -- What a parse gives of an option that takes a number.
-use Rattle.std.proofs.Common.{◌≡◌, ◌⊎◌, ◌∙◌, ◌<◌, ◌≤◌, ap, ℕ, true, List, [], ◌∷◌, length, Option, Some, None, refl, sym, subst, inl, inr, arith, ◌^◌, zero, suc, codes}
+use Rattle.std.proofs.Common.{◌≡◌, ◌⊎◌, ◌∙◌, ◌<◌, ◌≤◌, ap, ℕ, true, List, [], ◌∷◌, length, Option, Some, None, refl, sym, subst, inl, inr}
+use Rattle.std.proofs.Common.{arith, ◌^◌, zero, suc, codes}
 use Rattle.std.specs.List.{All, slice_index_or}
 use Rattle.std.specs.Str.{bytes_eq}
 use Rattle.std.specs.Prelude.{pos, Result}
@@ -159,4 +160,5 @@ readers_option c options =
 
 pub max_commands_option : (c : Command) → HasOptions c → IsOption c 2 (codes "max-commands")
 max_commands_option c options =
-    option_at c options 2 (omega arith) (codes "max-commands") refl max_commands_alone (λ e. absurd (omega arith)) (λ e. absurd (omega arith)) (λ e. absurd (omega arith))
+    option_at c options 2 (omega arith) (codes "max-commands") refl max_commands_alone (λ e. absurd (omega arith))
+    (λ e. absurd (omega arith)) (λ e. absurd (omega arith))

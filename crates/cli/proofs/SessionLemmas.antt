@@ -11,7 +11,8 @@ use Rattle.clap.specs.Values.{kind_of}
 use Rattle.clap.specs.declared.error.Error.{Error}
 use Rattle.clap.specs.declared.error.kind.ErrorKind.{ErrorKind}
 use Rattle.clap.specs.declared.error.kind.ErrorKind.TheVariants.{ArgumentConflict}
-use Rattle.cli.specs.CommandLine.{IsInLimits, IsSettingsIn, SpellSettings, command_line, faults_of, found_in, default_max_commands, default_readers, is_set, number_or, session_faults}
+use Rattle.cli.specs.CommandLine.{IsInLimits, IsSettingsIn, SpellSettings, command_line, faults_of, found_in, default_max_commands}
+use Rattle.cli.specs.CommandLine.{default_readers, is_set, number_or, session_faults}
 use Rattle.cli.specs.declared.arguments.Settings.{Settings}
 
 pub at_most_16 : (live : Bool) (n : ℕ) → n ≡ default_readers live → n ≤ 16

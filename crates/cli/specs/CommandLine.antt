@@ -1,5 +1,6 @@
 -- The command line `tsearch [--readers N] [--stats] [--max-commands N] [--live] [FILE]`, and what arguments ask for by it.
-use Rattle.std.specs.Prelude.{◌≡◌, ◌≢◌, ◌≤◌, ◌<◌, ◌↔◌, ◌==◌, ◌&&◌, if◌then◌else◌, not, ℕ, Bool, List, [], ◌∷◌, Option, Some, None, true, false, codes, option_map, pos, ⊤}
+use Rattle.std.specs.Prelude.{◌≡◌, ◌≢◌, ◌≤◌, ◌<◌, ◌↔◌, ◌==◌, ◌&&◌, if◌then◌else◌, not, ℕ, Bool, List, [], ◌∷◌, Option, Some, None, true}
+use Rattle.std.specs.Prelude.{false, codes, option_map, pos, ⊤}
 use Rattle.std.specs.Str.{bytes_eq}
 use Rattle.std.specs.Str.Parse.{digits_value, without_leading_plus}
 use Rattle.clap.specs.Kinds.{IsAmong, Kinds, or_else}

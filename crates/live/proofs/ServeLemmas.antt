@@ -1,5 +1,6 @@
 -- A session goes on from item to item, and ends.
-use Rattle.std.proofs.Common.{◌≡◌, ℕ, ◌+◌, ◌<◌, ◌⊎◌, inl, inr, Bool, true, false, not, List, [], ◌∷◌, ◌++◌, Option, Some, None, Result, Ok, Err, refl, sym, ap, ◌∙◌, subst, append_assoc, append-nil, length}
+use Rattle.std.proofs.Common.{◌≡◌, ℕ, ◌+◌, ◌<◌, ◌⊎◌, inl, inr, Bool, true, false, not, List, [], ◌∷◌, ◌++◌, Option, Some, None, Result, Ok}
+use Rattle.std.proofs.Common.{Err, refl, sym, ap, ◌∙◌, subst, append_assoc, append-nil, length}
 use Rattle.std.specs.Prelude.{OnSome, OnErr, IsErr, IsTrue, ◌||◌, flat_map}
 use Rattle.std.specs.List.{list_any}
 use Rattle.std.specs.Io.KnownBytes.{Appends, Consumes, IsAtEnd}
@@ -31,20 +32,33 @@ use Rattle.live.specs.Private.Serving.{marks_with, marks_of, status_by, Start, N
 
 -- An item that was taken, and then carried out.
 module _ (Holds : List ℕ → List ℕ → Type 0) (old : LoneState) (failed : ℕ) (name : List ℕ) (line : ℕ) (item : Item) (entry : Entry) where
-  pub shown_put : (body : List ℕ) (new : LoneState) → item ≡ put name body → IsPutOn old name body line entry new → GoesOn Holds old failed (numbered line item) (Some entry) new failed
-  shown_put body new is carried = subst (λ i. GoesOn Holds old failed (numbered line i) (Some entry) new failed) (sym is) (put_goes_on Holds old failed name body line entry new carried)
+  pub shown_put : (body : List ℕ) (new : LoneState) → item ≡ put name body → IsPutOn old name body line entry new
+      → GoesOn Holds old failed (numbered line item) (Some entry) new failed
+  shown_put body new is carried =
+      subst (λ i. GoesOn Holds old failed (numbered line i) (Some entry) new failed) (sym is)
+      (put_goes_on Holds old failed name body line entry new carried)
 
-  pub shown_long : (body : List ℕ) × (item ≡ put name body) × (greatest_body < length body) → ((state : LoneState) (body : List ℕ) → greatest_body < length body → IsPutOn state name body line entry state) → GoesOn Holds old failed (numbered line item) (Some entry) old failed
+  pub shown_long : (body : List ℕ) × (item ≡ put name body) × (greatest_body < length body)
+      → ((state : LoneState) (body : List ℕ) → greatest_body < length body → IsPutOn state name body line entry state)
+      → GoesOn Holds old failed (numbered line item) (Some entry) old failed
   shown_long shows carried = shown_put shows.0 old shows.1 (carried old shows.0 shows.2)
 
-  pub shown_lost : (body : List ℕ) × (item ≡ put name body) → ((state : LoneState) (body : List ℕ) → IsPutOn state name body line entry state) → GoesOn Holds old failed (numbered line item) (Some entry) old failed
+  pub shown_lost : (body : List ℕ) × (item ≡ put name body)
+      → ((state : LoneState) (body : List ℕ) → IsPutOn state name body line entry state)
+      → GoesOn Holds old failed (numbered line item) (Some entry) old failed
   shown_lost shows carried = shown_put shows.0 old shows.1 (carried old shows.0)
 
-pub shown_other : (Holds : List ℕ → List ℕ → Type 0) (old : LoneState) (failed line : ℕ) (item other : Item) (entry : Option Entry) (new : LoneState) (failed' : ℕ) → item ≡ other → GoesOn Holds old failed (numbered line other) entry new failed' → GoesOn Holds old failed (numbered line item) entry new failed'
-shown_other Holds old failed line item other entry new failed' is goes_on = subst (λ i. GoesOn Holds old failed (numbered line i) entry new failed') (sym is) goes_on
+pub shown_other : (Holds : List ℕ → List ℕ → Type 0) (old : LoneState) (failed line : ℕ) (item other : Item) (entry : Option Entry)
+    (new : LoneState) (failed' : ℕ) → item ≡ other → GoesOn Holds old failed (numbered line other) entry new failed'
+    → GoesOn Holds old failed (numbered line item) entry new failed'
+shown_other Holds old failed line item other entry new failed' is goes_on =
+    subst (λ i. GoesOn Holds old failed (numbered line i) entry new failed') (sym is) goes_on
 
 -- A session before its first item.
-pub serving_begins : (Holds : List ℕ → List ℕ → Type 0) (stats : Bool) (limit failed : ℕ) (input output : Option (List ℕ)) (run : LoneState) (place : Place) (marks : Marks) → run ≡ first_state limit → place ≡ stream.place 1 false → marks ≡ marks_of [] → IsServing Holds stats (record { limit = limit; failed = failed; input = input; output = output }) (now run place marks failed input output)
+pub serving_begins : (Holds : List ℕ → List ℕ → Type 0) (stats : Bool) (limit failed : ℕ) (input output : Option (List ℕ)) (run : LoneState)
+    (place : Place) (marks : Marks) → run ≡ first_state limit → place ≡ stream.place 1 false → marks ≡ marks_of []
+    → IsServing Holds stats (record { limit = limit; failed = failed; input = input; output = output })
+    (now run place marks failed input output)
 serving_begins Holds stats limit failed input output run place marks fresh first is = rw (fresh, first) (record {
   script = [];
   rows = [];
@@ -58,7 +72,8 @@ serving_begins Holds stats limit failed input output run place marks fresh first
 })
 
 -- A source that held no more later.
-pub serving_held : (Holds Holds' : List ℕ → List ℕ → Type 0) → ((path body : List ℕ) → Holds' path body → Holds path body) → (stats : Bool) (start : Start) (at : Now) → IsServing Holds' stats start at → IsServing Holds stats start at
+pub serving_held : (Holds Holds' : List ℕ → List ℕ → Type 0) → ((path body : List ℕ) → Holds' path body → Holds path body)
+    → (stats : Bool) (start : Start) (at : Now) → IsServing Holds' stats start at → IsServing Holds stats start at
 serving_held Holds Holds' holds stats start at is = record {
   script = is.script;
   rows = is.rows;
@@ -71,7 +86,8 @@ serving_held Holds Holds' holds stats start at is = record {
   more = is.more;
 }
 
-done_held : (Holds Holds' : List ℕ → List ℕ → Type 0) → ((path body : List ℕ) → Holds' path body → Holds path body) → (stats : Bool) (start : Start) (at : Now) → IsDone Holds' stats start at → IsDone Holds stats start at
+done_held : (Holds Holds' : List ℕ → List ℕ → Type 0) → ((path body : List ℕ) → Holds' path body → Holds path body)
+    → (stats : Bool) (start : Start) (at : Now) → IsDone Holds' stats start at → IsDone Holds stats start at
 done_held Holds Holds' holds stats start at is = record {
   script = is.script;
   rows = is.rows;
@@ -84,7 +100,8 @@ done_held Holds Holds' holds stats start at is = record {
   over = is.over;
 }
 
-stopped_held : (Holds Holds' : List ℕ → List ℕ → Type 0) → ((path body : List ℕ) → Holds' path body → Holds path body) → (stats : Bool) (start : Start) (at : Now) → IsStopped Holds' stats start at → IsStopped Holds stats start at
+stopped_held : (Holds Holds' : List ℕ → List ℕ → Type 0) → ((path body : List ℕ) → Holds' path body → Holds path body)
+    → (stats : Bool) (start : Start) (at : Now) → IsStopped Holds' stats start at → IsStopped Holds stats start at
 stopped_held Holds Holds' holds stats start at is = record {
   script = is.script;
   others = is.others;
@@ -96,17 +113,26 @@ stopped_held Holds Holds' holds stats start at is = record {
   written = is.written;
 }
 
-advanced_held : (Holds Holds' : List ℕ → List ℕ → Type 0) → ((path body : List ℕ) → Holds' path body → Holds path body) → (stats : Bool) (start : Start) (result : Result Bool LiveError) (at : Now) → IsAdvanced Holds' stats start result at → IsAdvanced Holds stats start result at
+advanced_held : (Holds Holds' : List ℕ → List ℕ → Type 0) → ((path body : List ℕ) → Holds' path body → Holds path body)
+    → (stats : Bool) (start : Start) (result : Result Bool LiveError) (at : Now) → IsAdvanced Holds' stats start result at
+    → IsAdvanced Holds stats start result at
 advanced_held Holds Holds' holds stats start (Ok true) at is = serving_held Holds Holds' holds stats start at is
 advanced_held Holds Holds' holds stats start (Ok false) at is = done_held Holds Holds' holds stats start at is
 advanced_held Holds Holds' holds stats start (Err error) at is = stopped_held Holds Holds' holds stats start at is
 
 -- A step, where the source holds by then what it held at first.
-pub goes_on_from : (Holds Holds' : List ℕ → List ℕ → Type 0) → ((path body : List ℕ) → (Holds' path body → Holds path body) × (Holds path body → Holds' path body)) → (stats : Bool) (start : Start) (old : Now) (result : Result Bool LiveError) (new : Now) → IsServing Holds stats start old → ((other : Start) → IsServing Holds' stats other old → IsAdvanced Holds' stats other result new) → IsAdvanced Holds stats start result new
-goes_on_from Holds Holds' held stats start old result new serving step = advanced_held Holds Holds' (λ path body. (held path body).0) stats start result new (step start (serving_held Holds' Holds (λ path body. (held path body).1) stats start old serving))
+pub goes_on_from : (Holds Holds' : List ℕ → List ℕ → Type 0)
+    → ((path body : List ℕ) → (Holds' path body → Holds path body) × (Holds path body → Holds' path body))
+    → (stats : Bool) (start : Start) (old : Now) (result : Result Bool LiveError) (new : Now) → IsServing Holds stats start old
+    → ((other : Start) → IsServing Holds' stats other old → IsAdvanced Holds' stats other result new)
+    → IsAdvanced Holds stats start result new
+goes_on_from Holds Holds' held stats start old result new serving step =
+    advanced_held Holds Holds' (λ path body. (held path body).0) stats start result new
+    (step start (serving_held Holds' Holds (λ path body. (held path body).1) stats start old serving))
 
 -- The rows with one more.
-record HasPushed (Holds : List ℕ → List ℕ → Type 0) (failed : ℕ) (rows : List Row) (item : Numbered) (entry : Option Entry) (new : LoneState) (after : ℕ) : Type 0 where
+record HasPushed (Holds : List ℕ → List ℕ → Type 0) (failed : ℕ) (rows : List Row) (item : Numbered) (entry : Option Entry)
+    (new : LoneState) (after : ℕ) : Type 0 where
   pub row : Row
   pub is : row.entry ≡ entry
   pub numbered_is : row.numbered ≡ item
@@ -114,7 +140,9 @@ record HasPushed (Holds : List ℕ → List ℕ → Type 0) (failed : ℕ) (rows
   pub entries : entries_of (rows ++ row ∷ []) ≡ entries_of rows ++ list_of entry
   pub so_far : AreSoFar Holds failed new after (rows ++ row ∷ [])
 
-pushed : (Holds : List ℕ → List ℕ → Type 0) (failed : ℕ) (rows : List Row) (old : LoneState) (before : ℕ) (item : Numbered) (entry : Option Entry) (new : LoneState) (after : ℕ) → AreSoFar Holds failed old before rows → GoesOn Holds old before item entry new after → HasPushed Holds failed rows item entry new after
+pushed : (Holds : List ℕ → List ℕ → Type 0) (failed : ℕ) (rows : List Row) (old : LoneState) (before : ℕ) (item : Numbered)
+    (entry : Option Entry) (new : LoneState) (after : ℕ) → AreSoFar Holds failed old before rows
+    → GoesOn Holds old before item entry new after → HasPushed Holds failed rows item entry new after
 pushed Holds failed rows old before item entry new after are goes_on =
     let next = goes_on.by failed rows are in
     record {
@@ -122,7 +150,9 @@ pushed Holds failed rows old before item entry new after are goes_on =
       is = next.2;
       numbered_is = next.1;
       items = items_of-append rows (next.0 ∷ []) ∙ ap (λ n. items_of rows ++ n ∷ []) next.1;
-      entries = entries_of-append rows (next.0 ∷ []) ∙ ap (λ l. entries_of rows ++ l) (append-nil (list_of next.0.entry)) ∙ ap (λ e. entries_of rows ++ list_of e) next.2;
+      entries =
+          entries_of-append rows (next.0 ∷ []) ∙ ap (λ l. entries_of rows ++ l) (append-nil (list_of next.0.entry))
+          ∙ ap (λ e. entries_of rows ++ list_of e) next.2;
       so_far = next.3;
     }
 
@@ -130,8 +160,10 @@ one_text : (stats : Bool) (entry : Option Entry) → text_of_transcript stats (l
 one_text stats None = refl
 one_text stats (Some entry) = append-nil (text_of_entry stats entry)
 
-more_text : (stats : Bool) (entries : List Entry) (entry : Option Entry) → text_of_transcript stats (entries ++ list_of entry) ≡ text_of_transcript stats entries ++ text_of_shown stats entry
-more_text stats entries entry = flat_map-append (text_of_entry stats) entries (list_of entry) ∙ ap (λ t. text_of_transcript stats entries ++ t) (one_text stats entry)
+more_text : (stats : Bool) (entries : List Entry) (entry : Option Entry)
+    → text_of_transcript stats (entries ++ list_of entry) ≡ text_of_transcript stats entries ++ text_of_shown stats entry
+more_text stats entries entry =
+    flat_map-append (text_of_entry stats) entries (list_of entry) ∙ ap (λ t. text_of_transcript stats entries ++ t) (one_text stats entry)
 
 or_false : (b : Bool) → (b || false) ≡ b
 or_false true = refl
@@ -145,14 +177,17 @@ more_marks entries (Some entry) = λ i. record { refused = one is_refusal i; hit
     one p = ap (λ b. list_any p entries || b) (sym (or_false (p entry))) ∙ sym (list_any-append p entries (entry ∷ []))
 
 -- The entry of a fault that ends the reading.
-fault_entry : (Holds : List ℕ → List ℕ → Type 0) (most : ℕ) (context : Context) (item : Item) (entry : Option Entry) → HasEntry Holds most context item entry → IsFault item → (line : ℕ) × (why : Reason) × (entry ≡ Some (Refused line why)) × EndsReading why
+fault_entry : (Holds : List ℕ → List ℕ → Type 0) (most : ℕ) (context : Context) (item : Item) (entry : Option Entry)
+    → HasEntry Holds most context item entry → IsFault item
+    → (line : ℕ) × (why : Reason) × (entry ≡ Some (Refused line why)) × EndsReading why
 unfolding IsEntryOf
 fault_entry Holds most context _ None is stream.no_header = absurd is
 fault_entry Holds most context _ (Some entry) is stream.no_header = (context.row.numbered.line, reason.BadPut, ap Some is, served.bad_put)
 fault_entry Holds most context _ None is stream.no_end = absurd is
 fault_entry Holds most context _ (Some entry) is stream.no_end = (context.row.numbered.line, reason.BodyNotClosed, ap Some is, served.body_not_closed)
 
-module _ (Holds : List ℕ → List ℕ → Type 0) (stats : Bool) (start : Start) (old : Now) (serving : IsServing Holds stats start old) (bytes : List ℕ) (left : Option (List ℕ)) (read : Consumes old.left left bytes) where
+module _ (Holds : List ℕ → List ℕ → Type 0) (stats : Bool) (start : Start) (old : Now) (serving : IsServing Holds stats start old)
+    (bytes : List ℕ) (left : Option (List ℕ)) (read : Consumes old.left left bytes) where
   read_now : Consumes start.input left (serving.script ++ bytes)
   read_now = Consumes-trans start.input old.left left serving.script bytes serving.read read
 
@@ -163,10 +198,18 @@ module _ (Holds : List ℕ → List ℕ → Type 0) (stats : Bool) (start : Star
     others = bytes;
     rows = serving.rows;
     read = read_now;
-    items = subst (λ s. IsItemsOf s (items_of serving.rows)) (append-nil serving.script) (subst (λ l. IsItemsOf (serving.script ++ []) l) (append-nil (items_of serving.rows)) (serving.items [] [] done));
+    items =
+        subst (λ s. IsItemsOf s (items_of serving.rows)) (append-nil serving.script)
+        (subst (λ l. IsItemsOf (serving.script ++ []) l) (append-nil (items_of serving.rows)) (serving.items [] [] done));
     limit = serving.limit;
     so_far = serving.so_far;
-    written = record { front = text_of_transcript stats (entries_of serving.rows); rest = []; whole = sym (append-nil (text_of_transcript stats (entries_of serving.rows))); appended = serving.written };
+    written =
+        record {
+          front = text_of_transcript stats (entries_of serving.rows);
+          rest = [];
+          whole = sym (append-nil (text_of_transcript stats (entries_of serving.rows)));
+          appended = serving.written;
+        };
   }
 
   known_end : (input was : Option (List ℕ)) (script : List ℕ) → Consumes input was script → OnSome was (IsAtEnd left) → OnSome input (IsAtEnd left)
@@ -175,7 +218,8 @@ module _ (Holds : List ℕ → List ℕ → Type 0) (stats : Bool) (start : Star
   known_end (Some xs) (Some ys) script consumes ended = ended
 
   -- Only empty lines and comments were left.
-  is_over : ItemsFrom old.place.line bytes [] → OnSome old.left (IsAtEnd left) → (place : Place) → IsDone Holds stats start (now old.run place old.marks old.failed left old.written)
+  is_over : ItemsFrom old.place.line bytes [] → OnSome old.left (IsAtEnd left) → (place : Place)
+      → IsDone Holds stats start (now old.run place old.marks old.failed left old.written)
   is_over none ended place = record {
     script = serving.script ++ bytes;
     rows = serving.rows;
@@ -202,21 +246,30 @@ module _ (Holds : List ℕ → List ℕ → Type 0) (stats : Bool) (start : Star
     marks_now : (marks : Marks) → marks ≡ marks_after old.marks entry → marks ≡ marks_of (entries_of rows)
     marks_now marks is = is ∙ ap (λ m. marks_after m entry) serving.marks ∙ more_marks (entries_of serving.rows) entry ∙ ap marks_of (sym more.entries)
 
-    written_now : (written : Option (List ℕ)) → Appends old.written written (text_of_shown stats entry) → Appends start.output written (text_of_transcript stats (entries_of rows))
-    written_now written is = subst (Appends start.output written) (sym text_now) (Appends-trans start.output old.written written (text_of_transcript stats (entries_of serving.rows)) (text_of_shown stats entry) serving.written is)
+    written_now : (written : Option (List ℕ)) → Appends old.written written (text_of_shown stats entry)
+        → Appends start.output written (text_of_transcript stats (entries_of rows))
+    written_now written is =
+        subst (Appends start.output written) (sym text_now)
+        (Appends-trans start.output old.written written (text_of_transcript stats (entries_of serving.rows)) (text_of_shown stats entry)
+        serving.written is)
 
-    front_now : (written : Option (List ℕ)) → AppendsFront old.written written (text_of_shown stats entry) → AppendsFront start.output written (text_of_transcript stats (entries_of rows))
+    front_now : (written : Option (List ℕ)) → AppendsFront old.written written (text_of_shown stats entry)
+        → AppendsFront start.output written (text_of_transcript stats (entries_of rows))
     front_now written is = record {
       front = text_of_transcript stats (entries_of serving.rows) ++ is.front;
       rest = is.rest;
-      whole = text_now ∙ ap (λ t. text_of_transcript stats (entries_of serving.rows) ++ t) is.whole ∙ sym (append_assoc (text_of_transcript stats (entries_of serving.rows)) is.front is.rest);
+      whole =
+          text_now ∙ ap (λ t. text_of_transcript stats (entries_of serving.rows) ++ t) is.whole
+          ∙ sym (append_assoc (text_of_transcript stats (entries_of serving.rows)) is.front is.rest);
       appended = Appends-trans start.output old.written written (text_of_transcript stats (entries_of serving.rows)) is.front serving.written is.appended;
     }
 
-    all_items : (rest : List ℕ) (items : List Numbered) → ItemsFrom old.place.line (bytes ++ rest) (item ∷ items) → IsItemsOf ((serving.script ++ bytes) ++ rest) (items_of rows ++ items)
+    all_items : (rest : List ℕ) (items : List Numbered) → ItemsFrom old.place.line (bytes ++ rest) (item ∷ items)
+        → IsItemsOf ((serving.script ++ bytes) ++ rest) (items_of rows ++ items)
     all_items rest items h =
         subst (λ s. IsItemsOf s (items_of rows ++ items)) (sym (append_assoc serving.script bytes rest))
-        (subst (λ l. IsItemsOf (serving.script ++ (bytes ++ rest)) l) (sym (append_assoc (items_of serving.rows) (item ∷ []) items) ∙ ap (λ l. l ++ items) (sym more.items))
+        (subst (λ l. IsItemsOf (serving.script ++ (bytes ++ rest)) l)
+        (sym (append_assoc (items_of serving.rows) (item ∷ []) items) ∙ ap (λ l. l ++ items) (sym more.items))
         (serving.items (bytes ++ rest) (item ∷ items) h))
 
     last_items : ItemsFrom old.place.line bytes (item ∷ []) → IsItemsOf (serving.script ++ bytes) (items_of rows)
@@ -229,7 +282,9 @@ module _ (Holds : List ℕ → List ℕ → Type 0) (stats : Bool) (start : Star
     limit_now : run.limit ≡ start.limit
     limit_now = goes_on.same_limit ∙ serving.limit
 
-    is_serving : (place : Place) (marks : Marks) (written : Option (List ℕ)) → IsItemOf old.place.line bytes item false place.line → place.ended ≡ false → marks ≡ marks_after old.marks entry → Appends old.written written (text_of_shown stats entry) → IsServing Holds stats start (now run place marks failed left written)
+    is_serving : (place : Place) (marks : Marks) (written : Option (List ℕ)) → IsItemOf old.place.line bytes item false place.line
+        → place.ended ≡ false → marks ≡ marks_after old.marks entry → Appends old.written written (text_of_shown stats entry)
+        → IsServing Holds stats start (now run place marks failed left written)
     is_serving place marks written whole goes same shown = record {
       script = serving.script ++ bytes;
       rows = rows;
@@ -245,11 +300,20 @@ module _ (Holds : List ℕ → List ℕ → Type 0) (stats : Bool) (start : Star
     over_by : OnSome old.left (IsAtEnd left) ⊎ IsFault item.item → IsOver start.input left (entries_of rows)
     over_by (inl ended) = served.at_end (known_end start.input old.left serving.script serving.read ended)
     over_by (inr fault) =
-        let is : HasEntry Holds run.limit (record { readers = 0; before = serving.rows; row = more.row; after = [] }) item.item more.row.entry = subst (λ n. HasEntry Holds run.limit (record { readers = 0; before = serving.rows; row = more.row; after = [] }) n.item more.row.entry) more.numbered_is (more.so_far.each serving.rows more.row [] [] refl) in
-        let refused = fault_entry Holds run.limit (record { readers = 0; before = serving.rows; row = more.row; after = [] }) item.item more.row.entry is fault in
-        served.at_fault (entries_of serving.rows) refused.0 refused.1 (more.entries ∙ ap (λ e. entries_of serving.rows ++ list_of e) (sym more.is ∙ refused.2)) refused.3
+        let is : HasEntry Holds run.limit (record { readers = 0; before = serving.rows; row = more.row; after = [] }) item.item
+        more.row.entry =
+        subst (λ n.
+        HasEntry Holds run.limit (record { readers = 0; before = serving.rows; row = more.row; after = [] }) n.item more.row.entry)
+        more.numbered_is (more.so_far.each serving.rows more.row [] [] refl) in
+        let refused =
+        fault_entry Holds run.limit (record { readers = 0; before = serving.rows; row = more.row; after = [] }) item.item more.row.entry
+        is fault in
+        served.at_fault (entries_of serving.rows) refused.0 refused.1
+        (more.entries ∙ ap (λ e. entries_of serving.rows ++ list_of e) (sym more.is ∙ refused.2)) refused.3
 
-    is_done : (place : Place) (marks : Marks) (written : Option (List ℕ)) → ItemsFrom old.place.line bytes (item ∷ []) → OnSome old.left (IsAtEnd left) ⊎ IsFault item.item → marks ≡ marks_after old.marks entry → Appends old.written written (text_of_shown stats entry) → IsDone Holds stats start (now run place marks failed left written)
+    is_done : (place : Place) (marks : Marks) (written : Option (List ℕ)) → ItemsFrom old.place.line bytes (item ∷ [])
+        → OnSome old.left (IsAtEnd left) ⊎ IsFault item.item → marks ≡ marks_after old.marks entry
+        → Appends old.written written (text_of_shown stats entry) → IsDone Holds stats start (now run place marks failed left written)
     is_done place marks written whole ended same shown = record {
       script = serving.script ++ bytes;
       rows = rows;
@@ -263,12 +327,18 @@ module _ (Holds : List ℕ → List ℕ → Type 0) (stats : Bool) (start : Star
     }
 
     -- All of the text is written.
-    pub shown_whole : (ended : Bool) (place : Place) (marks : Marks) (written : Option (List ℕ)) → IsItemOf old.place.line bytes item ended place.line → place.ended ≡ ended → (IsTrue ended → OnSome old.left (IsAtEnd left) ⊎ IsFault item.item) → marks ≡ marks_after old.marks entry → Appends old.written written (text_of_shown stats entry) → IsAdvanced Holds stats start (Ok (not ended)) (now run place marks failed left written)
+    pub shown_whole : (ended : Bool) (place : Place) (marks : Marks) (written : Option (List ℕ))
+        → IsItemOf old.place.line bytes item ended place.line → place.ended ≡ ended
+        → (IsTrue ended → OnSome old.left (IsAtEnd left) ⊎ IsFault item.item) → marks ≡ marks_after old.marks entry
+        → Appends old.written written (text_of_shown stats entry)
+        → IsAdvanced Holds stats start (Ok (not ended)) (now run place marks failed left written)
     shown_whole false place marks written whole same end is shown = is_serving place marks written whole same is shown
     shown_whole true place marks written whole same end is shown = is_done place marks written whole (end refl) is shown
 
     -- A beginning of it is.
-    pub shown_in_part : (error : LiveError) (ended : Bool) (place : Place) (marks : Marks) (written : Option (List ℕ)) → IsItemOf old.place.line bytes item ended place.line → AppendsFront old.written written (text_of_shown stats entry) → IsAdvanced Holds stats start (Err error) (now run place marks failed left written)
+    pub shown_in_part : (error : LiveError) (ended : Bool) (place : Place) (marks : Marks) (written : Option (List ℕ))
+        → IsItemOf old.place.line bytes item ended place.line → AppendsFront old.written written (text_of_shown stats entry)
+        → IsAdvanced Holds stats start (Err error) (now run place marks failed left written)
     shown_in_part error ended place marks written whole shown = record {
       script = serving.script ++ bytes;
       others = [];
@@ -280,9 +350,11 @@ module _ (Holds : List ℕ → List ℕ → Type 0) (stats : Bool) (start : Star
       written = front_now written shown;
     }
 
-module _ (Holds : List ℕ → List ℕ → Type 0) (stats : Bool) (start : Start) (old : Now) (bytes : List ℕ) (left : Option (List ℕ)) (serving : IsServing Holds stats start old) (read : Consumes old.left left bytes) (place : Place) where
+module _ (Holds : List ℕ → List ℕ → Type 0) (stats : Bool) (start : Start) (old : Now) (bytes : List ℕ) (left : Option (List ℕ))
+    (serving : IsServing Holds stats start old) (read : Consumes old.left left bytes) (place : Place) where
   -- The input's end was met.
-  pub advanced_none : stream.IsNext old.place (Ok None) place bytes old.left left → IsAdvanced Holds stats start (Ok false) (now old.run place old.marks old.failed left old.written)
+  pub advanced_none : stream.IsNext old.place (Ok None) place bytes old.left left
+      → IsAdvanced Holds stats start (Ok false) (now old.run place old.marks old.failed left old.written)
   advanced_none next = is_over Holds stats start old serving bytes left read next.0 (by_end next.2) place
     where
       by_end : IsTrue old.place.ended ⊎ OnSome old.left (IsAtEnd left) → OnSome old.left (IsAtEnd left)
@@ -293,23 +365,40 @@ module _ (Holds : List ℕ → List ℕ → Type 0) (stats : Bool) (start : Star
   pub advanced_error : (error : LiveError) → IsAdvanced Holds stats start (Err error) (now old.run place old.marks old.failed left old.written)
   advanced_error error = stays Holds stats start old serving bytes left read place old.marks
 
-  module _ (taken : Taken) (takes : stream.Takes old.place taken place bytes old.left left) (entry : Option Entry) (run : LoneState) (failed : ℕ) (goes_on : GoesOn Holds old.run old.failed (numbered taken.line takes.item) entry run failed) (marks : Marks) (written : Option (List ℕ)) where
+  module _ (taken : Taken) (takes : stream.Takes old.place taken place bytes old.left left) (entry : Option Entry) (run : LoneState)
+      (failed : ℕ) (goes_on : GoesOn Holds old.run old.failed (numbered taken.line takes.item) entry run failed) (marks : Marks)
+      (written : Option (List ℕ)) where
     -- An item was carried out, and its text written whole,
-    pub advanced_item : (last : Place) → last ≡ place → marks ≡ marks_after old.marks entry → Appends old.written written (text_of_shown stats entry) → IsAdvanced Holds stats start (Ok (not taken.ended)) (now run last marks failed left written)
-    advanced_item last same is shown = subst (λ p. IsAdvanced Holds stats start (Ok (not taken.ended)) (now run p marks failed left written)) (sym same) (shown_whole Holds stats start old serving bytes left read (numbered taken.line takes.item) entry run failed goes_on taken.ended place marks written takes.whole takes.ended takes.end is shown)
+    pub advanced_item : (last : Place) → last ≡ place → marks ≡ marks_after old.marks entry
+        → Appends old.written written (text_of_shown stats entry)
+        → IsAdvanced Holds stats start (Ok (not taken.ended)) (now run last marks failed left written)
+    advanced_item last same is shown =
+        subst (λ p. IsAdvanced Holds stats start (Ok (not taken.ended)) (now run p marks failed left written)) (sym same)
+        (shown_whole Holds stats start old serving bytes left read (numbered taken.line takes.item) entry run failed goes_on taken.ended
+        place marks written takes.whole takes.ended takes.end is shown)
 
     -- or in part.
-    pub advanced_in_part : (last : Place) → last ≡ place → (result : Result Bool LiveError) → IsErr result → AppendsFront old.written written (text_of_shown stats entry) → IsAdvanced Holds stats start result (now run last marks failed left written)
+    pub advanced_in_part : (last : Place) → last ≡ place → (result : Result Bool LiveError) → IsErr result
+        → AppendsFront old.written written (text_of_shown stats entry)
+        → IsAdvanced Holds stats start result (now run last marks failed left written)
     advanced_in_part last same (Ok more) is_error shown = absurd (let both : false ≡ true = is_error in cc)
-    advanced_in_part last same (Err error) is_error shown = subst (λ p. IsStopped Holds stats start (now run p marks failed left written)) (sym same) (shown_in_part Holds stats start old serving bytes left read (numbered taken.line takes.item) entry run failed goes_on error taken.ended place marks written takes.whole shown)
+    advanced_in_part last same (Err error) is_error shown =
+        subst (λ p. IsStopped Holds stats start (now run p marks failed left written)) (sym same)
+        (shown_in_part Holds stats start old serving bytes left read (numbered taken.line takes.item) entry run failed goes_on error
+        taken.ended place marks written takes.whole shown)
 
 -- What a session has done so far makes a legal transcript.
-legal_so_far : (Holds : List ℕ → List ℕ → Type 0) (options : LiveOptions) (script : List ℕ) (failed failed' : ℕ) (run : LoneState) (rows : List Row) → IsItemsOf script (items_of rows) → run.limit ≡ options.max_commands → AreSoFar Holds failed run failed' rows → IsLegal script (run_options options) Holds failed failed' (entries_of rows)
+legal_so_far : (Holds : List ℕ → List ℕ → Type 0) (options : LiveOptions) (script : List ℕ) (failed failed' : ℕ) (run : LoneState)
+    (rows : List Row) → IsItemsOf script (items_of rows) → run.limit ≡ options.max_commands → AreSoFar Holds failed run failed' rows
+    → IsLegal script (run_options options) Holds failed failed' (entries_of rows)
 legal_so_far Holds options script failed failed' run rows items limit are = record {
   rows = rows;
   items = items;
   whole = refl;
-  each = λ before row after e. subst (λ m. IsLegalRow Holds m (record { readers = 0; before = before; row = row; after = after })) limit (are.each before row after after e);
+  each =
+      λ before row after e.
+      subst (λ m. IsLegalRow Holds m (record { readers = 0; before = before; row = row; after = after })) limit
+      (are.each before row after after e);
   turns = are.turns;
   failures = are.failures;
 }
@@ -318,7 +407,8 @@ module _ (Holds : List ℕ → List ℕ → Type 0) (options : LiveOptions) (fai
   abbrev pub start_of : Start
   start_of = record { limit = options.max_commands; failed = failed; input = input; output = output }
 
-  pub is_served : (status : ℕ) → status ≡ status_by at.marks → IsDone Holds options.stats start_of at → IsServed options Holds failed at.failed input at.left output at.written status
+  pub is_served : (status : ℕ) → status ≡ status_by at.marks → IsDone Holds options.stats start_of at
+      → IsServed options Holds failed at.failed input at.left output at.written status
   is_served status is is_done = record {
     script = is_done.script;
     entries = entries_of is_done.rows;
@@ -340,7 +430,8 @@ module _ (Holds : List ℕ → List ℕ → Type 0) (options : LiveOptions) (fai
   }
 
 -- A session that never began.
-pub never_begun : (Holds : List ℕ → List ℕ → Type 0) (options : LiveOptions) (failed : ℕ) (input output : Option (List ℕ)) → IsBroken options Holds failed failed input input output output
+pub never_begun : (Holds : List ℕ → List ℕ → Type 0) (options : LiveOptions) (failed : ℕ) (input output : Option (List ℕ))
+    → IsBroken options Holds failed failed input input output output
 never_begun Holds options failed input output = record {
   script = [];
   others = [];
@@ -351,22 +442,35 @@ never_begun Holds options failed input output = record {
 }
 
 -- A step of a session, and then its end. Holds: what the source held at first. Holds': what it holds by now.
-module _ (Holds Holds' : List ℕ → List ℕ → Type 0) (held : (path body : List ℕ) → (Holds' path body → Holds path body) × (Holds path body → Holds' path body)) (options : LiveOptions) (failed : ℕ) (input output : Option (List ℕ)) (old new : Now) (serving : IsServing Holds options.stats (record { limit = options.max_commands; failed = failed; input = input; output = output }) old) where
-  abbrev first : Start
-  first = record { limit = options.max_commands; failed = failed; input = input; output = output }
+module _ (Holds Holds' : List ℕ → List ℕ → Type 0)
+    (held : (path body : List ℕ) → (Holds' path body → Holds path body) × (Holds path body → Holds' path body)) (options : LiveOptions)
+    (failed : ℕ) (input output : Option (List ℕ)) (old new : Now)
+    (serving : IsServing Holds options.stats (record { limit = options.max_commands; failed = failed; input = input; output = output }) old)
+  where
+    abbrev first : Start
+    first = record { limit = options.max_commands; failed = failed; input = input; output = output }
 
-  module _ (result : Result Bool LiveError) (step : (other : Start) → IsServing Holds' options.stats other old → IsAdvanced Holds' options.stats other result new) where
-    stepped : IsAdvanced Holds options.stats first result new
-    stepped = goes_on_from Holds Holds' held options.stats first old result new serving step
+    module _ (result : Result Bool LiveError)
+        (step : (other : Start) → IsServing Holds' options.stats other old → IsAdvanced Holds' options.stats other result new) where
+      stepped : IsAdvanced Holds options.stats first result new
+      stepped = goes_on_from Holds Holds' held options.stats first old result new serving step
 
-  pub still_serving : (more : Bool) → more ≡ true → ((other : Start) → IsServing Holds' options.stats other old → IsAdvanced Holds' options.stats other (Ok more) new) → IsServing Holds options.stats (record { limit = options.max_commands; failed = failed; input = input; output = output }) new
-  still_serving more is step = subst (λ b. IsAdvanced Holds options.stats first (Ok b) new) is (stepped (Ok more) step)
+    pub still_serving : (more : Bool) → more ≡ true
+        → ((other : Start) → IsServing Holds' options.stats other old → IsAdvanced Holds' options.stats other (Ok more) new)
+        → IsServing Holds options.stats (record { limit = options.max_commands; failed = failed; input = input; output = output }) new
+    still_serving more is step = subst (λ b. IsAdvanced Holds options.stats first (Ok b) new) is (stepped (Ok more) step)
 
-  pub now_served : (more : Bool) → more ≡ false → ((other : Start) → IsServing Holds' options.stats other old → IsAdvanced Holds' options.stats other (Ok more) new) → (status : ℕ) → status ≡ status_by new.marks → IsServed options Holds failed new.failed input new.left output new.written status
-  now_served more is step status same = is_served Holds options failed input output new status same (subst (λ b. IsAdvanced Holds options.stats first (Ok b) new) is (stepped (Ok more) step))
+    pub now_served : (more : Bool) → more ≡ false
+        → ((other : Start) → IsServing Holds' options.stats other old → IsAdvanced Holds' options.stats other (Ok more) new) → (status : ℕ)
+        → status ≡ status_by new.marks → IsServed options Holds failed new.failed input new.left output new.written status
+    now_served more is step status same =
+        is_served Holds options failed input output new status same
+        (subst (λ b. IsAdvanced Holds options.stats first (Ok b) new) is (stepped (Ok more) step))
 
-  pub now_broken : (error : LiveError) → ((other : Start) → IsServing Holds' options.stats other old → IsAdvanced Holds' options.stats other (Err error) new) → IsBroken options Holds failed new.failed input new.left output new.written
-  now_broken error step = is_broken Holds options failed input output new (stepped (Err error) step)
+    pub now_broken : (error : LiveError)
+        → ((other : Start) → IsServing Holds' options.stats other old → IsAdvanced Holds' options.stats other (Err error) new)
+        → IsBroken options Holds failed new.failed input new.left output new.written
+    now_broken error step = is_broken Holds options failed input output new (stepped (Err error) step)
 
 pub on_err : {A E : Type 0} (result : Result A E) (P : Type 0) → P → OnErr result P
 on_err (Ok a) P is = tt

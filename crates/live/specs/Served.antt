@@ -29,7 +29,8 @@ pub data IsOver (input left : Option (List ℕ)) (entries : List Entry) : Type 0
 -- the bytes that were read, and the status is its status. Holds: what the source held. failed, failed': how often the
 -- source had failed, before and after. input, left: the bytes of the input, before and after. old, new: what has been
 -- written, before and after.
-pub record IsServed (options : LiveOptions) (Holds : List ℕ → List ℕ → Type 0) (failed failed' : ℕ) (input left old new : Option (List ℕ)) (status : ℕ) : Type 0 where
+pub record IsServed (options : LiveOptions) (Holds : List ℕ → List ℕ → Type 0) (failed failed' : ℕ) (input left old new : Option (List ℕ))
+    (status : ℕ) : Type 0 where
   pub script : List ℕ
   pub entries : List Entry
   pub read : Consumes input left script

@@ -1,5 +1,6 @@
 -- A line that is cut at its first space.
-use Rattle.std.proofs.Common.{◌≡◌, ◌≢◌, ℕ, zero, suc, ◌+◌, ◌-◌, ◌*◌, ◌^◌, ◌<◌, ◌≤◌, length, take, get_or, true, false, ◌==◌, List, [], ◌∷◌, ◌++◌, Some, None, refl, ap, arith}
+use Rattle.std.proofs.Common.{◌≡◌, ◌≢◌, ℕ, zero, suc, ◌+◌, ◌-◌, ◌*◌, ◌^◌, ◌<◌, ◌≤◌, length, take, get_or, true, false, ◌==◌, List, [], ◌∷◌}
+use Rattle.std.proofs.Common.{◌++◌, Some, None, refl, ap, arith}
 use Rattle.std.proofs.lemmas.Bool.Decides.{nat_tests}
 use Rattle.script.specs.Fields.{fields_of, with_byte_in_front}
 use Rattle.std.proofs.Math.Nat.{add-zero, add-suc, le_refl, pow-succ'}
@@ -40,7 +41,8 @@ pub one_more_digit : (size digit i : ℕ) → size < 10 ^ i → digit < 10 → s
 one_more_digit size digit i h below = rw pow_more (omega arith)
 
 -- the digit's byte, less the byte of 0
-pub decimal_more : (digits : List ℕ) (i : ℕ) → i < length digits → decimal_value (take (i + 1) digits) ≡ 10 * decimal_value (take i digits) + (get_or digits i 0 - 48)
+pub decimal_more : (digits : List ℕ) (i : ℕ) → i < length digits
+    → decimal_value (take (i + 1) digits) ≡ 10 * decimal_value (take i digits) + (get_or digits i 0 - 48)
 decimal_more digits i h = fold_more (λ value digit. 10 * value + (digit - 48)) 0 digits i 0 h
 
 pub is_digit_by : {b : ℕ} → 48 ≤ b → b ≤ 57 → is_digit b ≡ true

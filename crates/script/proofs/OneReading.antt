@@ -1,5 +1,6 @@
 -- A script has at most one list of items: the text decides what is taken from its front.
-use Rattle.std.proofs.Common.{◌≡◌, ◌≢◌, ℕ, ◌+◌, ◌<◌, length, take, drop, Bool, true, false, nat_lt, if◌then◌else◌, ◌==◌, List, [], ◌∷◌, ◌++◌, Option, Some, None, unwrap_or, refl, sym, ap, ◌∙◌, subst, arith, IsTrue, IsFalse, length-append}
+use Rattle.std.proofs.Common.{◌≡◌, ◌≢◌, ℕ, ◌+◌, ◌<◌, length, take, drop, Bool, true, false, nat_lt, if◌then◌else◌, ◌==◌, List, [], ◌∷◌}
+use Rattle.std.proofs.Common.{◌++◌, Option, Some, None, unwrap_or, refl, sym, ap, ◌∙◌, subst, arith, IsTrue, IsFalse, length-append}
 use Rattle.std.proofs.lemmas.List.{append-nil}
 use Rattle.std.proofs.lemmas.Bool.Decides.{nat_tests}
 use Rattle.std.proofs.Math.Seq.{take-append_seam, drop-append_seam}
@@ -7,7 +8,9 @@ use Rattle.std.proofs.lemmas.List.Elements.{recursion_from_All}
 use Rattle.ere.specs.Classes.{is_digit}
 use Rattle.script.specs.Fields.{fields_of, SpellsSize}
 use Rattle.script.specs.Private.Cuts.{Lacks, FirstLineOf}
-use Rattle.script.specs.Items.{Numbered, numbered, ItemsFrom, done, blank_line, other_line, closed_put, last_put, malformed_put, missing_body, short_body, open_body, BeginsWithLine, ended, last, IsPutLine, is_put, is_blank, item_of_line, line_feeds, put, bad_put, truncated, body_not_closed}
+use Rattle.script.specs.Items.{Numbered, numbered, ItemsFrom, done, blank_line, other_line, closed_put, last_put, malformed_put}
+use Rattle.script.specs.Items.{missing_body, short_body, open_body, BeginsWithLine, ended, last, IsPutLine, is_put, is_blank, item_of_line}
+use Rattle.script.specs.Items.{line_feeds, put, bad_put, truncated, body_not_closed}
 use Rattle.script.proofs.ReaderLemmas.{in_back, last_cut_once, lacks_byte}
 
 -- What the front of a text leads to.
@@ -24,7 +27,8 @@ after_body n name body (b ∷ rest) = if b == 10 then one (numbered n (put name 
 abbrev after_header : ℕ → Option (List ℕ) → Option (List ℕ × ℕ) → Next
 after_header n left None = stop (numbered n bad_put)
 after_header n None (Some header) = stop (numbered n truncated)
-after_header n (Some left) (Some header) = if nat_lt (length left) header.1 then stop (numbered n truncated) else after_body n header.0 (take header.1 left) (drop header.1 left)
+after_header n (Some left) (Some header) =
+    if nat_lt (length left) header.1 then stop (numbered n truncated) else after_body n header.0 (take header.1 left) (drop header.1 left)
 
 abbrev after_line : ℕ → List ℕ → Option (List ℕ) → Option (List ℕ × ℕ) → Next
 after_line n line left header =
@@ -39,9 +43,11 @@ IsHeader true line (Some header) = IsPutLine line header.0 header.1
 
 data Leads (n : ℕ) (text : List ℕ) (next : Next) : Type 0 where
   nothing : text ≡ [] → next ≡ end → Leads n text next
-  something : (line : List ℕ) (left : Option (List ℕ)) (header : Option (List ℕ × ℕ)) → 0 < length text → FirstLineOf text line left → IsHeader (is_put line) line header → next ≡ after_line n line left header → Leads n text next
+  something : (line : List ℕ) (left : Option (List ℕ)) (header : Option (List ℕ × ℕ)) → 0 < length text → FirstLineOf text line left
+      → IsHeader (is_put line) line header → next ≡ after_line n line left header → Leads n text next
 
-first_cut_front : (byte : ℕ) (front front' back back' : List ℕ) → front ++ byte ∷ back ≡ front' ++ byte ∷ back' → Lacks byte front → Lacks byte front' → front ≡ front'
+first_cut_front : (byte : ℕ) (front front' back back' : List ℕ) → front ++ byte ∷ back ≡ front' ++ byte ∷ back' → Lacks byte front
+    → Lacks byte front' → front ≡ front'
 first_cut_front byte [] [] back back' e l l' = refl
 first_cut_front byte [] (c ∷ front') back back' e l l' = absurd (l'.0 (cc))
 first_cut_front byte (c ∷ front) [] back back' e l l' = absurd (l.0 (cc))
@@ -64,7 +70,8 @@ last_cut_front byte (c ∷ front) (c' ∷ front') back e l =
     cc
 
 -- A text has one first line, and one rest.
-one_first_line : (text line line' : List ℕ) (left left' : Option (List ℕ)) → FirstLineOf text line left → FirstLineOf text line' left' → (line ≡ line') × (left ≡ left')
+one_first_line : (text line line' : List ℕ) (left left' : Option (List ℕ)) → FirstLineOf text line left → FirstLineOf text line' left'
+    → (line ≡ line') × (left ≡ left')
 one_first_line text line line' (Some rest) (Some rest') is is' =
     let same = first_cut_front 10 line line' rest rest' (sym is.whole ∙ is'.whole) is.first is'.first in
     (same, ap Some (same_back 10 line rest rest' (sym is.whole ∙ is'.whole ∙ ap (λ l. l ++ 10 ∷ rest') (sym same))))
@@ -154,14 +161,16 @@ leads_blank n text line rest begins blank =
     let yes : is_blank line ≡ true = blank in
     something line f.left None f.some f.first (rw no refl) (rw (no, yes) (ap (skip (n + 1)) f.same))
 
-leads_other : (n : ℕ) (text line rest : List ℕ) → BeginsWithLine text line rest → IsFalse (is_blank line) → IsFalse (is_put line) → Leads n text (one (numbered n (item_of_line line)) (n + 1) rest)
+leads_other : (n : ℕ) (text line rest : List ℕ) → BeginsWithLine text line rest → IsFalse (is_blank line) → IsFalse (is_put line)
+    → Leads n text (one (numbered n (item_of_line line)) (n + 1) rest)
 leads_other n text line rest begins blank is_a_put =
     let f = first_of_text text line rest begins in
     let no : is_put line ≡ false = is_a_put in
     let yes : is_blank line ≡ false = blank in
     something line f.left None f.some f.first (rw no refl) (rw (no, yes) (ap (one (numbered n (item_of_line line)) (n + 1)) f.same))
 
-leads_malformed : (n : ℕ) (text line rest : List ℕ) → BeginsWithLine text line rest → IsTrue (is_put line) → ((name : List ℕ) (size : ℕ) → IsPutLine line name size → ⊥) → Leads n text (stop (numbered n bad_put))
+leads_malformed : (n : ℕ) (text line rest : List ℕ) → BeginsWithLine text line rest → IsTrue (is_put line)
+    → ((name : List ℕ) (size : ℕ) → IsPutLine line name size → ⊥) → Leads n text (stop (numbered n bad_put))
 leads_malformed n text line rest begins is_a_put none =
     let f = first_of_text text line rest begins in
     let yes : is_put line ≡ true = is_a_put in
@@ -176,7 +185,8 @@ module _ (n : ℕ) (text line name left : List ℕ) (size : ℕ) (whole : text �
   leads_put : (next : Next) → next ≡ after_header n (Some left) (Some (name, size)) → Leads n text next
   leads_put next same =
       let yes = is_put_first line name size is in
-      something line (Some left) (Some (name, size)) (omega (arith, ap length whole ∙ length-append line (10 ∷ left))) (record { whole = whole; first = is.0 }) (rw yes is) (rw yes same)
+      something line (Some left) (Some (name, size)) (omega (arith, ap length whole ∙ length-append line (10 ∷ left)))
+      (record { whole = whole; first = is.0 }) (rw yes is) (rw yes same)
 
   leads_short : length left < size → Leads n text (stop (numbered n truncated))
   leads_short short =
@@ -206,7 +216,8 @@ leads n text items done = nothing refl refl
 leads n text items (blank_line line rest begins blank more) = leads_blank n text line rest begins blank
 leads n text items (other_line line rest begins blank is_a_put more) = leads_other n text line rest begins blank is_a_put
 leads n text items (closed_put {name = name} {body = body} line rest whole is more) = leads_body n text line name body (10 ∷ rest) whole is _ refl
-leads n text items (last_put {name = name} {body = body} line whole is) = leads_body n text line name body [] (whole ∙ ap (λ b. line ++ 10 ∷ b) (sym (append-nil body))) is _ refl
+leads n text items (last_put {name = name} {body = body} line whole is) =
+    leads_body n text line name body [] (whole ∙ ap (λ b. line ++ 10 ∷ b) (sym (append-nil body))) is _ refl
 leads n text items (malformed_put line rest begins is_a_put none) = leads_malformed n text line rest begins is_a_put none
 leads n text items (missing_body name size is) = leads_missing n text name size is
 leads n text items (short_body line name left size whole is short) = leads_short n text line name left size whole is short
@@ -232,12 +243,15 @@ rest_of n text items (missing_body name size is) = refl
 rest_of n text items (short_body line name left size whole is short) = refl
 rest_of n text items (open_body line name body rest b whole is other) = refl
 
-other_rest : (n : ℕ) (text : List ℕ) (items items' : List Numbered) (h : ItemsFrom n text items) → ItemsFrom n text items' → IsRest (next_of n text items h) items'
-other_rest n text items items' h h' = subst (λ next. IsRest next items') (leads_once n text _ _ (leads n text items' h') (leads n text items h)) (rest_of n text items' h')
+other_rest : (n : ℕ) (text : List ℕ) (items items' : List Numbered) (h : ItemsFrom n text items) → ItemsFrom n text items'
+    → IsRest (next_of n text items h) items'
+other_rest n text items items' h h' =
+    subst (λ next. IsRest next items') (leads_once n text _ _ (leads n text items' h') (leads n text items h)) (rest_of n text items' h')
 
 pub one_reading : (n : ℕ) (text : List ℕ) (items items' : List Numbered) → ItemsFrom n text items → ItemsFrom n text items' → items ≡ items'
 one_reading n text items items' done h' = sym (other_rest n text items items' done h')
-one_reading n text items items' (blank_line line rest begins blank more) h' = one_reading (n + 1) rest items items' more (other_rest n text items items' (blank_line line rest begins blank more) h')
+one_reading n text items items' (blank_line line rest begins blank more) h' =
+    one_reading (n + 1) rest items items' more (other_rest n text items items' (blank_line line rest begins blank more) h')
 one_reading n text items items' (other_line {items = others} line rest begins blank is_a_put more) h' =
     let rest' = other_rest n text items items' (other_line line rest begins blank is_a_put more) h' in
     ap (λ l. numbered n (item_of_line line) ∷ l) (one_reading (n + 1) rest others rest'.0 more rest'.2) ∙ sym rest'.1
@@ -245,7 +259,10 @@ one_reading n text items items' (closed_put {name = name} {body = body} {items =
     let rest' = other_rest n text items items' (closed_put line rest whole is more) h' in
     ap (λ l. numbered n (put name body) ∷ l) (one_reading (n + 2 + line_feeds body) rest others rest'.0 more rest'.2) ∙ sym rest'.1
 one_reading n text items items' (last_put line whole is) h' = sym (other_rest n text items items' (last_put line whole is) h')
-one_reading n text items items' (malformed_put line rest begins is_a_put none) h' = sym (other_rest n text items items' (malformed_put line rest begins is_a_put none) h')
+one_reading n text items items' (malformed_put line rest begins is_a_put none) h' =
+    sym (other_rest n text items items' (malformed_put line rest begins is_a_put none) h')
 one_reading n text items items' (missing_body name size is) h' = sym (other_rest n text items items' (missing_body name size is) h')
-one_reading n text items items' (short_body line name left size whole is short) h' = sym (other_rest n text items items' (short_body line name left size whole is short) h')
-one_reading n text items items' (open_body line name body rest b whole is other) h' = sym (other_rest n text items items' (open_body line name body rest b whole is other) h')
+one_reading n text items items' (short_body line name left size whole is short) h' =
+    sym (other_rest n text items items' (short_body line name left size whole is short) h')
+one_reading n text items items' (open_body line name body rest b whole is other) h' =
+    sym (other_rest n text items items' (open_body line name body rest b whole is other) h')

@@ -1,6 +1,7 @@
 -- The items of a script (this program's own language). An item is a line, up to a line feed or the
 -- script's end; a `put` has a body after its line.
-use Rattle.std.specs.Prelude.{◌≡◌, ◌≢◌, ℕ, ◌+◌, ◌<◌, ◌==◌, if◌then◌else◌, List, [], ◌∷◌, ◌++◌, length, count_by, Option, Some, None, Bool, true, IsTrue, IsFalse, codes}
+use Rattle.std.specs.Prelude.{◌≡◌, ◌≢◌, ℕ, ◌+◌, ◌<◌, ◌==◌, if◌then◌else◌, List, [], ◌∷◌, ◌++◌, length, count_by, Option, Some, None, Bool}
+use Rattle.std.specs.Prelude.{true, IsTrue, IsFalse, codes}
 use Rattle.std.specs.List.{AllByRecursion}
 use Rattle.std.specs.Str.{bytes_eq}
 use Rattle.ere.specs.declared.case.Case.{Case}
@@ -105,16 +106,25 @@ IsPutLine line name size = IsLine line × (fields : List ℕ) × (line ≡ codes
 -- The items of a text whose first line has this number.
 pub data ItemsFrom : ℕ → List ℕ → List Numbered → Type 0 where
   done : {n : ℕ} → ItemsFrom n [] []
-  blank_line : {n : ℕ} {text : List ℕ} {items : List Numbered} (line rest : List ℕ) → BeginsWithLine text line rest → IsTrue (is_blank line) → ItemsFrom (n + 1) rest items → ItemsFrom n text items
-  other_line : {n : ℕ} {text : List ℕ} {items : List Numbered} (line rest : List ℕ) → BeginsWithLine text line rest → IsFalse (is_blank line) → IsFalse (is_put line) → ItemsFrom (n + 1) rest items → ItemsFrom n text (numbered n (item_of_line line) ∷ items)
+  blank_line : {n : ℕ} {text : List ℕ} {items : List Numbered} (line rest : List ℕ) → BeginsWithLine text line rest → IsTrue (is_blank line)
+      → ItemsFrom (n + 1) rest items → ItemsFrom n text items
+  other_line : {n : ℕ} {text : List ℕ} {items : List Numbered} (line rest : List ℕ) → BeginsWithLine text line rest
+      → IsFalse (is_blank line) → IsFalse (is_put line) → ItemsFrom (n + 1) rest items
+      → ItemsFrom n text (numbered n (item_of_line line) ∷ items)
   -- a put whose body ends at a line feed, and one whose body ends with the script
-  closed_put : {n : ℕ} {text name body : List ℕ} {items : List Numbered} (line rest : List ℕ) → text ≡ line ++ 10 ∷ (body ++ 10 ∷ rest) → IsPutLine line name (length body) → ItemsFrom (n + 2 + line_feeds body) rest items → ItemsFrom n text (numbered n (put name body) ∷ items)
-  last_put : {n : ℕ} {text name body : List ℕ} (line : List ℕ) → text ≡ line ++ 10 ∷ body → IsPutLine line name (length body) → ItemsFrom n text (numbered n (put name body) ∷ [])
-  malformed_put : {n : ℕ} {text : List ℕ} (line rest : List ℕ) → BeginsWithLine text line rest → IsTrue (is_put line) → ((name : List ℕ) (size : ℕ) → IsPutLine line name size → ⊥) → ItemsFrom n text (numbered n bad_put ∷ [])
+  closed_put : {n : ℕ} {text name body : List ℕ} {items : List Numbered} (line rest : List ℕ) → text ≡ line ++ 10 ∷ (body ++ 10 ∷ rest)
+      → IsPutLine line name (length body) → ItemsFrom (n + 2 + line_feeds body) rest items
+      → ItemsFrom n text (numbered n (put name body) ∷ items)
+  last_put : {n : ℕ} {text name body : List ℕ} (line : List ℕ) → text ≡ line ++ 10 ∷ body → IsPutLine line name (length body)
+      → ItemsFrom n text (numbered n (put name body) ∷ [])
+  malformed_put : {n : ℕ} {text : List ℕ} (line rest : List ℕ) → BeginsWithLine text line rest → IsTrue (is_put line)
+      → ((name : List ℕ) (size : ℕ) → IsPutLine line name size → ⊥) → ItemsFrom n text (numbered n bad_put ∷ [])
   -- the script ends with the put's line, or within its body
   missing_body : {n : ℕ} {line : List ℕ} (name : List ℕ) (size : ℕ) → IsPutLine line name size → ItemsFrom n line (numbered n truncated ∷ [])
-  short_body : {n : ℕ} {text : List ℕ} (line name left : List ℕ) (size : ℕ) → text ≡ line ++ 10 ∷ left → IsPutLine line name size → length left < size → ItemsFrom n text (numbered n truncated ∷ [])
-  open_body : {n : ℕ} {text : List ℕ} (line name body rest : List ℕ) (b : ℕ) → text ≡ line ++ 10 ∷ (body ++ b ∷ rest) → IsPutLine line name (length body) → b ≢ 10 → ItemsFrom n text (numbered n body_not_closed ∷ [])
+  short_body : {n : ℕ} {text : List ℕ} (line name left : List ℕ) (size : ℕ) → text ≡ line ++ 10 ∷ left → IsPutLine line name size
+      → length left < size → ItemsFrom n text (numbered n truncated ∷ [])
+  open_body : {n : ℕ} {text : List ℕ} (line name body rest : List ℕ) (b : ℕ) → text ≡ line ++ 10 ∷ (body ++ b ∷ rest)
+      → IsPutLine line name (length body) → b ≢ 10 → ItemsFrom n text (numbered n body_not_closed ∷ [])
 
 -- The script has these items.
 abbrev pub IsItemsOf : List ℕ → List Numbered → Type 0

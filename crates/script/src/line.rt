@@ -14,10 +14,7 @@ pub enum Line<'a> {
     /// An empty line, or a comment.
     Blank,
     /// `put NAME N`. The N bytes after the line and its line feed are the body.
-    Put {
-        name: &'a [u8],
-        size: usize,
-    },
+    Put { name: &'a [u8], size: usize },
     /// A malformed put. Nothing is read after it.
     BadPut,
     /// Any other line. It is an item by itself.

@@ -1,5 +1,6 @@
 -- Bytes that are read or passed over, piece by piece.
-use Rattle.std.proofs.Common.{◌≡◌, ◌==◌, ℕ, ◌+◌, ◌-◌, ◌≤◌, List, ◌++◌, length, take, Option, Ok, Bool, false, nat_lt, cond, sym, ap, subst, ◌∙◌, arith, length-append}
+use Rattle.std.proofs.Common.{◌≡◌, ◌==◌, ℕ, ◌+◌, ◌-◌, ◌≤◌, List, ◌++◌, length, take, Option, Ok, Bool, false, nat_lt, cond, sym, ap, subst}
+use Rattle.std.proofs.Common.{◌∙◌, arith, length-append}
 use Rattle.std.specs.Option.{OnSome}
 use Rattle.std.specs.Io.KnownBytes.{Consumes, IsAtEnd}
 use Rattle.std.proofs.KnownBytes.{Consumes-trans}
@@ -18,7 +19,8 @@ line_feeds-append front back = sum_by-append (λ b. cond (b == 10) 1 0) front ba
 pub few_line_feeds : (bytes : List ℕ) → line_feeds bytes ≤ length bytes
 few_line_feeds bytes = count_by-le-length (λ b. b == 10) bytes
 
-module _ (start mid left : Option (List ℕ)) (size : ℕ) (old new bytes : List ℕ) (few : length old ≤ size) (before : Consumes start mid old) (taken : Consumes mid left bytes) where
+module _ (start mid left : Option (List ℕ)) (size : ℕ) (old new bytes : List ℕ) (few : length old ≤ size) (before : Consumes start mid old)
+    (taken : Consumes mid left bytes) where
   pub fills_more : new ≡ old ++ bytes → length bytes ≤ size - length old → (length new ≤ size) × Consumes start left new
   fills_more grown within = (
     omega (arith, ap length grown ∙ length-append old bytes, few, within),
@@ -30,8 +32,10 @@ module _ (start mid left : Option (List ℕ)) (size : ℕ) (old new bytes : List
       let (few', all) = fills_more grown within in
       (all, (few', λ short. end_later start mid left old before end))
 
-module _ (start mid left : Option (List ℕ)) (size : ℕ) (done bytes : List ℕ) (first second : Passed) (before : Consumes start mid done) (counted : Counts first done) (taken : Consumes mid left bytes) where
-  pub passes_more : Counts second bytes → length bytes ≤ size - first.count → first.count ≤ size → (both : Passed) → both.count ≡ first.count + second.count → both.line_feeds ≡ first.line_feeds + second.line_feeds
+module _ (start mid left : Option (List ℕ)) (size : ℕ) (done bytes : List ℕ) (first second : Passed) (before : Consumes start mid done)
+    (counted : Counts first done) (taken : Consumes mid left bytes) where
+  pub passes_more : Counts second bytes → length bytes ≤ size - first.count → first.count ≤ size → (both : Passed)
+      → both.count ≡ first.count + second.count → both.line_feeds ≡ first.line_feeds + second.line_feeds
       → (all : List ℕ) × Consumes start left all × Counts both all × (both.count ≤ size)
   passes_more more few within both count feeds = (
     done ++ bytes,
@@ -43,7 +47,8 @@ module _ (start mid left : Option (List ℕ)) (size : ℕ) (done bytes : List �
     omega (arith, count, more.0, few, within),
   )
 
-  pub passes_to_end : Counts second bytes → length bytes ≤ size - first.count → first.count ≤ size → OnSome mid (IsAtEnd left) → (both : Passed) → both.count ≡ first.count + second.count → both.line_feeds ≡ first.line_feeds + second.line_feeds
+  pub passes_to_end : Counts second bytes → length bytes ≤ size - first.count → first.count ≤ size → OnSome mid (IsAtEnd left)
+      → (both : Passed) → both.count ≡ first.count + second.count → both.line_feeds ≡ first.line_feeds + second.line_feeds
       → (all : List ℕ) × Consumes start left all × Passes size (Ok both) all start left
   passes_to_end more few within end both count feeds =
       let (all, all_taken, is, small) = passes_more more few within both count feeds in
@@ -52,7 +57,8 @@ module _ (start mid left : Option (List ℕ)) (size : ℕ) (done bytes : List �
 pub none_if_not_more : (n : ℕ) (more : Bool) → more ≡ nat_lt 0 n → more ≡ false → n ≡ 0
 none_if_not_more n more is not_more = grind (arith, nat_tests)
 
-pub closes_by_front : (closing : Closing) (shown : List ℕ) (taken : ℕ) (was left : Option (List ℕ)) → IsFront shown closing taken → (length shown ≡ 0 → OnSome was (IsAtEnd left)) → Closes closing (take taken shown) was left
+pub closes_by_front : (closing : Closing) (shown : List ℕ) (taken : ℕ) (was left : Option (List ℕ)) → IsFront shown closing taken
+    → (length shown ≡ 0 → OnSome was (IsAtEnd left)) → Closes closing (take taken shown) was left
 closes_by_front LineFeed shown taken was left front end = front
 closes_by_front OtherByte shown taken was left front end = front
 closes_by_front InputEnd shown taken was left front end = (ap (λ n. take n shown) front.0, end front.1)

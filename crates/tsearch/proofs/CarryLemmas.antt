@@ -12,7 +12,8 @@ use Rattle.tsearch.specs.declared.transcript.Entry.{Entry}
 use Rattle.tsearch.specs.declared.transcript.Entry.TheVariants.{Refused, Published}
 use Rattle.tsearch.specs.declared.transcript.Reason.{Reason}
 use Rattle.tsearch.specs.declared.transcript.Reason.TheVariants as reason
-use Rattle.tsearch.specs.Legal.{IsNamed, bad_name, no_memory, named, HasBody, bad_body, with_body, IsRoomFor, full, accepted, IsPut, HasLoaded, IsRemove, no_such_file, is_there}
+use Rattle.tsearch.specs.Legal.{IsNamed, bad_name, no_memory, named, HasBody, bad_body, with_body, IsRoomFor, full, accepted, IsPut}
+use Rattle.tsearch.specs.Legal.{HasLoaded, IsRemove, no_such_file, is_there}
 use Rattle.tsearch.specs.Legal as legal
 use Rattle.tsearch.specs.Rows.{accepted_by, version_in, failures_in}
 use Rattle.tsearch.specs.Private.Entries.{entry_of, published_entry_of, desk_after, IsLoaded}
@@ -28,11 +29,13 @@ pub no_search_entry : (line : ℕ) (done : Result ℕ Reason) → searches_in (e
 no_search_entry line (Ok count) = refl
 no_search_entry line (Err why) = refl
 
-pub accepted_after : (line : ℕ) (done : Result ℕ Reason) (commands : List Command) (desk : DeskState) → (desk_after done commands desk).accepted ≡ desk.accepted ++ accepted_by (Some (entry_of line done)) commands
+pub accepted_after : (line : ℕ) (done : Result ℕ Reason) (commands : List Command) (desk : DeskState)
+    → (desk_after done commands desk).accepted ≡ desk.accepted ++ accepted_by (Some (entry_of line done)) commands
 accepted_after line (Ok count) commands desk = refl
 accepted_after line (Err why) commands desk = sym (append-nil desk.accepted)
 
-pub same_opening : (done : Result ℕ Reason) (commands : List Command) (desk : DeskState) → ((desk_after done commands desk).opening ≡ desk.opening) × ((desk_after done commands desk).limit ≡ desk.limit)
+pub same_opening : (done : Result ℕ Reason) (commands : List Command) (desk : DeskState)
+    → ((desk_after done commands desk).opening ≡ desk.opening) × ((desk_after done commands desk).limit ≡ desk.limit)
 same_opening (Ok count) commands desk = (refl, refl)
 same_opening (Err why) commands desk = (refl, refl)
 
@@ -43,17 +46,22 @@ no_failure_in_room : (most : ℕ) (state : State) (line : ℕ) (entry : Entry) �
 no_failure_in_room most state line entry (full limit is) = no_failure_at is refl
 no_failure_in_room most state line entry (accepted room is) = no_failure_at is refl
 
-no_failure_named : (name : List ℕ) (line : ℕ) (entry : Entry) (Else : Type 0) → (Else → failures_in (Some entry) ≡ 0) → IsNamed name line entry Else → failures_in (Some entry) ≡ 0
+no_failure_named : (name : List ℕ) (line : ℕ) (entry : Entry) (Else : Type 0) → (Else → failures_in (Some entry) ≡ 0)
+    → IsNamed name line entry Else → failures_in (Some entry) ≡ 0
 no_failure_named name line entry Else none (bad_name fault other is_fault is) = no_failure_at is refl
 no_failure_named name line entry Else none (no_memory is_name is) = no_failure_at is refl
 no_failure_named name line entry Else none (named is_name else) = none else
 
-no_failure_in_remove : (most : ℕ) (state : State) (name : List ℕ) (line : ℕ) (entry : Entry) → IsRemove most state name line entry → failures_in (Some entry) ≡ 0
+no_failure_in_remove : (most : ℕ) (state : State) (name : List ℕ) (line : ℕ) (entry : Entry) → IsRemove most state name line entry
+    → failures_in (Some entry) ≡ 0
 no_failure_in_remove most state name line entry (no_such_file none is) = no_failure_at is refl
 no_failure_in_remove most state name line entry (is_there there room) = no_failure_in_room most state line entry room
 
-module _ (Holds : List ℕ → List ℕ → Type 0) (desk : DeskState) (told : Known) (failed line : ℕ) (done : Result ℕ Reason) (entry : Entry) (is : entry ≡ entry_of line done) where
-  pub carried_put : (name body : List ℕ) (desk' : DeskState) → IsPut desk.limit (state_of desk.accepted) name body line (entry_of line done) → desk' ≡ desk_after done (Put name body ∷ []) desk → IsEntered Holds desk told failed (item.numbered line (item.put name body)) entry desk' told failed
+module _ (Holds : List ℕ → List ℕ → Type 0) (desk : DeskState) (told : Known) (failed line : ℕ) (done : Result ℕ Reason) (entry : Entry)
+    (is : entry ≡ entry_of line done) where
+  pub carried_put : (name body : List ℕ) (desk' : DeskState) → IsPut desk.limit (state_of desk.accepted) name body line (entry_of line done)
+      → desk' ≡ desk_after done (Put name body ∷ []) desk
+      → IsEntered Holds desk told failed (item.numbered line (item.put name body)) entry desk' told failed
   unfolding legal.IsEntryOf
   carried_put name body desk' legal_is left = rw (is, left) (record {
     loaded = None;
@@ -65,14 +73,22 @@ module _ (Holds : List ℕ → List ℕ → Type 0) (desk : DeskState) (told : K
     limit = (same_opening done (Put name body ∷ []) desk).1;
     accepted = accepted_after line done (Put name body ∷ []) desk;
     tells = nothing (no_version line done) refl;
-    counted = counted_same (entry_of line done) failed (no_failure_named name line _ _ (λ h. no_failure_in_body desk.limit (state_of desk.accepted) body line (entry_of line done) (inl h)) legal_is);
+    counted =
+        counted_same (entry_of line done) failed
+        (no_failure_named name line _ _
+        (λ h. no_failure_in_body desk.limit (state_of desk.accepted) body line (entry_of line done) (inl h)) legal_is);
   })
 
-  pub carried_load : (name path : List ℕ) (desk' : DeskState) (failed' : ℕ) → IsLoaded Holds desk failed name path done desk' failed' → IsEntered Holds desk told failed (item.numbered line (item.load name path)) entry desk' told failed'
+  pub carried_load : (name path : List ℕ) (desk' : DeskState) (failed' : ℕ) → IsLoaded Holds desk failed name path done desk' failed'
+      → IsEntered Holds desk told failed (item.numbered line (item.load name path)) entry desk' told failed'
   unfolding legal.IsEntryOf
   carried_load name path desk' failed' load = rw (is, load.left) (record {
     loaded = load.loaded;
-    legal = λ readers before after same. subst (λ c. IsNamed name line (entry_of line done) (HasLoaded Holds desk.limit (state_of c) path load.loaded line (entry_of line done))) (sym same) (load.legal line);
+    legal =
+        λ readers before after same.
+        subst (λ c.
+        IsNamed name line (entry_of line done) (HasLoaded Holds desk.limit (state_of c) path load.loaded line (entry_of line done)))
+        (sym same) (load.legal line);
     no_search = refl;
     no_sync = refl;
     no_search_entry = no_search_entry line done;
@@ -83,11 +99,17 @@ module _ (Holds : List ℕ → List ℕ → Type 0) (desk : DeskState) (told : K
     counted = load.counted line;
   })
 
-  pub carried_remove : (name : List ℕ) (desk' : DeskState) → IsNamed name line (entry_of line done) (IsRemove desk.limit (state_of desk.accepted) name line (entry_of line done)) → desk' ≡ desk_after done (Remove name ∷ []) desk → IsEntered Holds desk told failed (item.numbered line (item.remove name)) entry desk' told failed
+  pub carried_remove : (name : List ℕ) (desk' : DeskState)
+      → IsNamed name line (entry_of line done) (IsRemove desk.limit (state_of desk.accepted) name line (entry_of line done))
+      → desk' ≡ desk_after done (Remove name ∷ []) desk
+      → IsEntered Holds desk told failed (item.numbered line (item.remove name)) entry desk' told failed
   unfolding legal.IsEntryOf
   carried_remove name desk' legal_is left = rw (is, left) (record {
     loaded = None;
-    legal = λ readers before after same. subst (λ c. IsNamed name line (entry_of line done) (IsRemove desk.limit (state_of c) name line (entry_of line done))) (sym same) legal_is;
+    legal =
+        λ readers before after same.
+        subst (λ c. IsNamed name line (entry_of line done) (IsRemove desk.limit (state_of c) name line (entry_of line done))) (sym same)
+        legal_is;
     no_search = refl;
     no_sync = refl;
     no_search_entry = no_search_entry line done;
@@ -95,19 +117,25 @@ module _ (Holds : List ℕ → List ℕ → Type 0) (desk : DeskState) (told : K
     limit = (same_opening done (Remove name ∷ []) desk).1;
     accepted = accepted_after line done (Remove name ∷ []) desk;
     tells = nothing (no_version line done) refl;
-    counted = counted_same (entry_of line done) failed (no_failure_named name line _ _ (no_failure_in_remove desk.limit (state_of desk.accepted) name line (entry_of line done)) legal_is);
+    counted =
+        counted_same (entry_of line done) failed
+        (no_failure_named name line _ _ (no_failure_in_remove desk.limit (state_of desk.accepted) name line (entry_of line done))
+        legal_is);
   })
 
 -- publishes, and lines that are no items
 module _ (Holds : List ℕ → List ℕ → Type 0) (desk : DeskState) (told : Known) (failed line : ℕ) (entry : Entry) where
   pub carried_publish : (desk' : DeskState) (told' : Known) (published : Result ℕ Reason) → entry ≡ published_entry_of line published
-      → IfOk published (λ version. (version ≡ length desk.accepted) × (told' ≡ known desk.opening desk.accepted)) → IfErr published (λ why. (why ≡ reason.OutOfMemory) × (told' ≡ told))
+      → IfOk published (λ version. (version ≡ length desk.accepted) × (told' ≡ known desk.opening desk.accepted))
+      → IfErr published (λ why. (why ≡ reason.OutOfMemory) × (told' ≡ told))
       → desk'.accepted ≡ desk.accepted → (desk'.opening ≡ desk.opening) × (desk'.limit ≡ desk.limit)
       → IsEntered Holds desk told failed (item.numbered line item.publish) entry desk' told' failed
   unfolding legal.IsEntryOf
   carried_publish desk' told' (Ok version) is' ok err kept others = rw is' (record {
     loaded = None;
-    legal = λ readers before after same. subst (λ c. legal.IsPublish (state_of c) line (Published line version)) (sym same) (legal.published (ap (Published line) ok.0));
+    legal =
+        λ readers before after same.
+        subst (λ c. legal.IsPublish (state_of c) line (Published line version)) (sym same) (legal.published (ap (Published line) ok.0));
     no_search = refl;
     no_sync = refl;
     no_search_entry = refl;
@@ -132,16 +160,73 @@ module _ (Holds : List ℕ → List ℕ → Type 0) (desk : DeskState) (told : K
 
   pub carried_bad_line : entry ≡ Refused line reason.BadLine → IsEntered Holds desk told failed (item.numbered line item.bad_line) entry desk told failed
   unfolding legal.IsEntryOf
-  carried_bad_line is = rw is (record { loaded = None; legal = λ readers before after same. refl; no_search = refl; no_sync = refl; no_search_entry = refl; opening = refl; limit = refl; accepted = sym (append-nil desk.accepted); tells = nothing refl refl; counted = counted_same (Refused line reason.BadLine) failed refl })
+  carried_bad_line is =
+      rw is
+      (record {
+        loaded = None;
+        legal = λ readers before after same.
+            refl;
+        no_search = refl;
+        no_sync = refl;
+        no_search_entry = refl;
+        opening = refl;
+        limit = refl;
+        accepted = sym (append-nil desk.accepted);
+        tells = nothing refl refl;
+        counted = counted_same (Refused line reason.BadLine) failed refl;
+      })
 
   pub carried_bad_put : entry ≡ Refused line reason.BadPut → IsEntered Holds desk told failed (item.numbered line item.bad_put) entry desk told failed
   unfolding legal.IsEntryOf
-  carried_bad_put is = rw is (record { loaded = None; legal = λ readers before after same. refl; no_search = refl; no_sync = refl; no_search_entry = refl; opening = refl; limit = refl; accepted = sym (append-nil desk.accepted); tells = nothing refl refl; counted = counted_same (Refused line reason.BadPut) failed refl })
+  carried_bad_put is =
+      rw is
+      (record {
+        loaded = None;
+        legal = λ readers before after same.
+            refl;
+        no_search = refl;
+        no_sync = refl;
+        no_search_entry = refl;
+        opening = refl;
+        limit = refl;
+        accepted = sym (append-nil desk.accepted);
+        tells = nothing refl refl;
+        counted = counted_same (Refused line reason.BadPut) failed refl;
+      })
 
   pub carried_truncated : entry ≡ Refused line reason.Truncated → IsEntered Holds desk told failed (item.numbered line item.truncated) entry desk told failed
   unfolding legal.IsEntryOf
-  carried_truncated is = rw is (record { loaded = None; legal = λ readers before after same. refl; no_search = refl; no_sync = refl; no_search_entry = refl; opening = refl; limit = refl; accepted = sym (append-nil desk.accepted); tells = nothing refl refl; counted = counted_same (Refused line reason.Truncated) failed refl })
+  carried_truncated is =
+      rw is
+      (record {
+        loaded = None;
+        legal = λ readers before after same.
+            refl;
+        no_search = refl;
+        no_sync = refl;
+        no_search_entry = refl;
+        opening = refl;
+        limit = refl;
+        accepted = sym (append-nil desk.accepted);
+        tells = nothing refl refl;
+        counted = counted_same (Refused line reason.Truncated) failed refl;
+      })
 
-  pub carried_open_body : entry ≡ Refused line reason.BodyNotClosed → IsEntered Holds desk told failed (item.numbered line item.body_not_closed) entry desk told failed
+  pub carried_open_body : entry ≡ Refused line reason.BodyNotClosed
+      → IsEntered Holds desk told failed (item.numbered line item.body_not_closed) entry desk told failed
   unfolding legal.IsEntryOf
-  carried_open_body is = rw is (record { loaded = None; legal = λ readers before after same. refl; no_search = refl; no_sync = refl; no_search_entry = refl; opening = refl; limit = refl; accepted = sym (append-nil desk.accepted); tells = nothing refl refl; counted = counted_same (Refused line reason.BodyNotClosed) failed refl })
+  carried_open_body is =
+      rw is
+      (record {
+        loaded = None;
+        legal = λ readers before after same.
+            refl;
+        no_search = refl;
+        no_sync = refl;
+        no_search_entry = refl;
+        opening = refl;
+        limit = refl;
+        accepted = sym (append-nil desk.accepted);
+        tells = nothing refl refl;
+        counted = counted_same (Refused line reason.BodyNotClosed) failed refl;
+      })

@@ -18,13 +18,17 @@ use Rattle.tsearch.specs.declared.transcript.Entry.TheVariants.{Found}
 use Rattle.tsearch.specs.Private.Tallies.{last, last_of, IsUseful, CanStand, IsClosed, found}
 
 -- what a search in a list finds is in it
-pub found_in_list : ((x y : ℕ) → nat_cmp x y ≡ Equal → x ≡ y) → (versions : List ℕ) (v : ℕ) (r : Result ℕ ℕ) → IsSearchInRange r (length versions) → IfOk r (HoldsAt (λ y. nat_cmp y v ≡ Equal) versions) → MatchBool (is_ok r) (Contains versions v) (Unit {0})
+pub found_in_list : ((x y : ℕ) → nat_cmp x y ≡ Equal → x ≡ y) → (versions : List ℕ) (v : ℕ) (r : Result ℕ ℕ)
+    → IsSearchInRange r (length versions) → IfOk r (HoldsAt (λ y. nat_cmp y v ≡ Equal) versions)
+    → MatchBool (is_ok r) (Contains versions v) (Unit {0})
 found_in_list same versions v (Ok k) bound ok = (k, bound, same (get_or versions k v) v (ok v))
 found_in_list same versions v (Err k) bound ok = tt
 
 -- the answer of a reader
-pub closed_by_reader : (searches : List (Option Prepared)) (told : List Command) (versions : List ℕ) (number least : ℕ) (lasts : List Last) (reader version : ℕ) (before d : Last) (given : Given)
-    → IsUseful searches told given → given.search ≡ number → CanStand told versions least before given → before ≡ get_or lasts reader d → reader < length lasts → version ≡ given.answer.version
+pub closed_by_reader : (searches : List (Option Prepared)) (told : List Command) (versions : List ℕ) (number least : ℕ) (lasts : List Last)
+    (reader version : ℕ) (before d : Last) (given : Given)
+    → IsUseful searches told given → given.search ≡ number → CanStand told versions least before given → before ≡ get_or lasts reader d
+    → reader < length lasts → version ≡ given.answer.version
     → IsClosed searches told versions number least lasts (Found number reader given.turn given.answer) (set lasts reader (last given.turn version))
 closed_by_reader searches told versions number least lasts reader version before d given useful same can before_is within is_version =
     let here : before ≡ last_of lasts reader = before_is ∙ get_or_default lasts reader d (last 0 0) within in
@@ -42,8 +46,10 @@ closed_by_reader searches told versions number least lasts reader version before
     })
 
 -- the answer of reader 0
-pub closed_by_first : (searches : List (Option Prepared)) (told : List Command) (versions : List ℕ) (number least : ℕ) (lasts : List Last) (turn version : ℕ) (before d : Last) (prepared : Prepared) (answer : Answer)
-    → slice_get searches (number - 1) ≡ Some (Some prepared) → IsAnswerOf (state_of told) (pattern_of prepared) answer → before ≡ get_or lasts 0 d → 0 < length lasts → turn ≡ before.turn + 1 → version ≡ answer.version
+pub closed_by_first : (searches : List (Option Prepared)) (told : List Command) (versions : List ℕ) (number least : ℕ) (lasts : List Last)
+    (turn version : ℕ) (before d : Last) (prepared : Prepared) (answer : Answer)
+    → slice_get searches (number - 1) ≡ Some (Some prepared) → IsAnswerOf (state_of told) (pattern_of prepared) answer
+    → before ≡ get_or lasts 0 d → 0 < length lasts → turn ≡ before.turn + 1 → version ≡ answer.version
     → IsClosed searches told versions number least lasts (Found number 0 turn answer) (set lasts 0 (last turn version))
 closed_by_first searches told versions number least lasts turn version before d prepared answer listed answered before_is within next is_version =
     let here : before ≡ last_of lasts 0 = before_is ∙ get_or_default lasts 0 d (last 0 0) within in

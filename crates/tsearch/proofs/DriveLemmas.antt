@@ -14,17 +14,26 @@ use Rattle.tsearch.specs.Private.Sessions.{IsPended, IsStep, IsSettled, IsKept, 
 use Rattle.tsearch.specs.Private.Sessions as sessions
 use Rattle.tsearch.proofs.LoopLemmas.{one_search, settled_few, settled_lasts}
 
-told_opening : (desk : DeskState) (told : Known) (entry : Entry) (told' : Known) → Tells desk told entry told' → told.opening ≡ desk.opening → told'.opening ≡ desk.opening
+told_opening : (desk : DeskState) (told : Known) (entry : Entry) (told' : Known) → Tells desk told entry told' → told.opening ≡ desk.opening
+    → told'.opening ≡ desk.opening
 told_opening desk told entry told' (items.all line is same) opening = ap (λ k. k.opening) same
 told_opening desk told entry told' (items.nothing none same) opening = ap (λ k. k.opening) same ∙ opening
 
-pended_opening : (Holds : List ℕ → List ℕ → Type 0) (desk : DeskState) (told : Known) (failed number : ℕ) (item : Numbered) (entry : Option Entry) (desk' : DeskState) (told' : Known) (failed' : ℕ) → IsPended Holds desk told failed number item entry desk' told' failed' → told.opening ≡ desk.opening → (told'.opening ≡ desk.opening) × (desk'.opening ≡ desk.opening)
-pended_opening Holds desk told failed number item _ desk' told' failed' (sessions.entered entry is) opening = (told_opening desk told entry told' is.tells opening, is.opening)
-pended_opening Holds desk told failed number item _ desk' told' failed' (sessions.refused why is_search refusal left) opening = (ap (λ k. k.opening) left.1 ∙ opening, ap (λ d. d.opening) left.0)
-pended_opening Holds desk told failed number item _ desk' told' failed' (sessions.asked is_search left) opening = (ap (λ k. k.opening) left.1 ∙ opening, ap (λ d. d.opening) left.0)
+pended_opening : (Holds : List ℕ → List ℕ → Type 0) (desk : DeskState) (told : Known) (failed number : ℕ) (item : Numbered)
+    (entry : Option Entry) (desk' : DeskState) (told' : Known) (failed' : ℕ)
+    → IsPended Holds desk told failed number item entry desk' told' failed' → told.opening ≡ desk.opening
+    → (told'.opening ≡ desk.opening) × (desk'.opening ≡ desk.opening)
+pended_opening Holds desk told failed number item _ desk' told' failed' (sessions.entered entry is) opening =
+    (told_opening desk told entry told' is.tells opening, is.opening)
+pended_opening Holds desk told failed number item _ desk' told' failed' (sessions.refused why is_search refusal left) opening =
+    (ap (λ k. k.opening) left.1 ∙ opening, ap (λ d. d.opening) left.0)
+pended_opening Holds desk told failed number item _ desk' told' failed' (sessions.asked is_search left) opening =
+    (ap (λ k. k.opening) left.1 ∙ opening, ap (λ d. d.opening) left.0)
 
 -- What stays as it was when an item is taken.
-pub step_keeps : {Holds : List ℕ → List ℕ → Type 0} {desk : DeskState} {failed : ℕ} {old : Session} {item : Numbered} {next : Step} {desk' : DeskState} {failed' : ℕ} {new : Session} → IsStep Holds desk failed old item next desk' failed' new → old.reading.opening ≡ old.told.opening → old.told.opening ≡ desk.opening → IsKept desk old desk' new
+pub step_keeps : {Holds : List ℕ → List ℕ → Type 0} {desk : DeskState} {failed : ℕ} {old : Session} {item : Numbered} {next : Step}
+    {desk' : DeskState} {failed' : ℕ} {new : Session} → IsStep Holds desk failed old item next desk' failed' new
+    → old.reading.opening ≡ old.told.opening → old.told.opening ≡ desk.opening → IsKept desk old desk' new
 step_keeps {Holds} {desk} {failed} {old} {item} {next} {desk'} {failed'} {new} (sessions.taken no_sync pends) reading told =
     let is = pended_opening Holds desk old.told failed (old.searches + 1) item pends.entry desk' new.told failed' pends.is told in
     record {
@@ -45,7 +54,8 @@ step_keeps {Holds} {desk} {failed} {old} {item} {next} {desk'} {failed'} {new} (
 }
 
 -- And then when all is settled.
-pub settled_keeps : {searches : List (Option Prepared)} {desk : DeskState} {old : Session} {desk' : DeskState} {mid new : Session} → IsKept desk old desk' mid → IsSettled searches mid new → new.reading.opening ≡ new.told.opening → IsKept desk old desk' new
+pub settled_keeps : {searches : List (Option Prepared)} {desk : DeskState} {old : Session} {desk' : DeskState} {mid new : Session}
+    → IsKept desk old desk' mid → IsSettled searches mid new → new.reading.opening ≡ new.told.opening → IsKept desk old desk' new
 settled_keeps {searches} {desk} {old} {desk'} {mid} {new} kept is reading = record {
   reading = reading;
   told = ap (λ k. k.opening) is.told ∙ kept.told;
@@ -56,11 +66,18 @@ settled_keeps {searches} {desk} {old} {desk'} {mid} {new} kept is reading = reco
 }
 
 -- A run goes on by an item that was taken, after which all is settled, or nothing.
-pub step_settled : {Holds : List ℕ → List ℕ → Type 0} {searches : List (Option Prepared)} {readers : ℕ} {desk : DeskState} {failed : ℕ} {old : Session} {item : Numbered} {next : Step} {desk' : DeskState} {failed' : ℕ} {mid new : Session} → IsStep Holds desk failed old item next desk' failed' mid → IsSettled searches mid new → Advances Holds searches readers desk failed old item desk' failed' new
+pub step_settled : {Holds : List ℕ → List ℕ → Type 0} {searches : List (Option Prepared)} {readers : ℕ} {desk : DeskState} {failed : ℕ}
+    {old : Session} {item : Numbered} {next : Step} {desk' : DeskState} {failed' : ℕ} {mid new : Session}
+    → IsStep Holds desk failed old item next desk' failed' mid → IsSettled searches mid new
+    → Advances Holds searches readers desk failed old item desk' failed' new
 step_settled (sessions.taken no_sync pends) settled = sessions.settled _ pends settled
-step_settled {searches = searches} {new = new} (sessions.left is_left is same_desk same_failed same) settled = sessions.synced is same_desk same_failed (subst (λ s. IsSettled searches s new) same settled)
+step_settled {searches = searches} {new = new} (sessions.left is_left is same_desk same_failed same) settled =
+    sessions.synced is same_desk same_failed (subst (λ s. IsSettled searches s new) same settled)
 
-pub step_waits : {Holds : List ℕ → List ℕ → Type 0} {searches : List (Option Prepared)} {readers : ℕ} {desk : DeskState} {failed : ℕ} {old : Session} {item : Numbered} {next : Step} {desk' : DeskState} {failed' : ℕ} {new : Session} → IsStep Holds desk failed old item next desk' failed' new → (next ≢ step.Sync) × (readers ≢ 0) → Advances Holds searches readers desk failed old item desk' failed' new
+pub step_waits : {Holds : List ℕ → List ℕ → Type 0} {searches : List (Option Prepared)} {readers : ℕ} {desk : DeskState} {failed : ℕ}
+    {old : Session} {item : Numbered} {next : Step} {desk' : DeskState} {failed' : ℕ} {new : Session}
+    → IsStep Holds desk failed old item next desk' failed' new → (next ≢ step.Sync) × (readers ≢ 0)
+    → Advances Holds searches readers desk failed old item desk' failed' new
 step_waits (sessions.taken no_sync pends) is = sessions.pended is.1 pends
 step_waits (sessions.left is_left at same_desk same_failed same) is = absurd (is.0 is_left)
 

@@ -17,22 +17,27 @@ use Rattle.search.specs.Pattern.{HasTree}
 use Rattle.tsearch.specs.declared.transcript.Entry.{Entry}
 use Rattle.tsearch.specs.declared.transcript.Entry.TheVariants.{Refused, SearchRefused}
 use Rattle.tsearch.specs.declared.transcript.SearchReason.TheVariants as search_reason
-use Rattle.tsearch.specs.Legal.{IsNamed, bad_name, no_memory, named, bad_body, with_body, full, accepted, IsPut, HasLoaded, loaded_body, IsFailedTimes, Context, search_number, IsSearch, IsSearchIn}
+use Rattle.tsearch.specs.Legal.{IsNamed, bad_name, no_memory, named, bad_body, with_body, full, accepted, IsPut, HasLoaded, loaded_body}
+use Rattle.tsearch.specs.Legal.{IsFailedTimes, Context, search_number, IsSearch, IsSearchIn}
 use Rattle.tsearch.specs.Legal as legal
 use Rattle.tsearch.specs.Private.Entries.{reason_of_name, reason_of_fault, reason_of_fault_of, HasBodyOrNoMemory, IsCounted}
 
-pub named_fault : (error : NameError) (bytes : List ℕ) (line : ℕ) (entry : Entry) (Else : Type 0) → IsNameFault error bytes → entry ≡ Refused line (reason_of_name error) → IsNamed bytes line entry Else
+pub named_fault : (error : NameError) (bytes : List ℕ) (line : ℕ) (entry : Entry) (Else : Type 0) → IsNameFault error bytes
+    → entry ≡ Refused line (reason_of_name error) → IsNamed bytes line entry Else
 unfolding IsNameFault
 named_fault name.Empty bytes line entry Else fault is = bad_name name.Empty (λ e. cc) fault is
 named_fault name.TooLong bytes line entry Else fault is = bad_name name.TooLong (λ e. cc) fault is
 named_fault name.BadByte bytes line entry Else fault is = bad_name name.BadByte (λ e. cc) fault is
 named_fault name.OutOfMemory bytes line entry Else fault is = no_memory fault is
 
-pub named_body : (most : ℕ) (state : State) (bytes bytes' : List ℕ) (line : ℕ) (entry : Entry) → IsName bytes → HasBodyOrNoMemory most state bytes' line entry → IsPut most state bytes bytes' line entry
+pub named_body : (most : ℕ) (state : State) (bytes bytes' : List ℕ) (line : ℕ) (entry : Entry) → IsName bytes
+    → HasBodyOrNoMemory most state bytes' line entry → IsPut most state bytes bytes' line entry
 named_body most state bytes bytes' line entry is (inl body_is) = named is body_is
 named_body most state bytes bytes' line entry is (inr ran_out) = no_memory is ran_out.2
 
-pub named_loaded : (Holds : List ℕ → List ℕ → Type 0) (most : ℕ) (state : State) (bytes path bytes' : List ℕ) (line : ℕ) (entry : Entry) → IsName bytes → Holds path bytes' → HasBodyOrNoMemory most state bytes' line entry → IsNamed bytes line entry (HasLoaded Holds most state path (Some bytes') line entry)
+pub named_loaded : (Holds : List ℕ → List ℕ → Type 0) (most : ℕ) (state : State) (bytes path bytes' : List ℕ) (line : ℕ) (entry : Entry)
+    → IsName bytes → Holds path bytes' → HasBodyOrNoMemory most state bytes' line entry
+    → IsNamed bytes line entry (HasLoaded Holds most state path (Some bytes') line entry)
 named_loaded Holds most state bytes path bytes' line entry is held (inl body_is) = named is (loaded_body bytes' refl held body_is)
 named_loaded Holds most state bytes path bytes' line entry is held (inr ran_out) = no_memory is ran_out.2
 
@@ -51,7 +56,8 @@ memory_or_not kind.TooDeep = inr (λ e. cc)
 memory_or_not kind.TooLarge = inr (λ e. cc)
 memory_or_not kind.OutOfMemory = inl refl
 
-reason_of_memory : (in_name : Bool) (k : EreErrorKind) (error : EreError) → k ≡ kind.OutOfMemory → reason_of_fault_of in_name k error ≡ search_reason.OutOfMemory
+reason_of_memory : (in_name : Bool) (k : EreErrorKind) (error : EreError) → k ≡ kind.OutOfMemory
+    → reason_of_fault_of in_name k error ≡ search_reason.OutOfMemory
 reason_of_memory in_name k error e = ap (λ j. reason_of_fault_of in_name j error) e
 
 reason_in_name : (k : EreErrorKind) (error : EreError) → (k ≡ kind.OutOfMemory → ⊥) → reason_of_fault_of true k error ≡ search_reason.NamePattern error
@@ -82,30 +88,40 @@ reason_in_pattern kind.TooDeep error h = refl
 reason_in_pattern kind.TooLarge error h = refl
 reason_in_pattern kind.OutOfMemory error h = absurd (h refl)
 
-pub search_refused : (case : Case) (text : List ℕ) (error : EreError) → ((error.kind ≡ kind.OutOfMemory → ⊥) → HasNoTree case text) → (context : Context) → IsSearch context case text (SearchRefused (search_number context) (reason_of_fault false error))
+pub search_refused : (case : Case) (text : List ℕ) (error : EreError) → ((error.kind ≡ kind.OutOfMemory → ⊥) → HasNoTree case text)
+    → (context : Context) → IsSearch context case text (SearchRefused (search_number context) (reason_of_fault false error))
 search_refused case text error none context = by_kind (memory_or_not error.kind)
   where
-    by_kind : (error.kind ≡ kind.OutOfMemory) ⊎ (error.kind ≡ kind.OutOfMemory → ⊥) → IsSearch context case text (SearchRefused (search_number context) (reason_of_fault false error))
+    by_kind : (error.kind ≡ kind.OutOfMemory) ⊎ (error.kind ≡ kind.OutOfMemory → ⊥)
+        → IsSearch context case text (SearchRefused (search_number context) (reason_of_fault false error))
     by_kind (inl memory) = legal.searched (legal.no_memory (ap (SearchRefused (search_number context)) (reason_of_memory false error.kind error memory)))
     by_kind (inr fault) = legal.bad_pattern error fault (none fault) (ap (SearchRefused (search_number context)) (reason_in_pattern error.kind error fault))
 
-pub search_in_refused : (case : Case) (name_text text : List ℕ) (in_name : Bool) (error : EreError) → ((error.kind ≡ kind.OutOfMemory → ⊥) → MatchBool in_name (HasNoTree Exact name_text) (HasTree Exact name_text × HasNoTree case text)) → (context : Context) → IsSearchIn context case name_text text (SearchRefused (search_number context) (reason_of_fault in_name error))
+pub search_in_refused : (case : Case) (name_text text : List ℕ) (in_name : Bool) (error : EreError)
+    → ((error.kind ≡ kind.OutOfMemory → ⊥) → MatchBool in_name (HasNoTree Exact name_text) (HasTree Exact name_text × HasNoTree case text))
+    → (context : Context) → IsSearchIn context case name_text text (SearchRefused (search_number context) (reason_of_fault in_name error))
 search_in_refused case name_text text true error none context = by_kind (memory_or_not error.kind)
   where
-    by_kind : (error.kind ≡ kind.OutOfMemory) ⊎ (error.kind ≡ kind.OutOfMemory → ⊥) → IsSearchIn context case name_text text (SearchRefused (search_number context) (reason_of_fault true error))
+    by_kind : (error.kind ≡ kind.OutOfMemory) ⊎ (error.kind ≡ kind.OutOfMemory → ⊥)
+        → IsSearchIn context case name_text text (SearchRefused (search_number context) (reason_of_fault true error))
     by_kind (inl memory) = legal.searched (legal.no_memory (ap (SearchRefused (search_number context)) (reason_of_memory true error.kind error memory)))
     by_kind (inr fault) = legal.bad_name_pattern error fault (none fault) (ap (SearchRefused (search_number context)) (reason_in_name error.kind error fault))
 search_in_refused case name_text text false error none context = by_kind (memory_or_not error.kind)
   where
-    by_kind : (error.kind ≡ kind.OutOfMemory) ⊎ (error.kind ≡ kind.OutOfMemory → ⊥) → IsSearchIn context case name_text text (SearchRefused (search_number context) (reason_of_fault false error))
+    by_kind : (error.kind ≡ kind.OutOfMemory) ⊎ (error.kind ≡ kind.OutOfMemory → ⊥)
+        → IsSearchIn context case name_text text (SearchRefused (search_number context) (reason_of_fault false error))
     by_kind (inl memory) = legal.searched (legal.no_memory (ap (SearchRefused (search_number context)) (reason_of_memory false error.kind error memory)))
-    by_kind (inr fault) = legal.bad_pattern error fault (none fault).0 (none fault).1 (ap (SearchRefused (search_number context)) (reason_in_pattern error.kind error fault))
+    by_kind (inr fault) =
+        legal.bad_pattern error fault (none fault).0 (none fault).1
+        (ap (SearchRefused (search_number context)) (reason_in_pattern error.kind error fault))
 
 -- memory ran out
-pub search_without_memory : (case : Case) (text : List ℕ) (context : Context) → IsSearch context case text (SearchRefused (search_number context) search_reason.OutOfMemory)
+pub search_without_memory : (case : Case) (text : List ℕ) (context : Context)
+    → IsSearch context case text (SearchRefused (search_number context) search_reason.OutOfMemory)
 search_without_memory case text context = legal.searched (legal.no_memory refl)
 
-pub search_in_without_memory : (case : Case) (name_text text : List ℕ) (context : Context) → IsSearchIn context case name_text text (SearchRefused (search_number context) search_reason.OutOfMemory)
+pub search_in_without_memory : (case : Case) (name_text text : List ℕ) (context : Context)
+    → IsSearchIn context case name_text text (SearchRefused (search_number context) search_reason.OutOfMemory)
 search_in_without_memory case name_text text context = legal.searched (legal.no_memory refl)
 
 pub too_long_body : (bytes : List ℕ) → greatest_body < length bytes → IsBodyFault body.TooLong bytes
@@ -122,7 +138,8 @@ no_failure_in_name name.OutOfMemory = refl
 no_failure_at : {entry entry' : Entry} → entry ≡ entry' → failures_in (Some entry') ≡ 0 → failures_in (Some entry) ≡ 0
 no_failure_at is none = ap (λ e. failures_in (Some e)) is ∙ none
 
-pub no_failure_in_body : (most : ℕ) (state : State) (bytes : List ℕ) (line : ℕ) (entry : Entry) → HasBodyOrNoMemory most state bytes line entry → failures_in (Some entry) ≡ 0
+pub no_failure_in_body : (most : ℕ) (state : State) (bytes : List ℕ) (line : ℕ) (entry : Entry)
+    → HasBodyOrNoMemory most state bytes line entry → failures_in (Some entry) ≡ 0
 no_failure_in_body most state bytes line entry (inl (bad_body fault is_fault is)) = no_failure_at is refl
 no_failure_in_body most state bytes line entry (inl (with_body is_body (full all is))) = no_failure_at is refl
 no_failure_in_body most state bytes line entry (inl (with_body is_body (accepted room is))) = no_failure_at is refl
@@ -135,7 +152,8 @@ counted_none entry failed failed' none same = record {
 }
 
 -- A read that failed, said so.
-pub counted_one : (entry : Entry) (failed failed' : ℕ) → failures_in (Some entry) ≡ 1 → failed ≤ failed' → failed' ≤ failed + 1 → failed' < 2 ^ 64 → (failed < failed') ⊎ (failed' ≡ 2 ^ 64 - 1) → IsCounted (failures_in (Some entry)) failed failed'
+pub counted_one : (entry : Entry) (failed failed' : ℕ) → failures_in (Some entry) ≡ 1 → failed ≤ failed' → failed' ≤ failed + 1
+    → failed' < 2 ^ 64 → (failed < failed') ⊎ (failed' ≡ 2 ^ 64 - 1) → IsCounted (failures_in (Some entry)) failed failed'
 counted_one entry failed failed' one grows by_one below failure = record {
   rises = by_failure failure;
   stays = λ e. omega arith;

@@ -1,5 +1,6 @@
 -- The rows of a run without readers, one after the other.
-use Rattle.std.proofs.Common.{◌≡◌, ℕ, ◌+◌, ◌≤◌, ◌<◌, ◌⊎◌, inl, inr, true, List, [], ◌∷◌, ◌++◌, Option, Some, None, Ok, Err, Result, refl, sym, ap, ◌∙◌, subst, arith, take, length, append_assoc, length-append}
+use Rattle.std.proofs.Common.{◌≡◌, ℕ, ◌+◌, ◌≤◌, ◌<◌, ◌⊎◌, inl, inr, true, List, [], ◌∷◌, ◌++◌, Option, Some, None, Ok, Err, Result, refl}
+use Rattle.std.proofs.Common.{sym, ap, ◌∙◌, subst, arith, take, length, append_assoc, length-append}
 use Rattle.std.proofs.lemmas.List.{append-nil, take-append-le, take_all}
 use Rattle.std.proofs.lemmas.List.Elements.{Contains-append_left}
 use Rattle.std.specs.Prelude.{Contains}
@@ -19,8 +20,10 @@ use Rattle.tsearch.specs.declared.transcript.Reason.{Reason}
 use Rattle.tsearch.specs.declared.transcript.Reason.TheVariants.{Full, Body, Name, OutOfMemory}
 use Rattle.tsearch.specs.declared.transcript.SearchReason.{SearchReason}
 use Rattle.tsearch.specs.declared.transcript.SearchReason.TheVariants as search_reason
-use Rattle.tsearch.specs.Rows.{Row, commands_of, accepted_by, command_of, version_in, published_in, last_or, published_last, is_sync, searches_of, count_searches, failures_in, count_failures}
-use Rattle.tsearch.specs.Legal.{Context, IsEntryOf, HasEntry, IsLegalRow, IsSearched, IsAnswered, IsInTurn, AreInTurn, IsFailedTimes, IsPut, IsNamed, bad_name, no_memory, named, HasBody, bad_body, with_body, IsRoomFor, full, accepted}
+use Rattle.tsearch.specs.Rows.{Row, commands_of, accepted_by, command_of, version_in, published_in, last_or, published_last, is_sync}
+use Rattle.tsearch.specs.Rows.{searches_of, count_searches, failures_in, count_failures}
+use Rattle.tsearch.specs.Legal.{Context, IsEntryOf, HasEntry, IsLegalRow, IsSearched, IsAnswered, IsInTurn, AreInTurn, IsFailedTimes, IsPut}
+use Rattle.tsearch.specs.Legal.{IsNamed, bad_name, no_memory, named, HasBody, bad_body, with_body, IsRoomFor, full, accepted}
 use Rattle.tsearch.specs.Legal as legal
 use Rattle.tsearch.specs.Lone.{LoneState, first_state, AreAnsweredBy, AreSoFar, GoesOn, IsPutOn}
 use Rattle.tsearch.specs.Private.Entries.{IsCounted, entry_of, desk_after}
@@ -30,7 +33,8 @@ use Rattle.tsearch.specs.Private.Lone.{IsAnsweredAlone, IsSearchedAlone, counted
 use Rattle.tsearch.specs.Private.Lone as lone
 use Rattle.tsearch.specs.Private.Searches.{Asks, IsRefusalOf}
 use Rattle.tsearch.proofs.CarryLemmas.{accepted_after, same_opening}
-use Rattle.tsearch.proofs.RowLemmas.{commands_of-append, commands_of-one, published_in-append, published_last-push, count_searches-push, count_failures-push, split_push}
+use Rattle.tsearch.proofs.RowLemmas.{commands_of-append, commands_of-one, published_in-append, published_last-push, count_searches-push}
+use Rattle.tsearch.proofs.RowLemmas.{count_failures-push, split_push}
 use Rattle.tsearch.proofs.LegalLemmas.{context_of, legal_sync, legal_refusal, no_memory_refusal, map_legal, sync_is_no_search}
 use Rattle.tsearch.proofs.SettleLemmas.{accepted_in, last_is_one}
 use Rattle.tsearch.proofs.RunLemmas.{count_more}
@@ -54,7 +58,9 @@ so_far_begins Holds most failed = record {
 }
 
 -- A source that held no more later.
-pub so_far_held : (Holds Holds' : List ℕ → List ℕ → Type 0) → ((path body : List ℕ) → Holds' path body → Holds path body) → (failed : ℕ) (state : LoneState) (failed' : ℕ) (rows : List Row) → AreSoFar Holds' failed state failed' rows → AreSoFar Holds failed state failed' rows
+pub so_far_held : (Holds Holds' : List ℕ → List ℕ → Type 0) → ((path body : List ℕ) → Holds' path body → Holds path body)
+    → (failed : ℕ) (state : LoneState) (failed' : ℕ) (rows : List Row) → AreSoFar Holds' failed state failed' rows
+    → AreSoFar Holds failed state failed' rows
 so_far_held Holds Holds' holds failed state failed' rows are = record {
   each = λ before row rest after e. map_legal Holds Holds' holds state.limit (context_of 0 before row after) (are.each before row rest after e);
   turns = are.turns;
@@ -78,21 +84,30 @@ pub record IsNext (Holds : List ℕ → List ℕ → Type 0) (rows : List Row) (
   pub grows : length old.told ≤ length new.told
   pub searches : new.searches ≡ old.searches + searches_of row.numbered.item
   pub turns : old.turn ≤ new.turn
-  pub answers : (number reader turn : ℕ) (answer : Answer) → row.entry ≡ Some (Found number reader turn answer) → (turn ≡ old.turn + 1) × (new.turn ≡ old.turn + 1) × (answer.version ≡ length old.told)
+  pub answers : (number reader turn : ℕ) (answer : Answer) → row.entry ≡ Some (Found number reader turn answer)
+      → (turn ≡ old.turn + 1) × (new.turn ≡ old.turn + 1) × (answer.version ≡ length old.told)
   pub fails : IsCounted (failures_in row.entry) before after
 
-module _ (Holds : List ℕ → List ℕ → Type 0) (failed : ℕ) (rows : List Row) (old : LoneState) (before : ℕ) (row : Row) (new : LoneState) (after : ℕ) (are : AreSoFar Holds failed old before rows) (next : IsNext Holds rows old before row new after) where
-  each_push : (front : List Row) (row' : Row) (rest later : List Row) → rows ++ row ∷ [] ≡ front ++ row' ∷ rest → IsLegalRow Holds new.limit (context_of 0 front row' later)
-  each_push front row' rest later e = subst (λ m. IsLegalRow Holds m (context_of 0 front row' later)) (sym next.same_limit) (by_place (split_push rows front rest row row' e))
+module _ (Holds : List ℕ → List ℕ → Type 0) (failed : ℕ) (rows : List Row) (old : LoneState) (before : ℕ) (row : Row) (new : LoneState)
+    (after : ℕ) (are : AreSoFar Holds failed old before rows) (next : IsNext Holds rows old before row new after) where
+  each_push : (front : List Row) (row' : Row) (rest later : List Row) → rows ++ row ∷ [] ≡ front ++ row' ∷ rest
+      → IsLegalRow Holds new.limit (context_of 0 front row' later)
+  each_push front row' rest later e =
+      subst (λ m. IsLegalRow Holds m (context_of 0 front row' later)) (sym next.same_limit)
+      (by_place (split_push rows front rest row row' e))
     where
-      by_place : ((rows ≡ front) × (row ≡ row')) ⊎ ((others : List Row) × (rows ≡ front ++ row' ∷ others)) → IsLegalRow Holds old.limit (context_of 0 front row' later)
-      by_place (inl here) = subst (λ r. IsLegalRow Holds old.limit (context_of 0 front r later)) here.1 (subst (λ f. IsLegalRow Holds old.limit (context_of 0 f row later)) here.0 (next.legal later))
+      by_place : ((rows ≡ front) × (row ≡ row')) ⊎ ((others : List Row) × (rows ≡ front ++ row' ∷ others))
+          → IsLegalRow Holds old.limit (context_of 0 front row' later)
+      by_place (inl here) =
+          subst (λ r. IsLegalRow Holds old.limit (context_of 0 front r later)) here.1
+          (subst (λ f. IsLegalRow Holds old.limit (context_of 0 f row later)) here.0 (next.legal later))
       by_place (inr within) = are.each front row' within.0 later within.1
 
   answered_push : AreAnsweredBy new.turn (length new.told) (rows ++ row ∷ [])
   answered_push front row' rest number reader turn answer e entry = by_place (split_push rows front rest row row' e)
     where
-      by_place : ((rows ≡ front) × (row ≡ row')) ⊎ ((others : List Row) × (rows ≡ front ++ row' ∷ others)) → (turn ≤ new.turn) × (answer.version ≤ length new.told)
+      by_place : ((rows ≡ front) × (row ≡ row')) ⊎ ((others : List Row) × (rows ≡ front ++ row' ∷ others))
+          → (turn ≤ new.turn) × (answer.version ≤ length new.told)
       by_place (inl here) =
           let is = next.answers number reader turn answer (ap (λ r. r.entry) here.1 ∙ entry) in
           (omega (arith, is.0, is.1), omega (arith, is.2, next.grows))
@@ -101,9 +116,12 @@ module _ (Holds : List ℕ → List ℕ → Type 0) (failed : ℕ) (rows : List 
           (omega (arith, was.0, next.turns), omega (arith, was.1, next.grows))
 
   turns_push : AreInTurn (rows ++ row ∷ [])
-  turns_push front middle rest first second reader number turn number' turn' answer answer' e entry entry' = by_place (split_push rows (front ++ first ∷ middle) rest row second (e ∙ sym (append_assoc front (first ∷ middle) (second ∷ rest))))
+  turns_push front middle rest first second reader number turn number' turn' answer answer' e entry entry' =
+      by_place (split_push rows (front ++ first ∷ middle) rest row second (e ∙ sym (append_assoc front (first ∷ middle) (second ∷ rest))))
     where
-      by_place : ((rows ≡ front ++ first ∷ middle) × (row ≡ second)) ⊎ ((others : List Row) × (rows ≡ (front ++ first ∷ middle) ++ second ∷ others)) → IsInTurn turn turn' answer.version answer'.version
+      by_place : ((rows ≡ front ++ first ∷ middle) × (row ≡ second))
+          ⊎ ((others : List Row) × (rows ≡ (front ++ first ∷ middle) ++ second ∷ others))
+          → IsInTurn turn turn' answer.version answer'.version
       by_place (inl here) =
           let is = next.answers number' reader turn' answer' (ap (λ r. r.entry) here.1 ∙ entry') in
           let was = are.answered front first middle number reader turn answer here.0 entry in
@@ -112,19 +130,25 @@ module _ (Holds : List ℕ → List ℕ → Type 0) (failed : ℕ) (rows : List 
             rises = λ h. omega (arith, is.2, was.1);
             falls = λ h. absurd (omega (arith, h, is.0, was.0));
           }
-      by_place (inr within) = are.turns front middle within.0 first second reader number turn number' turn' answer answer' (within.1 ∙ append_assoc front (first ∷ middle) (second ∷ within.0)) entry entry'
+      by_place (inr within) =
+          are.turns front middle within.0 first second reader number turn number' turn' answer answer'
+          (within.1 ∙ append_assoc front (first ∷ middle) (second ∷ within.0)) entry entry'
 
   pub so_far_push : AreSoFar Holds failed new after (rows ++ row ∷ [])
   so_far_push = record {
     each = each_push;
     turns = turns_push;
     answered = answered_push;
-    accepted = next.accepts ∙ ap (λ c. c ++ accepted_in row) are.accepted ∙ ap (λ c. commands_of rows ++ c) (sym (commands_of-one row)) ∙ sym (commands_of-append rows (row ∷ []));
+    accepted =
+        next.accepts ∙ ap (λ c. c ++ accepted_in row) are.accepted ∙ ap (λ c. commands_of rows ++ c) (sym (commands_of-one row))
+        ∙ sym (commands_of-append rows (row ∷ []));
     others = next.others;
     begins = next.begins;
     latest = next.latest ∙ ap (λ n. last_or n (version_in row.entry)) are.latest ∙ sym (published_last-push rows row);
     searches = omega (arith, next.searches, are.searches, count_searches-push rows row);
-    failures = subst (λ n. IsFailedTimes n failed after) (sym (count_failures-push rows row)) (count_more (count_failures rows) (failures_in row.entry) failed before after are.failures next.fails);
+    failures =
+        subst (λ n. IsFailedTimes n failed after) (sym (count_failures-push rows row))
+        (count_more (count_failures rows) (failures_in row.entry) failed before after are.failures next.fails);
   }
 
 -- what a desk and what was told of are seen as
@@ -141,16 +165,24 @@ record IsTelling (old : LoneState) (row : Row) (new : LoneState) : Type 0 where
   pub latest : length new.told ≡ last_or (length old.told) (version_in row.entry)
   pub grows : length old.told ≤ length new.told
 
-telling_nothing : (old : LoneState) (others : List Command) → old.accepted ≡ old.told ++ others → (row : Row) (new : LoneState) → new.accepted ≡ old.accepted ++ accepted_in row → version_in row.entry ≡ [] → new.told ≡ old.told → IsTelling old row new
+telling_nothing : (old : LoneState) (others : List Command) → old.accepted ≡ old.told ++ others → (row : Row) (new : LoneState)
+    → new.accepted ≡ old.accepted ++ accepted_in row → version_in row.entry ≡ [] → new.told ≡ old.told → IsTelling old row new
 telling_nothing old others begins row new accepts none same = record {
   others = others ++ accepted_in row;
-  begins = accepts ∙ ap (λ c. c ++ accepted_in row) begins ∙ append_assoc old.told others (accepted_in row) ∙ ap (λ t. t ++ (others ++ accepted_in row)) (sym same);
+  begins =
+      accepts ∙ ap (λ c. c ++ accepted_in row) begins ∙ append_assoc old.told others (accepted_in row)
+      ∙ ap (λ t. t ++ (others ++ accepted_in row)) (sym same);
   latest = ap length same ∙ ap (last_or (length old.told)) (sym none);
   grows = omega (arith, ap length same);
 }
 
-telling_entered : (desk : DeskState) (told : Known) (searches turn : ℕ) (others : List Command) → desk.accepted ≡ told.commands ++ others → (item : Numbered) (loaded : Option (List ℕ)) (entry : Entry) (desk' : DeskState) (told' : Known) → desk'.accepted ≡ desk.accepted ++ accepted_by (Some entry) (command_of item.item loaded) → Tells desk told entry told' → IsTelling (state_at desk told searches turn) (row_of item loaded (Some entry)) (state_at desk' told' searches turn)
-telling_entered desk told searches turn others begins item loaded entry desk' told' accepts (items.nothing none same) = telling_nothing (state_at desk told searches turn) others begins (row_of item loaded (Some entry)) (state_at desk' told' searches turn) accepts none (ap (λ k. k.commands) same)
+telling_entered : (desk : DeskState) (told : Known) (searches turn : ℕ) (others : List Command) → desk.accepted ≡ told.commands ++ others
+    → (item : Numbered) (loaded : Option (List ℕ)) (entry : Entry) (desk' : DeskState) (told' : Known)
+    → desk'.accepted ≡ desk.accepted ++ accepted_by (Some entry) (command_of item.item loaded) → Tells desk told entry told'
+    → IsTelling (state_at desk told searches turn) (row_of item loaded (Some entry)) (state_at desk' told' searches turn)
+telling_entered desk told searches turn others begins item loaded entry desk' told' accepts (items.nothing none same) =
+    telling_nothing (state_at desk told searches turn) others begins (row_of item loaded (Some entry)) (state_at desk' told' searches turn)
+    accepts none (ap (λ k. k.commands) same)
 telling_entered desk told searches turn others begins item loaded entry desk' told' accepts (items.all line is same) = record {
   others = accepted_by (Some entry) (command_of item.item loaded);
   begins = accepts ∙ ap (λ k. k.commands ++ accepted_by (Some entry) (command_of item.item loaded)) (sym same);
@@ -159,7 +191,9 @@ telling_entered desk told searches turn others begins item loaded entry desk' to
 }
 
 -- An item that is neither a search nor a sync.
-pub entered_goes_on : (Holds : List ℕ → List ℕ → Type 0) (desk : DeskState) (told : Known) (failed : ℕ) (item : Numbered) (entry : Entry) (desk' : DeskState) (told' : Known) (failed' searches turn : ℕ) → IsEntered Holds desk told failed item entry desk' told' failed' → GoesOn Holds (state_at desk told searches turn) failed item (Some entry) (state_at desk' told' searches turn) failed'
+pub entered_goes_on : (Holds : List ℕ → List ℕ → Type 0) (desk : DeskState) (told : Known) (failed : ℕ) (item : Numbered) (entry : Entry)
+    (desk' : DeskState) (told' : Known) (failed' searches turn : ℕ) → IsEntered Holds desk told failed item entry desk' told' failed'
+    → GoesOn Holds (state_at desk told searches turn) failed item (Some entry) (state_at desk' told' searches turn) failed'
 entered_goes_on Holds desk told failed item entry desk' told' failed' searches turn is = record {
   by = λ first rows are.
       let row = row_of item is.loaded (Some entry) in
@@ -189,7 +223,14 @@ counted_none : (failed failed' : ℕ) → failed' ≡ failed → IsCounted 0 fai
 counted_none failed failed' same = record { rises = inl (omega (arith, same)); stays = λ e. same ∙ e }
 
 -- A row that accepts and publishes nothing.
-quiet_next : (Holds : List ℕ → List ℕ → Type 0) (first : ℕ) (rows : List Row) (old : LoneState) (before : ℕ) → AreSoFar Holds first old before rows → (row : Row) (new : LoneState) (after : ℕ) → ((rest : List Row) → IsLegalRow Holds old.limit (context_of 0 rows row rest)) → new.limit ≡ old.limit → new.accepted ≡ old.accepted → new.told ≡ old.told → accepted_in row ≡ [] → version_in row.entry ≡ [] → failures_in row.entry ≡ 0 → after ≡ before → new.searches ≡ old.searches + searches_of row.numbered.item → old.turn ≤ new.turn → ((number reader turn : ℕ) (answer : Answer) → row.entry ≡ Some (Found number reader turn answer) → (turn ≡ old.turn + 1) × (new.turn ≡ old.turn + 1) × (answer.version ≡ length old.told)) → IsNext Holds rows old before row new after
+quiet_next : (Holds : List ℕ → List ℕ → Type 0) (first : ℕ) (rows : List Row) (old : LoneState) (before : ℕ)
+    → AreSoFar Holds first old before rows → (row : Row) (new : LoneState) (after : ℕ)
+    → ((rest : List Row) → IsLegalRow Holds old.limit (context_of 0 rows row rest)) → new.limit ≡ old.limit → new.accepted ≡ old.accepted
+    → new.told ≡ old.told → accepted_in row ≡ [] → version_in row.entry ≡ [] → failures_in row.entry ≡ 0 → after ≡ before
+    → new.searches ≡ old.searches + searches_of row.numbered.item → old.turn ≤ new.turn
+    → ((number reader turn : ℕ) (answer : Answer) → row.entry ≡ Some (Found number reader turn answer)
+    → (turn ≡ old.turn + 1) × (new.turn ≡ old.turn + 1) × (answer.version ≡ length old.told))
+    → IsNext Holds rows old before row new after
 quiet_next Holds first rows old before are row new after is_legal limit accepts tells nothing none no_failure same searches turns answers =
     let accepted_now : new.accepted ≡ old.accepted ++ accepted_in row = accepts ∙ sym (append-nil old.accepted) ∙ ap (λ c. old.accepted ++ c) (sym nothing) in
     let telling = telling_nothing old are.others are.begins row new accepted_now none tells in
@@ -211,7 +252,8 @@ none_is_no_answer : {A : Type 0} {x : A} → None ≡ Some x → ⊥
 none_is_no_answer e = cc
 
 -- A sync.
-pub sync_goes_on : (Holds : List ℕ → List ℕ → Type 0) (old : LoneState) (failed : ℕ) (item : Numbered) (new : LoneState) (failed' : ℕ) → is_sync item.item ≡ true → new ≡ old → failed' ≡ failed → GoesOn Holds old failed item None new failed'
+pub sync_goes_on : (Holds : List ℕ → List ℕ → Type 0) (old : LoneState) (failed : ℕ) (item : Numbered) (new : LoneState) (failed' : ℕ)
+    → is_sync item.item ≡ true → new ≡ old → failed' ≡ failed → GoesOn Holds old failed item None new failed'
 sync_goes_on Holds old failed item new failed' is same same_failed = record {
   by = λ first rows are.
       let row = row_of item None None in (
@@ -230,7 +272,8 @@ sync_goes_on Holds old failed item new failed' is same same_failed = record {
 }
 
 -- An answer of what was published last before the search, to a search that asks for this pattern.
-module _ (Holds : List ℕ → List ℕ → Type 0) (most : ℕ) (context : Context) (pattern : Pattern) (entry : Entry) (is_searched : (IsIt : Pattern → Type 0) → IsIt pattern → IsSearched context IsIt entry) where
+module _ (Holds : List ℕ → List ℕ → Type 0) (most : ℕ) (context : Context) (pattern : Pattern) (entry : Entry)
+    (is_searched : (IsIt : Pattern → Type 0) → IsIt pattern → IsSearched context IsIt entry) where
   answered_item : (item : Item) → searches_of item ≡ 1 → Asks item pattern → HasEntry Holds most context item (Some entry)
   unfolding IsEntryOf
   answered_item (search case text) one asks = legal.searched (is_searched (IsPatternOf case text) asks)
@@ -245,7 +288,8 @@ module _ (Holds : List ℕ → List ℕ → Type 0) (most : ℕ) (context : Cont
   answered_item truncated one asks = absurd (omega (arith, one))
   answered_item body_not_closed one asks = absurd (omega (arith, one))
 
-module _ (Holds : List ℕ → List ℕ → Type 0) (first : ℕ) (rows : List Row) (old : LoneState) (failed : ℕ) (are : AreSoFar Holds first old failed rows) (item : Numbered) (one : searches_of item.item ≡ 1) where
+module _ (Holds : List ℕ → List ℕ → Type 0) (first : ℕ) (rows : List Row) (old : LoneState) (failed : ℕ)
+    (are : AreSoFar Holds first old failed rows) (item : Numbered) (one : searches_of item.item ≡ 1) where
   -- what stands in the rows of an answer
   module _ (pattern : Pattern) (answer : Answer) (answers : IsAnswerOf (state_of old.told) pattern answer) (row : Row) (rest : List Row) where
     all_told : answer.version ≡ length old.told
@@ -255,14 +299,24 @@ module _ (Holds : List ℕ → List ℕ → Type 0) (first : ℕ) (rows : List R
     is_last = all_told ∙ are.latest
 
     whole : commands_of (rows ++ row ∷ rest) ≡ old.told ++ (are.others ++ commands_of (row ∷ rest))
-    whole = commands_of-append rows (row ∷ rest) ∙ ap (λ c. c ++ commands_of (row ∷ rest)) (sym are.accepted ∙ are.begins) ∙ append_assoc old.told are.others (commands_of (row ∷ rest))
+    whole =
+        commands_of-append rows (row ∷ rest) ∙ ap (λ c. c ++ commands_of (row ∷ rest)) (sym are.accepted ∙ are.begins)
+        ∙ append_assoc old.told are.others (commands_of (row ∷ rest))
 
     front : take answer.version (commands_of (rows ++ row ∷ rest)) ≡ old.told
-    front = ap (take answer.version) whole ∙ take-append-le answer.version old.told (are.others ++ commands_of (row ∷ rest)) (omega (arith, all_told)) ∙ take_all answer.version old.told (omega (arith, all_told))
+    front =
+        ap (take answer.version) whole
+        ∙ take-append-le answer.version old.told (are.others ++ commands_of (row ∷ rest)) (omega (arith, all_told))
+        ∙ take_all answer.version old.told (omega (arith, all_told))
 
-    was_published : (last_or 0 (published_in rows) ≡ 0) ⊎ Contains (published_in rows) (last_or 0 (published_in rows)) → (answer.version ≡ 0) ⊎ Contains (published_in (rows ++ row ∷ rest)) answer.version
+    was_published : (last_or 0 (published_in rows) ≡ 0) ⊎ Contains (published_in rows) (last_or 0 (published_in rows))
+        → (answer.version ≡ 0) ⊎ Contains (published_in (rows ++ row ∷ rest)) answer.version
     was_published (inl none) = inl (is_last ∙ none)
-    was_published (inr inside) = inr (subst (λ l. Contains l answer.version) (sym (published_in-append rows (row ∷ rest))) (Contains-append_left (published_in rows) (published_in (row ∷ rest)) answer.version (subst (Contains (published_in rows)) (sym is_last) inside)))
+    was_published (inr inside) =
+        inr
+        (subst (λ l. Contains l answer.version) (sym (published_in-append rows (row ∷ rest)))
+        (Contains-append_left (published_in rows) (published_in (row ∷ rest)) answer.version
+        (subst (Contains (published_in rows)) (sym is_last) inside)))
 
     is_answered : IsAnswered (context_of 0 rows row rest) pattern 0 answer
     is_answered = record {
@@ -273,14 +327,19 @@ module _ (Holds : List ℕ → List ℕ → Type 0) (first : ℕ) (rows : List R
       not_newer = omega (arith, is_last);
     }
 
-  found_row : (pattern : Pattern) (answer : Answer) → Asks item.item pattern → IsAnswerOf (state_of old.told) pattern answer → (number turn : ℕ) → number ≡ old.searches + 1 → (rest : List Row) → IsLegalRow Holds old.limit (context_of 0 rows (row_of item None (Some (Found number 0 turn answer))) rest)
+  found_row : (pattern : Pattern) (answer : Answer) → Asks item.item pattern → IsAnswerOf (state_of old.told) pattern answer
+      → (number turn : ℕ) → number ≡ old.searches + 1 → (rest : List Row)
+      → IsLegalRow Holds old.limit (context_of 0 rows (row_of item None (Some (Found number 0 turn answer))) rest)
   found_row pattern answer asks answers number turn is rest =
       let row = row_of item None (Some (Found number 0 turn answer)) in
       answered_item Holds old.limit (context_of 0 rows row rest) pattern (Found number 0 turn answer)
-      (λ IsIt it. legal.found pattern 0 turn answer it (ap (λ n. Found n 0 turn answer) (is ∙ ap (λ n. n + 1) are.searches)) (is_answered pattern answer answers row rest))
+      (λ IsIt it.
+      legal.found pattern 0 turn answer it (ap (λ n. Found n 0 turn answer) (is ∙ ap (λ n. n + 1) are.searches))
+      (is_answered pattern answer answers row rest))
       item.item one asks
 
-refusal_is_no_answer : (n : ℕ) (why : SearchReason) (number reader turn : ℕ) (answer : Answer) → Some (SearchRefused n why) ≡ Some (Found number reader turn answer) → ⊥
+refusal_is_no_answer : (n : ℕ) (why : SearchReason) (number reader turn : ℕ) (answer : Answer)
+    → Some (SearchRefused n why) ≡ Some (Found number reader turn answer) → ⊥
 refusal_is_no_answer n why number reader turn answer e = cc
 
 same_answer : {n t number reader turn : ℕ} {a answer : Answer} → Some (Found n 0 t a) ≡ Some (Found number reader turn answer) → (turn ≡ t) × (answer ≡ a)
@@ -295,7 +354,8 @@ no_entry_commands (Published line version) commands is = absurd (omega (arith, i
 
 module _ (Holds : List ℕ → List ℕ → Type 0) (old : LoneState) (failed : ℕ) (item : Numbered) (one : searches_of item.item ≡ 1) where
   -- a search that is refused
-  refused_goes_on : (why : SearchReason) → IsRefusalOf item.item why → GoesOn Holds old failed item (Some (SearchRefused (old.searches + 1) why)) (counted old) failed
+  refused_goes_on : (why : SearchReason) → IsRefusalOf item.item why
+      → GoesOn Holds old failed item (Some (SearchRefused (old.searches + 1) why)) (counted old) failed
   refused_goes_on why refusal = record {
     by = λ first rows are.
         let row = row_of item None (Some (SearchRefused (old.searches + 1) why)) in (
@@ -303,7 +363,9 @@ module _ (Holds : List ℕ → List ℕ → Type 0) (old : LoneState) (failed : 
           refl,
           refl,
           so_far_push Holds first rows old failed row (counted old) failed are (quiet_next Holds first rows old failed are row (counted old) failed
-              (λ rest. subst (λ n. HasEntry Holds old.limit (context_of 0 rows row rest) item.item (Some (SearchRefused (n + 1) why))) (sym are.searches) (legal_refusal Holds old.limit (context_of 0 rows row rest) item.item why one refusal))
+              (λ rest.
+              subst (λ n. HasEntry Holds old.limit (context_of 0 rows row rest) item.item (Some (SearchRefused (n + 1) why)))
+              (sym are.searches) (legal_refusal Holds old.limit (context_of 0 rows row rest) item.item why one refusal))
               refl refl refl (no_entry_commands (SearchRefused (old.searches + 1) why) (command_of item.item None) refl) refl refl refl
               (omega (arith, one)) (omega arith)
               (λ number reader turn answer e. absurd (refusal_is_no_answer (old.searches + 1) why number reader turn answer e))),
@@ -313,7 +375,10 @@ module _ (Holds : List ℕ → List ℕ → Type 0) (old : LoneState) (failed : 
   }
 
   -- a search that is answered
-  found_goes_on : (prepared : Prepared) (answer : Answer) → Asks item.item (pattern_of prepared) → IsAnswerOf (state_of old.told) (pattern_of prepared) answer → GoesOn Holds old failed item (Some (Found (old.searches + 1) 0 (old.turn + 1) answer)) (record old { searches = old.searches + 1; turn = old.turn + 1 }) failed
+  found_goes_on : (prepared : Prepared) (answer : Answer) → Asks item.item (pattern_of prepared)
+      → IsAnswerOf (state_of old.told) (pattern_of prepared) answer
+      → GoesOn Holds old failed item (Some (Found (old.searches + 1) 0 (old.turn + 1) answer))
+      (record old { searches = old.searches + 1; turn = old.turn + 1 }) failed
   found_goes_on prepared answer asks answers = record {
     by = λ first rows are.
         let entry = Found (old.searches + 1) 0 (old.turn + 1) answer in
@@ -332,20 +397,35 @@ module _ (Holds : List ℕ → List ℕ → Type 0) (old : LoneState) (failed : 
     few = omega arith;
   }
 
-  by_answer : (prepared : Prepared) → Asks item.item (pattern_of prepared) → (entry : Entry) (new : LoneState) → IsAnsweredAlone (counted old) (pattern_of prepared) entry new → GoesOn Holds old failed item (Some entry) new failed
-  by_answer prepared asks entry new (lone.no_memory is same) = subst (λ e. GoesOn Holds old failed item (Some e) new failed) (sym is) (subst (λ s. GoesOn Holds old failed item (Some (SearchRefused (old.searches + 1) search_reason.OutOfMemory)) s failed) (sym same) (refused_goes_on search_reason.OutOfMemory (no_memory_refusal item.item)))
-  by_answer prepared asks entry new (lone.found answer is answers same) = subst (λ e. GoesOn Holds old failed item (Some e) new failed) (sym is) (subst (λ s. GoesOn Holds old failed item (Some (Found (old.searches + 1) 0 (old.turn + 1) answer)) s failed) (sym same) (found_goes_on prepared answer asks answers))
+  by_answer : (prepared : Prepared) → Asks item.item (pattern_of prepared) → (entry : Entry) (new : LoneState)
+      → IsAnsweredAlone (counted old) (pattern_of prepared) entry new → GoesOn Holds old failed item (Some entry) new failed
+  by_answer prepared asks entry new (lone.no_memory is same) =
+      subst (λ e. GoesOn Holds old failed item (Some e) new failed) (sym is)
+      (subst (λ s. GoesOn Holds old failed item (Some (SearchRefused (old.searches + 1) search_reason.OutOfMemory)) s failed) (sym same)
+      (refused_goes_on search_reason.OutOfMemory (no_memory_refusal item.item)))
+  by_answer prepared asks entry new (lone.found answer is answers same) =
+      subst (λ e. GoesOn Holds old failed item (Some e) new failed) (sym is)
+      (subst (λ s. GoesOn Holds old failed item (Some (Found (old.searches + 1) 0 (old.turn + 1) answer)) s failed) (sym same)
+      (found_goes_on prepared answer asks answers))
 
   by_search : (entry : Entry) (new : LoneState) → IsSearchedAlone old item.item entry new → GoesOn Holds old failed item (Some entry) new failed
   by_search entry new (lone.answered prepared asks is) = by_answer prepared asks entry new is
-  by_search entry new (lone.refused why refusal is same) = subst (λ e. GoesOn Holds old failed item (Some e) new failed) (sym is) (subst (λ s. GoesOn Holds old failed item (Some (SearchRefused (old.searches + 1) why)) s failed) (sym same) (refused_goes_on why refusal))
+  by_search entry new (lone.refused why refusal is same) =
+      subst (λ e. GoesOn Holds old failed item (Some e) new failed) (sym is)
+      (subst (λ s. GoesOn Holds old failed item (Some (SearchRefused (old.searches + 1) why)) s failed) (sym same)
+      (refused_goes_on why refusal))
 
 -- A search.
-pub search_goes_on : (Holds : List ℕ → List ℕ → Type 0) (old mid : LoneState) (failed : ℕ) (item : Numbered) (entry : Entry) (new : LoneState) (failed' : ℕ) → searches_of item.item ≡ 1 → mid ≡ old → failed' ≡ failed → IsSearchedAlone mid item.item entry new → GoesOn Holds old failed item (Some entry) new failed'
-search_goes_on Holds old mid failed item entry new failed' one same same_failed is = subst (λ n. GoesOn Holds old failed item (Some entry) new n) (sym same_failed) (subst (λ s. GoesOn Holds s failed item (Some entry) new failed) same (by_search Holds mid failed item one entry new is))
+pub search_goes_on : (Holds : List ℕ → List ℕ → Type 0) (old mid : LoneState) (failed : ℕ) (item : Numbered) (entry : Entry)
+    (new : LoneState) (failed' : ℕ) → searches_of item.item ≡ 1 → mid ≡ old → failed' ≡ failed → IsSearchedAlone mid item.item entry new
+    → GoesOn Holds old failed item (Some entry) new failed'
+search_goes_on Holds old mid failed item entry new failed' one same same_failed is =
+    subst (λ n. GoesOn Holds old failed item (Some entry) new n) (sym same_failed)
+    (subst (λ s. GoesOn Holds s failed item (Some entry) new failed) same (by_search Holds mid failed item one entry new is))
 
 -- What the entry of a put is.
-module _ (P : Entry → Type 0) (line : ℕ) (refuses : (why : Reason) → failures_in (Some (Refused line why)) ≡ 0 → P (Refused line why)) (accepts : (count : ℕ) → P (Accepted line count)) (entry : Entry) where
+module _ (P : Entry → Type 0) (line : ℕ) (refuses : (why : Reason) → failures_in (Some (Refused line why)) ≡ 0 → P (Refused line why))
+    (accepts : (count : ℕ) → P (Accepted line count)) (entry : Entry) where
   by_refusal : (why : Reason) → failures_in (Some (Refused line why)) ≡ 0 → entry ≡ Refused line why → P entry
   by_refusal why none is = subst P (sym is) (refuses why none)
 
@@ -368,10 +448,13 @@ IsPlain entry = (version_in (Some entry) ≡ []) × (searches_in entry ≡ 0) ×
 
 put_is_plain : (most : ℕ) (state : State) (name body : List ℕ) (line : ℕ) (entry : Entry) → IsPut most state name body line entry → IsPlain entry
 unfolding IsPlain
-put_is_plain most state name body line entry is = by_put IsPlain line (λ why none. (refl, refl, none)) (λ count. (refl, refl, refl)) entry most state name body is
+put_is_plain most state name body line entry is =
+    by_put IsPlain line (λ why none. (refl, refl, none)) (λ count. (refl, refl, refl)) entry most state name body is
 
 -- A put.
-pub put_goes_on : (Holds : List ℕ → List ℕ → Type 0) (old : LoneState) (failed : ℕ) (name body : List ℕ) (line : ℕ) (entry : Entry) (new : LoneState) → IsPutOn old name body line entry new → GoesOn Holds old failed (numbered line (put name body)) (Some entry) new failed
+pub put_goes_on : (Holds : List ℕ → List ℕ → Type 0) (old : LoneState) (failed : ℕ) (name body : List ℕ) (line : ℕ) (entry : Entry)
+    (new : LoneState) → IsPutOn old name body line entry new
+    → GoesOn Holds old failed (numbered line (put name body)) (Some entry) new failed
 unfolding IsPlain IsEntryOf
 put_goes_on Holds old failed name body line entry new is =
     let plain = put_is_plain old.limit (state_of old.accepted) name body line entry is.legal in
@@ -404,41 +487,70 @@ put_goes_on Holds old failed name body line entry new is =
 
 -- From a desk and what was told of, as a run sees them.
 module _ (desk : DeskState) (told : Known) (searches turn : ℕ) (old : LoneState) (view : state_at desk told searches turn ≡ old) where
-  pub entered_goes_from : (Holds : List ℕ → List ℕ → Type 0) (failed : ℕ) (item : Numbered) (entry : Entry) (desk' : DeskState) (told' : Known) (failed' : ℕ) → IsEntered Holds desk told failed item entry desk' told' failed' → GoesOn Holds old failed item (Some entry) (state_at desk' told' searches turn) failed'
-  entered_goes_from Holds failed item entry desk' told' failed' is = subst (λ s. GoesOn Holds s failed item (Some entry) (state_at desk' told' searches turn) failed') view (entered_goes_on Holds desk told failed item entry desk' told' failed' searches turn is)
+  pub entered_goes_from : (Holds : List ℕ → List ℕ → Type 0) (failed : ℕ) (item : Numbered) (entry : Entry) (desk' : DeskState)
+      (told' : Known) (failed' : ℕ) → IsEntered Holds desk told failed item entry desk' told' failed'
+      → GoesOn Holds old failed item (Some entry) (state_at desk' told' searches turn) failed'
+  entered_goes_from Holds failed item entry desk' told' failed' is =
+      subst (λ s. GoesOn Holds s failed item (Some entry) (state_at desk' told' searches turn) failed') view
+      (entered_goes_on Holds desk told failed item entry desk' told' failed' searches turn is)
 
   left_state : (desk' : DeskState) (told' : Known) → desk' ≡ desk → told' ≡ told → state_at desk' told' searches turn ≡ old
   left_state desk' told' same same_told = ap (λ d. state_at d told' searches turn) same ∙ ap (λ k. state_at desk k searches turn) same_told ∙ view
 
-  pub search_goes_from : (Holds : List ℕ → List ℕ → Type 0) (failed : ℕ) (item : Numbered) (entry : Entry) (desk' : DeskState) (told' : Known) (failed' : ℕ) (new : LoneState) → (searches_of item.item ≡ 1) × IsLeft desk told failed desk' told' failed' → (searches_of item.item ≡ 1 → IsSearchedAlone (state_at desk' told' searches turn) item.item entry new) → GoesOn Holds old failed item (Some entry) new failed'
-  search_goes_from Holds failed item entry desk' told' failed' new left is = search_goes_on Holds old (state_at desk' told' searches turn) failed item entry new failed' left.0 (left_state desk' told' left.1.0 left.1.1) left.1.2 (is left.0)
+  pub search_goes_from : (Holds : List ℕ → List ℕ → Type 0) (failed : ℕ) (item : Numbered) (entry : Entry) (desk' : DeskState)
+      (told' : Known) (failed' : ℕ) (new : LoneState) → (searches_of item.item ≡ 1) × IsLeft desk told failed desk' told' failed'
+      → (searches_of item.item ≡ 1 → IsSearchedAlone (state_at desk' told' searches turn) item.item entry new)
+      → GoesOn Holds old failed item (Some entry) new failed'
+  search_goes_from Holds failed item entry desk' told' failed' new left is =
+      search_goes_on Holds old (state_at desk' told' searches turn) failed item entry new failed' left.0
+      (left_state desk' told' left.1.0 left.1.1) left.1.2 (is left.0)
 
-  pub sync_goes_from : (Holds : List ℕ → List ℕ → Type 0) (failed : ℕ) (item : Numbered) (desk' : DeskState) (told' : Known) (failed' : ℕ) → (is_sync item.item ≡ true) × IsLeft desk told failed desk' told' failed' → GoesOn Holds old failed item None (state_at desk' told' searches turn) failed'
-  sync_goes_from Holds failed item desk' told' failed' left = sync_goes_on Holds old failed item (state_at desk' told' searches turn) failed' left.0 (left_state desk' told' left.1.0 left.1.1) left.1.2
+  pub sync_goes_from : (Holds : List ℕ → List ℕ → Type 0) (failed : ℕ) (item : Numbered) (desk' : DeskState) (told' : Known) (failed' : ℕ)
+      → (is_sync item.item ≡ true) × IsLeft desk told failed desk' told' failed'
+      → GoesOn Holds old failed item None (state_at desk' told' searches turn) failed'
+  sync_goes_from Holds failed item desk' told' failed' left =
+      sync_goes_on Holds old failed item (state_at desk' told' searches turn) failed' left.0 (left_state desk' told' left.1.0 left.1.1)
+      left.1.2
 
-  pub answered_from : (pattern : Pattern) (answer : Answer) → IsAnswerOf (state_of told.commands) pattern answer → IsAnsweredAlone old pattern (Found searches 0 (turn + 1) answer) (state_at desk told searches (turn + 1))
-  answered_from pattern answer is = subst (λ s. IsAnsweredAlone s pattern (Found searches 0 (turn + 1) answer) (state_at desk told searches (turn + 1))) view (lone.found answer refl is refl)
+  pub answered_from : (pattern : Pattern) (answer : Answer) → IsAnswerOf (state_of told.commands) pattern answer
+      → IsAnsweredAlone old pattern (Found searches 0 (turn + 1) answer) (state_at desk told searches (turn + 1))
+  answered_from pattern answer is =
+      subst (λ s. IsAnsweredAlone s pattern (Found searches 0 (turn + 1) answer) (state_at desk told searches (turn + 1))) view
+      (lone.found answer refl is refl)
 
-  pub searched_from : (item : Item) (prepared : Prepared) (entry : Entry) (new : LoneState) → Asks item (pattern_of prepared) → IsAnsweredAlone (state_at desk told (searches + 1) turn) (pattern_of prepared) entry new → IsSearchedAlone old item entry new
+  pub searched_from : (item : Item) (prepared : Prepared) (entry : Entry) (new : LoneState) → Asks item (pattern_of prepared)
+      → IsAnsweredAlone (state_at desk told (searches + 1) turn) (pattern_of prepared) entry new → IsSearchedAlone old item entry new
   searched_from item prepared entry new asks is = subst (λ s. IsSearchedAlone s item entry new) view (lone.answered prepared asks is)
 
-  pub refused_from : (item : Item) (why : SearchReason) → IsRefusalOf item why → IsSearchedAlone old item (SearchRefused (searches + 1) why) (state_at desk told (searches + 1) turn)
-  refused_from item why is = subst (λ s. IsSearchedAlone s item (SearchRefused (searches + 1) why) (state_at desk told (searches + 1) turn)) view (lone.refused why is refl refl)
+  pub refused_from : (item : Item) (why : SearchReason) → IsRefusalOf item why
+      → IsSearchedAlone old item (SearchRefused (searches + 1) why) (state_at desk told (searches + 1) turn)
+  refused_from item why is =
+      subst (λ s. IsSearchedAlone s item (SearchRefused (searches + 1) why) (state_at desk told (searches + 1) turn)) view
+      (lone.refused why is refl refl)
 
 -- A desk after a put, or after none.
 abbrev state_with : ℕ → List Command → List Command → ℕ → ℕ → LoneState
 state_with limit commands told searches turn = record { limit = limit; accepted = commands; told = told; searches = searches; turn = turn }
 
-same_state : (limit limit' : ℕ) (commands commands' told : List Command) (searches turn : ℕ) → limit ≡ limit' → commands ≡ commands' → state_with limit commands told searches turn ≡ state_with limit' commands' told searches turn
+same_state : (limit limit' : ℕ) (commands commands' told : List Command) (searches turn : ℕ) → limit ≡ limit' → commands ≡ commands'
+    → state_with limit commands told searches turn ≡ state_with limit' commands' told searches turn
 same_state limit limit' commands commands' told searches turn a b = λ i. state_with (a i) (b i) told searches turn
 
-pub put_done : (desk desk' : DeskState) (told : Known) (searches turn : ℕ) (old : LoneState) → state_at desk told searches turn ≡ old → (name body : List ℕ) (line : ℕ) (done : Result ℕ Reason) (entry : Entry) → entry ≡ entry_of line done → IsPut desk.limit (state_of desk.accepted) name body line (entry_of line done) → desk' ≡ desk_after done (Put name body ∷ []) desk → IsPutOn old name body line entry (state_at desk' told searches turn)
-put_done desk desk' told searches turn old view name body line done entry is legal_is left = subst (λ s. IsPutOn s name body line entry (state_at desk' told searches turn)) view (rw (is, left) (record {
-  legal = legal_is;
-  left = same_state (desk_after done (Put name body ∷ []) desk).limit desk.limit (desk_after done (Put name body ∷ []) desk).accepted (desk.accepted ++ accepted_by (Some (entry_of line done)) (Put name body ∷ [])) told.commands searches turn (same_opening done (Put name body ∷ []) desk).1 (accepted_after line done (Put name body ∷ []) desk);
-}))
+pub put_done : (desk desk' : DeskState) (told : Known) (searches turn : ℕ) (old : LoneState) → state_at desk told searches turn ≡ old
+    → (name body : List ℕ) (line : ℕ) (done : Result ℕ Reason) (entry : Entry) → entry ≡ entry_of line done
+    → IsPut desk.limit (state_of desk.accepted) name body line (entry_of line done) → desk' ≡ desk_after done (Put name body ∷ []) desk
+    → IsPutOn old name body line entry (state_at desk' told searches turn)
+put_done desk desk' told searches turn old view name body line done entry is legal_is left =
+    subst (λ s. IsPutOn s name body line entry (state_at desk' told searches turn)) view (rw (is, left) (record {
+      legal = legal_is;
+      left =
+          same_state (desk_after done (Put name body ∷ []) desk).limit desk.limit (desk_after done (Put name body ∷ []) desk).accepted
+          (desk.accepted ++ accepted_by (Some (entry_of line done)) (Put name body ∷ [])) told.commands searches turn
+          (same_opening done (Put name body ∷ []) desk).1 (accepted_after line done (Put name body ∷ []) desk);
+    }))
 
-pub put_not_done : (state : LoneState) (name body : List ℕ) (line : ℕ) (why : Reason) (entry : Entry) → entry ≡ Refused line why → IsPut state.limit (state_of state.accepted) name body line (Refused line why) → IsPutOn state name body line entry state
+pub put_not_done : (state : LoneState) (name body : List ℕ) (line : ℕ) (why : Reason) (entry : Entry) → entry ≡ Refused line why
+    → IsPut state.limit (state_of state.accepted) name body line (Refused line why) → IsPutOn state name body line entry state
 put_not_done state name body line why entry is legal_is = rw is (record {
   legal = legal_is;
   left = same_state state.limit state.limit state.accepted (state.accepted ++ []) state.told state.searches state.turn refl (sym (append-nil state.accepted));

@@ -36,26 +36,36 @@ one_search_entry (SearchRefused number reason) = omega arith
 
 module _ (searches : List (Option Prepared)) (told : List Command) (versions : List ℕ) where
   -- What settles first, and then more.
-  pub settles_both : (t : Tally) (pending : List (Option Entry)) (entries : List Entry) (t' : Tally) (more : List (Option Entry)) (others : List Entry) (t'' : Tally) → Settles searches told versions t pending entries t' → Settles searches told versions t' more others t'' → Settles searches told versions t (pending ++ more) (entries ++ others) t''
+  pub settles_both : (t : Tally) (pending : List (Option Entry)) (entries : List Entry) (t' : Tally) (more : List (Option Entry))
+      (others : List Entry) (t'' : Tally) → Settles searches told versions t pending entries t'
+      → Settles searches told versions t' more others t'' → Settles searches told versions t (pending ++ more) (entries ++ others) t''
   settles_both t _ _ _ more others t'' tallies.none next = next
-  settles_both t _ _ t' more others t'' (tallies.ready {pending = rest} {entries = entries} entry is) next = tallies.ready entry (settles_both (tally_with entry t.lasts t) rest entries t' more others t'' is next)
-  settles_both t _ _ t' more others t'' (tallies.opened {pending = rest} {entries = entries} entry lasts is_closed is) next = tallies.opened entry lasts is_closed (settles_both (tally_with entry lasts t) rest entries t' more others t'' is next)
+  settles_both t _ _ t' more others t'' (tallies.ready {pending = rest} {entries = entries} entry is) next =
+      tallies.ready entry (settles_both (tally_with entry t.lasts t) rest entries t' more others t'' is next)
+  settles_both t _ _ t' more others t'' (tallies.opened {pending = rest} {entries = entries} entry lasts is_closed is) next =
+      tallies.opened entry lasts is_closed (settles_both (tally_with entry lasts t) rest entries t' more others t'' is next)
 
   -- Each entry is that of one search at most.
-  pub settles_few : (t : Tally) (pending : List (Option Entry)) (entries : List Entry) (t' : Tally) → Settles searches told versions t pending entries t' → t'.searches ≤ t.searches + length pending
+  pub settles_few : (t : Tally) (pending : List (Option Entry)) (entries : List Entry) (t' : Tally)
+      → Settles searches told versions t pending entries t' → t'.searches ≤ t.searches + length pending
   settles_few t _ _ _ tallies.none = omega arith
-  settles_few t _ _ t' (tallies.ready {pending = rest} {entries = entries} entry is) = omega (arith, one_search_entry entry, settles_few (tally_with entry t.lasts t) rest entries t' is)
-  settles_few t _ _ t' (tallies.opened {pending = rest} {entries = entries} entry lasts is_closed is) = omega (arith, one_search_entry entry, settles_few (tally_with entry lasts t) rest entries t' is)
+  settles_few t _ _ t' (tallies.ready {pending = rest} {entries = entries} entry is) =
+      omega (arith, one_search_entry entry, settles_few (tally_with entry t.lasts t) rest entries t' is)
+  settles_few t _ _ t' (tallies.opened {pending = rest} {entries = entries} entry lasts is_closed is) =
+      omega (arith, one_search_entry entry, settles_few (tally_with entry lasts t) rest entries t' is)
 
-  pub closed_lasts : (number least : ℕ) (lasts : List Last) (entry : Entry) (lasts' : List Last) → IsClosed searches told versions number least lasts entry lasts' → length lasts' ≡ length lasts
+  pub closed_lasts : (number least : ℕ) (lasts : List Last) (entry : Entry) (lasts' : List Last)
+      → IsClosed searches told versions number least lasts entry lasts' → length lasts' ≡ length lasts
   closed_lasts number least lasts entry lasts' (no_memory is same) = ap length same
   closed_lasts number least lasts entry lasts' (found reader turn answer is taken) = ap length taken.noted ∙ length-set lasts reader (last turn answer.version)
 
   -- There are as many readers as before.
-  pub settles_lasts : (t : Tally) (pending : List (Option Entry)) (entries : List Entry) (t' : Tally) → Settles searches told versions t pending entries t' → length t'.lasts ≡ length t.lasts
+  pub settles_lasts : (t : Tally) (pending : List (Option Entry)) (entries : List Entry) (t' : Tally)
+      → Settles searches told versions t pending entries t' → length t'.lasts ≡ length t.lasts
   settles_lasts t _ _ _ tallies.none = refl
   settles_lasts t _ _ t' (tallies.ready {pending = rest} {entries = entries} entry is) = settles_lasts (tally_with entry t.lasts t) rest entries t' is
-  settles_lasts t _ _ t' (tallies.opened {pending = rest} {entries = entries} entry lasts is_closed is) = settles_lasts (tally_with entry lasts t) rest entries t' is ∙ closed_lasts (t.searches + 1) t.published t.lasts entry lasts is_closed
+  settles_lasts t _ _ t' (tallies.opened {pending = rest} {entries = entries} entry lasts is_closed is) =
+      settles_lasts (tally_with entry lasts t) rest entries t' is ∙ closed_lasts (t.searches + 1) t.published t.lasts entry lasts is_closed
 
 -- What is settled so far of what was pending at first.
 pub record IsSettling (searches : List (Option Prepared)) (first now : Session) : Type 0 where
@@ -80,14 +90,34 @@ settling_starts searches session = record {
   count = refl;
 }
 
-settles_next : (searches : List (Option Prepared)) (old : Session) (entry : Option Entry) (new : Session) → SettlesNext searches old entry new → (settled : Entry) × (new.settled.entries.items ≡ old.settled.entries.items ++ settled ∷ []) × Settles searches old.told.commands old.versions.items (tally_of old.settled) (entry ∷ []) (settled ∷ []) (tally_of new.settled)
-settles_next searches old entry new (ready settled is entries same) =
-    (settled, entries, subst (λ e. Settles searches old.told.commands old.versions.items (tally_of old.settled) (e ∷ []) (settled ∷ []) (tally_of new.settled)) (sym is) (tallies.ready settled (subst (λ t. Settles searches old.told.commands old.versions.items t [] [] (tally_of new.settled)) same tallies.none)))
-settles_next searches old entry new (closed settled lasts is entries is_closed same) =
-    (settled, entries, subst (λ e. Settles searches old.told.commands old.versions.items (tally_of old.settled) (e ∷ []) (settled ∷ []) (tally_of new.settled)) (sym is) (tallies.opened settled lasts is_closed (subst (λ t. Settles searches old.told.commands old.versions.items t [] [] (tally_of new.settled)) same tallies.none)))
+settles_next : (searches : List (Option Prepared)) (old : Session) (entry : Option Entry) (new : Session)
+    → SettlesNext searches old entry new
+    → (settled : Entry) × (new.settled.entries.items ≡ old.settled.entries.items ++ settled ∷ [])
+    × Settles searches old.told.commands old.versions.items (tally_of old.settled) (entry ∷ []) (settled ∷ []) (tally_of new.settled)
+settles_next searches old entry new (ready settled is entries same) = (
+  settled,
+  entries,
+  subst (λ e.
+      Settles searches old.told.commands old.versions.items (tally_of old.settled) (e ∷ []) (settled ∷ []) (tally_of new.settled))
+      (sym is)
+      (tallies.ready settled
+      (subst (λ t. Settles searches old.told.commands old.versions.items t [] [] (tally_of new.settled)) same tallies.none)),
+)
+settles_next searches old entry new (closed settled lasts is entries is_closed same) = (
+  settled,
+  entries,
+  subst (λ e.
+      Settles searches old.told.commands old.versions.items (tally_of old.settled) (e ∷ []) (settled ∷ []) (tally_of new.settled))
+      (sym is)
+      (tallies.opened settled lasts is_closed
+      (subst (λ t. Settles searches old.told.commands old.versions.items t [] [] (tally_of new.settled)) same tallies.none)),
+)
 
 -- One more is taken from the front and settled. mid: the session when it is taken.
-pub settling_goes_on : (searches : List (Option Prepared)) (first old mid new : Session) (entry : Option Entry) → IsSettling searches first old → old.pending.items ≡ entry ∷ mid.pending.items → mid.told ≡ old.told → mid.versions ≡ old.versions → mid.searches ≡ old.searches → mid.settled ≡ old.settled → SettlesNext searches mid entry new → new.told ≡ mid.told → new.versions ≡ mid.versions → new.searches ≡ mid.searches → new.pending ≡ mid.pending → IsSettling searches first new
+pub settling_goes_on : (searches : List (Option Prepared)) (first old mid new : Session) (entry : Option Entry)
+    → IsSettling searches first old → old.pending.items ≡ entry ∷ mid.pending.items → mid.told ≡ old.told → mid.versions ≡ old.versions
+    → mid.searches ≡ old.searches → mid.settled ≡ old.settled → SettlesNext searches mid entry new → new.told ≡ mid.told
+    → new.versions ≡ mid.versions → new.searches ≡ mid.searches → new.pending ≡ mid.pending → IsSettling searches first new
 settling_goes_on searches first old mid new entry so_far front told versions count settled next told' versions' count' pending' =
     let is = settles_next searches mid entry new next in
     let here : Settles searches first.told.commands first.versions.items (tally_of old.settled) (entry ∷ []) (is.0 ∷ []) (tally_of new.settled) =
@@ -97,20 +127,30 @@ settling_goes_on searches first old mid new entry so_far front told versions cou
     record {
       done = so_far.done ++ entry ∷ [];
       entries = so_far.entries ++ is.0 ∷ [];
-      settles = settles_both searches first.told.commands first.versions.items (tally_of first.settled) so_far.done so_far.entries (tally_of old.settled) (entry ∷ []) (is.0 ∷ []) (tally_of new.settled) so_far.settles here;
-      settled = is.1 ∙ ap (λ s. s.entries.items ++ is.0 ∷ []) settled ∙ ap (λ l. l ++ is.0 ∷ []) so_far.settled ∙ append_assoc first.settled.entries.items so_far.entries (is.0 ∷ []);
-      whole = so_far.whole ∙ ap (λ l. so_far.done ++ l) front ∙ sym (append_assoc so_far.done (entry ∷ []) mid.pending.items) ∙ ap (λ p. (so_far.done ++ entry ∷ []) ++ p.items) (sym pending');
+      settles =
+          settles_both searches first.told.commands first.versions.items (tally_of first.settled) so_far.done so_far.entries
+          (tally_of old.settled) (entry ∷ []) (is.0 ∷ []) (tally_of new.settled) so_far.settles here;
+      settled =
+          is.1 ∙ ap (λ s. s.entries.items ++ is.0 ∷ []) settled ∙ ap (λ l. l ++ is.0 ∷ []) so_far.settled
+          ∙ append_assoc first.settled.entries.items so_far.entries (is.0 ∷ []);
+      whole =
+          so_far.whole ∙ ap (λ l. so_far.done ++ l) front ∙ sym (append_assoc so_far.done (entry ∷ []) mid.pending.items)
+          ∙ ap (λ p. (so_far.done ++ entry ∷ []) ++ p.items) (sym pending');
       told = told' ∙ told ∙ so_far.told;
       versions = versions' ∙ versions ∙ so_far.versions;
       count = count' ∙ count ∙ so_far.count;
     }
 
-pub settling_ends : (searches : List (Option Prepared)) (first now : Session) → IsSettling searches first now → now.pending.items ≡ [] → IsSettled searches first now
+pub settling_ends : (searches : List (Option Prepared)) (first now : Session) → IsSettling searches first now → now.pending.items ≡ []
+    → IsSettled searches first now
 settling_ends searches first now so_far none =
     let whole : so_far.done ≡ first.pending.items = sym (so_far.whole ∙ ap (λ l. so_far.done ++ l) none ∙ append-nil so_far.done) in
     record {
       entries = so_far.entries;
-      settles = subst (λ p. Settles searches first.told.commands first.versions.items (tally_of first.settled) p so_far.entries (tally_of now.settled)) whole so_far.settles;
+      settles =
+          subst (λ p.
+          Settles searches first.told.commands first.versions.items (tally_of first.settled) p so_far.entries (tally_of now.settled))
+          whole so_far.settles;
       settled = so_far.settled;
       pending = none;
       told = so_far.told;
@@ -119,8 +159,18 @@ settling_ends searches first now so_far none =
     }
 
 -- After all is settled there are no more searches than before it, with one for each that was pending.
-pub settled_few : (searches : List (Option Prepared)) (old new : Session) → IsSettled searches old new → new.settled.searches + length new.pending.items ≤ old.settled.searches + length old.pending.items
-settled_few searches old new is = omega (arith, ap length is.pending, settles_few searches old.told.commands old.versions.items (tally_of old.settled) old.pending.items is.entries (tally_of new.settled) is.settles)
+pub settled_few : (searches : List (Option Prepared)) (old new : Session) → IsSettled searches old new
+    → new.settled.searches + length new.pending.items ≤ old.settled.searches + length old.pending.items
+settled_few searches old new is =
+    omega (
+      arith,
+      ap length is.pending,
+      settles_few searches old.told.commands old.versions.items (tally_of old.settled) old.pending.items is.entries
+          (tally_of new.settled) is.settles,
+    )
 
-pub settled_lasts : (searches : List (Option Prepared)) (old new : Session) → IsSettled searches old new → length new.settled.lasts.items ≡ length old.settled.lasts.items
-settled_lasts searches old new is = settles_lasts searches old.told.commands old.versions.items (tally_of old.settled) old.pending.items is.entries (tally_of new.settled) is.settles
+pub settled_lasts : (searches : List (Option Prepared)) (old new : Session) → IsSettled searches old new
+    → length new.settled.lasts.items ≡ length old.settled.lasts.items
+settled_lasts searches old new is =
+    settles_lasts searches old.told.commands old.versions.items (tally_of old.settled) old.pending.items is.entries (tally_of new.settled)
+    is.settles

@@ -1,8 +1,10 @@
 -- Rows one after the other, and what they add up to.
-use Rattle.std.proofs.Common.{◌≡◌, ℕ, ◌+◌, ◌≤◌, ◌⊎◌, inl, inr, Bool, true, false, List, [], ◌∷◌, ◌++◌, Option, Some, None, refl, sym, ap, ◌∙◌, subst, arith, append_assoc, option_map, if◌then◌else◌}
+use Rattle.std.proofs.Common.{◌≡◌, ℕ, ◌+◌, ◌≤◌, ◌⊎◌, inl, inr, Bool, true, false, List, [], ◌∷◌, ◌++◌, Option, Some, None, refl, sym, ap}
+use Rattle.std.proofs.Common.{◌∙◌, subst, arith, append_assoc, option_map, if◌then◌else◌}
 use Rattle.std.proofs.lemmas.List.{append-nil, map-append}
 use Rattle.std.proofs.lemmas.Grind.{flat_map-append}
-use Rattle.tsearch.specs.Rows.{Row, items_of, entries_of, list_of, commands_of, accepted_by, command_of, version_in, published_in, last_or, published_last, is_sync, before_sync, searches_of, count_searches, failures_in, count_failures}
+use Rattle.tsearch.specs.Rows.{Row, items_of, entries_of, list_of, commands_of, accepted_by, command_of, version_in, published_in, last_or}
+use Rattle.tsearch.specs.Rows.{published_last, is_sync, before_sync, searches_of, count_searches, failures_in, count_failures}
 
 pub items_of-append : (rows more : List Row) → items_of (rows ++ more) ≡ items_of rows ++ items_of more
 items_of-append rows more = map-append (λ r. r.numbered) rows more
@@ -13,7 +15,9 @@ entries_of-append rows more = flat_map-append (λ r. list_of r.entry) rows more
 pub commands_of-append : (rows more : List Row) → commands_of (rows ++ more) ≡ commands_of rows ++ commands_of more
 unfolding commands_of
 commands_of-append [] more = refl
-commands_of-append (row ∷ rows) more = ap (λ c. accepted_by row.entry (command_of row.numbered.item row.loaded) ++ c) (commands_of-append rows more) ∙ sym (append_assoc (accepted_by row.entry (command_of row.numbered.item row.loaded)) (commands_of rows) (commands_of more))
+commands_of-append (row ∷ rows) more =
+    ap (λ c. accepted_by row.entry (command_of row.numbered.item row.loaded) ++ c) (commands_of-append rows more)
+    ∙ sym (append_assoc (accepted_by row.entry (command_of row.numbered.item row.loaded)) (commands_of rows) (commands_of more))
 
 pub commands_of-one : (row : Row) → commands_of (row ∷ []) ≡ accepted_by row.entry (command_of row.numbered.item row.loaded)
 unfolding commands_of
@@ -22,7 +26,9 @@ commands_of-one row = append-nil (accepted_by row.entry (command_of row.numbered
 pub published_in-append : (rows more : List Row) → published_in (rows ++ more) ≡ published_in rows ++ published_in more
 unfolding published_in
 published_in-append [] more = refl
-published_in-append (row ∷ rows) more = ap (λ c. version_in row.entry ++ c) (published_in-append rows more) ∙ sym (append_assoc (version_in row.entry) (published_in rows) (published_in more))
+published_in-append (row ∷ rows) more =
+    ap (λ c. version_in row.entry ++ c) (published_in-append rows more)
+    ∙ sym (append_assoc (version_in row.entry) (published_in rows) (published_in more))
 
 pub published_in-one : (row : Row) → published_in (row ∷ []) ≡ version_in row.entry
 unfolding published_in
@@ -33,7 +39,9 @@ last_or-append default [] ys = refl
 last_or-append default (x ∷ xs) ys = last_or-append x xs ys
 
 pub published_last-push : (rows : List Row) (row : Row) → published_last (rows ++ row ∷ []) ≡ last_or (published_last rows) (version_in row.entry)
-published_last-push rows row = ap (last_or 0) (published_in-append rows (row ∷ [])) ∙ last_or-append 0 (published_in rows) (published_in (row ∷ [])) ∙ ap (last_or (published_last rows)) (published_in-one row)
+published_last-push rows row =
+    ap (last_or 0) (published_in-append rows (row ∷ [])) ∙ last_or-append 0 (published_in rows) (published_in (row ∷ []))
+    ∙ ap (last_or (published_last rows)) (published_in-one row)
 
 pub count_searches-append : (rows more : List Row) → count_searches (rows ++ more) ≡ count_searches rows + count_searches more
 unfolding count_searches
@@ -54,7 +62,8 @@ unfolding count_failures
 count_failures-push rows row = omega (arith, count_failures-append rows (row ∷ []))
 
 -- A row within rows that end with a last one is that one, or it is within the others.
-pub split_push : (rows before after : List Row) (last row : Row) → rows ++ last ∷ [] ≡ before ++ row ∷ after → ((rows ≡ before) × (last ≡ row)) ⊎ ((others : List Row) × (rows ≡ before ++ row ∷ others))
+pub split_push : (rows before after : List Row) (last row : Row) → rows ++ last ∷ [] ≡ before ++ row ∷ after
+    → ((rows ≡ before) × (last ≡ row)) ⊎ ((others : List Row) × (rows ≡ before ++ row ∷ others))
 split_push [] [] after last row e = inl (refl, cc)
 split_push [] (b ∷ []) after last row e = cc
 split_push [] (b ∷ (c ∷ before)) after last row e = cc
@@ -64,7 +73,8 @@ split_push (x ∷ rows) (b ∷ before) after last row e = under (split_push rows
     head : x ≡ b
     head = cc
 
-    under : ((rows ≡ before) × (last ≡ row)) ⊎ ((others : List Row) × (rows ≡ before ++ row ∷ others)) → ((x ∷ rows ≡ b ∷ before) × (last ≡ row)) ⊎ ((others : List Row) × (x ∷ rows ≡ (b ∷ before) ++ row ∷ others))
+    under : ((rows ≡ before) × (last ≡ row)) ⊎ ((others : List Row) × (rows ≡ before ++ row ∷ others))
+        → ((x ∷ rows ≡ b ∷ before) × (last ≡ row)) ⊎ ((others : List Row) × (x ∷ rows ≡ (b ∷ before) ++ row ∷ others))
     under (inl is) = inl (let tail = is.0 in cc, is.1)
     under (inr is) = inr (is.0, let tail = is.1 in cc)
 
@@ -77,12 +87,14 @@ until_sync (row ∷ rows) = if is_sync row.numbered.item then [] else row ∷ un
 Fronts : List Row → Type 0
 Fronts rows = (front : List Row) → before_sync rows ≡ Some front → until_sync rows ≡ front
 
-after_row : (row : Row) (rows front : List Row) (o : Option (List Row)) → before_sync rows ≡ o → option_map (λ f. row ∷ f) o ≡ Some front → Fronts rows → row ∷ until_sync rows ≡ front
+after_row : (row : Row) (rows front : List Row) (o : Option (List Row)) → before_sync rows ≡ o → option_map (λ f. row ∷ f) o ≡ Some front
+    → Fronts rows → row ∷ until_sync rows ≡ front
 unfolding Fronts
 after_row row rows front None is e more = cc
 after_row row rows front (Some f) is e more = ap (λ x. row ∷ x) (more f is) ∙ (cc)
 
-by_sync : (t : Bool) (row : Row) (rows front : List Row) → is_sync row.numbered.item ≡ t → before_sync (row ∷ rows) ≡ Some front → Fronts rows → until_sync (row ∷ rows) ≡ front
+by_sync : (t : Bool) (row : Row) (rows front : List Row) → is_sync row.numbered.item ≡ t → before_sync (row ∷ rows) ≡ Some front
+    → Fronts rows → until_sync (row ∷ rows) ≡ front
 unfolding before_sync until_sync
 by_sync true row rows front is e more = rw is (let here = rw is at e in cc)
 by_sync false row rows front is e more = rw is (after_row row rows front (before_sync rows) refl (rw is at e) more)
@@ -96,7 +108,8 @@ unfolding Fronts
 until_is_before [] front e = absurd (no_sync front e)
 until_is_before (row ∷ rows) front e = by_sync (is_sync row.numbered.item) row rows front refl e (until_is_before rows)
 
-until_rest_by : (t : Bool) (row : Row) (rows : List Row) → is_sync row.numbered.item ≡ t → (rest : List Row) × (rows ≡ until_sync rows ++ rest) → (rest : List Row) × (row ∷ rows ≡ until_sync (row ∷ rows) ++ rest)
+until_rest_by : (t : Bool) (row : Row) (rows : List Row) → is_sync row.numbered.item ≡ t
+    → (rest : List Row) × (rows ≡ until_sync rows ++ rest) → (rest : List Row) × (row ∷ rows ≡ until_sync (row ∷ rows) ++ rest)
 unfolding until_sync
 until_rest_by true row rows is more = (row ∷ rows, rw is refl)
 until_rest_by false row rows is more = (more.0, rw is (ap (λ x. row ∷ x) more.1))
@@ -164,11 +177,14 @@ rises_push from [] v h bound = (bound, tt)
 rises_push from (x ∷ xs) v h bound = (h.0, rises_push x xs v h.1 bound)
 
 -- The version that was published last never falls.
-pub last_never_falls : (before middle after : List Row) → Rises 0 (published_in (before ++ (middle ++ after))) → published_last before ≤ published_last (before ++ middle)
+pub last_never_falls : (before middle after : List Row) → Rises 0 (published_in (before ++ (middle ++ after)))
+    → published_last before ≤ published_last (before ++ middle)
 last_never_falls before middle after rises =
     let split : published_in (before ++ (middle ++ after)) ≡ (published_in before ++ published_in middle) ++ published_in after =
-    published_in-append before (middle ++ after) ∙ ap (λ l. published_in before ++ l) (published_in-append middle after) ∙ sym (append_assoc (published_in before) (published_in middle) (published_in after)) in
-    let front : Rises 0 (published_in before ++ published_in middle) = rises_front 0 (published_in before ++ published_in middle) (published_in after) (subst (Rises 0) split rises) in
+    published_in-append before (middle ++ after) ∙ ap (λ l. published_in before ++ l) (published_in-append middle after)
+    ∙ sym (append_assoc (published_in before) (published_in middle) (published_in after)) in
+    let front : Rises 0 (published_in before ++ published_in middle) =
+    rises_front 0 (published_in before ++ published_in middle) (published_in after) (subst (Rises 0) split rises) in
     subst (λ l. published_last before ≤ last_or 0 l) (sym (published_in-append before middle)) (rises_grows 0 (published_in before) (published_in middle) front)
 
 -- Rows that differ in the entries of searches alone.

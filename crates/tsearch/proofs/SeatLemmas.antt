@@ -24,7 +24,8 @@ prefix_take xs ys n p le = ap (take n) (sym p.1) ∙ take-append-le n xs p.0 le
 whole_take : {A : Type 0} (xs ys : List A) → IsPrefix xs ys → take (length xs) ys ≡ xs
 whole_take xs ys p = prefix_take xs ys (length xs) p (omega arith) ∙ take_all (length xs) xs (omega arith)
 
-pub given_grows : (searches : List (Option Prepared)) (seen seen' : List Command) → IsPrefix seen seen' → (given : Given) → IsGiven searches seen given → IsGiven searches seen' given
+pub given_grows : (searches : List (Option Prepared)) (seen seen' : List Command) → IsPrefix seen seen' → (given : Given)
+    → IsGiven searches seen given → IsGiven searches seen' given
 given_grows searches seen seen' p given is = record {
   prepared = is.prepared;
   numbered = is.numbered;
@@ -35,7 +36,8 @@ given_grows searches seen seen' p given is = record {
 }
 
 -- what is told begins what is seen
-pub useful : (searches : List (Option Prepared)) (seen told : List Command) → IsPrefix told seen → (given : Given) → IsGiven searches seen given → IsUseful searches told given
+pub useful : (searches : List (Option Prepared)) (seen told : List Command) → IsPrefix told seen → (given : Given)
+    → IsGiven searches seen given → IsUseful searches told given
 useful searches seen told p given is = record {
   prepared = is.prepared;
   listed = is.listed;
@@ -62,10 +64,15 @@ pub learnt_seat : (opening : Book) (searches : List (Option Prepared)) (seat : S
     → (reading'.opening ≡ opening) × All (IsGiven searches reading'.commands) seat.given.items
 learnt_seat opening searches seat reading reading' is same more seated =
     let one : reading.opening ≡ opening = subst (λ r. IfSome r (λ known. known.opening ≡ opening)) is seated.reading in
-    let given : All (IsGiven searches reading.commands) seat.given.items = subst (λ r. IfSome r (λ known. All (IsGiven searches known.commands) seat.given.items)) is seated.given in
-    (same ∙ one, All-weaker (IsGiven searches reading.commands) (IsGiven searches reading'.commands) (given_grows searches reading.commands reading'.commands more) seat.given.items given)
+    let given : All (IsGiven searches reading.commands) seat.given.items =
+    subst (λ r. IfSome r (λ known. All (IsGiven searches known.commands) seat.given.items)) is seated.given in (
+      same ∙ one,
+      All-weaker (IsGiven searches reading.commands) (IsGiven searches reading'.commands)
+          (given_grows searches reading.commands reading'.commands more) seat.given.items given,
+    )
 
-pub if_useful : (searches : List (Option Prepared)) (seen told : List Command) → IsPrefix told seen → (given : Option Given) → IfSome given (IsGiven searches seen) → IfSome given (IsUseful searches told)
+pub if_useful : (searches : List (Option Prepared)) (seen told : List Command) → IsPrefix told seen → (given : Option Given)
+    → IfSome given (IsGiven searches seen) → IfSome given (IsUseful searches told)
 if_useful searches seen told p None none = tt
 if_useful searches seen told p (Some given) is = useful searches seen told p given is
 

@@ -1,5 +1,6 @@
 -- What a writer holds, piece by piece.
-use Rattle.std.proofs.Common.{◌≡◌, ℕ, List, [], ◌∷◌, ◌++◌, Option, Some, None, refl, sym, ap, ◌∙◌, length, take, drop, append_assoc, subst, ◌-◌, arith, length-drop}
+use Rattle.std.proofs.Common.{◌≡◌, ℕ, List, [], ◌∷◌, ◌++◌, Option, Some, None, refl, sym, ap, ◌∙◌, length, take, drop, append_assoc, subst}
+use Rattle.std.proofs.Common.{◌-◌, arith, length-drop}
 use Rattle.std.proofs.lemmas.List.{append-nil, take-append-drop, take_all}
 use Rattle.std.proofs.Common.{suc, ◌<◌, get_or, drop-cons}
 use Rattle.std.proofs.lemmas.Grind.{flat_map-append}
@@ -32,7 +33,8 @@ appends_kept (Some s) (Some t) (Some u) x h k = k ∙ h
 pub written_none : (known : Option (List ℕ)) (text : List ℕ) → WrittenSoFar known known text text
 written_none known text = record { front = []; whole = refl; appended = appends_nothing known }
 
-pub written_more : (a b c : Option (List ℕ)) (text rest : List ℕ) (count : ℕ) → WrittenSoFar a b text rest → Appends b c (take count rest) → WrittenSoFar a c text (drop count rest)
+pub written_more : (a b c : Option (List ℕ)) (text rest : List ℕ) (count : ℕ) → WrittenSoFar a b text rest → Appends b c (take count rest)
+    → WrittenSoFar a c text (drop count rest)
 written_more a b c text rest count so_far more = record {
   front = so_far.front ++ take count rest;
   whole = so_far.whole ∙ ap (λ l. so_far.front ++ l) (sym (take-append-drop count rest)) ∙ sym (append_assoc so_far.front (take count rest) (drop count rest));
@@ -43,9 +45,11 @@ pub written_all : (a b : Option (List ℕ)) (text rest : List ℕ) → rest ≡ 
 written_all a b text rest none so_far = subst (Appends a b) (sym (so_far.whole ∙ ap (λ r. so_far.front ++ r) none ∙ append-nil so_far.front)) so_far.appended
 
 pub written_front : (a b c : Option (List ℕ)) (text rest : List ℕ) → WrittenSoFar a b text rest → Keeps b c → AppendsFront a c text
-written_front a b c text rest so_far kept = record { front = so_far.front; rest = rest; whole = so_far.whole; appended = appends_kept a b c so_far.front so_far.appended kept }
+written_front a b c text rest so_far kept =
+    record { front = so_far.front; rest = rest; whole = so_far.whole; appended = appends_kept a b c so_far.front so_far.appended kept }
 
-pub written_short : (a b c : Option (List ℕ)) (text rest : List ℕ) (count : ℕ) → WrittenSoFar a b text rest → Appends b c (take count rest) → AppendsFront a c text
+pub written_short : (a b c : Option (List ℕ)) (text rest : List ℕ) (count : ℕ) → WrittenSoFar a b text rest → Appends b c (take count rest)
+    → AppendsFront a c text
 written_short a b c text rest count so_far more =
     let further = written_more a b c text rest count so_far more in
     record { front = further.front; rest = drop count rest; whole = further.whole; appended = further.appended }
@@ -59,7 +63,8 @@ pub rest_dropped : (text : List ℕ) (count : ℕ) → take (length text - count
 rest_dropped text count = take_all (length text - count) (drop count text) (simp length-drop (omega arith))
 
 -- The first pieces of a text, and a beginning of the next one.
-pub pieces_front : {X : Type 0} (piece : X → List ℕ) (items : List X) (i : ℕ) (a b : Option (List ℕ)) → Appends a b (flat_map piece (take i items)) → AppendsFront a b (flat_map piece items)
+pub pieces_front : {X : Type 0} (piece : X → List ℕ) (items : List X) (i : ℕ) (a b : Option (List ℕ))
+    → Appends a b (flat_map piece (take i items)) → AppendsFront a b (flat_map piece items)
 pieces_front piece items i a b so_far = record {
   front = flat_map piece (take i items);
   rest = flat_map piece (drop i items);
@@ -67,14 +72,20 @@ pieces_front piece items i a b so_far = record {
   appended = so_far;
 }
 
-pub pieces_more : {X : Type 0} (piece : X → List ℕ) (items : List X) (i : ℕ) (x : X) (a b c : Option (List ℕ)) (text : List ℕ) → i < length items → x ≡ get_or items i x → text ≡ piece x → Appends a b (flat_map piece (take i items)) → AppendsFront b c text → AppendsFront a c (flat_map piece items)
+pub pieces_more : {X : Type 0} (piece : X → List ℕ) (items : List X) (i : ℕ) (x : X) (a b c : Option (List ℕ)) (text : List ℕ)
+    → i < length items → x ≡ get_or items i x → text ≡ piece x → Appends a b (flat_map piece (take i items)) → AppendsFront b c text
+    → AppendsFront a c (flat_map piece items)
 pieces_more piece items i x a b c text inside is text_is so_far next =
     let after : drop i items ≡ x ∷ drop (suc i) items = drop-cons items i x inside ∙ ap (λ y. y ∷ drop (suc i) items) (sym is) in
     let rest : flat_map piece (drop i items) ≡ next.front ++ (next.rest ++ flat_map piece (drop (suc i) items)) =
-    ap (flat_map piece) after ∙ ap (λ t. t ++ flat_map piece (drop (suc i) items)) (sym text_is ∙ next.whole) ∙ append_assoc next.front next.rest (flat_map piece (drop (suc i) items)) in
+    ap (flat_map piece) after ∙ ap (λ t. t ++ flat_map piece (drop (suc i) items)) (sym text_is ∙ next.whole)
+    ∙ append_assoc next.front next.rest (flat_map piece (drop (suc i) items)) in
     record {
       front = flat_map piece (take i items) ++ next.front;
       rest = next.rest ++ flat_map piece (drop (suc i) items);
-      whole = ap (flat_map piece) (sym (take-append-drop i items)) ∙ flat_map-append piece (take i items) (drop i items) ∙ ap (λ t. flat_map piece (take i items) ++ t) rest ∙ sym (append_assoc (flat_map piece (take i items)) next.front (next.rest ++ flat_map piece (drop (suc i) items)));
+      whole =
+          ap (flat_map piece) (sym (take-append-drop i items)) ∙ flat_map-append piece (take i items) (drop i items)
+          ∙ ap (λ t. flat_map piece (take i items) ++ t) rest
+          ∙ sym (append_assoc (flat_map piece (take i items)) next.front (next.rest ++ flat_map piece (drop (suc i) items)));
       appended = appends_both a b c (flat_map piece (take i items)) next.front so_far next.appended;
     }

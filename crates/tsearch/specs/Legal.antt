@@ -1,5 +1,6 @@
 -- Which transcripts are legal for a script: what a run may answer, whatever its readers and their timing.
-use Rattle.std.specs.Prelude.{◌≡◌, ◌≢◌, ℕ, ◌+◌, ◌-◌, ◌^◌, ◌<◌, ◌≤◌, ◌⊎◌, List, ◌∷◌, ◌++◌, take, Option, Some, None, option_map, IfSome, Contains, if◌then◌else◌, ◌==◌}
+use Rattle.std.specs.Prelude.{◌≡◌, ◌≢◌, ℕ, ◌+◌, ◌-◌, ◌^◌, ◌<◌, ◌≤◌, ◌⊎◌, List, ◌∷◌, ◌++◌, take, Option, Some, None, option_map, IfSome}
+use Rattle.std.specs.Prelude.{Contains, if◌then◌else◌, ◌==◌}
 use Rattle.ere.specs.Limits.{HasNoTree}
 use Rattle.ere.specs.declared.case.Case.{Case}
 use Rattle.ere.specs.declared.case.Case.TheVariants.{Exact}
@@ -28,7 +29,8 @@ pub data IsRoomFor (most : ℕ) (state : State) (line : ℕ) (entry : Entry) : T
 
 -- Faults of a name come first; memory may run out only for a name.
 pub data IsNamed (name : List ℕ) (line : ℕ) (entry : Entry) (Else : Type 0) : Type 0 where
-  bad_name : (fault : NameError) → (fault ≡ name_error.OutOfMemory → ⊥) → IsNameFault fault name → entry ≡ Refused line (reason.Name fault) → IsNamed name line entry Else
+  bad_name : (fault : NameError) → (fault ≡ name_error.OutOfMemory → ⊥) → IsNameFault fault name → entry ≡ Refused line (reason.Name fault)
+      → IsNamed name line entry Else
   no_memory : IsName name → entry ≡ Refused line reason.OutOfMemory → IsNamed name line entry Else
   named : IsName name → Else → IsNamed name line entry Else
 
@@ -41,7 +43,8 @@ abbrev pub IsPut : ℕ → State → List ℕ → List ℕ → ℕ → Entry →
 IsPut most state name body line entry = IsNamed name line entry (HasBody most state body line entry)
 
 -- A load asks the source once; what it answers, the source held under the path.
-pub data HasLoaded (Holds : List ℕ → List ℕ → Type 0) (most : ℕ) (state : State) (path : List ℕ) (loaded : Option (List ℕ)) (line : ℕ) (entry : Entry) : Type 0 where
+pub data HasLoaded (Holds : List ℕ → List ℕ → Type 0) (most : ℕ) (state : State) (path : List ℕ) (loaded : Option (List ℕ)) (line : ℕ)
+    (entry : Entry) : Type 0 where
   failed : loaded ≡ None → entry ≡ Refused line reason.CannotLoad → HasLoaded Holds most state path loaded line entry
   loaded_body : (body : List ℕ) → loaded ≡ Some body → Holds path body → HasBody most state body line entry → HasLoaded Holds most state path loaded line entry
 
@@ -91,22 +94,27 @@ search_number context = count_searches context.before + 1
 -- What becomes of a search: refused for memory, or answered for its pattern, which some texts spell.
 pub data IsSearched (context : Context) (IsIt : Pattern → Type 0) (entry : Entry) : Type 0 where
   no_memory : entry ≡ SearchRefused (search_number context) search_reason.OutOfMemory → IsSearched context IsIt entry
-  found : (pattern : Pattern) (reader turn : ℕ) (answer : Answer) → IsIt pattern → entry ≡ Found (search_number context) reader turn answer → IsAnswered context pattern reader answer → IsSearched context IsIt entry
+  found : (pattern : Pattern) (reader turn : ℕ) (answer : Answer) → IsIt pattern → entry ≡ Found (search_number context) reader turn answer
+      → IsAnswered context pattern reader answer → IsSearched context IsIt entry
 
 pub data IsSearch (context : Context) (case : Case) (text : List ℕ) (entry : Entry) : Type 0 where
-  bad_pattern : (fault : EreError) → fault.kind ≢ kind.OutOfMemory → HasNoTree case text → entry ≡ SearchRefused (search_number context) (search_reason.Pattern fault) → IsSearch context case text entry
+  bad_pattern : (fault : EreError) → fault.kind ≢ kind.OutOfMemory → HasNoTree case text
+      → entry ≡ SearchRefused (search_number context) (search_reason.Pattern fault) → IsSearch context case text entry
   searched : IsSearched context (IsPatternOf case text) entry → IsSearch context case text entry
 
 -- The name pattern is looked at first. Its case always counts.
 pub data IsSearchIn (context : Context) (case : Case) (name_text text : List ℕ) (entry : Entry) : Type 0 where
-  bad_name_pattern : (fault : EreError) → fault.kind ≢ kind.OutOfMemory → HasNoTree Exact name_text → entry ≡ SearchRefused (search_number context) (search_reason.NamePattern fault) → IsSearchIn context case name_text text entry
-  bad_pattern : (fault : EreError) → fault.kind ≢ kind.OutOfMemory → HasTree Exact name_text → HasNoTree case text → entry ≡ SearchRefused (search_number context) (search_reason.Pattern fault) → IsSearchIn context case name_text text entry
+  bad_name_pattern : (fault : EreError) → fault.kind ≢ kind.OutOfMemory → HasNoTree Exact name_text
+      → entry ≡ SearchRefused (search_number context) (search_reason.NamePattern fault) → IsSearchIn context case name_text text entry
+  bad_pattern : (fault : EreError) → fault.kind ≢ kind.OutOfMemory → HasTree Exact name_text → HasNoTree case text
+      → entry ≡ SearchRefused (search_number context) (search_reason.Pattern fault) → IsSearchIn context case name_text text entry
   searched : IsSearched context (IsPatternWithin case name_text text) entry → IsSearchIn context case name_text text entry
 
 -- The entry of an item among these rows.
 unfoldable pub IsEntryOf : (List ℕ → List ℕ → Type 0) → ℕ → Context → ℕ → Item → Entry → Type 0
 IsEntryOf Holds most context line (put name body) entry = IsPut most (state_before context) name body line entry
-IsEntryOf Holds most context line (load name path) entry = IsNamed name line entry (HasLoaded Holds most (state_before context) path context.row.loaded line entry)
+IsEntryOf Holds most context line (load name path) entry =
+    IsNamed name line entry (HasLoaded Holds most (state_before context) path context.row.loaded line entry)
 IsEntryOf Holds most context line (remove name) entry = IsNamed name line entry (IsRemove most (state_before context) name line entry)
 IsEntryOf Holds most context line publish entry = IsPublish (state_before context) line entry
 IsEntryOf Holds most context line (search case text) entry = IsSearch context case text entry

@@ -46,7 +46,8 @@ pub record AreSoFar (Holds : List ℕ → List ℕ → Type 0) (failed : ℕ) (s
   pub failures : IsFailedTimes (count_failures rows) failed failed'
 
 -- The run goes on by one row, with this item and this entry.
-pub record GoesOn (Holds : List ℕ → List ℕ → Type 0) (old : LoneState) (before : ℕ) (item : Numbered) (entry : Option Entry) (new : LoneState) (after : ℕ) : Type 0 where
+pub record GoesOn (Holds : List ℕ → List ℕ → Type 0) (old : LoneState) (before : ℕ) (item : Numbered) (entry : Option Entry)
+    (new : LoneState) (after : ℕ) : Type 0 where
   pub by : (failed : ℕ) (rows : List Row) → AreSoFar Holds failed old before rows
       → (row : Row) × (row.numbered ≡ item) × (row.entry ≡ entry) × AreSoFar Holds failed new after (rows ++ row ∷ [])
   pub same_limit : new.limit ≡ old.limit

@@ -9,7 +9,8 @@ use Rattle.stream.specs.declared.stream.Step.{Step}
 
 -- The text is that of this item, from its line's number on; the next line's number follows it, or nothing does.
 abbrev pub IsStep : ℕ → List ℕ → Item → Option ℕ → Type 0
-IsStep number text item (Some next) = (rest : List ℕ) (items : List Numbered) → ItemsFrom next rest items → ItemsFrom number (text ++ rest) (numbered number item ∷ items)
+IsStep number text item (Some next) =
+    (rest : List ℕ) (items : List Numbered) → ItemsFrom next rest items → ItemsFrom number (text ++ rest) (numbered number item ∷ items)
 IsStep number text item None = ItemsFrom number text (numbered number item ∷ [])
 
 -- An item was taken: its line was taken before, and these are the bytes after the line feed.

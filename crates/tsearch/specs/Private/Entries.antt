@@ -63,7 +63,8 @@ pub record IsCounted (failures failed failed' : ℕ) : Type 0 where
   pub stays : failed ≡ greatest_failures → failed' ≡ greatest_failures
 
 -- A load: the source is asked once, unless the name is none, and failed exactly where the entry says so.
-pub record IsLoaded (Holds : List ℕ → List ℕ → Type 0) (desk : DeskState) (failed : ℕ) (name path : List ℕ) (done : Result ℕ Reason) (desk' : DeskState) (failed' : ℕ) : Type 0 where
+pub record IsLoaded (Holds : List ℕ → List ℕ → Type 0) (desk : DeskState) (failed : ℕ) (name path : List ℕ) (done : Result ℕ Reason)
+    (desk' : DeskState) (failed' : ℕ) : Type 0 where
   pub loaded : Option (List ℕ)
   pub legal : (line : ℕ) → IsNamed name line (entry_of line done) (HasLoaded Holds desk.limit (state_of desk.accepted) path loaded line (entry_of line done))
   pub left : desk' ≡ desk_after done (command_of (load name path) loaded) desk

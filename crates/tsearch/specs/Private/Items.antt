@@ -27,7 +27,8 @@ pub data Tells (desk : DeskState) (told : Known) (entry : Entry) (told' : Known)
 
 -- The item is neither a search nor a sync. Its entry is legal after each list of rows that accepts what the desk has
 -- accepted, and the desk goes on as the entry says.
-pub record IsEntered (Holds : List ℕ → List ℕ → Type 0) (desk : DeskState) (told : Known) (failed : ℕ) (item : Numbered) (entry : Entry) (desk' : DeskState) (told' : Known) (failed' : ℕ) : Type 0 where
+pub record IsEntered (Holds : List ℕ → List ℕ → Type 0) (desk : DeskState) (told : Known) (failed : ℕ) (item : Numbered) (entry : Entry)
+    (desk' : DeskState) (told' : Known) (failed' : ℕ) : Type 0 where
   pub loaded : Option (List ℕ)
   pub legal : (readers : ℕ) (before after : List Row) → commands_of before ≡ desk.accepted
       → IsLegalRow Holds desk.limit (record { readers = readers; before = before; row = row_of item loaded (Some entry); after = after })

@@ -24,5 +24,6 @@ counted state = record state { searches = state.searches + 1 }
 
 -- One more search is answered for a pattern that it asks for, or refused.
 pub data IsSearchedAlone (old : LoneState) (item : Item) (entry : Entry) (new : LoneState) : Type 0 where
-  answered : (prepared : Prepared) → Asks item (pattern_of prepared) → IsAnsweredAlone (counted old) (pattern_of prepared) entry new → IsSearchedAlone old item entry new
+  answered : (prepared : Prepared) → Asks item (pattern_of prepared) → IsAnsweredAlone (counted old) (pattern_of prepared) entry new
+      → IsSearchedAlone old item entry new
   refused : (why : SearchReason) → IsRefusalOf item why → entry ≡ SearchRefused (old.searches + 1) why → new ≡ counted old → IsSearchedAlone old item entry new

@@ -18,7 +18,8 @@ Asks _ pattern = Unit {0}
 -- An item is added to the searches, where it is one: with its pattern, or with nothing.
 pub data IsListed (item : Item) (old new : List (Option Prepared)) : Type 0 where
   other : searches_of item ≡ 0 → new ≡ old → IsListed item old new
-  listed : (found : Option Prepared) → searches_of item ≡ 1 → IfSome found (λ prepared. Asks item (pattern_of prepared)) → new ≡ old ++ found ∷ [] → IsListed item old new
+  listed : (found : Option Prepared) → searches_of item ≡ 1 → IfSome found (λ prepared. Asks item (pattern_of prepared))
+      → new ≡ old ++ found ∷ [] → IsListed item old new
 
 -- how many searches the items have
 unfoldable pub searches_among : List Numbered → ℕ

@@ -38,10 +38,12 @@ pub record IsStart (opening : Book) (readers : ℕ) (session : Session) : Type 0
   pub settled : IsFresh (readers + 1) session.settled
 
 -- What an item leaves for the entries that are pending: its entry, or nothing where it is an open search.
-pub data IsPended (Holds : List ℕ → List ℕ → Type 0) (desk : DeskState) (told : Known) (failed number : ℕ) (item : Numbered) : Option Entry → DeskState → Known → ℕ → Type 0 where
+pub data IsPended (Holds : List ℕ → List ℕ → Type 0) (desk : DeskState) (told : Known) (failed number : ℕ) (item : Numbered) : Option Entry
+    → DeskState → Known → ℕ → Type 0 where
   entered : {desk' : DeskState} {told' : Known} {failed' : ℕ} (entry : Entry) → IsEntered Holds desk told failed item entry desk' told' failed'
       → IsPended Holds desk told failed number item (Some entry) desk' told' failed'
-  refused : {desk' : DeskState} {told' : Known} {failed' : ℕ} (why : SearchReason) → searches_of item.item ≡ 1 → IsRefusalOf item.item why → IsLeft desk told failed desk' told' failed'
+  refused : {desk' : DeskState} {told' : Known} {failed' : ℕ} (why : SearchReason) → searches_of item.item ≡ 1 → IsRefusalOf item.item why
+      → IsLeft desk told failed desk' told' failed'
       → IsPended Holds desk told failed number item (Some (SearchRefused number why)) desk' told' failed'
   asked : {desk' : DeskState} {told' : Known} {failed' : ℕ} → searches_of item.item ≡ 1 → IsLeft desk told failed desk' told' failed'
       → IsPended Holds desk told failed number item None desk' told' failed'
@@ -51,7 +53,8 @@ abbrev pub AreListed : List ℕ → Option Entry → List ℕ → Type 0
 AreListed versions entry versions' = (version : ℕ) → Contains versions' version → Contains versions version ⊎ Contains (version_in entry) version
 
 -- One more item is pending.
-pub record Pends (Holds : List ℕ → List ℕ → Type 0) (desk : DeskState) (failed : ℕ) (old : Session) (item : Numbered) (desk' : DeskState) (failed' : ℕ) (new : Session) : Type 0 where
+pub record Pends (Holds : List ℕ → List ℕ → Type 0) (desk : DeskState) (failed : ℕ) (old : Session) (item : Numbered) (desk' : DeskState)
+    (failed' : ℕ) (new : Session) : Type 0 where
   pub entry : Option Entry
   pub is : IsPended Holds desk old.told failed (old.searches + 1) item entry desk' new.told failed'
   pub pending : new.pending.items ≡ old.pending.items ++ entry ∷ []
@@ -77,7 +80,8 @@ pub record IsAsked (old : Session) (item : Item) (next : Step) (new : Session) :
   pub reading : new.reading ≡ old.reading
 
 -- The item was taken: a sync leaves all as it is.
-pub data IsStep (Holds : List ℕ → List ℕ → Type 0) (desk : DeskState) (failed : ℕ) (old : Session) (item : Numbered) (next : Step) (desk' : DeskState) (failed' : ℕ) (new : Session) : Type 0 where
+pub data IsStep (Holds : List ℕ → List ℕ → Type 0) (desk : DeskState) (failed : ℕ) (old : Session) (item : Numbered) (next : Step)
+    (desk' : DeskState) (failed' : ℕ) (new : Session) : Type 0 where
   taken : next ≢ step.Sync → Pends Holds desk failed old item desk' failed' new → IsStep Holds desk failed old item next desk' failed' new
   left : next ≡ step.Sync → is_sync item.item ≡ true → desk' ≡ desk → failed' ≡ failed → new ≡ old → IsStep Holds desk failed old item next desk' failed' new
 
@@ -100,10 +104,13 @@ pub record IsSettled (searches : List (Option Prepared)) (old new : Session) : T
   pub count : new.searches ≡ old.searches
 
 -- A run went on by one item. Without readers all is settled after each; with them, where no search is open.
-pub data Advances (Holds : List ℕ → List ℕ → Type 0) (searches : List (Option Prepared)) (readers : ℕ) (desk : DeskState) (failed : ℕ) (old : Session) (item : Numbered) (desk' : DeskState) (failed' : ℕ) (new : Session) : Type 0 where
-  synced : is_sync item.item ≡ true → desk' ≡ desk → failed' ≡ failed → IsSettled searches old new → Advances Holds searches readers desk failed old item desk' failed' new
+pub data Advances (Holds : List ℕ → List ℕ → Type 0) (searches : List (Option Prepared)) (readers : ℕ) (desk : DeskState) (failed : ℕ)
+    (old : Session) (item : Numbered) (desk' : DeskState) (failed' : ℕ) (new : Session) : Type 0 where
+  synced : is_sync item.item ≡ true → desk' ≡ desk → failed' ≡ failed → IsSettled searches old new
+      → Advances Holds searches readers desk failed old item desk' failed' new
   pended : readers ≢ 0 → Pends Holds desk failed old item desk' failed' new → Advances Holds searches readers desk failed old item desk' failed' new
-  settled : (mid : Session) → Pends Holds desk failed old item desk' failed' mid → IsSettled searches mid new → Advances Holds searches readers desk failed old item desk' failed' new
+  settled : (mid : Session) → Pends Holds desk failed old item desk' failed' mid → IsSettled searches mid new
+      → Advances Holds searches readers desk failed old item desk' failed' new
 
 -- What stays as it was from item to item: all is of one opening, and there is one more search at most.
 pub record IsKept (desk : DeskState) (old : Session) (desk' : DeskState) (new : Session) : Type 0 where

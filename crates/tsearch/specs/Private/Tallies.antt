@@ -51,7 +51,8 @@ pub record CanStand (told : List Command) (versions : List ℕ) (least : ℕ) (l
 -- An answer for the search of this number. The version was published, and is no older than what was published last
 -- before the search, nor than the reader's last one, unless all that was told of is that version. The turn is after the
 -- reader's last one.
-pub record IsTaken (searches : List (Option Prepared)) (told : List Command) (versions : List ℕ) (number least : ℕ) (lasts : List Last) (reader turn : ℕ) (answer : Answer) (lasts' : List Last) : Type 0 where
+pub record IsTaken (searches : List (Option Prepared)) (told : List Command) (versions : List ℕ) (number least : ℕ) (lasts : List Last)
+    (reader turn : ℕ) (answer : Answer) (lasts' : List Last) : Type 0 where
   pub prepared : Prepared
   pub listed : slice_get searches (number - 1) ≡ Some (Some prepared)
   pub exact : IsAnswerOf (state_of (take answer.version told)) (pattern_of prepared) answer
@@ -64,7 +65,8 @@ pub record IsTaken (searches : List (Option Prepared)) (told : List Command) (ve
   pub noted : lasts' ≡ slice_set lasts reader (last turn answer.version)
 
 -- What becomes of an open search.
-pub data IsClosed (searches : List (Option Prepared)) (told : List Command) (versions : List ℕ) (number least : ℕ) (lasts : List Last) (entry : Entry) (lasts' : List Last) : Type 0 where
+pub data IsClosed (searches : List (Option Prepared)) (told : List Command) (versions : List ℕ) (number least : ℕ) (lasts : List Last)
+    (entry : Entry) (lasts' : List Last) : Type 0 where
   no_memory : entry ≡ SearchRefused number search_reason.OutOfMemory → lasts' ≡ lasts → IsClosed searches told versions number least lasts entry lasts'
   found : (reader turn : ℕ) (answer : Answer) → entry ≡ Found number reader turn answer
       → IsTaken searches told versions number least lasts reader turn answer lasts' → IsClosed searches told versions number least lasts entry lasts'

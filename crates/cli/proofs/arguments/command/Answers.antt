@@ -13,17 +13,25 @@ pub returns : goal.returns
 returns c =
     let start : app_of c.override_help.result ≡ new_app (codes "tsearch") = search rules in
     let zero_to_16 : c.range.result ≡ vp.Signed (pos 0) (pos 16) = rw (c.value_parser.ensures, c.new-2.ensures.start, c.new-2.ensures.end) at c.range.ensures in
-    let one_to_million : c.range-2.result ≡ vp.Signed (pos 1) (pos 1000000) = rw (c.value_parser-2.ensures, c.new-5.ensures.start, c.new-5.ensures.end) at c.range-2.ensures in
-    let readers_parser : c.value_parser-readers.result.value_parser ≡ Some (vp.Signed (pos 0) (pos 16)) = rw (c.value_parser-readers.ensures.given.1, c.value_parser-readers.ensures.given.2, zero_to_16) refl in
-    let commands_parser : c.value_parser-max_commands.result.value_parser ≡ Some (vp.Signed (pos 1) (pos 1000000)) = rw (c.value_parser-max_commands.ensures.given.1, c.value_parser-max_commands.ensures.given.2, one_to_million) refl in
+    let one_to_million : c.range-2.result ≡ vp.Signed (pos 1) (pos 1000000) =
+    rw (c.value_parser-2.ensures, c.new-5.ensures.start, c.new-5.ensures.end) at c.range-2.ensures in
+    let readers_parser : c.value_parser-readers.result.value_parser ≡ Some (vp.Signed (pos 0) (pos 16)) =
+    rw (c.value_parser-readers.ensures.given.1, c.value_parser-readers.ensures.given.2, zero_to_16) refl in
+    let commands_parser : c.value_parser-max_commands.result.value_parser ≡ Some (vp.Signed (pos 1) (pos 1000000)) =
+    rw (c.value_parser-max_commands.ensures.given.1, c.value_parser-max_commands.ensures.given.2, one_to_million) refl in
     let readers_named : rule_of c.value_name.result ≡ record (new_rule (codes "readers")) { long = Some (codes "readers"); value_names = 1 } =
-    ap rule_of c.value_name.ensures ∙ ap (λ (r : Rule). record r { value_names = 1 }) (ap rule_of c.long.ensures ∙ ap (λ (r : Rule). record r { long = Some (codes "readers") }) c.new.ensures.rule) in
+    ap rule_of c.value_name.ensures
+    ∙ ap (λ (r : Rule). record r { value_names = 1 })
+    (ap rule_of c.long.ensures ∙ ap (λ (r : Rule). record r { long = Some (codes "readers") }) c.new.ensures.rule) in
     let readers_is : rule_of c.value_parser-readers.result ≡ number_option (codes "readers") 0 16 =
     ap rule_of c.value_parser-readers.ensures.others ∙ ap₂ (λ (r : Rule) (q : Option ValueParser). record r { parser = q }) readers_named readers_parser in
     let commands_named : rule_of c.value_name-2.result ≡ record (new_rule (codes "max-commands")) { long = Some (codes "max-commands"); value_names = 1 } =
-    ap rule_of c.value_name-2.ensures ∙ ap (λ (r : Rule). record r { value_names = 1 }) (ap rule_of c.long-3.ensures ∙ ap (λ (r : Rule). record r { long = Some (codes "max-commands") }) c.new-4.ensures.rule) in
+    ap rule_of c.value_name-2.ensures
+    ∙ ap (λ (r : Rule). record r { value_names = 1 })
+    (ap rule_of c.long-3.ensures ∙ ap (λ (r : Rule). record r { long = Some (codes "max-commands") }) c.new-4.ensures.rule) in
     let commands_is : rule_of c.value_parser-max_commands.result ≡ number_option (codes "max-commands") 1 1000000 =
-    ap rule_of c.value_parser-max_commands.ensures.others ∙ ap₂ (λ (r : Rule) (q : Option ValueParser). record r { parser = q }) commands_named commands_parser in
+    ap rule_of c.value_parser-max_commands.ensures.others
+    ∙ ap₂ (λ (r : Rule) (q : Option ValueParser). record r { parser = q }) commands_named commands_parser in
     let stats_named : rule_of c.long-2.result ≡ record (new_rule (codes "stats")) { long = Some (codes "stats") } =
     ap rule_of c.long-2.ensures ∙ ap (λ (r : Rule). record r { long = Some (codes "stats") }) c.new-3.ensures.rule in
     let stats_is : rule_of c.action-stats.result ≡ flag (codes "stats") =
@@ -33,9 +41,11 @@ returns c =
     let live_is : rule_of c.action-live.result ≡ flag (codes "live") =
     ap rule_of c.action-live.ensures ∙ ap (λ (r : Rule). record r { action = Some SetTrue }) live_named in
     let file_is : rule_of c.new-file.result ≡ new_rule (codes "FILE") = search rules in
-    let readers_local : c.value_parser-readers.result.global ≡ false = rw (c.value_parser-readers.ensures.others, c.value_name.ensures, c.long.ensures) c.new.ensures.optional.1 in
+    let readers_local : c.value_parser-readers.result.global ≡ false =
+    rw (c.value_parser-readers.ensures.others, c.value_name.ensures, c.long.ensures) c.new.ensures.optional.1 in
     let stats_local : c.action-stats.result.global ≡ false = rw (c.action-stats.ensures, c.long-2.ensures) c.new-3.ensures.optional.1 in
-    let commands_local : c.value_parser-max_commands.result.global ≡ false = rw (c.value_parser-max_commands.ensures.others, c.value_name-2.ensures, c.long-3.ensures) c.new-4.ensures.optional.1 in
+    let commands_local : c.value_parser-max_commands.result.global ≡ false =
+    rw (c.value_parser-max_commands.ensures.others, c.value_name-2.ensures, c.long-3.ensures) c.new-4.ensures.optional.1 in
     let live_local : c.action-live.result.global ≡ false = rw (c.action-live.ensures, c.long-4.ensures) c.new-6.ensures.optional.1 in
     let one = c.in_ok-arg.ensures.shape readers_local ∙ ap₂ with_rule start readers_is in
     let two = c.in_ok-arg-2.ensures.shape stats_local ∙ ap₂ with_rule one stats_is in

@@ -39,7 +39,8 @@ returns c =
     (one_text (found_of m) (codes "readers")) c.get_one-readers.result c.unwrap_or.result 0 16 c.default_readers.result c.unwrap_or.ensures
     c.get_one-readers.ensures.none c.get_one-readers.ensures.value some_readers (omega arith) (at_most_16 live c.default_readers.result readers_default) in
     let commands = settled_number _ (λ bs r. ParsesUnsigned 32 10 bs r × ExplainsUnsignedError 10 bs r × HasUnsignedDigitsIfOk bs r) (λ u x g. g.0)
-    (one_text (found_of m) (codes "max-commands")) c.get_one-max_commands.result c.unwrap_or-2.result 1 1000000 c.default_max_commands.result c.unwrap_or-2.ensures
+    (one_text (found_of m) (codes "max-commands")) c.get_one-max_commands.result c.unwrap_or-2.result 1 1000000
+    c.default_max_commands.result c.unwrap_or-2.ensures
     c.get_one-max_commands.ensures.none c.get_one-max_commands.ensures.value some_commands
     (in_limits live c.default_max_commands.result commands_default).0 (in_limits live c.default_max_commands.result commands_default).1 in
     let live_flag = settled_flag _ (one_text (found_of m) (codes "live")) c.get_one.result live c.unwrap_or-live.ensures

@@ -22,7 +22,10 @@ loop-preserved g c =
     }
 
 pub returns-in_err-advance-clause-err : goal.returns-in_err-advance-clause-err
-returns-in_err-advance-clause-err g c = on_err _ _ (now_broken _ _ c.loop.invariant.held c.args.options _ _ _ _ _ c.loop.invariant.serving c.in_err-advance.field-0.0 c.in_err-advance.ensures.advanced)
+returns-in_err-advance-clause-err g c =
+    on_err _ _
+    (now_broken _ _ c.loop.invariant.held c.args.options _ _ _ _ _ c.loop.invariant.serving c.in_err-advance.field-0.0
+    c.in_err-advance.ensures.advanced)
 
 pub returns-in_err-advance-clause-same : goal.returns-in_err-advance-clause-same
 returns-in_err-advance-clause-same g c = λ path body.
@@ -34,7 +37,9 @@ pub returns-in_err-advance-clause-counted : goal.returns-in_err-advance-clause-c
 returns-in_err-advance-clause-counted g c = omega (arith, c.loop.invariant.counted, c.in_err-advance.ensures.counted)
 
 pub returns-then-not-branch-clause-ok : goal.returns-then-not-branch-clause-ok
-returns-then-not-branch-clause-ok g c = now_served _ _ c.loop.invariant.held c.args.options _ _ _ _ _ c.loop.invariant.serving c.in_ok-advance.field-0 c.if-not-branch.true c.in_ok-advance.ensures.advanced c.status.result c.status.ensures
+returns-then-not-branch-clause-ok g c =
+    now_served _ _ c.loop.invariant.held c.args.options _ _ _ _ _ c.loop.invariant.serving c.in_ok-advance.field-0 c.if-not-branch.true
+    c.in_ok-advance.ensures.advanced c.status.result c.status.ensures
 
 pub returns-then-not-branch-clause-same : goal.returns-then-not-branch-clause-same
 returns-then-not-branch-clause-same g c = λ path body.

@@ -6,8 +6,15 @@ abbrev pub invariant-loop : goal.invariant-loop
 invariant-loop g l = record {
   iterator : (goal.iterator-loop g).can_next l.iterator' × (goal.iterator-loop g).is_finite l.iterator';
   serving : IsServing (g.S.Source.holds l.initial.source) l.fn.options.stats
-      (record { limit = l.fn.options.max_commands; failed = g.S.Source.failed l.initial.source; input = g.I.Read.remaining l.initial.input; output = g.O.Write.contents l.initial.out })
+      (record {
+        limit = l.fn.options.max_commands;
+        failed = g.S.Source.failed l.initial.source;
+        input = g.I.Read.remaining l.initial.input;
+        output = g.O.Write.contents l.initial.out;
+      })
       (now l.run l.session.stream l.session.marks (g.S.Source.failed l.source) (g.I.Read.remaining l.input) (g.O.Write.contents l.out));
-  held : (path body : List ℕ) → (g.S.Source.holds l.source path body → g.S.Source.holds l.initial.source path body) × (g.S.Source.holds l.initial.source path body → g.S.Source.holds l.source path body);
+  held : (path body : List ℕ)
+      → (g.S.Source.holds l.source path body → g.S.Source.holds l.initial.source path body)
+      × (g.S.Source.holds l.initial.source path body → g.S.Source.holds l.source path body);
   counted : g.S.Source.failed l.initial.source ≤ g.S.Source.failed l.source;
 }

@@ -26,5 +26,7 @@ loop-digit-preserved c =
     record {
       value = omega (arith, decimal_more c.args.digits.now c.loop-digit.digit-index (omega arith), c.loop-digit.invariant.value, c.from.ensures);
       below = one_more_digit c.loop-digit.size _ c.loop-digit.digit-index c.loop-digit.invariant.below (omega arith);
-      decimal = All-more (λ b. is_digit b ≡ true) c.args.digits.now c.loop-digit.digit-index 0 (omega arith) c.loop-digit.invariant.decimal (is_digit_by digit.0 digit.1);
+      decimal =
+          All-more (λ b. is_digit b ≡ true) c.args.digits.now c.loop-digit.digit-index 0 (omega arith) c.loop-digit.invariant.decimal
+          (is_digit_by digit.0 digit.1);
     }

@@ -6,7 +6,12 @@ pub loop-first-preserved : goal.loop-first-preserved
 loop-first-preserved c =
     let after = c.after_line-start.ensures in
     record {
-      same = λ items h. c.loop-first.invariant.same items (blank_line c.first_line-first.result.line.now c.after_line-start.result.text.now after.begins (sym c.if-not-is_blank_line.ensures) (subst (λ n. ItemsFrom n c.after_line-start.result.text.now items) after.next h));
+      same =
+          λ items h.
+          c.loop-first.invariant.same items
+          (blank_line c.first_line-first.result.line.now c.after_line-start.result.text.now after.begins
+          (sym c.if-not-is_blank_line.ensures)
+          (subst (λ n. ItemsFrom n c.after_line-start.result.text.now items) after.next h));
       room = omega arith;
       shorter = omega arith;
     }

@@ -8,7 +8,13 @@ use Rattle.stream.proofs.BodyLemmas.{closes_by_front}
 use Rattle.stream.proofs.body.look.Goals as goal
 
 pub returns-in_err-interrupted-in-Err : goal.returns-in_err-interrupted-in-Err
-returns-in_err-interrupted-in-Err g c = ([], Consumes-kept _ _ _ [] (Consumes-nil _) c.fill_buf.follows.holds-at-none.0, at_err c.from_residual.result (λ r. Looks r [] (g.I.Read.remaining c.args.input.now) (g.I.Read.remaining c.fill_buf.follows.lender-at-none)) c.from_residual.ensures.0 (λ e. tt))
+returns-in_err-interrupted-in-Err g c = (
+  [],
+  Consumes-kept _ _ _ [] (Consumes-nil _) c.fill_buf.follows.holds-at-none.0,
+  at_err c.from_residual.result
+      (λ r. Looks r [] (g.I.Read.remaining c.args.input.now) (g.I.Read.remaining c.fill_buf.follows.lender-at-none))
+      c.from_residual.ensures.0 (λ e. tt),
+)
 
 pub returns-in-Err : goal.returns-in-Err
 returns-in-Err g c = ([], Consumes-kept _ _ _ [] (Consumes-nil _) c.fill_buf.follows.holds-at-none.0, refl)
@@ -19,5 +25,7 @@ returns g c =
     let rested = c.fill_buf.follows.lender-at-none in
     let filled = subst (FillKeeps _ (g.I.Read.remaining rested) (g.I.BufRead.consumable_len rested)) c.in-Ok.is c.fill_buf.follows.holds-at-none in
     let front = c.front_of-front in
-    let moved = Consumes_shown _ _ _ _ shown front.result.taken front.ensures.within c.in-Ok.ensures.front c.in-Ok.ensures.end filled.0 filled.1 c.consume.ensures.bytes in
+    let moved =
+    Consumes_shown _ _ _ _ shown front.result.taken front.ensures.within c.in-Ok.ensures.front c.in-Ok.ensures.end filled.0 filled.1
+    c.consume.ensures.bytes in
     (take front.result.taken shown, moved.0, closes_by_front front.result.closing shown front.result.taken _ _ front.ensures.front moved.1)

@@ -5,4 +5,6 @@ use Rattle.stream.specs.Private.Bytes.{Counts}
 use Rattle.stream.proofs.body.pass_over.Given as goal
 
 abbrev pub invariant-loop : goal.invariant-loop
-invariant-loop g l = (bytes : List ℕ) × Consumes (g.I.Read.remaining l.initial.input) (g.I.Read.remaining l.input) bytes × Counts l.passed bytes × (l.passed.count ≤ l.size)
+invariant-loop g l =
+    (bytes : List ℕ) × Consumes (g.I.Read.remaining l.initial.input) (g.I.Read.remaining l.input) bytes × Counts l.passed bytes
+    × (l.passed.count ≤ l.size)

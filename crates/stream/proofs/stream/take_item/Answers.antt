@@ -28,6 +28,9 @@ pub returns-in-Other : goal.returns-in-Other
 returns-in-Other g c = (
   [],
   Consumes-nil _,
-  takes_next c.go_on_after.result c.args.number 1 c.args.line.now [] _ _ (variants.Other c.in-Other.item) (shown_item c.in-Other.item) c.go_on_after.ensures refl
-      (λ few. step_other c.args.number c.args.line.now c.requires.is_line (shown_item c.in-Other.item) (c.args.number + 1) c.in-Other.ensures.0 c.in-Other.ensures.1 c.in-Other.ensures.2 refl),
+  takes_next c.go_on_after.result c.args.number 1 c.args.line.now [] _ _ (variants.Other c.in-Other.item) (shown_item c.in-Other.item)
+      c.go_on_after.ensures refl
+      (λ few.
+      step_other c.args.number c.args.line.now c.requires.is_line (shown_item c.in-Other.item) (c.args.number + 1) c.in-Other.ensures.0
+      c.in-Other.ensures.1 c.in-Other.ensures.2 refl),
 )

@@ -11,8 +11,14 @@ use Rattle.stream.proofs.stream.take_put.Goals as goal
 
 pub returns-in_err-put : goal.returns-in_err-put
 returns-in_err-put g c =
-    let (bytes, taken, _) = c.take_bytes.ensures in
-    (bytes, taken, λ line is. at_err c.from_residual.result (λ r. TakesItem c.args.number line r bytes (g.I.Read.remaining c.args.input.now) (g.I.Read.remaining c.take_bytes.new.input)) c.from_residual.ensures.0 (λ e. tt))
+    let (bytes, taken, _) = c.take_bytes.ensures in (
+      bytes,
+      taken,
+      λ line is.
+          at_err c.from_residual.result
+          (λ r. TakesItem c.args.number line r bytes (g.I.Read.remaining c.args.input.now) (g.I.Read.remaining c.take_bytes.new.input))
+          c.from_residual.ensures.0 (λ e. tt),
+    )
 
 pub returns-then-put-size : goal.returns-then-put-size
 returns-then-put-size g c =
@@ -30,8 +36,14 @@ returns-then-put-size g c =
 pub returns-in_err-closing : goal.returns-in_err-closing
 returns-in_err-closing g c =
     let (bytes, taken, _) = c.in_ok-put.ensures in
-    let (last, closed, _) = c.close.ensures in
-    (bytes ++ last, Consumes-trans _ _ _ bytes last taken closed, λ line is. at_err c.from_residual-in_err-closing.result (λ r. TakesItem c.args.number line r (bytes ++ last) (g.I.Read.remaining c.args.input.now) (g.I.Read.remaining c.close.new.input)) c.from_residual-in_err-closing.ensures.0 (λ e. tt))
+    let (last, closed, _) = c.close.ensures in (
+      bytes ++ last,
+      Consumes-trans _ _ _ bytes last taken closed,
+      λ line is.
+          at_err c.from_residual-in_err-closing.result (λ r.
+          TakesItem c.args.number line r (bytes ++ last) (g.I.Read.remaining c.args.input.now) (g.I.Read.remaining c.close.new.input))
+          c.from_residual-in_err-closing.ensures.0 (λ e. tt),
+    )
 
 pub returns-in-LineFeed : goal.returns-in-LineFeed
 returns-in-LineFeed g c =
@@ -41,8 +53,12 @@ returns-in-LineFeed g c =
     let long : length bytes ≡ c.args.size = omega (arith, counts.0, c.if-put-size.false, upto.0) in (
       bytes ++ last,
       Consumes-trans _ _ _ bytes last taken closed,
-      λ line is. takes_next c.go_on_after.result c.args.number c.saturating_add-lines.result line (bytes ++ last) _ _ c.put_item-item.result (put c.args.name.now bytes) c.go_on_after.ensures (c.put_item-item.ensures c.args.size bytes holds long)
-          (λ few. step_closed c.args.number c.args.size line c.args.name.now bytes is long last _ closes (omega (arith, few, c.saturating_add-lines.ensures, counts.1))),
+      λ line is.
+          takes_next c.go_on_after.result c.args.number c.saturating_add-lines.result line (bytes ++ last) _ _ c.put_item-item.result
+          (put c.args.name.now bytes) c.go_on_after.ensures (c.put_item-item.ensures c.args.size bytes holds long)
+          (λ few.
+          step_closed c.args.number c.args.size line c.args.name.now bytes is long last _ closes
+          (omega (arith, few, c.saturating_add-lines.ensures, counts.1))),
     )
 
 pub returns-in-InputEnd : goal.returns-in-InputEnd
@@ -65,7 +81,9 @@ pub returns : goal.returns
 returns g c =
     let (bytes, taken, (holds, counts, upto)) = c.in_ok-put.ensures in
     let (last, closed, closes') = c.in_ok-closing.ensures in
-    let (b, is_byte, other) = subst (λ k. Closes k last (g.I.Read.remaining c.take_bytes.new.input) (g.I.Read.remaining c.close.new.input)) c.in-OtherByte.is closes' in
+    let (b, is_byte, other) =
+    subst (λ k. Closes k last (g.I.Read.remaining c.take_bytes.new.input) (g.I.Read.remaining c.close.new.input)) c.in-OtherByte.is
+    closes' in
     let long : length bytes ≡ c.args.size = omega (arith, counts.0, c.if-put-size.false, upto.0) in (
       bytes ++ last,
       Consumes-trans _ _ _ bytes last taken closed,

@@ -9,13 +9,16 @@ settle-requires-clause-opening g c = (step_keeps c.in_ok-step.ensures.ok c.requi
 pub settle-requires-clause-seats : goal.settle-requires-clause-seats
 settle-requires-clause-seats g c =
     let kept = step_keeps c.in_ok-step.ensures.ok c.requires.opening.0 c.requires.opening.1 in
-    subst (λ o. All (IsSeat o c.args.plan.now.searches.now) c.send.new.seats.items) (sym (kept.told ∙ kept.same)) (c.send.ensures.seats c.args.desk.now.opening c.requires.seats)
+    subst (λ o. All (IsSeat o c.args.plan.now.searches.now) c.send.new.seats.items) (sym (kept.told ∙ kept.same))
+    (c.send.ensures.seats c.args.desk.now.opening c.requires.seats)
 
 pub returns-in_ok-settle-clause-ok : goal.returns-in_ok-settle-clause-ok
 returns-in_ok-settle-clause-ok g c = step_settled c.in_ok-step.ensures.ok c.in_ok-settle.ensures.ok
 
 pub returns-in_ok-settle-clause-kept : goal.returns-in_ok-settle-clause-kept
-returns-in_ok-settle-clause-kept g c = settled_keeps (step_keeps c.in_ok-step.ensures.ok c.requires.opening.0 c.requires.opening.1) c.in_ok-settle.ensures.ok c.in_ok-settle.ensures.opening
+returns-in_ok-settle-clause-kept g c =
+    settled_keeps (step_keeps c.in_ok-step.ensures.ok c.requires.opening.0 c.requires.opening.1) c.in_ok-settle.ensures.ok
+    c.in_ok-settle.ensures.opening
 
 pub returns-in_ok-settle-clause-seats : goal.returns-in_ok-settle-clause-seats
 returns-in_ok-settle-clause-seats g c =

@@ -13,4 +13,6 @@ pub returns-then-body-gt-MAX_BODY-clause-entry : goal.returns-then-body-gt-MAX_B
 returns-then-body-gt-MAX_BODY-clause-entry c line = named c.in-Ok.ensures.name.1 (bad_body TooLong (too_long_body c.args.body.now (omega arith)) refl)
 
 pub returns-in-Ok-from_slice-clause-entry : goal.returns-in-Ok-from_slice-clause-entry
-returns-in-Ok-from_slice-clause-entry c line = named_body c.args.desk.now.limit (state_of c.args.desk.now.accepted) c.args.name.now c.args.body.now line _ c.in-Ok.ensures.name.1 (rw c.in-Ok-from_slice.ensures.items at (c.put_body.ensures.entry line))
+returns-in-Ok-from_slice-clause-entry c line =
+    named_body c.args.desk.now.limit (state_of c.args.desk.now.accepted) c.args.name.now c.args.body.now line _ c.in-Ok.ensures.name.1
+    (rw c.in-Ok-from_slice.ensures.items at (c.put_body.ensures.entry line))

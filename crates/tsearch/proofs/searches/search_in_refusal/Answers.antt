@@ -7,6 +7,10 @@ use Rattle.tsearch.proofs.searches.search_in_refusal.Goals.{in-Ok, in-Err}
 
 pub returns : goal.returns
 returns c = elim c.match-within_with_case.branch [
-  | in-Ok w ↦ subst (IsRefusalOf (search_in c.args.case c.args.name_pattern.now c.args.pattern.now)) (sym w.result-is) (search_in_without_memory c.args.case c.args.name_pattern.now c.args.pattern.now)
-  | in-Err w ↦ subst (IsRefusalOf (search_in c.args.case c.args.name_pattern.now c.args.pattern.now)) (sym (w.result-is ∙ w.reason_of.ensures)) (search_in_refused c.args.case c.args.name_pattern.now c.args.pattern.now w.in-Err.error.in_name w.in-Err.error.error w.in-Err.ensures.refused)
+  | in-Ok w ↦ subst (IsRefusalOf (search_in c.args.case c.args.name_pattern.now c.args.pattern.now)) (sym w.result-is)
+      (search_in_without_memory c.args.case c.args.name_pattern.now c.args.pattern.now)
+  | in-Err w ↦ subst (IsRefusalOf (search_in c.args.case c.args.name_pattern.now c.args.pattern.now))
+      (sym (w.result-is ∙ w.reason_of.ensures))
+      (search_in_refused c.args.case c.args.name_pattern.now c.args.pattern.now w.in-Err.error.in_name w.in-Err.error.error
+      w.in-Err.ensures.refused)
 ]

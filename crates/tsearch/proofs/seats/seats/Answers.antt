@@ -16,5 +16,6 @@ loop-reading-preserved c =
       λ opening searches all.
           let one : c.in-Some.reading.opening ≡ opening = let h = was.1 opening all 0 c.in-Some.reading in grind rules in
           subst (All (IsSeat opening searches)) (sym c.in_ok-push.ensures.items)
-          (All-push (IsSeat opening searches) c.loop-reading.seats.items seat (was.2 opening searches all) (fresh_seat opening searches seat c.in-Some.reading refl refl c.new.ensures.items one)),
+          (All-push (IsSeat opening searches) c.loop-reading.seats.items seat (was.2 opening searches all)
+          (fresh_seat opening searches seat c.in-Some.reading refl refl c.new.ensures.items one)),
     )

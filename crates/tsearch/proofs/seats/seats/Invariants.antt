@@ -9,5 +9,7 @@ use Rattle.tsearch.proofs.seats.seats.Given as goal
 abbrev pub invariant-loop-reading : goal.invariant-loop-reading
 invariant-loop-reading l =
     (vec_len l.seats + into_iter_len l.reading-iterator ≡ length l.fn.readings.items)
-    × ((opening : Book) → All (λ reading. reading.opening ≡ opening) l.fn.readings.items → All (λ reading. reading.opening ≡ opening) (into_iter_items l.reading-iterator))
-    × ((opening : Book) (searches : List (Option Prepared)) → All (λ reading. reading.opening ≡ opening) l.fn.readings.items → All (IsSeat opening searches) l.seats.items)
+    × ((opening : Book) → All (λ reading. reading.opening ≡ opening) l.fn.readings.items
+    → All (λ reading. reading.opening ≡ opening) (into_iter_items l.reading-iterator))
+    × ((opening : Book) (searches : List (Option Prepared)) → All (λ reading. reading.opening ≡ opening) l.fn.readings.items
+    → All (IsSeat opening searches) l.seats.items)

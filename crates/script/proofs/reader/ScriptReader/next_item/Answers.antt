@@ -12,5 +12,8 @@ returns-then-is_empty-clause-item c =
 pub returns-then-is_empty-clause-ended : goal.returns-then-is_empty-clause-ended
 returns-then-is_empty-clause-ended c =
     let text = c.skip_blank-start.result.text.now in
-    let nothing : length text ≡ 0 = grind (arith, nat_tests, c.is_empty.ensures) in
-    (rw (← c.self.view_is) (blank_without_items _ _ [] refl (c.skip_blank-start.ensures.same [] (nothing_there c.skip_blank-start.result.line text nothing))), empty_by_length text nothing)
+    let nothing : length text ≡ 0 = grind (arith, nat_tests, c.is_empty.ensures) in (
+      rw (← c.self.view_is)
+          (blank_without_items _ _ [] refl (c.skip_blank-start.ensures.same [] (nothing_there c.skip_blank-start.result.line text nothing))),
+      empty_by_length text nothing,
+    )

@@ -16,14 +16,22 @@ returns-in-Ok-None-clause-taken g c =
 
 pub returns-then-not-start-clause-taken : goal.returns-then-not-start-clause-taken
 returns-then-not-start-clause-taken g c =
-    let (bytes, taken, line) = rw c.in-Ok-Some.field-0-is at c.in-Ok-Some.ensures in
-    (bytes, taken, takes_last _ _ _ c.in-Ok-Some.start _ bytes c.self.view_is _ _ c.last_item.result line (if_not _ c.if-not-start.true) (rw c.as_slice.ensures.value at c.last_item.ensures) refl)
+    let (bytes, taken, line) = rw c.in-Ok-Some.field-0-is at c.in-Ok-Some.ensures in (
+      bytes,
+      taken,
+      takes_last _ _ _ c.in-Ok-Some.start _ bytes c.self.view_is _ _ c.last_item.result line (if_not _ c.if-not-start.true)
+          (rw c.as_slice.ensures.value at c.last_item.ensures) refl,
+    )
 
 pub returns-in-Ok-clause-taken : goal.returns-in-Ok-clause-taken
 returns-in-Ok-clause-taken g c =
     let (bytes, taken, line) = rw c.in-Ok-Some.field-0-is at c.in-Ok-Some.ensures in
-    let (more, consumed, step) = rw c.as_slice-2.ensures.value at c.in-Ok.ensures in
-    (bytes ++ more, Consumes-trans _ _ _ bytes more taken consumed, takes_step _ _ _ c.in-Ok-Some.start _ bytes c.self.view_is c.in-Ok.step _ c.go_on.ensures (none_by_test _ _ c.is_none.ensures) more _ _ _ taken line (unless_not _ c.if-not-start.false) step)
+    let (more, consumed, step) = rw c.as_slice-2.ensures.value at c.in-Ok.ensures in (
+      bytes ++ more,
+      Consumes-trans _ _ _ bytes more taken consumed,
+      takes_step _ _ _ c.in-Ok-Some.start _ bytes c.self.view_is c.in-Ok.step _ c.go_on.ensures (none_by_test _ _ c.is_none.ensures) more
+          _ _ _ taken line (unless_not _ c.if-not-start.false) step,
+    )
 
 pub returns-in-Err-take_item-clause-taken : goal.returns-in-Err-take_item-clause-taken
 returns-in-Err-take_item-clause-taken g c =

@@ -20,7 +20,9 @@ loop-entry-preserved g c =
     let front = c.in-Some.ensures.items in
     let opening = ap (λ k. k.opening) was.so_far.told in
     record {
-      so_far = settling_goes_on c.args.searches.now c.args.self.now c.loop-entry.self _ c.settle_next.new.self c.in-Some.entry was.so_far front refl refl refl refl step.ok step.kept.0 step.kept.1 step.kept.2 step.kept.3;
+      so_far =
+          settling_goes_on c.args.searches.now c.args.self.now c.loop-entry.self _ c.settle_next.new.self c.in-Some.entry was.so_far front
+          refl refl refl refl step.ok step.kept.0 step.kept.1 step.kept.2 step.kept.3;
       opening = step.opening ∙ was.opening ∙ ap (λ k. k.opening) (sym step.kept.0);
       seats = subst (λ o. All (IsSeat o c.args.searches.now) c.settle_next.new.seats.items) opening step.seats;
       count = step.count.1 ∙ was.count ∙ ap (λ n. n + 1) (sym step.count.0);
