@@ -2,7 +2,7 @@
 
 /// What `--help` and `-h` show. It ends with a line feed.
 pub const HELP: &str = "\
-Searches named texts, line by line, by extended regular expressions, as a script tells it.
+Searches documents, line by line, by extended regular expressions, as a script tells it.
 
 Usage: tsearch [OPTIONS] [FILE]
 
@@ -22,19 +22,19 @@ Options:
   -h, --help              Print help
 
 A script is a list of lines:
-  put NAME N          takes the next N bytes, and the line feed after them, as the text NAME
-  load NAME PATH      takes the file PATH as the text NAME
-  remove NAME         removes the text NAME
+  put NAME N          takes the next N bytes, and the line feed after them, as the document NAME
+  load NAME PATH      takes the file PATH as the document NAME
+  remove NAME         removes the document NAME
   publish             lets searches see all puts, loads and removes so far
   search ERE          lists the lines with a match of the expression ERE
-  searchin NAMES ERE  does so in the texts whose names match the expression NAMES
+  searchin NAMES ERE  does so in the documents whose names match the expression NAMES
   isearch ERE, isearchin NAMES ERE
                       do the same with the case of letters ignored in ERE
   sync                waits until the searches before it are answered
   # REMARK            does nothing, and neither does an empty line
 
-Names and NAMES have no space. An ERE is everything after its space. A text has at
-most 1048576 bytes, in lines of at most 16384 bytes, and no byte 0.
+Names and NAMES have no space. An ERE is everything after its space. A document
+has at most 1048576 bytes, in lines of at most 16384 bytes, and no byte 0.
 
 Each search prints `search K version V lines L`, and then each line as NAME:LINE:TEXT.
 What is refused is printed too, with its reason, and the script goes on. Only a put
