@@ -1,4 +1,4 @@
-//! `tsearch`: searches named texts by extended regular expressions, as a script says.
+//! `tsearch`: searches documents by extended regular expressions, as a script says.
 //!
 //! The program fetches its arguments, does what they ask for, and ends with the status of that.
 #![tactic(auto)]
