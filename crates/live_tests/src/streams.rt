@@ -1,5 +1,7 @@
 //! Sources, readers and writers over memory.
 
+ghost use Rattle.std.specs.Prelude.{Some};
+
 use std::alloc::Global;
 use std::io::{self, Read, Write};
 use std::sync::atomic::{AtomicUsize, Ordering};
@@ -23,13 +25,14 @@ impl Source for One {
     ghost failed = { λ source. source.failures };
 
     fn read(&mut self, alloc: Global, path: &[u8]) -> Result<Vec<u8>, Fault> {
+        let failures = self.failures;
         if path == b"p".as_slice() {
             return match Vec::from_slice(alloc, b"loaded") {
                 Ok(bytes) => Ok(bytes),
                 Err(_) => Err(Fault::OutOfMemory),
             };
         }
-        self.failures = self.failures.saturating_add(1);
+        self.failures = failures.saturating_add(1);
         Err(Fault::Failed)
     }
 
@@ -48,20 +51,24 @@ pub(crate) struct Turn<'a> {
 /// A client that looks at what it has been shown before it sends more. If that is not what it waits for, it goes away:
 /// its reader fails.
 #[derive(Drop)]
-pub(crate) struct Client<'a> {
-    turns: &'a [Turn<'a>],
+pub(crate) struct Client<'t, 'a, 'f> {
+    turns: &'t [Turn<'a>],
     /// The turn that comes next.
     turn: usize,
     /// What is left of the turn's bytes.
     rest: &'a [u8],
     /// The length of what was flushed.
-    flushed: &'a AtomicUsize,
+    flushed: &'f AtomicUsize,
     /// At most this many bytes are given to a read.
     most: usize,
 }
 
-impl<'a> Client<'a> {
-    pub(crate) fn new(turns: &'a [Turn<'a>], flushed: &'a AtomicUsize, most: usize) -> Client<'a> {
+impl<'t, 'a, 'f> Client<'t, 'a, 'f> {
+    pub(crate) fn new(
+        turns: &'t [Turn<'a>],
+        flushed: &'f AtomicUsize,
+        most: usize,
+    ) -> Client<'t, 'a, 'f> {
         Client {
             turns,
             turn: 0,
@@ -72,7 +79,7 @@ impl<'a> Client<'a> {
     }
 }
 
-impl Read for Client<'_> {
+impl Read for Client<'_, '_, '_> {
     fn read(&mut self, buf: &mut [u8]) -> io::Result<usize> {
         if self.rest.is_empty() {
             let Some(turn) = self.turns.get(self.turn) else {
