@@ -271,7 +271,7 @@ fn many_stars_inside_stars(rt: HostRuntime) -> Result<(), Fail> {
     Ok(())
 }
 
-/// Large counts inside stars that are at the front.
+/// Large counts inside stars. At the front the search goes line by line, and after an anchor by the engine.
 const COUNTS_INSIDE_STARS: &[[&[u8]; 3]] = &[
     [
         b"abcde\ncde\nade\nccdcde\nabce\ne\nxcdey\ncdde",
