@@ -3,7 +3,7 @@
 ghost use Rattle.std.specs.Prelude.{IfOk, IfSome};
 ghost use Rattle.ere.specs.Tree.{form};
 
-use crate::star_height::has_star_height;
+use crate::steps::steps_of;
 use crate::translate::pattern_for;
 use ere::Ere;
 use regex_compile::Error;
@@ -16,9 +16,13 @@ use std::alloc::{AllocError, Global};
 /// the engine's own tables of states give up.
 const MOST_TABLES: usize = 8192;
 
-/// The same for a tree with nested repeats without a greatest count. It is more than the tables of any tree
+/// The same for a tree that the matcher would take too many steps for. It is more than the tables of any tree
 /// within the limits take.
-const MOST_TABLES_OF_NESTED: usize = 1 << 30;
+const MOST_TABLES_WHATEVER: usize = 1 << 30;
+
+/// The most steps of the matcher, each over a whole line, with which a tree is left to it. They are those of a star
+/// that is not at the front, with eight sets in its body, and of the greatest tree around it.
+const MOST_STEPS: u64 = 8 * 16_384 + 4_096;
 
 /// A pattern compiled for the engine.
 pub struct Compiled {
@@ -37,14 +41,14 @@ impl Compiled {
     ghost use Rattle.ere.specs.Tree.{form};
     ghost use Rattle.finder.specs.Patterns.{IsCompiledFrom};
 
-    /// Compiles the pattern of a tree. `None` if its tables would make a search slow. A tree of star height 2
-    /// or more is compiled whatever its size. An `Err` means that memory ran out.
+    /// Compiles the pattern of a tree. `None` if its tables would make a search slow. A tree for which the matcher
+    /// could be slower still is compiled whatever its size. An `Err` means that memory ran out.
     pub fn new(alloc: Global, tree: &Ere) -> Result<Option<Compiled>, AllocError>
         ensures { IfOk result (λ o. IfSome o (IsCompiledFrom (form tree.now))) }
     {
         let pattern = pattern_for(alloc, tree)?;
-        let most = if has_star_height(tree, 2) {
-            MOST_TABLES_OF_NESTED
+        let most = if steps_of(tree, true) > MOST_STEPS {
+            MOST_TABLES_WHATEVER
         } else {
             MOST_TABLES
         };

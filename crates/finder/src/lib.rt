@@ -10,6 +10,7 @@ mod compiled;
 mod finding;
 mod line;
 mod star_height;
+mod steps;
 mod translate;
 
 pub use compiled::Compiled;

@@ -48,8 +48,8 @@ fn some_has_star_height(members: &[Ere], least: u32) -> bool
     false
 }
 
-// Whether the tree is a single set.
-fn is_one_set(tree: &Ere) -> bool
+/// Whether the tree is a single set.
+pub fn is_one_set(tree: &Ere) -> bool
     ensures { result ≡ is_set (form tree.now) }
 {
     match tree {

@@ -19,10 +19,9 @@ pub enum Way<'p> {
     LineByLine,
 }
 
-/// Whether the tree has stars inside stars. The matcher's time for a line can then double with each of them, so
-/// only the engine searches such a tree; its time is linear in the text. For every other tree the matcher's time
-/// is at most about the tree's leaves times the third power of the line's length: it goes through a star at most
-/// once for each position of the line, and likewise through a star of a single set inside it.
+/// Whether the tree has stars inside stars. Such a tree is compiled before the first byte is searched, since the
+/// matcher's time for a line can grow with a further power of the line's length for each star. It goes line by line
+/// only if its tables are large and the matcher takes few steps for it.
 pub fn nests_stars(tree: &Ere) -> bool
     ensures { result ≡ nat_le 2 (star_height (form tree.now)) }
 {
@@ -30,7 +29,7 @@ pub fn nests_stars(tree: &Ere) -> bool
 }
 
 /// The pattern of the tree, compiled. `None` if it would be too large, or if memory ran out: the tree is then
-/// searched for line by line. For a tree with stars inside stars an `Err` means that memory ran out.
+/// searched for line by line. A tree with stars inside stars is not if memory ran out, and an `Err` says so.
 pub fn compile(alloc: Global, tree: &Ere) -> Result<Option<Compiled>, AllocError>
     ensures { IfOk result (λ o. IfSome o (IsCompiledFrom (form tree.now))) }
 {

@@ -8,7 +8,8 @@ use std::alloc::Global;
 use std::process::Abort;
 use std::test::Fail;
 
-/// Appended to a pattern, it leaves the matches as they are and adds stars inside stars, so only the engine searches.
+/// Appended to a pattern, it leaves the matches as they are and adds stars inside stars, so the engine searches from
+/// the first byte on if the pattern is not too large for it.
 const FOR_THE_ENGINE: &[u8] = b"(((zz)*y)*){0}";
 
 /// More bytes of candidates than are looked at line by line.
@@ -249,6 +250,56 @@ const KINDS: &[[&[u8]; 3]] = &[
 #[test]
 fn patterns_of_each_kind(rt: HostRuntime) -> Result<(), Fail> {
     expect_hits(&rt, rt.alloc(), KINDS)
+}
+
+/// Thirty stars, each inside the next one. Line by line, each of them doubles the time, so the test ends only if the
+/// pattern is compiled.
+#[test]
+fn many_stars_inside_stars(rt: HostRuntime) -> Result<(), Fail> {
+    let alloc = rt.alloc();
+    let pieces: [(&[u8], usize); 5] = [
+        (b"^(aa)*", 1),
+        (b"(a", 30),
+        (b"a*", 1),
+        (b")*", 30),
+        (b"b$", 1),
+    ];
+    let pattern = built(alloc, &pieces)?;
+    let body = built(alloc, &[(b"a", 1000), (b"c\n", 1), (b"a", 1000), (b"b", 1)])?;
+    let want = built(alloc, &[(b"f:2:", 1), (b"a", 1000), (b"b\n", 1)])?;
+    assert!(rt; finds(&rt, alloc, &[&body, &pattern, &want])?);
+    Ok(())
+}
+
+/// Large counts inside stars. At the front the search goes line by line, and after an anchor by the engine.
+const COUNTS_INSIDE_STARS: &[[&[u8]; 3]] = &[
+    [
+        b"abcde\ncde\nade\nccdcde\nabce\ne\nxcdey\ncdde",
+        b"((([ab]{0,255}){15}c)+d)+e",
+        b"f:1:abcde\nf:2:cde\nf:4:ccdcde\nf:7:xcdey\n",
+    ],
+    [
+        b"abcde\ncde\nade\nccdcde\nabce\ne\nxcdey\ncdde",
+        b"^((([ab]{0,255}){15}c)*d)*e",
+        b"f:1:abcde\nf:2:cde\nf:4:ccdcde\nf:6:e\nf:8:cdde\n",
+    ],
+];
+
+#[test]
+fn large_counts_inside_stars(rt: HostRuntime) -> Result<(), Fail> {
+    expect_hits(&rt, rt.alloc(), COUNTS_INSIDE_STARS)
+}
+
+/// The same over a megabyte of long lines. By the engine they take over a minute, so the test ends only if the
+/// pattern is found too large and the search goes line by line.
+#[test]
+fn large_counts_inside_stars_over_long_lines(rt: HostRuntime) -> Result<(), Fail> {
+    let alloc = rt.alloc();
+    let line = built(alloc, &[(b"a", 16_000), (b"\n", 1)])?;
+    let body = built(alloc, &[(line.as_slice(), 62), (b"abcde\n", 1)])?;
+    let pattern = b"((([ab]{0,255}){15}c)*d)*e";
+    assert!(rt; finds(&rt, alloc, &[&body, pattern, b"f:63:abcde\n"])?);
+    Ok(())
 }
 
 /// Lines of the letter a and then c: for each number from `first` to 649, one line with this number of a.
