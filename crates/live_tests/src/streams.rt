@@ -43,32 +43,28 @@ impl Source for One {
 
 /// What a client sends at once, and the length of all text that it has been shown before it sends it.
 #[derive(Clone, Copy, Debug)]
-pub(crate) struct Turn<'a> {
+pub(crate) struct Turn {
     pub(crate) shown: usize,
-    pub(crate) sent: &'a [u8],
+    pub(crate) sent: &'static [u8],
 }
 
 /// A client that looks at what it has been shown before it sends more. If that is not what it waits for, it goes away:
 /// its reader fails.
 #[derive(Drop)]
-pub(crate) struct Client<'t, 'a, 'f> {
-    turns: &'t [Turn<'a>],
+pub(crate) struct Client<'a> {
+    turns: &'a [Turn],
     /// The turn that comes next.
     turn: usize,
     /// What is left of the turn's bytes.
-    rest: &'a [u8],
+    rest: &'static [u8],
     /// The length of what was flushed.
-    flushed: &'f AtomicUsize,
+    flushed: &'a AtomicUsize,
     /// At most this many bytes are given to a read.
     most: usize,
 }
 
-impl<'t, 'a, 'f> Client<'t, 'a, 'f> {
-    pub(crate) fn new(
-        turns: &'t [Turn<'a>],
-        flushed: &'f AtomicUsize,
-        most: usize,
-    ) -> Client<'t, 'a, 'f> {
+impl<'a> Client<'a> {
+    pub(crate) fn new(turns: &'a [Turn], flushed: &'a AtomicUsize, most: usize) -> Client<'a> {
         Client {
             turns,
             turn: 0,
@@ -79,7 +75,7 @@ impl<'t, 'a, 'f> Client<'t, 'a, 'f> {
     }
 }
 
-impl Read for Client<'_, '_, '_> {
+impl Read for Client<'_> {
     fn read(&mut self, buf: &mut [u8]) -> io::Result<usize> {
         if self.rest.is_empty() {
             let Some(turn) = self.turns.get(self.turn) else {

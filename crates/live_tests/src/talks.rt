@@ -17,24 +17,37 @@ const OPTIONS: LiveOptions = LiveOptions {
 /// pieces in which its bytes come.
 fn expect<R: AllocGlobal + Wait + Abort>(
     rt: &R,
-    turns: &[Turn<'_>],
+    turns: &[Turn],
+    text: &[u8],
+    status: u8,
+) -> Result<(), Fail> {
+    for most in [1, 2, 3, 1000] {
+        let flushed = AtomicUsize::new(0);
+        expect_in_pieces(rt, &*turns, &flushed, most, text, status)?;
+    }
+    Ok(())
+}
+
+/// The same for pieces of at most this many bytes. Nothing is flushed yet.
+fn expect_in_pieces<'a, R: AllocGlobal + Wait + Abort>(
+    rt: &R,
+    turns: &'a [Turn],
+    flushed: &'a AtomicUsize,
+    most: usize,
     text: &[u8],
     status: u8,
 ) -> Result<(), Fail> {
     let alloc = rt.alloc();
-    for most in [1, 2, 3, 1000] {
-        let flushed = AtomicUsize::new(0);
-        let mut input = BufReader::with_capacity(alloc, 1000, Client::new(turns, &flushed, most))?;
-        let mut out = Shown {
-            bytes: Vec::new(alloc),
-            flushed: &flushed,
-        };
-        match serve(rt, alloc, &mut input, OPTIONS, &mut One::new(), &mut out) {
-            Ok(found) => assert_eq!(rt; found, status, "pieces of {most}"),
-            Err(error) => return Err(Fail::from(error)),
-        }
-        assert_eq!(rt; out.bytes.as_slice(), text, "pieces of {most}");
+    let mut input = BufReader::with_capacity(alloc, 1000, Client::new(turns, flushed, most))?;
+    let mut out = Shown {
+        bytes: Vec::new(alloc),
+        flushed,
+    };
+    match serve(rt, alloc, &mut input, OPTIONS, &mut One::new(), &mut out) {
+        Ok(found) => assert_eq!(rt; found, status, "pieces of {most}"),
+        Err(error) => return Err(Fail::from(error)),
     }
+    assert_eq!(rt; out.bytes.as_slice(), text, "pieces of {most}");
     Ok(())
 }
 
