@@ -3,22 +3,23 @@
 
 Usage: examples/live_folder.py [FOLDER]     TSEARCH is the path of the program, if it is not beside examples/
 
-Before each answer the folder is looked through. A file whose time of change or length is another is sent anew, and
-one that is gone is removed. What is left out is told with the reason. Folders .git and symbolic links are skipped.
+Before each answer it looks through the folder. It sends a file again when its times or its length change, and removes
+one that is gone. It tells what it leaves out, and why. It skips folders .git and symbolic links. An empty line ends it.
 """
 
 import contextlib
 import itertools
 import os
 import queue
+import re
 import stat
 import subprocess
 import sys
 import threading
-import urllib.parse
+from urllib.parse import unquote_to_bytes as unquote
 
 TSEARCH = os.environ.get("TSEARCH", os.path.join(os.path.dirname(os.path.abspath(__file__)), "..", "tsearch"))
-MAX_BODY = 1_048_576
+MAX_BODY, LEFT_OUT = 1_048_576, b"left out: %s: %s\n"
 
 
 class Session:
@@ -42,58 +43,57 @@ class Session:
         return self.lines.get() or sys.exit(f"the session has ended with status {self.process.wait()}")
 
     def search(self, pattern):
-        """The lines of the answer, and the reasons of what was refused since the last one, by the numbers of lines."""
-        self.send(b"search %s\n" % pattern)
-        refused = {}
-        while (line := self.take_line()).startswith(b"line "):
-            _, number, _, reason = line.rstrip().split(b" ", 3)
-            refused[int(number)] = reason
-        words = line.split()
+        """Publishes. The lines of the answer, and what was refused since the last: numbers of lines with reasons."""
+        self.send(b"publish\nsearch %s\n" % pattern)
+        refused = []
+        while (words := (line := self.take_line()).split())[0] == b"line":
+            refused.append((int(words[1]), b" ".join(words[3:])))
         return [line] if words[2] == b"refused:" else [self.take_line() for _ in range(int(words[5]))], refused
 
 
 def files_below(root):
-    """Yields files with their times of change and lengths, by names with no space, no `:` and no control byte."""
-    for folder, folders, files in os.walk(root):
+    """The files with their times and lengths, by names with no `:` and no space, and what is said of folders."""
+    files, errors = {}, []
+    for folder, folders, names in os.walk(root, onerror=errors.append):
         folders[:] = [name for name in folders if name != b".git"]
-        for path in [os.path.join(folder, file) for file in files]:
-            with contextlib.suppress(OSError):
+        for path in [os.path.join(folder, name) for name in names]:
+            name = os.path.relpath(path, root)
+            with contextlib.suppress(FileNotFoundError):
                 if stat.S_ISREG((state := os.lstat(path)).st_mode):
-                    name = urllib.parse.quote_from_bytes(os.path.relpath(path, root))
-                    yield name.encode(), (path, state.st_mtime_ns, state.st_size)
+                    name = re.sub(rb"[\0-\x20%:\x7f]", lambda found: b"%%%02X" % found[0][0], name)
+                    files[name] = (path, state.st_mtime_ns, state.st_ctime_ns, state.st_size)
+    return files, [LEFT_OUT % (os.fsencode(error.filename), error.strerror.encode()) for error in errors]
 
 
 def answer(session, kept, before, now, pattern):
     """Sends what has changed, searches, and yields what is to be shown. `kept` are the names that the session has."""
     puts = {}
-    for name in sorted(name for name in before.keys() | now.keys() if before.get(name) != now.get(name)):
-        if name in kept:  # first, so that the old text is not found where the new one is refused
-            kept.remove(name)
-            session.send(b"remove %s\n" % name)
-        if name not in now:
-            continue
+    changed = {name for name, _ in before.items() ^ now.items()}
+    for name in kept & changed:  # first, so that the old text is not found where the new one is refused
+        kept.remove(name)
+        session.send(b"remove %s\n" % name)
+    for name in sorted(changed & now.keys()):
         try:
             with open(now[name][0], "rb") as file:
                 body = file.read(MAX_BODY + 1)
+            puts[session.send(b"put %s %d\n%s\n" % (name, len(body), body))] = name
         except OSError as error:
-            yield b"left out: %s: %s\n" % (name, os.strerror(error.errno).encode())
-            continue
-        puts[session.send(b"put %s %d\n%s\n" % (name, len(body), body))] = name
-    session.send(b"publish\n")
+            del now[name]  # so it is tried again
+            yield LEFT_OUT % (unquote(name), error.strerror.encode())
     hits, refused = session.search(pattern)
-    for number, reason in refused.items():
+    for number, reason in refused:
         if number not in puts or reason in (b"full", b"out of memory"):
             sys.exit(f"line {number} of the session is refused: {reason.decode()}; start again")
-        yield b"left out: %s: %s\n" % (puts.pop(number), reason.replace(b"byte 0 in body", b"binary"))
+        yield LEFT_OUT % (unquote(puts.pop(number)), reason.replace(b"byte 0 in body", b"binary"))
     kept.update(puts.values())
     for hit in hits:
         name, colon, rest = hit.partition(b":")
-        yield urllib.parse.unquote_to_bytes(name) + colon + rest
+        yield unquote(name) + colon + rest
 
 
 if __name__ == "__main__":
     session, kept, now, prompt = Session(), set(), {}, b"> "
     while os.write(1, prompt) and (typed := sys.stdin.buffer.readline().rstrip(b"\n")):
-        before, now = now, dict(files_below(os.fsencode(sys.argv[1] if len(sys.argv) > 1 else ".")))
-        sys.stdout.buffer.writelines(answer(session, kept, before, now, typed))
+        before, (now, unread) = now, files_below(os.fsencode(sys.argv[1] if len(sys.argv) > 1 else "."))
+        sys.stdout.buffer.writelines([*unread, *answer(session, kept, before, now, typed)])
         sys.stdout.buffer.flush()

@@ -129,12 +129,6 @@ class Session:
         self.send(item)
         self.expect(wanted)
 
-    def search(self, pattern):
-        """Searches as a client does that knows only what the page on scripts says, and gives the whole answer."""
-        self.send(b"search %s\n" % pattern)
-        head = self.read_line()
-        return head + b"".join(self.read_line() for _ in range(int(head.split()[5])))
-
     def end(self, status, messages=b"", close=True):
         """Closes the input, and compares what is left of the output, the messages and the status."""
         if close:
@@ -412,7 +406,7 @@ def client_of_a_folder():
 
             same("what is shown first", read_to_prompt(client), b"")
             left_out = [b"left out: binary: binary\n", b"left out: long: body too long\n", b"left out: wide: line too long\n"]
-            left_out.append(b"left out: %s%s: name too long\n" % (b"n" * 200, b"%20" * 50))
+            left_out.append(b"left out: %s%s: name too long\n" % (b"n" * 200, b" " * 50))
             found = [b"a.txt:1:hello world\n", b"sub/b c:d%.txt:1:say hello\n", b"feed\n", b".txt:2:hello\n"]
             ask(b"hello", left_out + found)
             ask(b"^b", [b"a.txt:2:bye\n"])
@@ -426,6 +420,20 @@ def client_of_a_folder():
             ask(b"hello", [b"left out: a.txt: binary\n", b"binary:1:hello, text\n", b"sub/b c:d%.txt:1:say hello\n"])
             write("a.txt", b"well\n")
             ask(b"^[a-z]*$", [b"a.txt:1:well\n"])
+            # the same length and time of change
+            moment = os.stat(top / "a.txt").st_mtime_ns
+            (top / "a.txt").write_bytes(b"fell\n")
+            os.utime(top / "a.txt", ns=(moment, moment))
+            ask(b"^[a-z]*$", [b"a.txt:1:fell\n"])
+            name = "\u6f22" * 80
+            write(name, b"tell\n")
+            ask(b"^[a-z]*$", [b"a.txt:1:fell\n", b"%s:1:tell\n" % name.encode()])
+            client.end(0)
+        missing = str(top / "missing")
+        with Session(missing, program=[sys.executable, str(CLIENT)]) as client:
+            same("what is shown first", read_to_prompt(client), b"")
+            client.send(b"x\n")
+            same("the answer", read_to_prompt(client), b"left out: %s: No such file or directory\n" % missing.encode())
             client.end(0)
 
 
@@ -459,7 +467,7 @@ def main():
             continue
         try:
             test()
-        except (Wrong, OSError, IndexError, ValueError) as wrong:
+        except (Wrong, OSError, IndexError, ValueError, subprocess.TimeoutExpired) as wrong:
             failed += 1
             print(f"FAILED {test.__name__}: {wrong!r}")
         else:

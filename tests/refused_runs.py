@@ -1,10 +1,10 @@
 #!/usr/bin/env python3
 """Refuses each request for memory of runs of the built program in turn, and judges what they write.
 
-The script has a replacement, a pending put and syncs; it is run with no readers and with two. With the Nth request refused, a run
-says that memory ran out or that a reader has no place, or it writes a text that is legal (transcripts.py) if any item may be
-refused for memory. The library of refused_memory.py counts the requests. With readers, the requests of two threads come in a
-different order each time, so these runs are repeated.
+The script has a replacement, a pending put and syncs; it is run with no readers, with two, and as a session. With the Nth request
+refused, a run says that memory ran out or that a reader has no place, or it writes a text that is legal (transcripts.py) if any
+item may be refused for memory. The library of refused_memory.py counts the requests. With readers, the requests of two threads
+come in a different order each time, so these runs are repeated.
 
 Then a body is searched that is so large that the pattern is compiled, which takes some hundreds of requests in a row. If one of
 them is refused, the body is searched line by line and the answer stays the same; with stars inside stars the search is refused.
@@ -26,7 +26,9 @@ from refused_memory import COUNTING
 
 WANTED = OLD + OLD_AGAIN + NO_OLD + NEW
 WORDS = [b"tsearch: out of memory\n", b"tsearch: no place for a reader\n"]
-TIMES = {0: 1, 2: 5}
+NO_READERS, TWO_READERS, SESSION = ["--readers", "0"], ["--readers", "2"], ["--live"]
+# How often each request is refused.
+TIMES = [(NO_READERS, 1), (TWO_READERS, 5), (SESSION, 1)]
 
 # A body that is too large to be matched line by line, and searches of it, with the outcome if there is no memory to compile
 # them.
@@ -46,15 +48,15 @@ def build(folder):
     return library
 
 
-def run(library, script, readers, refused):
+def run(library, script, words, refused):
     """The status, the output and the messages of the run whose request with this number is refused, and how many there were."""
     env = dict(os.environ, LD_PRELOAD=library, REFUSED=str(refused))
-    done = subprocess.run([PROGRAM, "--readers", str(readers)], input=script, env=env, capture_output=True, check=False, timeout=60)
+    done = subprocess.run([PROGRAM, *words], input=script, env=env, capture_output=True, check=False, timeout=60)
     messages, count = re.fullmatch(rb"(.*)requests (\d+)\n", done.stderr, re.DOTALL).groups()
     return done.returncode, done.stdout, messages, int(count)
 
 
-def outcome(readers, status, text, messages):
+def outcome(words, status, text, messages):
     """What became of a run of the script with a replacement, and why that is not allowed, or None."""
     if messages in WORDS:
         good = status == 2 and WANTED.startswith(text)
@@ -65,18 +67,18 @@ def outcome(readers, status, text, messages):
         return "the same", None
     if text.count(b"out of memory") != 1:
         return "several items refused", repr(text)
-    return "an item refused", transcripts.fault_of(REPLACEMENT, text, status, readers=readers, scarce=True)
+    return "an item refused", transcripts.fault_of(REPLACEMENT, text, status, readers=2 if words == TWO_READERS else 0, scarce=True)
 
 
-def each_request(library, readers):
+def each_request(library, words):
     """Refuses each request in turn until a run makes fewer. The outcomes, with what is wrong with them."""
     refused, seen = 0, []
     while True:
-        status, text, messages, count = run(library, REPLACEMENT, readers, refused)
-        what, fault = outcome(readers, status, text, messages)
+        status, text, messages, count = run(library, REPLACEMENT, words, refused)
+        what, fault = outcome(words, status, text, messages)
         if not 0 < refused <= count and what != "the same":
             fault = "nothing is refused"
-        seen.append((what, "request %d with %d readers: %s" % (refused, readers, fault) if fault else None))
+        seen.append((what, "request %d with %s: %s" % (refused, " ".join(words), fault) if fault else None))
         if refused > count:
             return seen
         refused += 1
@@ -91,7 +93,7 @@ def each_request_of_a_search(library, search):
     script = b"put b %d\n%s\npublish\n%s\n" % (len(LARGE), LARGE, search)
     seen, count = [], 0
     while len(seen) <= count:
-        status, text, messages, count = run(library, script, 0, len(seen) + 1)
+        status, text, messages, count = run(library, script, NO_READERS, len(seen) + 1)
         if (status, text, messages) == (0, wanted, b""):
             seen.append("the same")
         elif (status, text, messages) == (2, b"search 1 refused: out of memory\n", b""):
@@ -107,10 +109,10 @@ def main():
     passed = failed = 0
     with tempfile.TemporaryDirectory() as folder:
         library = build(folder)
-        for readers, times in TIMES.items():
-            seen = [it for _ in range(times) for it in each_request(library, readers)]
+        for words, times in TIMES:
+            seen = [it for _ in range(times) for it in each_request(library, words)]
             outcomes = collections.Counter(what for what, _ in seen)
-            print("%d readers: %s" % (readers, ", ".join("%s %d" % pair for pair in sorted(outcomes.items()))))
+            print("%s: %s" % (" ".join(words), ", ".join("%s %d" % pair for pair in sorted(outcomes.items()))))
             wrong = [fault for _, fault in seen if fault]
             for fault in wrong:
                 print("FAILED %s" % fault)

@@ -16,7 +16,7 @@ use std::alloc::Global;
 use std::io::BufRead;
 use std::marker::Model;
 
-/// A text of more bytes than this is let go before the next line is read.
+/// A text of more bytes than this is let go before the next item is read.
 const KEPT_TEXT: usize = 65_536;
 
 /// Where the reading of an input stands.
