@@ -1,7 +1,8 @@
 //! Lines, read to their ends.
 
-ghost use Rattle.std.specs.Prelude.{◌≡◌, ℕ, ◌+◌, ◌^◌, ◌<◌, ◌≤◌, ◌++◌, List, [], length, IfOk};
+ghost use Rattle.std.specs.Prelude.{◌≡◌, ◌≢◌, ℕ, ◌+◌, ◌^◌, ◌<◌, ◌≤◌, ◌++◌, List, [], length, IfOk, IfErr, OnOk};
 ghost use Rattle.std.specs.Io.KnownBytes.{Consumes};
+ghost use Rattle.std.specs.IoError.{error_kind};
 ghost use Rattle.script.specs.Items.{is_blank};
 ghost use Rattle.stream.specs.Private.Lines.{IsPart, Grows, IsLineTaken, IsNextLine};
 
@@ -55,7 +56,10 @@ fn part_of(shown: &[u8]) -> Part<'_>
 }
 
 /// A read that was interrupted is to be tried again. At any other error nothing more can be read.
-pub fn interrupted(error: &Error) -> Result<(), StreamError> {
+pub fn interrupted(error: &Error) -> Result<(), StreamError>
+    ensures again { OnOk result (error_kind error.now ≡ ErrorKind.Interrupted) }
+    ensures no_more { IfErr result (λ fault. (fault ≡ StreamError.CannotRead) × (error_kind error.now ≢ ErrorKind.Interrupted)) }
+{
     if error.kind() == ErrorKind::Interrupted {
         Ok(())
     } else {
