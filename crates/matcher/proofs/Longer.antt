@@ -1,11 +1,11 @@
 -- Words that do not depend on where the line ends.
-use Rattle.std.proofs.Common.{◌≡◌, ℕ, zero, suc, ◌≤◌, ◌<◌, Bool, IsTrue, List, [], ◌∷◌, length, get_or, take, map, Option, inl, inr, refl, sym, subst, ◌∙◌}
+use Rattle.std.proofs.Common.{ℕ, zero, suc, ◌<◌, Bool, IsTrue, List, [], ◌∷◌, length, take, map, Option, inl, inr, subst}
 use Rattle.std.proofs.Common.{arith}
 use Rattle.std.specs.Prelude.{All}
 use Rattle.std.proofs.lemmas.List.{get_or-take}
 use Rattle.ere.specs.ByteSet.{has}
 use Rattle.ere.specs.declared.tree.Ere.{Ere}
-use Rattle.ere.specs.Tree.{form, trees_of, Tree, empty, set, at_start, cat, alt, repeat, Trees, none, more}
+use Rattle.ere.specs.Tree.{form, trees_of, Tree, empty, set, at_start, cat, alt, repeat}
 use Rattle.matcher.specs.Spans.{Relation, Steps, Spans, SpansEach, SpansSome}
 use Rattle.matcher.specs.Private.Longer.{HoldsInLonger}
 

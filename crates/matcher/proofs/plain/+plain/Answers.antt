@@ -1,4 +1,4 @@
-use Rattle.std.proofs.Common.{◌≡◌, ap, sym, subst, ◌∙◌}
+use Rattle.std.proofs.Common.{ap, sym, subst, ◌∙◌}
 use Rattle.ere.specs.Tree.{form}
 use Rattle.ere.proofs.Forms.{form-Empty, form-Set, form-Start, form-Cat, form-Alt, form-Repeat}
 use Rattle.matcher.specs.Private.Longer.{HoldsInLonger}

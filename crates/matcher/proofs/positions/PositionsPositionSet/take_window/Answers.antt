@@ -1,4 +1,4 @@
-use Rattle.std.proofs.Common.{◌<◌, length, arith}
+use Rattle.std.proofs.Common.{◌<◌, arith}
 use Rattle.matcher.proofs.Joining.{taken_window}
 use Rattle.matcher.proofs.positions.PositionsPositionSet.take_window.Goals as goal
 
