@@ -486,3 +486,26 @@ added_grows old_found old_fresh found fresh whole either new false h =
 
     inside : h.0 < 64 * length old_found
     inside = rw whole at (held_inside found h.0 there)
+
+-- one word taken out of a set, into an empty one
+pub taken_window : (words here : List ℕ) (i : ℕ) → ((j : ℕ) → get_or here j 0 ≡ 0) → i < length words → i < length here
+    → IsEither (set here i (get_or words i 0)) (set words i 0) words
+taken_window words here i none inside room = record { each = λ k. go k (k / 64 == i) refl }
+  where
+    go : (k : ℕ) (t : Bool) → (k / 64 == i) ≡ t
+        → has_position words k ≡ (has_position (set here i (get_or words i 0)) k || has_position (set words i 0) k)
+    go k true e =
+        let same : k / 64 ≡ i = grind (arith, nat_tests) in
+        let gone : has_position (set words i 0) k ≡ false = empty_word (set words i 0) k (rw same (get_or-set_same words i 0 0 inside)) in
+        let held : has_position (set here i (get_or words i 0)) k ≡ has_position words k =
+        same_word (set here i (get_or words i 0)) words k (rw same (get_or-set_same here i (get_or words i 0) 0 room)) in
+        rw (held, gone) (or_false (has_position words k))
+    go k false e =
+        let apart : k / 64 ≢ i = grind (arith, nat_tests) in
+        let left : has_position (set words i 0) k ≡ has_position words k = position_set_other words i 0 k apart in
+        let gone : has_position (set here i (get_or words i 0)) k ≡ false =
+        empty_word (set here i (get_or words i 0)) k (get_or-set_other here i (k / 64) (get_or words i 0) 0 apart ∙ none (k / 64)) in
+        rw (left, gone) refl
+
+pub taken_nothing : (words here : List ℕ) → HasNone here → IsEither here words words
+taken_nothing words here none = record { each = λ k. rw (none.none k) refl }

@@ -7,3 +7,4 @@ pub mod OneWords
 pub mod Meaning
 pub mod Walks
 pub mod Rounds
+pub mod Longer

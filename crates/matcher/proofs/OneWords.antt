@@ -36,6 +36,9 @@ one_each word held inside outside k = go (nat_lt k 64) refl
 pub one_none : HasNone (0 ∷ [])
 one_none = record { none = one_each 0 (λ _. false) (λ k l. has_zero k) (λ k l. refl) }
 
+pub one_taken : (word : ℕ) → IsEither (word ∷ []) (0 ∷ []) (word ∷ [])
+one_taken word = record { each = λ k. rw (one_none.none k) (sym (or_none (has_position (word ∷ []) k))) }
+
 pub one_empty : (word : ℕ) → word < 2 ^ 64 → MatchBool (word == 0) (HasNone (word ∷ [])) ((k : ℕ) × IsTrue (has_position (word ∷ []) k))
 one_empty word small = go (word == 0) refl
   where

@@ -6,17 +6,10 @@ use Rattle.ere.specs.Tree.{form, trees_of, Tree, empty, cat, alt, repeat, Trees,
 use Rattle.matcher.specs.Spans.{Relation, Steps, Spans, SpansEach, SpansSome}
 use Rattle.matcher.specs.PositionSets.{has_position}
 use Rattle.matcher.specs.Private.Moves.{HasNone, IsEither, IsNew, Moves, MovesIf, MovesPast}
+use Rattle.matcher.specs.Private.Rounds.{AnySteps, MoreSteps, Covered, IsRounded, GoesOn, IsWidened}
 use Rattle.matcher.proofs.Bits.{false≢true}
-use Rattle.matcher.proofs.Walks.{AnySteps, not_held, in_left, in_right, in_either, decide, moves_none, moves_then, moves_each_more}
+use Rattle.matcher.proofs.Walks.{not_held, in_left, in_right, in_either, decide, moves_none, moves_then, moves_each_more}
 use Rattle.matcher.proofs.Walks.{trees_from, steps_split, steps_join}
-
--- by one step or more
-abbrev pub MoreSteps : Relation → Relation
-MoreSteps relation from to = (more : ℕ) × Steps relation (suc more) from to
-
--- to which positions that are done lead
-abbrev Covered : Relation → List ℕ → ℕ → Type 0
-Covered relation done to = (before : ℕ) × IsTrue (has_position done before) × relation before to
 
 pub past_of_moves : (relation : Relation) (done from to : List ℕ) → Moves relation from to → MovesPast relation done from to
 past_of_moves relation done from to h = record { sound = h.sound; complete = λ i k held r. inl (h.complete i k held r) }
@@ -239,33 +232,32 @@ past_by_member line members i member done from one rest both inside e first othe
     subst (λ trees. MovesPast (SpansSome line trees) done from both) (sym (trees_from members i member inside e))
     (past_some_more line (form member) (trees_of (map form (drop (i + 1) members))) done from one rest both first others either)
 
--- What rounds have found. Whatever a known position leads to is found or covered, unless the position is fresh; whatever a position
--- that is over leads to is found or covered.
-pub record IsRounded (relation : Relation) (done start found over known fresh : List ℕ) : Type 0 where
-  pub sound : (k : ℕ) → IsTrue (has_position found k) → (i : ℕ) × IsTrue (has_position start i) × MoreSteps relation i k
-  pub begun : (k : ℕ) → IsTrue (has_position fresh k) → IsTrue (has_position start k) ⊎ IsTrue (has_position found k)
-  pub knows_start : (k : ℕ) → IsTrue (has_position start k) → IsTrue (has_position known k)
-  pub knows_found : (k : ℕ) → IsTrue (has_position found k) → IsTrue (has_position known k)
-  pub closed : (k to : ℕ) → IsTrue (has_position known k) → relation k to
-      → IsTrue (has_position fresh k) ⊎ (IsTrue (has_position found to) ⊎ Covered (MoreSteps relation) done to)
-  pub over_closed : (k to : ℕ) → IsTrue (has_position over k) → relation k to → IsTrue (has_position found to) ⊎ Covered (MoreSteps relation) done to
+and_left : (a b : Bool) → IsTrue (a && b) → IsTrue a
+and_left true b e = refl
+and_left false b e = e
+
+-- what is new is of the next ones
+was_next : {next found new : List ℕ} → IsNew next found new → (k : ℕ) → IsTrue (has_position new k) → IsTrue (has_position next k)
+was_next {next} {found} new k held = and_left (has_position next k) (not (has_position found k)) (sym (new.each k) ∙ held)
+
+-- by steps of a relation that another contains
+steps_longer : (inner relation : Relation) → ((i k : ℕ) → inner i k → relation i k) → (count i k : ℕ) → Steps inner count i k → Steps relation count i k
+unfolding Steps
+steps_longer inner relation longer zero i k h = h
+steps_longer inner relation longer (suc count) i k h = (h.0, steps_longer inner relation longer count i h.0 h.1, longer h.0 k h.2)
 
 pub rounded_first : (relation : Relation) (done start found known fresh : List ℕ) → HasNone found → IsEither done start known
     → IsNew start done fresh → IsRounded relation done start found done known fresh
 unfolding Steps
 rounded_first relation done start found known fresh none_found either new = record {
   sound = λ k held. absurd (not_held none_found k held);
-  begun = λ k held. inl (and_left (has_position start k) (not (has_position done k)) (sym (new.each k) ∙ held));
+  begun = λ k held. (k, was_next new k held, (0, refl));
   knows_start = λ k held. in_right either k held;
   knows_found = λ k held. absurd (not_held none_found k held);
   closed = λ k to held r. closed k to (decide (has_position done k)) (in_either either k held) r;
   over_closed = λ k to held r. inr (one k to held r);
 }
   where
-    and_left : (a b : Bool) → IsTrue (a && b) → IsTrue a
-    and_left true b e = refl
-    and_left false b e = e
-
     one : (k to : ℕ) → IsTrue (has_position done k) → relation k to → Covered (MoreSteps relation) done to
     one k to held r = (k, held, (0, (k, refl, r)))
 
@@ -283,31 +275,19 @@ pub rounded_more : (relation : Relation) (done start found over known fresh next
 unfolding Steps
 rounded_more relation done start found over known fresh next found_next unfound known_next fresh_next h moves either new either_known new_known = record {
   sound = λ k held. sound k (in_either either k held);
-  begun = λ k held. inr (in_right either k (was_next k (was_unfound k held)));
+  begun = λ k held. let w = by_move k (was_next new k (was_next new_known k held)) in (w.0, w.1, (suc w.2.0, w.2.1));
   knows_start = λ k held. in_left either_known k (h.knows_start k held);
   knows_found = λ k held. knows_found k (decide (has_position found k)) (in_either either k held);
   closed = λ k to held r. closed k to (decide (has_position known k)) (in_either either_known k held) r;
   over_closed = known_closed;
 }
   where
-    and_left : (a b : Bool) → IsTrue (a && b) → IsTrue a
-    and_left true b e = refl
-    and_left false b e = e
-
-    was_next : (k : ℕ) → IsTrue (has_position unfound k) → IsTrue (has_position next k)
-    was_next k held = and_left (has_position next k) (not (has_position found k)) (sym (new.each k) ∙ held)
-
-    was_unfound : (k : ℕ) → IsTrue (has_position fresh_next k) → IsTrue (has_position unfound k)
-    was_unfound k held = and_left (has_position unfound k) (not (has_position known k)) (sym (new_known.each k) ∙ held)
-
-    by_step : (m k : ℕ) → relation m k → IsTrue (has_position start m) ⊎ IsTrue (has_position found m)
-        → (i : ℕ) × IsTrue (has_position start i) × MoreSteps relation i k
-    by_step m k r (inl x) = (m, x, (0, (m, refl, r)))
-    by_step m k r (inr x) = let w = h.sound m x in (w.0, w.1, (suc w.2.0, (m, w.2.1, r)))
+    by_move : (k : ℕ) → IsTrue (has_position next k) → (i : ℕ) × IsTrue (has_position start i) × MoreSteps relation i k
+    by_move k held = let m = moves.sound k held in let w = h.begun m.0 m.1 in (w.0, w.1, (w.2.0, (m.0, w.2.1, m.2)))
 
     sound : (k : ℕ) → IsTrue (has_position found k) ⊎ IsTrue (has_position next k) → (i : ℕ) × IsTrue (has_position start i) × MoreSteps relation i k
     sound k (inl held) = h.sound k held
-    sound k (inr held) = let m = moves.sound k held in by_step m.0 k m.2 (h.begun m.0 m.1)
+    sound k (inr held) = by_move k held
 
     knows_found : (k : ℕ) → IsTrue (has_position found k) ⊎ (has_position found k ≡ false)
         → IsTrue (has_position found k) ⊎ IsTrue (has_position next k) → IsTrue (has_position known_next k)
@@ -366,6 +346,143 @@ rounded_all relation done start found over known fresh h none_fresh = record {
         let first : relation i k = subst (λ n. relation n k) (sym r.1) r.2 in
         not_fresh i k (h.closed i k (h.knows_start i held) first)
     reached (suc count) i k held r = further r.0 k r.2 (reached count i r.0 held r.1)
+
+-- with the fresh positions of one round
+pub rounded_on : (relation : Relation) (done start found known fresh fresh_next found_next known_next : List ℕ)
+    → GoesOn relation fresh found known fresh_next found_next known_next → IsRounded relation done start found done known fresh
+    → IsRounded relation done start found_next done known_next fresh_next
+unfolding Steps
+rounded_on relation done start found known fresh fresh_next found_next known_next on h =
+    over_done
+    (rounded_more relation done start found done known fresh on.next found_next on.unfound known_next fresh_next h
+    (past_of_moves relation done fresh on.next on.moves) on.finds on.new on.knows on.new_known)
+  where
+    over_done : IsRounded relation done start found_next known known_next fresh_next → IsRounded relation done start found_next done known_next fresh_next
+    over_done r = record {
+      sound = r.sound;
+      begun = r.begun;
+      knows_start = r.knows_start;
+      knows_found = r.knows_found;
+      closed = r.closed;
+      over_closed = λ k to held step. inr (k, held, (0, (k, refl, step)));
+    }
+
+-- from a part of what is fresh, widened by steps of a relation that this one contains
+module _ (inner relation : Relation) (longer : (i k : ℕ) → inner i k → relation i k)
+    (done start found known fresh here here_wide here_next rest known_wide known_next found_next fresh_next : List ℕ)
+    (split : IsEither here rest fresh) (widened : IsWidened inner here known here_wide known_wide)
+    (on : GoesOn relation here_wide found known_wide here_next found_next known_next) (joined : IsEither rest here_next fresh_next)
+    (h : IsRounded relation done start found done known fresh) where
+  part_begun : (k : ℕ) → IsTrue (has_position here_wide k) → (i : ℕ) × IsTrue (has_position start i) × AnySteps relation i k
+  part_begun k held =
+      let a = widened.sound k held in
+      let b = h.begun a.0 (in_left split a.0 a.1) in
+      (b.0, b.1, (b.2.0 + a.2.0, steps_join relation b.2.0 a.2.0 b.0 a.0 k b.2.1 (steps_longer inner relation longer a.2.0 a.0 k a.2.1)))
+
+  part_moved : (k : ℕ) → IsTrue (has_position on.next k) → (i : ℕ) × IsTrue (has_position start i) × MoreSteps relation i k
+  unfolding Steps
+  part_moved k held =
+      let m = on.moves.sound k held in
+      let b = part_begun m.0 m.1 in
+      (b.0, b.1, (b.2.0, (m.0, b.2.1, m.2)))
+
+  part_sound : (k : ℕ) → IsTrue (has_position found k) ⊎ IsTrue (has_position on.next k) → (i : ℕ) × IsTrue (has_position start i) × MoreSteps relation i k
+  part_sound k (inl held) = h.sound k held
+  part_sound k (inr held) = part_moved k held
+
+  part_fresh : (k : ℕ) → IsTrue (has_position rest k) ⊎ IsTrue (has_position here_next k) → (i : ℕ) × IsTrue (has_position start i) × AnySteps relation i k
+  part_fresh k (inl held) = h.begun k (in_right split k held)
+  part_fresh k (inr held) = let w = part_moved k (was_next on.new k (was_next on.new_known k held)) in (w.0, w.1, (suc w.2.0, w.2.1))
+
+  part_found : (k : ℕ) → IsTrue (has_position found k) ⊎ (has_position found k ≡ false)
+      → IsTrue (has_position found k) ⊎ IsTrue (has_position on.next k) → IsTrue (has_position known_next k)
+  part_found k (inl held) x = in_left on.knows k (widened.knew k (h.knows_found k held))
+  part_found k (inr absent) (inl held) = absurd (false≢true (sym absent ∙ held))
+  part_found k (inr absent) (inr held) = in_right on.knows k (on.new.each k ∙ rw (held, absent) refl)
+
+  -- whether a position is still fresh, or where it leads is found or covered
+  abbrev Closes : ℕ → ℕ → Type 0
+  Closes k to = IsTrue (has_position fresh_next k) ⊎ (IsTrue (has_position found_next to) ⊎ Covered (MoreSteps relation) done to)
+
+  part_here : (k to : ℕ) → IsTrue (has_position here_wide k) → relation k to → Closes k to
+  part_here k to held r = inr (inl (in_right on.finds to (on.moves.complete k to held r)))
+
+  part_split : (k to : ℕ) → IsTrue (has_position here k) ⊎ IsTrue (has_position rest k) → relation k to → Closes k to
+  part_split k to (inl held) r = part_here k to (widened.keeps k held) r
+  part_split k to (inr held) r = inl (in_left joined k held)
+
+  part_old : (k to : ℕ) → IsTrue (has_position fresh k) ⊎ (IsTrue (has_position found to) ⊎ Covered (MoreSteps relation) done to)
+      → relation k to → Closes k to
+  part_old k to (inl held) r = part_split k to (in_either split k held) r
+  part_old k to (inr (inl held)) r = inr (inl (in_left on.finds to held))
+  part_old k to (inr (inr covered)) r = inr (inr covered)
+
+  part_wide : (k to : ℕ) → IsTrue (has_position known k) ⊎ IsTrue (has_position here_wide k) → relation k to → Closes k to
+  part_wide k to (inl held) r = part_old k to (h.closed k to held r) r
+  part_wide k to (inr held) r = part_here k to held r
+
+  part_closed : (k to : ℕ) → IsTrue (has_position known_wide k) ⊎ (has_position known_wide k ≡ false)
+      → IsTrue (has_position known_wide k) ⊎ IsTrue (has_position on.unfound k) → relation k to → Closes k to
+  part_closed k to (inl held) x r = part_wide k to (widened.knows k held) r
+  part_closed k to (inr absent) (inl held) r = absurd (false≢true (sym absent ∙ held))
+  part_closed k to (inr absent) (inr held) r = inl (in_right joined k (on.new_known.each k ∙ rw (held, absent) refl))
+
+  pub rounded_part : IsRounded relation done start found_next done known_next fresh_next
+  unfolding Steps
+  rounded_part = record {
+    sound = λ k held. part_sound k (in_either on.finds k held);
+    begun = λ k held. part_fresh k (in_either joined k held);
+    knows_start = λ k held. in_left on.knows k (widened.knew k (h.knows_start k held));
+    knows_found = λ k held. part_found k (decide (has_position found k)) (in_either on.finds k held);
+    closed = λ k to held r. part_closed k to (decide (has_position known_wide k)) (in_either on.knows k held) r;
+    over_closed = λ k to held r. inr (k, held, (0, (k, refl, r)));
+  }
+
+-- rounds in a window, which go on from new positions
+pub record IsWidening (relation : Relation) (here known here_next known_next next : List ℕ) : Type 0 where
+  pub widened : IsWidened relation here known here_next known_next
+  pub sound : (k : ℕ) → IsTrue (has_position next k) → (i : ℕ) × IsTrue (has_position here i) × AnySteps relation i k
+
+pub widened_first : (relation : Relation) (here known : List ℕ) → IsWidening relation here known here known here
+unfolding Steps
+widened_first relation here known = record {
+  widened = record { keeps = λ k held. held; sound = λ k held. (k, held, (0, refl)); knew = λ k held. held; knows = λ k held. inl held };
+  sound = λ k held. (k, held, (0, refl));
+}
+
+pub widened_more : (relation : Relation) (here_first known_first here known next moved known_next new here_next next_next : List ℕ)
+    → IsWidening relation here_first known_first here known next → Moves relation next moved → IsEither known moved known_next
+    → IsNew moved known new → IsEither here new here_next → IsNew new here next_next
+    → IsWidening relation here_first known_first here_next known_next next_next
+unfolding Steps
+widened_more relation here_first known_first here known next moved known_next new here_next next_next h moves knows is_new heres is_next = record {
+  widened =
+      record {
+        keeps = λ k held. in_left heres k (h.widened.keeps k held);
+        sound = λ k held. in_here k (in_either heres k held);
+        knew = λ k held. in_left knows k (h.widened.knew k held);
+        knows = λ k held. in_known k (decide (has_position known k)) (in_either knows k held);
+      };
+  sound = λ k held. by_move k (was_next is_new k (was_next is_next k held));
+}
+  where
+    by_move : (k : ℕ) → IsTrue (has_position moved k) → (i : ℕ) × IsTrue (has_position here_first i) × AnySteps relation i k
+    by_move k held = let m = moves.sound k held in let w = h.sound m.0 m.1 in (w.0, w.1, (suc w.2.0, (m.0, w.2.1, m.2)))
+
+    in_here : (k : ℕ) → IsTrue (has_position here k) ⊎ IsTrue (has_position new k) → (i : ℕ) × IsTrue (has_position here_first i) × AnySteps relation i k
+    in_here k (inl held) = h.widened.sound k held
+    in_here k (inr held) = by_move k (was_next is_new k held)
+
+    old : (k : ℕ) → IsTrue (has_position known_first k) ⊎ IsTrue (has_position here k) → IsTrue (has_position known_first k) ⊎ IsTrue (has_position here_next k)
+    old k (inl held) = inl held
+    old k (inr held) = inr (in_left heres k held)
+
+    in_known : (k : ℕ) → IsTrue (has_position known k) ⊎ (has_position known k ≡ false)
+        → IsTrue (has_position known k) ⊎ IsTrue (has_position moved k)
+        → IsTrue (has_position known_first k) ⊎ IsTrue (has_position here_next k)
+    in_known k (inl held) x = old k (h.widened.knows k held)
+    in_known k (inr absent) (inl held) = absurd (false≢true (sym absent ∙ held))
+    in_known k (inr absent) (inr held) = inr (in_right heres k (is_new.each k ∙ rw (held, absent) refl))
 
 -- a word of no bytes
 pub empty_empty : (line : List ℕ) (place : ℕ) → Spans line empty place place

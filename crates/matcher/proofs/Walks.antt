@@ -10,6 +10,7 @@ use Rattle.matcher.specs.Spans.{Relation, Steps, Spans, SpansEach, SpansSome}
 use Rattle.matcher.specs.PositionSets.{has_position}
 use Rattle.matcher.specs.Private.Moves.{HasNone, IsEither, IsNew, Moves}
 use Rattle.ere.specs.Language.{ContainsMatch}
+use Rattle.matcher.specs.Private.Rounds.{AnySteps}
 use Rattle.matcher.proofs.Bits.{false≢true}
 use Rattle.matcher.proofs.Meaning.{hit_of_spans, spans_of_hit}
 
@@ -253,10 +254,6 @@ widened_all relation allowed start found fresh h none_fresh (suc count) i k held
     next (inl x) = absurd (not_held none_fresh r.0 x)
     next (inr x) = x
 
--- by any number of steps
-abbrev pub AnySteps : Relation → Relation
-AnySteps relation from to = (words : ℕ) × Steps relation words from to
-
 pub moves_any : (relation : Relation) (start found fresh : List ℕ) → IsWidened relation (λ _. Unit {0}) start found fresh → HasNone fresh
     → Moves (AnySteps relation) start found
 moves_any relation start found fresh h none_fresh = record {
@@ -486,3 +483,14 @@ module _ (tree : Tree) (line : List ℕ) (all left : List ℕ) (every : (k : ℕ
   pub is_hit : (empty : Bool) → MatchBool empty (HasNone left) ((k : ℕ) × IsTrue (has_position left k)) → IsTrue (not empty) ↔ ContainsMatch tree line
   is_hit true is_none = (λ h. absurd (false≢true h), λ hit. let w = position_of_hit hit in absurd (not_held is_none w.0 w.1))
   is_hit false some = (λ _. hit_of_position some.0 some.1, λ _. refl)
+
+-- counts after a step that changes nothing
+pub moves_still : (relation : Relation) (taken count : ℕ) (from at : List ℕ) → taken ≤ count → Moves (Steps relation taken) from at → Moves relation at at
+    → Moves (Steps relation count) from at
+moves_still relation taken count from at low moves same =
+    let all : taken + (count - taken) ≡ count = omega arith in
+    subst (λ n. Moves (Steps relation n) from at) all (go (count - taken))
+  where
+    go : (rest : ℕ) → Moves (Steps relation (taken + rest)) from at
+    go zero = let none : taken ≡ taken + zero = omega arith in subst (λ n. Moves (Steps relation n) from at) none moves
+    go (suc rest) = moves_more_steps relation (taken + rest) (taken + suc rest) from at at (omega arith) (go rest) same

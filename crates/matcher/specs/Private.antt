@@ -1,3 +1,5 @@
 pub mod Moves
 pub mod Bounds
 pub mod Moving
+pub mod Longer
+pub mod Rounds

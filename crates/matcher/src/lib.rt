@@ -5,6 +5,7 @@
 #![tactic(auto)]
 
 mod one_word;
+mod plain;
 mod position_set;
 mod positions;
 mod walk;

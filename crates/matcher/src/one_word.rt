@@ -3,7 +3,7 @@
 ghost use Rattle.std.specs.Prelude.{ℕ};
 
 use crate::position_set::PositionSet;
-use crate::words::{either, followed, moved_up, only_bit, reached, through_bit, without};
+use crate::words::{BITS, either, followed, moved_up, only_bit, reached, through_bit, without};
 use ere::ByteSet;
 use std::marker::Model;
 
@@ -42,6 +42,16 @@ impl PositionSet for OneWord {
 
     fn clear(&mut self) {
         self.word = 0;
+    }
+
+    fn is_same(&self, other: &OneWord) -> bool {
+        self.word == other.word
+    }
+
+    fn take_window(&mut self, here: &mut OneWord) -> usize {
+        here.word = self.word;
+        self.word = 0;
+        BITS - 1
     }
 
     fn copy(&mut self, other: &OneWord) {

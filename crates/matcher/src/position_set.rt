@@ -36,6 +36,15 @@ pub trait PositionSet: Drop {
         ensures none { HasNone (words self.new) }
         ensures empty { (i : ℕ) → slice_index (words self.new) i ≡ 0 };
 
+    /// Whether the set is the same as another. No answer depends on a false `false`.
+    fn is_same(&self, other: &Self) -> bool
+        ensures { IsTrue result → words self.now ≡ words other.now };
+
+    /// Moves the positions of a window, the first word that has any, into `here`, which then has no others.
+    /// Returns the last position of the window.
+    fn take_window(&mut self, here: &mut Self) -> usize
+        ensures { IsEither (words here.new) (words self.new) (words self.old) };
+
     /// Makes the set equal to another.
     fn copy(&mut self, other: &Self)
         ensures { self.new ≡ other.now };

@@ -74,6 +74,24 @@ impl<const N: usize> PositionSet for Positions<N> {
         self.end = 0;
     }
 
+    fn is_same(&self, other: &Positions<N>) -> bool {
+        self.words == other.words
+    }
+
+    fn take_window(&mut self, here: &mut Positions<N>) -> usize {
+        here.clear();
+        let i = first_held(&self.words, self.first, self.end);
+        if i == self.end {
+            return i * BITS;
+        }
+        here.words[i] = self.words[i];
+        here.first = i;
+        here.end = i + 1;
+        self.words[i] = 0;
+        self.first = i + 1;
+        i * BITS + (BITS - 1)
+    }
+
     fn copy(&mut self, other: &Positions<N>) {
         self.clear();
         for i in other.first..other.end {

@@ -4,8 +4,12 @@ ghost use Rattle.std.specs.Prelude.{ℕ, suc, Some, ◌≤◌, ◌<◌, IsTrue, 
 ghost use Rattle.ere.specs.Tree.{form, repeat, trees_of};
 ghost use Rattle.matcher.specs.Spans.{Spans, SpansEach, SpansSome, Steps};
 ghost use Rattle.matcher.specs.Private.Moves.{Moves, MovesIf, MovesPast};
+ghost use Rattle.matcher.specs.Private.Longer.{HoldsInLonger};
+ghost use Rattle.matcher.specs.Private.Rounds.{EndsRounds, GoesOn, IsWidened, KeepsRounds};
 
+use crate::plain::is_plain;
 use crate::position_set::PositionSet;
+use crate::words::BITS;
 use ere::Ere;
 
 /// Moves each position to all positions to which a word of the tree leads from it.
@@ -117,11 +121,34 @@ fn advance_exactly<S: PositionSet>(body: &Ere, count: u8, line: &[u8], at: &mut 
         advance_at_most(body, count, line, at);
         return;
     }
+    if line.len() < BITS {
+        advance_while_new(body, count, line, at);
+        return;
+    }
     for _word in 0..count {
         if at.is_empty() {
             return;
         }
         advance(body, line, at);
+    }
+}
+
+/// The same for a short line: if a word changes nothing, those after it change nothing either.
+#[cycle(walk)]
+fn advance_while_new<S: PositionSet>(body: &Ere, count: u8, line: &[u8], at: &mut S)
+    requires { length line.now < S.room }
+    ensures { Moves (Steps (Spans line.now (form body.now)) count) (S.words at.old) (S.words at.new) }
+{
+    let mut before = S::none();
+    for _word in 0..count {
+        if at.is_empty() {
+            return;
+        }
+        before.copy(at);
+        advance(body, line, at);
+        if at.is_same(&before) {
+            return;
+        }
     }
 }
 
@@ -309,22 +336,130 @@ fn more_past<S: PositionSet>(body: &Ere, line: &[u8], at: &mut S, done: &S)
         return;
     }
     let mut found = S::none();
-    // Everything that a word reaches from `over` is found; each position of `known` is in `over` or is next.
-    let mut over = S::none();
-    over.copy(done);
     let mut known = S::none();
     known.copy(done);
     known.add(at);
+    begin_plain(body, line, at, &mut found, &mut known);
+    rounds_past(body, line, at, done, &mut found, &mut known);
+    at.copy(&found);
+}
+
+/// Adds to `found` what one word of the body or more leads to from `at`, round by round.
+#[cycle(walk)]
+#[inline(never)]
+fn rounds_past<S: PositionSet>(
+    body: &Ere,
+    line: &[u8],
+    at: &mut S,
+    done: &S,
+    found: &mut S,
+    known: &mut S,
+)
+    requires { length line.now < S.room }
+    ensures { EndsRounds (Spans line.now (form body.now)) (S.words done.now) (S.words found.old) (S.words known.old) (S.words at.old) (S.words found.new) }
+{
+    if at.is_empty() {
+        return;
+    }
+    // Everything that a word reaches from `over` is found; each position of `known` is in `over` or is next.
+    let mut over = S::none();
+    over.copy(done);
     loop {
         advance_past(body, line, at, &over);
-        over.copy(&known);
+        over.copy(known);
         found.add(at);
         let grown = known.add(at);
         if !grown {
             break;
         }
     }
-    at.copy(&found);
+}
+
+/// Goes on from `at` if the body is plain and the line is long, so that mostly nothing is left.
+///
+/// Stars inside the body would go through all windows of the line for each window of this one.
+#[cycle(walk)]
+fn begin_plain<S: PositionSet>(body: &Ere, line: &[u8], at: &mut S, found: &mut S, known: &mut S)
+    requires { length line.now < S.room }
+    ensures { KeepsRounds (Spans line.now (form body.now)) (S.words found.old) (S.words known.old) (S.words at.old) (S.words found.new) (S.words known.new) (S.words at.new) }
+{
+    if line.len() < BITS {
+        return;
+    }
+    if !is_plain(body) {
+        return;
+    }
+    go_on(body, line, at, found, known);
+    window_by_window(body, line, at, found, known);
+}
+
+/// Adds what a word of the body leads to from `at`. What is left in `at` is new.
+#[cycle(walk)]
+fn go_on<S: PositionSet>(body: &Ere, line: &[u8], at: &mut S, found: &mut S, known: &mut S)
+    requires { length line.now < S.room }
+    ensures { GoesOn (Spans line.now (form body.now)) (S.words at.old) (S.words found.old) (S.words known.old) (S.words at.new) (S.words found.new) (S.words known.new) }
+{
+    advance(body, line, at);
+    found.add(at);
+    known.add(at);
+}
+
+/// Goes on from `at`, one window after the other. No word goes backwards, so nothing is mostly left in the end.
+#[cycle(walk)]
+#[inline(never)]
+fn window_by_window<S: PositionSet>(
+    body: &Ere,
+    line: &[u8],
+    at: &mut S,
+    found: &mut S,
+    known: &mut S,
+)
+    requires longer { HoldsInLonger (form body.now) }
+    requires room { length line.now < S.room }
+    ensures { KeepsRounds (Spans line.now (form body.now)) (S.words found.old) (S.words known.old) (S.words at.old) (S.words found.new) (S.words known.new) (S.words at.new) }
+{
+    for _window in 0..=line.len() / BITS {
+        if at.is_empty() {
+            return;
+        }
+        over_window(body, line, at, found, known);
+    }
+}
+
+/// Goes on from the first window of `at`: within the window as often as there is anything new, and then once
+/// over the whole line.
+#[cycle(walk)]
+fn over_window<S: PositionSet>(body: &Ere, line: &[u8], at: &mut S, found: &mut S, known: &mut S)
+    requires longer { HoldsInLonger (form body.now) }
+    requires room { length line.now < S.room }
+    ensures { KeepsRounds (Spans line.now (form body.now)) (S.words found.old) (S.words known.old) (S.words at.old) (S.words found.new) (S.words known.new) (S.words at.new) }
+{
+    let mut here = S::none();
+    let last = at.take_window(&mut here);
+    // Nothing goes past the end of this line, so each round looks at one word.
+    let window = &line[..last.min(line.len())];
+    widen(body, window, &mut here, known);
+    go_on(body, line, &mut here, found, known);
+    at.add(&mut here);
+}
+
+/// Adds the new positions to which words of the body lead from `here`, until there are no more.
+#[cycle(walk)]
+#[inline(never)]
+fn widen<S: PositionSet>(body: &Ere, line: &[u8], here: &mut S, known: &mut S)
+    requires { length line.now < S.room }
+    ensures { IsWidened (Spans line.now (form body.now)) (S.words here.old) (S.words known.old) (S.words here.new) (S.words known.new) }
+{
+    let mut next = S::none();
+    next.copy(here);
+    for _round in 0..BITS {
+        advance(body, line, &mut next);
+        let has_new = known.add(&mut next);
+        here.add(&mut next);
+        if !has_new {
+            return;
+        }
+    }
 }
 
 /// Whether it is plain that the empty word is a word of the tree.

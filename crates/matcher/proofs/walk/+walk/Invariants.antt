@@ -3,7 +3,8 @@ use Rattle.ere.specs.Tree.{form, trees_of}
 use Rattle.matcher.specs.Spans.{Spans, SpansEach, SpansSome, Steps}
 use Rattle.matcher.specs.Private.Moves.{absent, Moves, MovesIf, MovesPast}
 use Rattle.matcher.proofs.Walks.{IsWidenedBy}
-use Rattle.matcher.proofs.Rounds.{IsRounded}
+use Rattle.matcher.specs.Private.Rounds.{IsRounded, KeepsRounds}
+use Rattle.matcher.proofs.Rounds.{IsWidening}
 use Rattle.matcher.proofs.walk.+walk.Given as goal
 
 -- Whatever the members that are left lead to, all members lead to from the start.
@@ -38,10 +39,27 @@ invariant-some_past-loop-place g l =
     MovesPast (SpansSome l.line (trees_of (map form (drop l.place l.members)))) (g.S.PositionSet.words l.done) (g.S.PositionSet.words l.at)
     (g.S.PositionSet.words l.found)
 
-abbrev pub invariant-more_past-loop-grown : goal.invariant-more_past-loop-grown
-invariant-more_past-loop-grown g l =
-    IsRounded (Spans l.line (form l.body)) (g.S.PositionSet.words l.done) (g.S.PositionSet.words l.fn.at) (g.S.PositionSet.words l.found)
+abbrev pub invariant-rounds_past-loop-grown : goal.invariant-rounds_past-loop-grown
+invariant-rounds_past-loop-grown g l =
+    (start : List ℕ)
+    → IsRounded (Spans l.line (form l.body)) (g.S.PositionSet.words l.done) start (g.S.PositionSet.words l.initial.found)
+    (g.S.PositionSet.words l.done) (g.S.PositionSet.words l.initial.known) (g.S.PositionSet.words l.initial.at)
+    → IsRounded (Spans l.line (form l.body)) (g.S.PositionSet.words l.done) start (g.S.PositionSet.words l.found)
     (g.S.PositionSet.words l.over) (g.S.PositionSet.words l.known) (g.S.PositionSet.words l.at)
 
-abbrev pub decreases-more_past-loop-grown : goal.decreases-more_past-loop-grown
-decreases-more_past-loop-grown g l = absent (g.S.PositionSet.words l.known)
+abbrev pub decreases-rounds_past-loop-grown : goal.decreases-rounds_past-loop-grown
+decreases-rounds_past-loop-grown g l = absent (g.S.PositionSet.words l.known)
+
+abbrev pub invariant-window_by_window-loop-window : goal.invariant-window_by_window-loop-window
+invariant-window_by_window-loop-window g l =
+    KeepsRounds (Spans l.line (form l.body)) (g.S.PositionSet.words l.initial.found) (g.S.PositionSet.words l.initial.known)
+    (g.S.PositionSet.words l.initial.at) (g.S.PositionSet.words l.found) (g.S.PositionSet.words l.known) (g.S.PositionSet.words l.at)
+
+abbrev pub invariant-widen-loop-round : goal.invariant-widen-loop-round
+invariant-widen-loop-round g l =
+    IsWidening (Spans l.line (form l.body)) (g.S.PositionSet.words l.initial.here) (g.S.PositionSet.words l.initial.known)
+    (g.S.PositionSet.words l.here) (g.S.PositionSet.words l.known) (g.S.PositionSet.words l.next)
+
+abbrev pub invariant-advance_while_new-loop-word : goal.invariant-advance_while_new-loop-word
+invariant-advance_while_new-loop-word g l =
+    Moves (Steps (Spans l.line (form l.body)) l._word) (g.S.PositionSet.words l.initial.at) (g.S.PositionSet.words l.at)
