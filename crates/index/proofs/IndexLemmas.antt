@@ -74,6 +74,7 @@ IsIndex-back version number old noted new store name gone is was there back = re
 later_store : (version : ℕ) (store : Store) → IsStore version store → IsStore (version + 1) store
 later_store version store is = record {
   slots = record { rise = is.slots.rise; below = λ k d inside. (let low = is.slots.below k d inside in omega arith) };
+  few = is.few;
   sets = is.sets;
   bytes = is.bytes;
 }

@@ -176,6 +176,17 @@ documents_in-compact (s ∷ slots) = go s.entry refl (documents_in-compact slots
     go None e rest = rw e rest
     go (Some entry) e rest = rw e (ap (λ ds. document s.number entry.name entry.held ∷ ds) rest)
 
+pub length-full : (slots : List Slot) → length (filter is_full slots) ≡ length (documents_in slots)
+unfolding documents_in
+length-full [] = refl
+length-full (s ∷ slots) = go s.entry refl (length-full slots)
+  where
+    go : (entry : Option Entry) → s.entry ≡ entry → length (filter is_full slots) ≡ length (documents_in slots)
+        → length (cond (is_some s.entry) (s ∷ filter is_full slots) (filter is_full slots))
+        ≡ length (documents_of_slot s.number s.entry ++ documents_in slots)
+    go None e rest = rw e rest
+    go (Some entry) e rest = rw e (ap suc rest)
+
 numbers_in-filter : (p : Slot → Bool) (n : ℕ) (slots : List Slot)
     → ((k : ℕ) (d : ℕ) → k < length (numbers_in slots) → get_or (numbers_in slots) k d ≤ n) → All (λ m. m ≤ n) (numbers_in (filter p slots))
 numbers_in-filter p n [] below = All-nil (λ m. m ≤ n)

@@ -4,7 +4,7 @@ ghost use Rattle.std.specs.Prelude.{◌≡◌, ◌≢◌, ℕ, ◌<◌, ◌≤�
 ghost use Rattle.std.specs.Vec.{vec_len, vec_capacity};
 ghost use Rattle.index.specs.declared.slots.Slot.{Slot as SlotValue};
 ghost use Rattle.index.specs.Documents.{document_at};
-ghost use Rattle.index.specs.Private.Slots.{documents_in, numbers_in, RiseTo, texts_of, without_number};
+ghost use Rattle.index.specs.Private.Slots.{documents_in, numbers_in, RiseTo, FewAreEmpty, texts_of, without_number};
 
 use crate::held::Held;
 use crate::name::Name;
@@ -52,10 +52,12 @@ pub(crate) fn take(slots: &mut Vec<Slot>, number: u32) -> Option<Entry>
     }
 }
 
-/// Drops the empty slots if half the number of slots is more than `documents`.
+/// Drops the empty slots if half the number of slots is more than `documents`. For the number of documents in the
+/// slots, few of the slots are then empty.
 pub(crate) fn compact(slots: &mut Vec<Slot>, documents: usize)
     ensures documents { documents_in slots.new.items ≡ documents_in slots.old.items }
     ensures numbers { (last : ℕ) → RiseTo last slots.old.items → RiseTo last slots.new.items }
+    ensures few { documents ≡ length (documents_in slots.old.items) → FewAreEmpty slots.new.items }
     ensures len { vec_len slots.new ≤ vec_len slots.old }
     ensures capacity { vec_capacity slots.new ≡ vec_capacity slots.old }
 {

@@ -7,3 +7,4 @@ pub mod CandidateLemmas
 mod NameLemmas
 mod SweepLemmas
 mod WayLemmas
+mod FewLemmas

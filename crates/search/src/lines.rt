@@ -1,6 +1,6 @@
 //! The lines of documents that contain a match.
 
-ghost use Rattle.std.specs.Prelude.{◌≡◌, ◌≤◌, [], ◌∷◌, length, flat_map, IfOk, OnOk};
+ghost use Rattle.std.specs.Prelude.{◌≡◌, ◌≤◌, [], ◌∷◌, length, take, flat_map, IfOk, OnOk};
 ghost use Rattle.ere.specs.Tree.{Tree, form};
 ghost use Rattle.ere.specs.Limits.{IsWithinLimits};
 ghost use Rattle.ere.specs.Lines.{lines_of};
@@ -8,7 +8,7 @@ ghost use Rattle.finder.specs.Patterns.{IsFinderOf};
 ghost use Rattle.search.specs.Hits.{hits_of};
 ghost use Rattle.search.specs.Private.Selects.{Adds, Selects, HasMatch, found, lines_of_document};
 ghost use Rattle.search.specs.Private.Documents.{lines_of_taken};
-ghost use Rattle.search.specs.Private.Ways.{Finds};
+ghost use Rattle.search.specs.Private.Ways.{Finds, AreFew};
 
 use crate::answer::Hit;
 use crate::documents::TakenDocument;
@@ -38,17 +38,34 @@ pub fn scan_documents<W: Watch>(
     ensures { IfOk result (λ hits. Selects (HasMatch (form tree.now)) (flat_map lines_of_taken documents.now) (hits_of hits.items)) }
 {
     let mut hits = Vec::new(alloc);
-    let few = few_documents(tree, documents);
-    let mut way = Way::LineByLine;
-    scan_by(tree, &mut way, &documents[..few], &mut hits, watch)?;
+    let few = scan_few(tree, documents, &mut hits, watch)?;
     scan_compiled(tree, &documents[few..], &mut hits, watch)?;
     Ok(hits)
+}
+
+// Adds the lines with a match in the first documents, each line looked at by itself, if they are small. Returns how
+// many documents these are.
+fn scan_few<W: Watch>(
+    tree: &Ere,
+    documents: &[TakenDocument],
+    hits: &mut Vec<Hit>,
+    watch: &mut W,
+) -> Result<usize, AllocError>
+    requires { IsWithinLimits (form tree.now) }
+    ensures few { IfOk result (AreFew (form tree.now) documents.now) }
+    ensures hits { IfOk result (λ few. Adds (HasMatch (form tree.now)) (flat_map lines_of_taken (take few documents.now))
+        (hits_of hits.old.items) (hits_of hits.new.items)) }
+{
+    let few = few_documents(tree, documents);
+    let mut way = Way::LineByLine;
+    scan_by(tree, &mut way, &documents[..few], hits, watch)?;
+    Ok(few)
 }
 
 // How many documents, from the first on, are so small together that their lines are looked at one by one. No
 // answer depends on it.
 fn few_documents(tree: &Ere, documents: &[TakenDocument]) -> usize
-    ensures { result ≤ length documents.now }
+    ensures { AreFew (form tree.now) documents.now result }
 {
     if nests_stars(tree) {
         return 0;
@@ -65,7 +82,9 @@ fn few_documents(tree: &Ere, documents: &[TakenDocument]) -> usize
 }
 
 // The bytes of the document's body.
-fn body_size(document: &TakenDocument) -> usize {
+fn body_size(document: &TakenDocument) -> usize
+    ensures { result ≡ length document.now.held }
+{
     document.held.body().as_bytes().len()
 }
 

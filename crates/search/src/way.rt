@@ -4,7 +4,7 @@ ghost use Rattle.std.specs.Prelude.{◌≡◌, IfOk, IfSome, nat_le};
 ghost use Rattle.ere.specs.Tree.{form};
 ghost use Rattle.finder.specs.Patterns.{IsCompiledFrom};
 ghost use Rattle.finder.specs.StarHeight.{star_height};
-ghost use Rattle.search.specs.Private.Ways.{Finds};
+ghost use Rattle.search.specs.Private.Ways.{Finds, IsDecided};
 
 use ere::Ere;
 use finder::{Compiled, Finder, has_star_height};
@@ -52,7 +52,8 @@ pub fn way_by<'p>(
     compiled: &'p Option<Compiled>,
 ) -> Result<Way<'p>, AllocError>
     requires { IfSome compiled.now (IsCompiledFrom (form tree.now)) }
-    ensures { IfOk result (Finds (form tree.now)) }
+    ensures finds { IfOk result (Finds (form tree.now)) }
+    ensures decided { IfOk result (IsDecided (form tree.now) compiled.now) }
 {
     let Some(compiled) = compiled else {
         return Ok(Way::LineByLine);

@@ -1,5 +1,5 @@
 -- The slots that hold the documents of an index.
-use Rattle.std.specs.Prelude.{ℕ, ◌≤◌, not, ◌==◌, List, [], ◌∷◌, ◌++◌, All, map, filter, Option, Some, None}
+use Rattle.std.specs.Prelude.{ℕ, ◌+◌, ◌*◌, ◌≤◌, length, not, ◌==◌, List, [], ◌∷◌, ◌++◌, All, map, filter, Option, Some, None}
 use Rattle.std.specs.List.Sorted.{IsStrictlyIncreasing}
 use Rattle.index.specs.declared.slots.Slot.{Slot}
 use Rattle.index.specs.declared.slots.Entry.{Entry}
@@ -22,6 +22,10 @@ numbers_in slots = map (λ s. s.number) slots
 pub record RiseTo (last : ℕ) (slots : List Slot) : Type 0 where
   pub rise : IsStrictlyIncreasing (numbers_in slots)
   pub below : All (λ n. n ≤ last) (numbers_in slots)
+
+-- At most half of the slots are empty, rounded up.
+abbrev pub FewAreEmpty : List Slot → Type 0
+FewAreEmpty slots = length slots ≤ 2 * length (documents_in slots) + 1
 
 -- name and body of an entry
 abbrev pub texts_of : Entry → List ℕ × List ℕ

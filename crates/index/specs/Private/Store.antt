@@ -10,16 +10,17 @@ use Rattle.posting.specs.Postings.{set_of}
 use Rattle.index.specs.declared.store.Store.{Store}
 use Rattle.index.specs.Documents.{Document, number_of}
 use Rattle.index.specs.State.{state, body_bytes, IsState}
-use Rattle.index.specs.Private.Slots.{documents_in, RiseTo, without_number}
+use Rattle.index.specs.Private.Slots.{documents_in, RiseTo, FewAreEmpty, without_number}
 use Rattle.index.specs.Private.Sets.{AreSetsOf}
 
 -- the documents that the store keeps
 abbrev pub stored : Store → List Document
 stored store = documents_in store.slots.items
 
--- The slots rise to the last number; the sets and the count of bytes are those of the documents.
+-- The slots rise to the last number, and few of them are empty; the sets and the count of bytes are those of the documents.
 pub record IsStore (last : ℕ) (store : Store) : Type 0 where
   pub slots : RiseTo last store.slots.items
+  pub few : FewAreEmpty store.slots.items
   pub sets : AreSetsOf (stored store) store.sets
   pub bytes : store.held_bytes ≡ body_bytes (stored store)
 

@@ -1,7 +1,7 @@
-use Rattle.std.proofs.Common.{sym, ap, subst}
+use Rattle.std.proofs.Common.{sym, ap, subst, arith}
 use Rattle.index.specs.Documents.{document_at}
 use Rattle.index.specs.State.{body_bytes}
-use Rattle.index.specs.Private.Slots.{documents_in, RiseTo}
+use Rattle.index.specs.Private.Slots.{documents_in, RiseTo, FewAreEmpty}
 use Rattle.index.specs.Private.Sets.{AreSetsOf}
 use Rattle.index.proofs.StoredLemmas.{RiseTo-none}
 use Rattle.index.proofs.store.Store.new.Goals as goal
@@ -14,6 +14,7 @@ pub returns-clause-store : goal.returns-clause-store
 unfolding documents_in document_at
 returns-clause-store c = record {
   slots = subst (RiseTo 0) (sym c.new.ensures.items) RiseTo-none;
+  few = subst FewAreEmpty (sym c.new.ensures.items) (omega arith);
   sets =
       subst (λ xs. AreSetsOf (documents_in xs) c.new-2.result) (sym c.new.ensures.items)
       (record { live = c.new-2.ensures.live; postings = c.new-2.ensures.postings });

@@ -1,4 +1,5 @@
 use Rattle.std.proofs.Common.{◌≡◌, ◌+◌, ◌++◌, ◌∷◌, [], Some, sym, ◌∙◌, ap, subst, arith, length}
+use Rattle.std.proofs.lemmas.List.{length-append}
 use Rattle.index.specs.Documents.{document}
 use Rattle.index.specs.State.{body_bytes}
 use Rattle.index.specs.Private.Slots.{documents_in, RiseTo}
@@ -34,11 +35,16 @@ returns-clause-store c =
     let size : length c.as_bytes.result.now ≡ length c.args.entry.held = ap length (c.as_bytes.ensures.bytes ∙ c.body.ensures) in
     let bytes : body_bytes (documents_in c.push_reserved.new.self.items) ≡ body_bytes (stored old) + length c.args.entry.held =
     ap body_bytes documents ∙ body_bytes-push (stored old) d in
+    let more_slots : length c.push_reserved.new.self.items ≡ length old.slots.items + 1 =
+    ap length c.push_reserved.ensures.items ∙ length-append old.slots.items (record { number = c.args.number; entry = Some c.args.entry } ∷ []) in
+    let more_documents : length (documents_in c.push_reserved.new.self.items) ≡ length (stored old) + 1 =
+    ap length documents ∙ length-append (stored old) (d ∷ []) in
     let fresh = document_at-above c.args.number last (stored old) (numbers_at_most last old.slots.items kept.slots) above in
     record {
       slots =
           subst (RiseTo c.args.number) (sym c.push_reserved.ensures.items)
           (RiseTo-push last old.slots.items (record { number = c.args.number; entry = Some c.args.entry }) kept.slots above);
+      few = omega (arith, more_slots, more_documents, kept.few);
       sets =
           subst (λ ds. AreSetsOf ds c.put_in.new.self) (sym documents)
           (AreSetsOf-put (stored old) c.args.number c.args.entry.name c.args.entry.held c.trigrams.result.now old.sets c.put_in.new.self

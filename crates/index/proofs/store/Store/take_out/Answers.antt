@@ -1,5 +1,6 @@
 use Rattle.std.proofs.Common.{◌≡◌, sym, ◌∙◌, ap, subst, arith, length}
 use Rattle.std.specs.Prelude.{option_map}
+use Rattle.std.proofs.lemmas.List.{length-map}
 use Rattle.index.specs.State.{body_bytes}
 use Rattle.index.specs.Private.Slots.{documents_in, texts_of, without_number}
 use Rattle.index.specs.Private.Sets.{AreSetsOf}
@@ -26,12 +27,16 @@ returns-in-Some-clause-store c = λ last kept.
     let documents : documents_in c.compact.new.slots.items ≡ without_number c.args.number (stored old) =
     c.compact.ensures.documents ∙ c.take.ensures.documents in
     let left : body_bytes (documents_in c.compact.new.slots.items) ≡ body_bytes (without_number c.args.number (stored old)) = ap body_bytes documents in
+    let sets =
+    AreSetsOf-take (stored old) c.args.number c.in-Some.entry.name c.in-Some.entry.held c.trigrams.result.now old.sets
+    c.take_out.new.self kept.sets at c.trigrams.ensures.trigrams c.take_out.ensures.live c.take_out.ensures.postings in
+    let counted : c.len.result ≡ length (documents_in c.take.new.slots.items) =
+    c.len.ensures ∙ ap length sets.live ∙ length-map (without_number c.args.number (stored old)) (λ d. d.number)
+    ∙ ap length (sym c.take.ensures.documents) in
     record {
       slots = c.compact.ensures.numbers last (RiseTo-same last old.slots.items c.take.new.slots.items c.take.ensures.numbers kept.slots);
-      sets =
-          subst (λ ds. AreSetsOf ds c.take_out.new.self) (sym documents)
-          (AreSetsOf-take (stored old) c.args.number c.in-Some.entry.name c.in-Some.entry.held c.trigrams.result.now old.sets
-          c.take_out.new.self kept.sets at c.trigrams.ensures.trigrams c.take_out.ensures.live c.take_out.ensures.postings);
+      few = c.compact.ensures.few counted;
+      sets = subst (λ ds. AreSetsOf ds c.take_out.new.self) (sym documents) sets;
       bytes = omega (arith, size, bytes, left, kept.bytes);
     }
 
@@ -40,8 +45,11 @@ returns-in_default-clause-store c = λ last kept.
     let old = c.args.self.now in
     let absent = sym c.take.ensures.entry ∙ ap (option_map texts_of) c.in_default.is in
     let documents : documents_in c.take.new.slots.items ≡ stored old = c.take.ensures.documents ∙ without-absent_number c.args.number (stored old) absent in
+    let same_slots : length c.take.new.slots.items ≡ length old.slots.items =
+    sym (length-map c.take.new.slots.items (λ s. s.number)) ∙ ap length c.take.ensures.numbers ∙ length-map old.slots.items (λ s. s.number) in
     record {
       slots = RiseTo-same last old.slots.items c.take.new.slots.items c.take.ensures.numbers kept.slots;
+      few = omega (arith, same_slots, ap length documents, kept.few);
       sets = subst (λ ds. AreSetsOf ds old.sets) (sym documents) kept.sets;
       bytes = kept.bytes ∙ ap body_bytes (sym documents);
     }
