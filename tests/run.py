@@ -35,6 +35,8 @@ import subprocess
 import sys
 import tempfile
 
+from counted import Counted
+
 TOP = pathlib.Path(__file__).resolve().parent.parent
 PROGRAM = TOP / "crates/program/out/program"
 CASES = TOP / "tests/cases"
@@ -245,19 +247,17 @@ def main():
     missing = sorted(set(wanted) - {base.name for _, base in jobs})
     if missing:
         sys.exit(f"tests/run.py: no such case: {', '.join(missing)}")
-    passed = failed = 0
+    counted = Counted()
     for job, base in jobs:
         if wanted and base.name not in wanted:
             continue
         try:
             job(base)
         except Wrong as wrong:
-            failed += 1
-            print(f"FAILED {base.relative_to(TOP)}: {wrong}")
+            counted.fails(f"{base.relative_to(TOP)}: {wrong}")
         else:
-            passed += 1
-    print(f"{passed} passed, {failed} failed")
-    sys.exit(1 if failed else 0)
+            counted.passes()
+    counted.end()
 
 
 if __name__ == "__main__":
