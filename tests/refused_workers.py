@@ -38,7 +38,7 @@ def run(library, program, refused):
 
 def outcome(readers, text, word):
     """What became of one of the two runs, and what is wrong with it, or None."""
-    if word in refused_runs.WORDS:
+    if word == refused_runs.NO_MEMORY:
         return "the run refused", None if refused_runs.WANTED.startswith(text) else "%r is written" % text
     if word != b"tsearch: written\n":
         return "other words", repr(word)
