@@ -355,6 +355,15 @@ def input_longer_than_a_script():
         session.end(2)
 
 
+def send_line(session, begin, end, length):
+    """Sends a line of this length that begins and ends so."""
+    session.send(begin)
+    left = length - len(begin + end)
+    for at in range(0, left, MEBIBYTE):
+        session.send(b"x" * min(MEBIBYTE, left - at))
+    session.send(end + b"\n")
+
+
 def line_of_the_greatest_length():
     """A line of the greatest length is an item like any other, and its memory is let go at the next item."""
     with Session() as session:
@@ -369,7 +378,7 @@ def line_of_the_greatest_length():
             (b"#", b"\nwhat", b"line 13 refused: bad line\n"),
         ]:
             head, _, rest = end.partition(b"\n")
-            session.send(begin + b"x" * (GREATEST_LINE - len(begin + head)) + head + b"\n")
+            send_line(session, begin, head, GREATEST_LINE)
             if rest:
                 session.expect_quiet()
                 session.send(rest + b"\n")

@@ -10,7 +10,8 @@ Then a body is searched that is so large that the pattern is compiled, which tak
 them is refused, the body is searched line by line and the answer stays the same; with stars inside stars the search is refused.
 
 At last, large requests are refused and small ones are not. Then it is known which item has no memory, and what is written: a put, a
-load or a search with no room is refused by name, and the next item is carried out. A whole script with no room ends the run.
+load or a search with no room is refused by name, and the next item is carried out. A script with no room, or in a session a line or
+the text of an answer, ends the run.
 
 Usage: tests/refused_runs.py   The last line counts: N passed, M failed.
 """
@@ -29,6 +30,8 @@ from counted import Counted
 from refused_memory import COUNTING
 
 WANTED = OLD + OLD_AGAIN + NO_OLD + NEW
+# What a session may have written when it fails at an item.
+WHOLE_ANSWERS = [b"", OLD, OLD + OLD_AGAIN, OLD + OLD_AGAIN + NO_OLD, WANTED]
 NO_MEMORY = b"tsearch: out of memory\n"
 NO_READERS, TWO_READERS, SESSION = ["--readers", "0"], ["--readers", "2"], ["--live"]
 # How often each request is refused.
@@ -44,8 +47,7 @@ SEARCHES = {
 }
 IN_A_ROW = 400
 
-# Requests of at least this many bytes are large: that for a body of LONG, and those for the hits of each line of MANY. No other
-# item makes any.
+# Requests of at least this many bytes are large: those for a body of LONG, for a hit of each line of MANY, and for the texts below.
 LARGE_REQUEST = 500_000
 EVERY = 1_000_000
 LONG = b"of no use\n" * 99_999 + b"last line\n"
@@ -57,6 +59,12 @@ LONG_PUTS = b"put a 3\nold\npublish\n" + LONG_PUT + b"publish\nsearch old\n" + L
 NO_ROOM, OLD_LEFT = b"line 4 refused: out of memory\n", b"search 1 version 1 lines 1\na:1:old\n"
 NO_ROOM_AGAIN, NOTHING_NEW = b"line 100008 refused: out of memory\n", b"search 2 version 1 lines 0\n"
 NEW_LAST, BAD_LINE = b"search 2 version 2 lines 1\na:100000:last line\n", b"line 200012 refused: bad line\n"
+
+# A line and an answer for whose texts a session has no room, behind an answer.
+ANSWERED = b"put a 3\nold\npublish\nsearch old\n"
+LONG_LINE = ANSWERED + b"#" * len(LONG) + b"\nsearch old\n"
+WIDE_LINE = b"x" * 16_000
+WIDE_ANSWER = ANSWERED + b"".join(b"put w%d 16000\n%s\n" % (number, WIDE_LINE) for number in range(60)) + b"publish\nsearch x\nsearch old\n"
 
 # Searches of MANY, of which the second and the third have many hits.
 MANY_HITS = b"put m %d\n%s\npublish\nsearch y\nsearch x\nsearch x\nsearch y\n" % (len(MANY), MANY)
@@ -73,10 +81,10 @@ def build(folder):
     return library
 
 
-def run(library, script, words, refused, large=0):
+def run(library, script, words, refused, least=0):
     """The status, the output and the messages of the run whose request with this number is refused, and how many there were.
-    With `large`, only requests of at least so many bytes count, and as many as this number are refused."""
-    env = dict(os.environ, LD_PRELOAD=library, REFUSED=str(refused), LARGE=str(large))
+    With `least`, only requests of at least so many bytes count, and the first of them are refused, as many as this number."""
+    env = dict(os.environ, LD_PRELOAD=library, REFUSED=str(refused), LEAST=str(least))
     done = subprocess.run([PROGRAM, *words], input=script, env=env, capture_output=True, check=False, timeout=60)
     messages, count = re.fullmatch(rb"(.*)requests (\d+)\n", done.stderr, re.DOTALL).groups()
     return done.returncode, done.stdout, messages, int(count)
@@ -85,7 +93,7 @@ def run(library, script, words, refused, large=0):
 def outcome(words, status, text, messages):
     """What became of a run of the script with a replacement, and why that is not allowed, or None."""
     if messages == NO_MEMORY:
-        good = status == 2 and WANTED.startswith(text)
+        good = status == 2 and (text in WHOLE_ANSWERS if words == SESSION else WANTED.startswith(text))
         return messages.decode().strip(), None if good else "status %d, and %r is written" % (status, text)
     if messages:
         return "other words", repr(messages)
@@ -132,29 +140,31 @@ def each_request_of_a_search(library, search):
 
 
 def runs_of_no_room(folder):
-    """Scripts with the words of their runs, how many of the large requests are refused, and the status, the text and the messages."""
+    """What a run is of, its script and words, how many large requests are refused, and the status, the text and the messages."""
     path = os.path.join(folder, "long")
     with open(path, "wb") as file:
         file.write(LONG)
     loads = b"put a 3\nold\npublish\nload a %s\npublish\nsearch old\n" % os.fsencode(path)
     no_room_once, no_room = NO_ROOM + OLD_LEFT + NEW_LAST + BAD_LINE, NO_ROOM + OLD_LEFT + NO_ROOM_AGAIN + NOTHING_NEW + BAD_LINE
-    yield LONG_PUTS, SESSION, 1, (2, no_room_once, b"")
-    yield LONG_PUTS, SESSION, EVERY, (2, no_room, b"")
+    yield "long puts", LONG_PUTS, SESSION, 1, (2, no_room_once, b"")
+    yield "long puts", LONG_PUTS, SESSION, EVERY, (2, no_room, b"")
     for words in NO_READERS, TWO_READERS:
-        yield LONG_PUTS, words, EVERY, (2, b"", NO_MEMORY)
+        yield "a long script", LONG_PUTS, words, EVERY, (2, b"", NO_MEMORY)
+    yield "a long line", LONG_LINE, SESSION, EVERY, (2, OLD_LEFT, NO_MEMORY)
+    yield "a wide answer", WIDE_ANSWER, SESSION, EVERY, (2, OLD_LEFT, NO_MEMORY)
     for words in NO_READERS, TWO_READERS, SESSION:
-        yield loads, words, EVERY, (2, NO_ROOM + OLD_LEFT, b"")
-        yield MANY_HITS, words, EVERY, (2, FEW_FIRST + SECOND_REFUSED + THIRD_REFUSED + FEW_LAST, b"")
+        yield "a long load", loads, words, EVERY, (2, NO_ROOM + OLD_LEFT, b"")
+        yield "many hits", MANY_HITS, words, EVERY, (2, FEW_FIRST + SECOND_REFUSED + THIRD_REFUSED + FEW_LAST, b"")
     for words in NO_READERS, SESSION:
-        yield MANY_HITS, words, 1, (2, FEW_FIRST + SECOND_REFUSED + THIRD + FEW_LAST, b"")
+        yield "many hits", MANY_HITS, words, 1, (2, FEW_FIRST + SECOND_REFUSED + THIRD + FEW_LAST, b"")
     # the reader that is refused leaves its search to reader 0
-    yield MANY_HITS, TWO_READERS, 1, (0, FEW_FIRST + SECOND + THIRD + FEW_LAST, b"")
+    yield "many hits", MANY_HITS, TWO_READERS, 1, (0, FEW_FIRST + SECOND + THIRD + FEW_LAST, b"")
 
 
-def fault_of_no_room(library, script, words, refused, wanted):
+def fault_of_no_room(library, name, script, words, refused, wanted):
     """What is wrong with a run with no room, or None."""
     *done, count = run(library, script, words, refused, LARGE_REQUEST)
-    what = "%r.. with %s and %d large requests refused" % (script[:9], " ".join(words), refused)
+    what = "%s with %s and %d large requests refused" % (name, " ".join(words), refused)
     if count == 0:
         return "%s: there is no large request" % what
     return None if tuple(done) == wanted else "%s: %s, and should be %s" % (what, str(done)[:1000], str(wanted)[:1000])
