@@ -15,6 +15,7 @@ import sys
 
 import transcripts
 from check_transcripts import PROGRAM, TOP
+from counted import Counted
 
 BYTES = b"\0\n\r #09azp.*+?[]({|^$\\-\x7f\x80\xff"
 SECONDS = 10
@@ -69,20 +70,16 @@ def judge(script, readers):
 
 def main():
     words = sys.argv[1:]
-    counts = collections.Counter()
+    counts, counted = collections.Counter(), Counted()
     for path in sorted(TOP.glob("examples/*.script")):
         if set(words) - {"--all"} and path.stem not in words:
             continue
         for number, (what, script) in enumerate(changed(path.read_bytes(), "--all" in words)):
             judged, fault = judge(script, (0, 2)[number % 2])
             counts[judged] += 1
-            counts["failed"] += fault is not None
-            if fault:
-                print("FAILED %s, %s: %s" % (path.name, what, fault))
-    failed = counts.pop("failed")
+            counted.judge(["%s, %s: %s" % (path.name, what, fault) if fault else None])
     print(", ".join("%d %s" % (count, what) for what, count in counts.items()))
-    print("%d passed, %d failed" % (sum(counts.values()) - failed, failed))
-    sys.exit(1 if failed else 0)
+    counted.end()
 
 
 if __name__ == "__main__":

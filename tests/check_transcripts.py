@@ -14,6 +14,7 @@ import subprocess
 import sys
 
 import transcripts
+from counted import Counted
 
 TOP = pathlib.Path(__file__).resolve().parent.parent
 PROGRAM = TOP / "crates/program/out/program"
@@ -204,14 +205,13 @@ def random_scripts():
 def main():
     if not PROGRAM.exists():
         sys.exit("tests/check_transcripts.py: build the program first: ./tsearch --help")
-    passed = failed = 0
+    counted = Counted()
     for part, name in (judged_by_hand, "the judge"), (beginnings, "beginnings"), (random_scripts, "random scripts"):
         wrong, count = part()
         for what in wrong:
-            print("FAILED %s: %s" % (name, what))
-        passed, failed = passed + count - len(wrong), failed + len(wrong)
-    print("%d passed, %d failed" % (passed, failed))
-    sys.exit(1 if failed else 0)
+            counted.fails("%s: %s" % (name, what))
+        counted.passes(count - len(wrong))
+    counted.end()
 
 
 if __name__ == "__main__":

@@ -24,6 +24,7 @@ import time
 
 import transcripts
 from changed_scripts import Files
+from counted import Counted
 
 TOP = pathlib.Path(__file__).resolve().parent.parent
 PROGRAM = TOP / "crates/program/out/program"
@@ -34,6 +35,8 @@ SECONDS = 60
 QUIET = 0.05
 REPLACEMENTS = 20_000
 MEBIBYTE = 1_048_576
+# In bytes, without the line feed.
+GREATEST_LINE = 67_108_864
 
 # Items, each with the text that it causes.
 TALK = [
@@ -352,11 +355,46 @@ def input_longer_than_a_script():
         session.end(2)
 
 
+def send_line(session, begin, end, length):
+    """Sends a line of this length that begins and ends so."""
+    session.send(begin)
+    left = length - len(begin + end)
+    for at in range(0, left, MEBIBYTE):
+        session.send(b"x" * min(MEBIBYTE, left - at))
+    session.send(end + b"\n")
+
+
+def line_of_the_greatest_length():
+    """A line of the greatest length is an item like any other, and its memory is let go at the next item."""
+    with Session() as session:
+        session.ask(b"put a 1\nx\npublish\nsearch x\n", b"search 1 version 1 lines 1\na:1:x\n")
+        early = session.memory("VmRSS")
+        for begin, end, wanted in [
+            (b"what", b"", b"line 5 refused: bad line\n"),
+            (b"remove ", b"", b"line 6 refused: name too long\n"),
+            (b"put ", b" 3\nx\ny", b"line 7 refused: name too long\n"),
+            (b"search ", b"", b"search 2 refused: pattern too long at 1024\n"),
+            (b"isearchin a ", b"", b"search 3 refused: pattern too long at 1024\n"),
+            (b"#", b"\nwhat", b"line 13 refused: bad line\n"),
+        ]:
+            head, _, rest = end.partition(b"\n")
+            send_line(session, begin, head, GREATEST_LINE)
+            if rest:
+                session.expect_quiet()
+                session.send(rest + b"\n")
+            session.expect(wanted)
+        session.ask(b"search x\n", b"search 4 version 1 lines 1\na:1:x\n")
+        late = session.memory("VmRSS")
+        if late - early > GREATEST_LINE // 2:
+            raise Wrong(f"{early} bytes before the lines, and {late} after the next item")
+        session.end(2)
+
+
 def line_longer_than_any():
     with Session() as session:
         session.ask(b"search x\n", b"search 1 version 0 lines 0\n")
-        with_room = b"search " + b"x" * (64 * MEBIBYTE)
-        threading.Thread(target=send_all, args=(session, with_room), daemon=True).start()
+        one_too_many = b"search " + b"x" * (GREATEST_LINE - len(b"search ") + 1)
+        threading.Thread(target=send_all, args=(session, one_too_many), daemon=True).start()
         session.end(2, b"tsearch: line too long\n", close=False)
 
 
@@ -449,6 +487,7 @@ TESTS = [
     session_from_a_fifo,
     options_of_a_session,
     input_longer_than_a_script,
+    line_of_the_greatest_length,
     line_longer_than_any,
     client_of_a_folder,
 ]
@@ -461,19 +500,17 @@ def main():
     missing = sorted(set(wanted) - {test.__name__ for test in TESTS})
     if missing:
         sys.exit(f"tests/live.py: no such test: {', '.join(missing)}")
-    passed = failed = 0
+    counted = Counted()
     for test in TESTS:
         if wanted and test.__name__ not in wanted:
             continue
         try:
             test()
         except (Wrong, OSError, IndexError, ValueError, subprocess.TimeoutExpired) as wrong:
-            failed += 1
-            print(f"FAILED {test.__name__}: {wrong!r}")
+            counted.fails(f"{test.__name__}: {wrong!r}")
         else:
-            passed += 1
-    print(f"{passed} passed, {failed} failed")
-    sys.exit(1 if failed else 0)
+            counted.passes()
+    counted.end()
 
 
 if __name__ == "__main__":

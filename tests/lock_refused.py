@@ -14,6 +14,7 @@ import sys
 import tempfile
 
 import copies
+from counted import Counted
 
 OLD = "            let taken = take(asked.alloc, &shelf.index, asked.prepared);\n"
 NEW = """            let lock = std::sync::Mutex::new(&shelf.index);
@@ -34,9 +35,14 @@ def main():
         done = subprocess.run(["rt", "try", "--test"], cwd=crate, capture_output=True, text=True, check=False)
     errors = [line for line in (done.stdout + done.stderr).splitlines() if ": error" in line]
     refused = done.returncode != 0 and len(errors) == 1 and WANTED in errors[0]
-    print("a lock round the index: %s" % ("; ".join(errors) or "NOT REFUSED"))
-    print("1 passed, 0 failed" if refused else "0 passed, 1 failed")
-    sys.exit(0 if refused else 1)
+    what = "a lock round the index: %s" % ("; ".join(errors) or "NOT REFUSED")
+    counted = Counted()
+    if refused:
+        print(what)
+        counted.passes()
+    else:
+        counted.fails(what)
+    counted.end()
 
 
 if __name__ == "__main__":

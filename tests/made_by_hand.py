@@ -19,6 +19,8 @@ import pathlib
 import re
 import sys
 
+from counted import Counted
+
 TOP = pathlib.Path(__file__).resolve().parent.parent
 LIST = TOP / "tests/made_by_hand.txt"
 ERRORS = {"AllocError", "AllocFailed", "OutOfMemory"}
@@ -325,22 +327,20 @@ def main():
     if sys.argv[1:]:
         sys.exit(__doc__)
     expected = listed()
-    failed = 0
+    counted = Counted()
     left = [place.key() for place in expected]
     for place in here:
         if place.key() in left:
             left.remove(place.key())
         else:
-            failed += 1
-            print(f"{place.path}:{place.line}: in {place.function}: an error of refused memory is made by hand: {place.made}")
+            counted.fails(f"{place.path}:{place.line}: in {place.function}: an error of refused memory is made by hand: {place.made}")
     for place in expected:
         if place.key() in left:
             left.remove(place.key())
-            failed += 1
-            print(f"{LIST.relative_to(TOP)}:{place.line}: this place is there no more: {place.path}, {place.function}: {place.made}")
+            counted.fails(f"{LIST.relative_to(TOP)}:{place.line}: this place is there no more: {place.path}, {place.function}: {place.made}")
     print(f"{len(here)} places make the error of refused memory by hand")
-    print(f"{1 if not failed else 0} passed, {failed} failed")
-    sys.exit(1 if failed else 0)
+    counted.passes(0 if counted.failed else 1)
+    counted.end()
 
 
 if __name__ == "__main__":

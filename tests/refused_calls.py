@@ -14,10 +14,10 @@ Usage: tests/refused_calls.py
 
 import os
 import subprocess
-import sys
 import tempfile
 
 import copies
+from counted import Counted
 from refused_memory import COUNTING
 
 USES = ["ere", "query", "index", "search", "shared"]
@@ -32,18 +32,15 @@ def run(folder, program, refused):
 
 
 def main():
-    failed = 0
+    counted = Counted()
     with tempfile.TemporaryDirectory() as folder:
         program = copies.build_program(os.path.join(folder, "copy"), "refused_calls", USES, WANTED)
         subprocess.run(["cc", "-O2", "-shared", "-fPIC", "-x", "c", "-", "-o", os.path.join(folder, "counting.so")], input=COUNTING, text=True, check=True)
         _, requests = run(folder, program, 0)
         for refused in range(requests + 1):
             result, _ = run(folder, program, refused)
-            if result != (0, WANTED):
-                failed += 1
-                print("request %d refused: %r" % (refused, result))
-    print("%d passed, %d failed" % (requests + 1 - failed, failed))
-    sys.exit(1 if failed else 0)
+            counted.judge([None if result == (0, WANTED) else "request %d refused: %r" % (refused, result)])
+    counted.end()
 
 
 if __name__ == "__main__":

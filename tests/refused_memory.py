@@ -6,6 +6,7 @@ stars, and with a pattern that is too large to be compiled. With the Nth request
 `refused: out of memory`, each other line does its work or is refused with the same words, or the program says that memory ran
 out. Anything else ends the comparison with status 1. A library of a few lines, which the command cc builds and which is loaded
 before the C library, counts the requests. A program that may start threads ends by `_exit`, so the count is printed there too.
+With LEAST in its environment, the library counts the requests of at least so many bytes, and refuses the first of them.
 
 Usage: tests/refused_memory.py
 """
@@ -27,13 +28,18 @@ COUNTING = r"""
 #include <sys/syscall.h>
 #include <unistd.h>
 extern void *__libc_malloc(size_t), *__libc_realloc(void *, size_t);
-static long requests, refused = -1;
-static int refuses(void) {
-    if (refused < 0) refused = atol(getenv("REFUSED"));
-    return ++requests == refused;
+static long requests, refused = -1, least;
+static int refuses(size_t size) {
+    if (refused < 0) {
+        if (getenv("LEAST")) least = atol(getenv("LEAST"));
+        refused = atol(getenv("REFUSED"));
+    }
+    if (size < (size_t)least) return 0;
+    long request = __atomic_add_fetch(&requests, 1, __ATOMIC_RELAXED);
+    return least ? request <= refused : request == refused;
 }
-void *malloc(size_t size) { return refuses() ? NULL : __libc_malloc(size); }
-void *realloc(void *old, size_t size) { return refuses() ? NULL : __libc_realloc(old, size); }
+void *malloc(size_t size) { return refuses(size) ? NULL : __libc_malloc(size); }
+void *realloc(void *old, size_t size) { return refuses(size) ? NULL : __libc_realloc(old, size); }
 __attribute__((destructor)) static void tell(void) { dprintf(2, "requests %ld\n", requests); }
 void _exit(int status) { tell(); syscall(SYS_exit_group, status); __builtin_unreachable(); }
 """

@@ -2,12 +2,16 @@
 """Refuses each request for memory of runs of the built program in turn, and judges what they write.
 
 The script has a replacement, a pending put and syncs; it is run with no readers, with two, and as a session. With the Nth request
-refused, a run says that memory ran out or that a reader has no place, or it writes a text that is legal (transcripts.py) if any
-item may be refused for memory. The library of refused_memory.py counts the requests. With readers, the requests of two threads
-come in a different order each time, so these runs are repeated.
+refused, a run says that memory ran out, or it writes a text that is legal (transcripts.py) if any item may be refused for memory.
+No run says that a reader has no place, since there are as many places as readers. The library of refused_memory.py counts the
+requests. With readers, the requests of two threads come in a different order each time, so these runs are repeated.
 
 Then a body is searched that is so large that the pattern is compiled, which takes some hundreds of requests in a row. If one of
 them is refused, the body is searched line by line and the answer stays the same; with stars inside stars the search is refused.
+
+At last, large requests are refused and small ones are not. Then it is known which item has no memory, and what is written: a put, a
+load or a search with no room is refused by name, and the next item is carried out. A script with no room, or in a session a line or
+the text of an answer, ends the run.
 
 Usage: tests/refused_runs.py   The last line counts: N passed, M failed.
 """
@@ -22,10 +26,13 @@ import tempfile
 
 import transcripts
 from check_transcripts import NEW, NO_OLD, OLD, OLD_AGAIN, PROGRAM, REPLACEMENT
+from counted import Counted
 from refused_memory import COUNTING
 
 WANTED = OLD + OLD_AGAIN + NO_OLD + NEW
-WORDS = [b"tsearch: out of memory\n", b"tsearch: no place for a reader\n"]
+# What a session may have written when it fails at an item.
+WHOLE_ANSWERS = [b"", OLD, OLD + OLD_AGAIN, OLD + OLD_AGAIN + NO_OLD, WANTED]
+NO_MEMORY = b"tsearch: out of memory\n"
 NO_READERS, TWO_READERS, SESSION = ["--readers", "0"], ["--readers", "2"], ["--live"]
 # How often each request is refused.
 TIMES = [(NO_READERS, 1), (TWO_READERS, 5), (SESSION, 1)]
@@ -40,6 +47,32 @@ SEARCHES = {
 }
 IN_A_ROW = 400
 
+# Requests of at least this many bytes are large: those for a body of LONG, for a hit of each line of MANY, and for the texts below.
+LARGE_REQUEST = 500_000
+EVERY = 1_000_000
+LONG = b"of no use\n" * 99_999 + b"last line\n"
+MANY = b"x\n" * 50_000 + b"y\n"
+
+# Puts of LONG beside an older document of the name. Its 100,000 line feeds count in the number of the last line.
+LONG_PUT = b"put a %d\n%s\n" % (len(LONG), LONG)
+LONG_PUTS = b"put a 3\nold\npublish\n" + LONG_PUT + b"publish\nsearch old\n" + LONG_PUT + b"publish\nsearch ^last\nwhat\n"
+NO_ROOM, OLD_LEFT = b"line 4 refused: out of memory\n", b"search 1 version 1 lines 1\na:1:old\n"
+NO_ROOM_AGAIN, NOTHING_NEW = b"line 100008 refused: out of memory\n", b"search 2 version 1 lines 0\n"
+NEW_LAST, BAD_LINE = b"search 2 version 2 lines 1\na:100000:last line\n", b"line 200012 refused: bad line\n"
+
+# A line and an answer for whose texts a session has no room, behind an answer.
+ANSWERED = b"put a 3\nold\npublish\nsearch old\n"
+LONG_LINE = ANSWERED + b"#" * len(LONG) + b"\nsearch old\n"
+WIDE_LINE = b"x" * 16_000
+WIDE_ANSWER = ANSWERED + b"".join(b"put w%d 16000\n%s\n" % (number, WIDE_LINE) for number in range(60)) + b"publish\nsearch x\nsearch old\n"
+
+# Searches of MANY, of which the second and the third have many hits.
+MANY_HITS = b"put m %d\n%s\npublish\nsearch y\nsearch x\nsearch x\nsearch y\n" % (len(MANY), MANY)
+FEW_FIRST, FEW_LAST = b"search 1 version 1 lines 1\nm:50001:y\n", b"search 4 version 1 lines 1\nm:50001:y\n"
+HITS = b"version 1 lines 50000\n" + b"".join(b"m:%d:x\n" % number for number in range(1, 50_001))
+SECOND, THIRD = b"search 2 " + HITS, b"search 3 " + HITS
+SECOND_REFUSED, THIRD_REFUSED = b"search 2 refused: out of memory\n", b"search 3 refused: out of memory\n"
+
 
 def build(folder):
     """Builds the library that counts and refuses requests, and gives its path."""
@@ -48,9 +81,10 @@ def build(folder):
     return library
 
 
-def run(library, script, words, refused):
-    """The status, the output and the messages of the run whose request with this number is refused, and how many there were."""
-    env = dict(os.environ, LD_PRELOAD=library, REFUSED=str(refused))
+def run(library, script, words, refused, least=0):
+    """The status, the output and the messages of the run whose request with this number is refused, and how many there were.
+    With `least`, only requests of at least so many bytes count, and the first of them are refused, as many as this number."""
+    env = dict(os.environ, LD_PRELOAD=library, REFUSED=str(refused), LEAST=str(least))
     done = subprocess.run([PROGRAM, *words], input=script, env=env, capture_output=True, check=False, timeout=60)
     messages, count = re.fullmatch(rb"(.*)requests (\d+)\n", done.stderr, re.DOTALL).groups()
     return done.returncode, done.stdout, messages, int(count)
@@ -58,8 +92,8 @@ def run(library, script, words, refused):
 
 def outcome(words, status, text, messages):
     """What became of a run of the script with a replacement, and why that is not allowed, or None."""
-    if messages in WORDS:
-        good = status == 2 and WANTED.startswith(text)
+    if messages == NO_MEMORY:
+        good = status == 2 and (text in WHOLE_ANSWERS if words == SESSION else WANTED.startswith(text))
         return messages.decode().strip(), None if good else "status %d, and %r is written" % (status, text)
     if messages:
         return "other words", repr(messages)
@@ -98,35 +132,62 @@ def each_request_of_a_search(library, search):
             seen.append("the same")
         elif (status, text, messages) == (2, b"search 1 refused: out of memory\n", b""):
             seen.append("the search refused")
-        elif status == 2 and messages == WORDS[0] and wanted.startswith(text):
+        elif status == 2 and messages == NO_MEMORY and wanted.startswith(text):
             seen.append("the run refused")
         else:
             seen.append("a line refused" if re.match(rb"line \d+ refused: out of memory\nsearch 1 ", text) and status == 2 else "wrong")
     return seen
 
 
+def runs_of_no_room(folder):
+    """What a run is of, its script and words, how many large requests are refused, and the status, the text and the messages."""
+    path = os.path.join(folder, "long")
+    with open(path, "wb") as file:
+        file.write(LONG)
+    loads = b"put a 3\nold\npublish\nload a %s\npublish\nsearch old\n" % os.fsencode(path)
+    no_room_once, no_room = NO_ROOM + OLD_LEFT + NEW_LAST + BAD_LINE, NO_ROOM + OLD_LEFT + NO_ROOM_AGAIN + NOTHING_NEW + BAD_LINE
+    yield "long puts", LONG_PUTS, SESSION, 1, (2, no_room_once, b"")
+    yield "long puts", LONG_PUTS, SESSION, EVERY, (2, no_room, b"")
+    for words in NO_READERS, TWO_READERS:
+        yield "a long script", LONG_PUTS, words, EVERY, (2, b"", NO_MEMORY)
+    yield "a long line", LONG_LINE, SESSION, EVERY, (2, OLD_LEFT, NO_MEMORY)
+    yield "a wide answer", WIDE_ANSWER, SESSION, EVERY, (2, OLD_LEFT, NO_MEMORY)
+    for words in NO_READERS, TWO_READERS, SESSION:
+        yield "a long load", loads, words, EVERY, (2, NO_ROOM + OLD_LEFT, b"")
+        yield "many hits", MANY_HITS, words, EVERY, (2, FEW_FIRST + SECOND_REFUSED + THIRD_REFUSED + FEW_LAST, b"")
+    for words in NO_READERS, SESSION:
+        yield "many hits", MANY_HITS, words, 1, (2, FEW_FIRST + SECOND_REFUSED + THIRD + FEW_LAST, b"")
+    # the reader that is refused leaves its search to reader 0
+    yield "many hits", MANY_HITS, TWO_READERS, 1, (0, FEW_FIRST + SECOND + THIRD + FEW_LAST, b"")
+
+
+def fault_of_no_room(library, name, script, words, refused, wanted):
+    """What is wrong with a run with no room, or None."""
+    *done, count = run(library, script, words, refused, LARGE_REQUEST)
+    what = "%s with %s and %d large requests refused" % (name, " ".join(words), refused)
+    if count == 0:
+        return "%s: there is no large request" % what
+    return None if tuple(done) == wanted else "%s: %s, and should be %s" % (what, str(done)[:1000], str(wanted)[:1000])
+
+
 def main():
-    passed = failed = 0
+    counted = Counted()
     with tempfile.TemporaryDirectory() as folder:
         library = build(folder)
         for words, times in TIMES:
             seen = [it for _ in range(times) for it in each_request(library, words)]
             outcomes = collections.Counter(what for what, _ in seen)
             print("%s: %s" % (" ".join(words), ", ".join("%s %d" % pair for pair in sorted(outcomes.items()))))
-            wrong = [fault for _, fault in seen if fault]
-            for fault in wrong:
-                print("FAILED %s" % fault)
-            passed, failed = passed + len(seen) - len(wrong), failed + len(wrong)
+            counted.judge(fault for _, fault in seen)
         for search, wanted in SEARCHES.items():
             seen = each_request_of_a_search(library, search)
             length, what = max((len(list(group)), what) for what, group in itertools.groupby(seen))
             print("%s: %s, %d of them in a row" % (search.decode(), wanted, length))
-            wrong = seen.count("wrong") + (what != wanted or length < IN_A_ROW)
-            if wrong:
-                print("FAILED %s: %d times %s in a row, %d wrong" % (search.decode(), length, what, seen.count("wrong")))
-            passed, failed = passed + len(seen) + 1 - wrong, failed + wrong
-    print("%d passed, %d failed" % (passed, failed))
-    sys.exit(1 if failed else 0)
+            counted.judge("%s: a wrong outcome" % search.decode() if it == "wrong" else None for it in seen)
+            short = what != wanted or length < IN_A_ROW
+            counted.judge(["%s: %d times %s in a row" % (search.decode(), length, what) if short else None])
+        counted.judge(fault_of_no_room(library, *case) for case in runs_of_no_room(folder))
+    counted.end()
 
 
 if __name__ == "__main__":

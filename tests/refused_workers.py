@@ -22,6 +22,7 @@ import copies
 import refused_runs
 import transcripts
 from check_transcripts import REPLACEMENT
+from counted import Counted
 
 WRITTEN = refused_runs.WANTED + b"tsearch: written\n"
 WANTED = b"no readers\n" + WRITTEN + b"readers\n" + WRITTEN
@@ -37,7 +38,7 @@ def run(library, program, refused):
 
 def outcome(readers, text, word):
     """What became of one of the two runs, and what is wrong with it, or None."""
-    if word in refused_runs.WORDS:
+    if word == refused_runs.NO_MEMORY:
         return "the run refused", None if refused_runs.WANTED.startswith(text) else "%r is written" % text
     if word != b"tsearch: written\n":
         return "other words", repr(word)
@@ -48,7 +49,7 @@ def outcome(readers, text, word):
 
 def main():
     times = int(sys.argv[1]) if len(sys.argv) > 1 else 3
-    outcomes, passed, failed = collections.Counter(), 0, 0
+    outcomes, counted = collections.Counter(), Counted()
     with tempfile.TemporaryDirectory() as folder:
         program, library = copies.build_program(os.path.join(folder, "copy"), "refused_workers", ["tsearch"], WANTED), refused_runs.build(folder)
         for _ in range(times):
@@ -60,13 +61,11 @@ def main():
                 if not 0 < refused <= count and output != WANTED:
                     ends.append(("other words", "nothing is refused"))
                 outcomes.update(what for what, _ in ends)
-                for fault in [fault for _, fault in ends if fault]:
-                    print("FAILED request %d: %s" % (refused, fault))
-                wrong = any(fault for _, fault in ends)
-                passed, failed, refused = passed + (not wrong), failed + wrong, refused + 1
+                faults = [fault for _, fault in ends if fault]
+                counted.judge(["request %d: %s" % (refused, "; ".join(faults)) if faults else None])
+                refused += 1
     print(", ".join("%s %d" % pair for pair in sorted(outcomes.items())))
-    print("%d passed, %d failed" % (passed, failed))
-    sys.exit(1 if failed else 0)
+    counted.end()
 
 
 if __name__ == "__main__":

@@ -24,22 +24,31 @@ from the top of the repository, as FILE, and must write NAME.stdout and end with
 The case `architecture` runs nothing: it compares docs/ARCHITECTURE.md with the sources. Each line of an example must be in
 the test that the document names, and each function of its tables in one of the files that are named next to it.
 
+The case `README` runs each command that README.md shows after `$ `, at the top of a copy of what the repository shows there.
+The command must write the lines below it, and nothing to standard error. Lines that are typed are not compared: those of a session
+up to the first answer, and those after the prompt `> ` of the client, which an empty line ends. There must be a command of each
+way: with the script on standard input, a session, and the client.
+
 Usage: tests/run.py [NAME..]   The last line counts: N passed, M failed.
 """
 
 import os
 import pathlib
 import re
+import shutil
 import signal
 import subprocess
 import sys
 import tempfile
+
+from counted import Counted
 
 TOP = pathlib.Path(__file__).resolve().parent.parent
 PROGRAM = TOP / "crates/program/out/program"
 CASES = TOP / "tests/cases"
 EXAMPLES = TOP / "examples"
 ARCHITECTURE = TOP / "docs/architecture"
+README = TOP / "README"
 EMBEDDING = "## Using the crates by themselves\n"
 READERS = ["0", "1", "2", "16"]
 SUFFIXES = {".script", ".args", ".run", ".setup", ".stdout", ".stdout-has", ".stderr", ".stderr-has", ".status"}
@@ -219,6 +228,49 @@ def compare_architecture(base):
     compare_examples(text)
 
 
+def commands_shown(text):
+    """The commands that a page shows after `$ `, each with the lines below it."""
+    for block in re.findall(r"(?:^    .*\n)+", text, re.MULTILINE):
+        lines = [line[4:] for line in block.splitlines()]
+        starts = [at for at, line in enumerate(lines) if line.startswith("$ ")]
+        for start, end in zip(starts, starts[1:] + [len(lines)]):
+            yield lines[start][2:], lines[start + 1 : end]
+
+
+def typed_and_written(command, lines):
+    """What is typed to a command and what it writes, by the lines that are shown below it."""
+    if "live_folder.py" in command:
+        typed = [line[2:] for line in lines if line.startswith("> ")]
+        written = "".join("> " if line.startswith("> ") else line + "\n" for line in lines)
+        return "".join(line + "\n" for line in typed + [""]), written + "> "
+    answers = [at for at, line in enumerate(lines) if re.fullmatch(r"search \d+ version \d+ lines \d+", line)]
+    start = answers[0] if "--live" in command.split() and answers else 0
+    return "".join(line + "\n" for line in lines[:start]), "".join(line + "\n" for line in lines[start:])
+
+
+def compare_command(folder, command, lines):
+    typed, written = typed_and_written(command, lines)
+    wanted = (written.encode(), b"")
+    env = {name: value for name, value in os.environ.items() if name != "TSEARCH"}
+    _, *got = run(["bash", "-c", command], folder, typed.encode(), env)
+    if tuple(got) != wanted:
+        raise Wrong(f"{command!r} writes {got}, and should write {wanted}")
+
+
+def compare_readme(base):
+    shown = list(commands_shown(base.with_name("README.md").read_text()))
+    for way in ("| ./tsearch", "./tsearch --live", "examples/live_folder.py"):
+        if not any(way in command for command, _ in shown):
+            raise Wrong(f"no command has {way!r}")
+    with tempfile.TemporaryDirectory() as folder:
+        copy = pathlib.Path(folder)
+        shutil.copytree(EXAMPLES, copy / "examples")
+        (copy / "tsearch").write_text(f'#!/bin/sh\nexec "{PROGRAM}" "$@"\n')
+        (copy / "tsearch").chmod(0o755)
+        for command, lines in shown:
+            compare_command(folder, command, lines)
+
+
 def cases_of_folders():
     """The cases of all folders, as paths without a suffix."""
     files = [path for path in CASES.rglob("*") if path.is_file()]
@@ -240,24 +292,22 @@ def main():
         sys.exit("tests/run.py: build the program first: ./tsearch --help")
     examples = sorted(path.with_suffix("") for path in EXAMPLES.glob("*.script"))
     jobs = [(run_case, base) for base in cases_of_folders()] + [(run_example, base) for base in examples]
-    jobs.append((compare_architecture, ARCHITECTURE))
+    jobs += [(compare_architecture, ARCHITECTURE), (compare_readme, README)]
     wanted = sys.argv[1:]
     missing = sorted(set(wanted) - {base.name for _, base in jobs})
     if missing:
         sys.exit(f"tests/run.py: no such case: {', '.join(missing)}")
-    passed = failed = 0
+    counted = Counted()
     for job, base in jobs:
         if wanted and base.name not in wanted:
             continue
         try:
             job(base)
         except Wrong as wrong:
-            failed += 1
-            print(f"FAILED {base.relative_to(TOP)}: {wrong}")
+            counted.fails(f"{base.relative_to(TOP)}: {wrong}")
         else:
-            passed += 1
-    print(f"{passed} passed, {failed} failed")
-    sys.exit(1 if failed else 0)
+            counted.passes()
+    counted.end()
 
 
 if __name__ == "__main__":
