@@ -85,20 +85,30 @@ fn by_engine(alloc: Global, tree: &Ere, bytes: &[u8]) -> Result<Option<u64>, All
 """
 
 SIZES = [200, 500, 1_000, 2_000, 4_000, 8_000, 16_000, 20_000, 50_000, 100_000]
-FEW = ["int", "return", "e", "[0-9]+", "static.*inline", "memcpy|memmove|memset", "(if|while|for) *\\(", "[A-Za-z_]+\\(", "^#define", "0x[0-9a-f]{8}", "[Ee][Rr][Rr][Oo][Rr]"]
+FEW = [
+    "int", "return", "e", "[0-9]+", "static.*inline", "memcpy|memmove|memset", "(if|while|for) *\\(", "[A-Za-z_]+\\(",
+    "^#define", "0x[0-9a-f]{8}", "[Ee][Rr][Rr][Oo][Rr]",
+]
 ORDINARY = [
-    "TODO|FIXME|XXX", "^#include <[a-z]+\\.h>", "[A-Za-z_][A-Za-z0-9_]*\\(", "https?://[^ ]+", "^[[:space:]]*$", "[[:space:]]+$", "[0-9]{1,3}(\\.[0-9]{1,3}){3}",
-    "[A-Za-z0-9._%+-]+@[A-Za-z0-9.-]+\\.[A-Za-z]{2,}", "[0-9a-fA-F]{8}-([0-9a-fA-F]{4}-){3}[0-9a-fA-F]{12}", "[0-9]{4}-[0-9]{2}-[0-9]{2}T[0-9]{2}:[0-9]{2}:[0-9]{2}", '"([^"\\\\]|\\\\.)*"',
-    "(0x)?[0-9a-fA-F]{1,16}", "(static|extern|inline)? *(int|char|void|long) +\\**[a-z_]+\\(", "if *\\(.*==.*\\)", "(Jan|Feb|Mar|Apr|May|Jun|Jul|Aug|Sep|Oct|Nov|Dec) +[0-9]{1,2}",
-    "[a-z]+([A-Z][a-z]+)+", "^(([a-z]+_)+[a-z]+ )+=", "[a-f0-9]{32}", "[a-f0-9]{40}", "[a-f0-9]{64}", "[a-f0-9]{128}", "[A-Za-z0-9+/]{60,76}={0,2}", "^.{0,40}$", ".{80,}", ".{100}", ".{120,}",
-    "^.{200}", "^.{255}", "^(.{64}){3}x", ".{0,200}error.{0,200}", "[^,]*(,[^,]*){20}", "(.*,){12}", "([0-9]{1,3},){20}", "(foo|bar|baz){3,20}", "error.{0,80}(failed|refused)",
-    "^([^:]*:){6}/bin/(ba)?sh$",
-    "auto|break|case|char|const|continue|default|do|double|else|enum|extern|float|for|goto|if|int|long|register|return|short|signed|sizeof|static|struct|switch|typedef|union|unsigned|void|volatile|while",
-    "|".join("q%03d" % i for i in range(64)), "|".join("word%03d" % i for i in range(128)), "([0-9a-f]{1,4}:){7}[0-9a-f]{1,4}|([0-9a-f]{1,4}:){1,7}:|::([0-9a-f]{1,4}:){0,6}[0-9a-f]{1,4}",
+    "TODO|FIXME|XXX", "^#include <[a-z]+\\.h>", "[A-Za-z_][A-Za-z0-9_]*\\(", "https?://[^ ]+", "^[[:space:]]*$",
+    "[[:space:]]+$", "[0-9]{1,3}(\\.[0-9]{1,3}){3}", "[A-Za-z0-9._%+-]+@[A-Za-z0-9.-]+\\.[A-Za-z]{2,}",
+    "[0-9a-fA-F]{8}-([0-9a-fA-F]{4}-){3}[0-9a-fA-F]{12}", "[0-9]{4}-[0-9]{2}-[0-9]{2}T[0-9]{2}:[0-9]{2}:[0-9]{2}",
+    '"([^"\\\\]|\\\\.)*"', "(0x)?[0-9a-fA-F]{1,16}", "(static|extern|inline)? *(int|char|void|long) +\\**[a-z_]+\\(",
+    "if *\\(.*==.*\\)", "(Jan|Feb|Mar|Apr|May|Jun|Jul|Aug|Sep|Oct|Nov|Dec) +[0-9]{1,2}", "[a-z]+([A-Z][a-z]+)+",
+    "^(([a-z]+_)+[a-z]+ )+=", "[a-f0-9]{32}", "[a-f0-9]{40}", "[a-f0-9]{64}", "[a-f0-9]{128}",
+    "[A-Za-z0-9+/]{60,76}={0,2}", "^.{0,40}$", ".{80,}", ".{100}", ".{120,}", "^.{200}", "^.{255}", "^(.{64}){3}x",
+    ".{0,200}error.{0,200}", "[^,]*(,[^,]*){20}", "(.*,){12}", "([0-9]{1,3},){20}", "(foo|bar|baz){3,20}",
+    "error.{0,80}(failed|refused)", "^([^:]*:){6}/bin/(ba)?sh$",
+    "auto|break|case|char|const|continue|default|do|double|else|enum|extern|float|for|goto|if|int|long|"
+    "register|return|short|signed|sizeof|static|struct|switch|typedef|union|unsigned|void|volatile|while",
+    "|".join("q%03d" % i for i in range(64)), "|".join("word%03d" % i for i in range(128)),
+    "([0-9a-f]{1,4}:){7}[0-9a-f]{1,4}|([0-9a-f]{1,4}:){1,7}:|::([0-9a-f]{1,4}:){0,6}[0-9a-f]{1,4}",
 ]
 HARD = [
-    "[ab]{255}[ab]{255}[ab]{117}c", "[ab]{255}[ab]{255}[ab]{118}c", "(a?){255}(a{250}){15}", "(a?){150}a{150}b", "(a?){255}a{255}b", "(.{0,60}x){60}", "(.{0,20}x){20}", "(a|b)*a(a|b){200}c",
-    "(a|b)*a(a|b){500}c", "(a{0,255}){16}b", "(a{0,100}){4}b", "(a{0,20}){20}b", "|".join("%sx{0,100}y" % c for c in "abcdefghijklmnopqrstuvw"), "(.*a){200}b", "(.*a){100}b", ".*a.{255}c",
+    "[ab]{255}[ab]{255}[ab]{117}c", "[ab]{255}[ab]{255}[ab]{118}c", "(a?){255}(a{250}){15}", "(a?){150}a{150}b",
+    "(a?){255}a{255}b", "(.{0,60}x){60}", "(.{0,20}x){20}", "(a|b)*a(a|b){200}c", "(a|b)*a(a|b){500}c",
+    "(a{0,255}){16}b", "(a{0,100}){4}b", "(a{0,20}){20}b",
+    "|".join("%sx{0,100}y" % c for c in "abcdefghijklmnopqrstuvw"), "(.*a){200}b", "(.*a){100}b", ".*a.{255}c",
     "(.{0,255}b){2}c", "((a*|b)*|c)*d", "(((a*a)*a)*a)*b", "a" + "*" * 63,
 ]
 
@@ -147,9 +157,12 @@ def main():
     hard = [near, either, b"\n" * 1_048_576]
     with tempfile.TemporaryDirectory() as folder:
         meter = Meter(folder)
-        show(["us line by line, by the engine"] + ["%d bytes" % size for size in SIZES], FEW, lambda pattern: [meter.both(text[:size], pattern) for size in SIZES])
+        both = "us line by line, by the engine"
+        sizes = [both] + ["%d bytes" % size for size in SIZES]
+        show(sizes, FEW, lambda pattern: [meter.both(text[:size], pattern) for size in SIZES])
         show(["pattern", "us to compile"], ORDINARY, lambda pattern: [meter.cell("engine", b"", pattern)])
-        show(["us line by line, by the engine", "lines of a", "lines of a and b", "empty lines"], HARD, lambda pattern: [meter.both(body, pattern) for body in hard])
+        bodies = [both, "lines of a", "lines of a and b", "empty lines"]
+        show(bodies, HARD, lambda pattern: [meter.both(body, pattern) for body in hard])
 
 
 if __name__ == "__main__":

@@ -70,7 +70,8 @@ def main():
         print("\n| line of n bytes `a`, 200 of them | `a.*b` ms | `(a\\|b)*c` ms | `a{1,20}b` ms |")
         print("|---|---|---|---|")
         for n in (250, 500, 1000, 2000, 4000, 8000, 16000):
-            print("| %d | %s |" % (n, " | ".join("%.2f" % (1000 * search_time(target, [b"a" * n] * 200, p)) for p in ("a.*b", "(a|b)*c", "a{1,20}b"))), flush=True)
+            times = [1000 * search_time(target, [b"a" * n] * 200, p) for p in ("a.*b", "(a|b)*c", "a{1,20}b")]
+            print("| %d | %s |" % (n, " | ".join("%.2f" % time for time in times)), flush=True)
         print("\n| alternatives of four bytes | ms over the source lines |")
         print("|---|---|")
         for n in (1, 4, 16, 64):

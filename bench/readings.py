@@ -320,7 +320,8 @@ def show_publishes(program, path):
         blocks = ask(program, "publish", path, documents, readings, pattern)
         times, longest, puts, beside = zip(*blocks)
         searched = "`%s`" % pattern if readings else ""
-        print("| %d | %d | %s | %s | %.0f | %s | %.0f |" % (documents, readings, searched, micros(times), max(longest) / 1e3, micros(puts), statistics.median(beside)))
+        cells = (documents, readings, searched, micros(times), max(longest) / 1e3, micros(puts), statistics.median(beside))
+        print("| %d | %d | %s | %s | %.0f | %s | %.0f |" % cells)
 
 
 def speeds(blocks):

@@ -146,7 +146,9 @@ def main():
         words = words_of(script_with(target, []))
         empty = [timed.run(words) for _ in range(RUNS)]
         base = statistics.median(run["seconds"] for run in empty)
-        print("to the first publish %s ms, %.1f MB/s, resident %.2f bytes a byte" % (shown([run["seconds"] for run in empty]), taken["bytes"] / base / 1e6, timed.memory(words) / taken["bytes"]))
+        first = shown([run["seconds"] for run in empty])
+        speed, resident = taken["bytes"] / base / 1e6, timed.memory(words) / taken["bytes"]
+        print("to the first publish %s ms, %.1f MB/s, resident %.2f bytes a byte" % (first, speed, resident))
         files = os.path.join(target, "files")
         env = dict(os.environ, CSEARCHINDEX=os.path.join(target, "csearchindex"), LC_ALL="C")
         if shutil.which("cindex"):

@@ -117,7 +117,8 @@ fn is_range_ahead(text: &[u8], at: usize) -> bool
 /// The range from `low`, whose `-` is at `dash`.
 fn range_at(text: &[u8], low: u8, dash: usize, opening: usize) -> Result<(ByteSet, usize), EreError>
     requires { IsTrue (range_ahead (drop dash text.now)) }
-    ensures ok { IfOk result (λ r. (high : ℕ) × IsRangeEnd (drop (dash + 1) text.now) high (drop r.1 text.now) × (low ≤ high) × (r.0 ≡ bytes_between low high)) }
+    ensures ok { IfOk result (λ r. (high : ℕ) × IsRangeEnd (drop (dash + 1) text.now) high (drop r.1 text.now)
+        × (low ≤ high) × (r.0 ≡ bytes_between low high)) }
     ensures after { IfOk result (λ r. (dash < r.1) × (r.1 ≤ length text.now)) }
     ensures err { IfErr result (λ e. (high : ℕ) (rest : List ℕ) → IsRangeEnd (drop (dash + 1) text.now) high rest → low ≤ high → ⊥) }
 {
@@ -165,7 +166,8 @@ fn class_at(text: &[u8], at: usize, opening: usize) -> Result<(ByteSet, usize), 
     requires { IsTrue (opens_with 58 (drop at text.now)) }
     ensures ok { IfOk result (λ r. (name : List ℕ) × IsCharacterClass (drop at text.now) name (drop r.1 text.now) × (class_named name ≡ Some r.0)) }
     ensures after { IfOk result (λ r. (at < r.1) × (r.1 ≤ length text.now)) }
-    ensures err { IfErr result (λ e. (name rest : List ℕ) (members : List Bool) → IsCharacterClass (drop at text.now) name rest → class_named name ≡ Some members → ⊥) }
+    ensures err { IfErr result (λ e. (name rest : List ℕ) (members : List Bool) → IsCharacterClass (drop at text.now) name rest
+        → class_named name ≡ Some members → ⊥) }
 {
     match symbol_end(text, at + 2, b':') {
         None => Err(EreError::new(EreErrorKind::BadBracket, opening)),

@@ -1,7 +1,8 @@
 //! The character classes of the POSIX locale, by their names (POSIX.1-2017 XBD 7.3.1).
 
 ghost use Rattle.std.specs.Prelude.{◌≡◌};
-ghost use Rattle.ere.specs.Classes.{class_named, is_alnum, is_alpha, is_blank, is_cntrl, is_digit, is_graph, is_lower, is_print, is_punct, is_space, is_upper, is_xdigit};
+ghost use Rattle.ere.specs.Classes.{class_named, is_alnum, is_alpha, is_blank, is_cntrl, is_digit, is_graph};
+ghost use Rattle.ere.specs.Classes.{is_lower, is_print, is_punct, is_space, is_upper, is_xdigit};
 
 use crate::byte_set::ByteSet;
 

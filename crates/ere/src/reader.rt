@@ -3,7 +3,8 @@
 ghost use Rattle.std.specs.Prelude.{◌≡◌, ◌≢◌, ◌<◌, ◌≤◌, IfErr, IfOk, IsFalse, List, OnOk, OnErr, drop, length};
 ghost use Rattle.std.specs.List.{AllByRecursion};
 ghost use Rattle.ere.specs.Limits.{greatest_open, greatest_pattern, height, HasNoTree, IsTreeOf, IsWithinLimits};
-ghost use Rattle.ere.specs.Private.Reading.{ends_branch, HasNoTokens, IsBuilt, NoAlternatives, NoAtom, NoBranch, NoDuplication, NoPiece, NoTimes, ReadsAlternatives, ReadsAtom, ReadsBranch, ReadsDuplications, ReadsPiece};
+ghost use Rattle.ere.specs.Private.Reading.{ends_branch, HasNoTokens, IsBuilt, NoAlternatives, NoAtom, NoBranch, NoDuplication};
+ghost use Rattle.ere.specs.Private.Reading.{NoPiece, NoTimes, ReadsAlternatives, ReadsAtom, ReadsBranch, ReadsDuplications, ReadsPiece};
 ghost use Rattle.ere.specs.Tokens.{opens, SpellsToken, Token as AnyToken, Tokens};
 ghost use Rattle.ere.specs.Tree.{form, Tree};
 

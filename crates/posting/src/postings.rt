@@ -3,7 +3,8 @@
 ghost use Rattle.std.specs.Prelude.{◌≡◌, ◌≢◌, ℕ, ◌<◌, false, ◌∷◌, [], ◌++◌, All, map, IfOk, IfSome, IfNone, OnOk};
 ghost use Rattle.query.specs.Query.{formula_of, formulas_of, all_of, one_of};
 ghost use Rattle.posting.specs.ListValue.{without, HasRoom};
-ghost use Rattle.posting.specs.Postings.{no_numbers, set_of, holds, IsPrepared, IsAbove, AllDiffer, SameSets, KeepsRoom, AddsNumber, WithdrawsNumber, GivesBack, selected};
+ghost use Rattle.posting.specs.Postings.{no_numbers, set_of, holds, IsPrepared, IsAbove, AllDiffer};
+ghost use Rattle.posting.specs.Postings.{SameSets, KeepsRoom, AddsNumber, WithdrawsNumber, GivesBack, selected};
 ghost use Rattle.posting.specs.Private.Selection.{Finds};
 
 use crate::list::{List, union_of};

@@ -1,6 +1,7 @@
 //! The desk: it accepts commands, and publishes them.
 
-ghost use Rattle.std.specs.Prelude.{◌≡◌, ℕ, ◌≤◌, List, Bool, [], ◌∷◌, ◌++◌, length, drop, false, true, IfSome, IfOk, IfErr, OnOk, OnErr, MatchResult, MatchBool};
+ghost use Rattle.std.specs.Prelude.{◌≡◌, ℕ, ◌≤◌, List, Bool, [], ◌∷◌, ◌++◌, length, drop};
+ghost use Rattle.std.specs.Prelude.{false, true, IfSome, IfOk, IfErr, OnOk, OnErr, MatchResult, MatchBool};
 ghost use Rattle.index.specs.declared.command.Command.TheVariants.{Put as put_command, Remove as remove_command};
 ghost use Rattle.shared.specs.History.{known};
 ghost use Rattle.shared.specs.Private.Batches.{head_of};
@@ -45,7 +46,8 @@ impl Model for Desk {
 
     ghost Value = { DeskState };
 
-    ghost view = { λ d. desk_state d.front.opening d.limit d.writer.desk.shown.value.front.commands (accepted_of d.writer.desk.shown.value (drop d.writer.behind d.writer.log.items)) };
+    ghost view = { λ d. desk_state d.front.opening d.limit d.writer.desk.shown.value.front.commands
+        (accepted_of d.writer.desk.shown.value (drop d.writer.behind d.writer.log.items)) };
 
     ghost invariant = { λ d. IsDesk d.writer.desk.shown.value (drop d.writer.behind d.writer.log.items) d.head d.front d.names d.accepted d.limit };
 }

@@ -7,7 +7,8 @@ ghost use Rattle.ere.specs.Tree as tree;
 ghost use Rattle.query.specs.Query.{formula_of, is_met, IsPlain, IsPlainFor};
 ghost use Rattle.trigram.specs.Texts.{union};
 ghost use Rattle.trigram.specs.Private.Values.{texts_of, shown_analysis, ends_analysis, ArePlain, StandFor, EndsStandFor};
-ghost use Rattle.trigram.specs.Analysis.{just_empty, anything, settle_loose, settle_known, are_kept, loosen, either, both, copies_of, optional, repeated, bytes_in, one_byte, analysis_of, condition, known};
+ghost use Rattle.trigram.specs.Analysis.{just_empty, anything, settle_loose, settle_known, are_kept, loosen, either, both};
+ghost use Rattle.trigram.specs.Analysis.{copies_of, optional, repeated, bytes_in, one_byte, analysis_of, condition, known};
 
 use crate::texts::{
     MOST_TEXTS, Side, copied_texts, has_text, joins, kept_ends, query_of_texts, union,
@@ -78,7 +79,8 @@ fn just_empty(alloc: Global) -> Result<Vec<Vec<u8>>, AllocError>
 
 fn settle_loose(alloc: Global, ends: Ends) -> Result<Ends, AllocError>
     requires { IsPlain (formula_of ends.condition) }
-    ensures { IfOk result (EndsStandFor (settle_loose ends.nullable (texts_of ends.fronts.items) (texts_of ends.backs.items) (is_met (formula_of ends.condition)))) }
+    ensures { IfOk result (EndsStandFor
+        (settle_loose ends.nullable (texts_of ends.fronts.items) (texts_of ends.backs.items) (is_met (formula_of ends.condition)))) }
 {
     let Ends {
         nullable,

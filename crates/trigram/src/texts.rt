@@ -128,7 +128,8 @@ pub(crate) fn joins(
 /// answer `false` although none are equal.
 #[tactic(auto, using(crate::proofs::DistinctLemmas::joins_of_distinct))]
 fn are_all_different(left: &[Vec<u8>], right: &[Vec<u8>]) -> bool
-    ensures { IsTrue result → joins (texts_of left.now) (texts_of right.now) ≡ flat_map (λ front. map (λ back. front ++ back) (texts_of right.now)) (texts_of left.now) }
+    ensures { IsTrue result → joins (texts_of left.now) (texts_of right.now)
+        ≡ flat_map (λ front. map (λ back. front ++ back) (texts_of right.now)) (texts_of left.now) }
 {
     let Some(front) = left.first() else {
         return false;
