@@ -1,4 +1,4 @@
--- The command line `tsearch [--readers N] [--stats] [--max-commands N] [--live] [FILE]`, and what arguments ask for by it.
+-- The command line `tsearch [--readers N] [--stats] [--max-commands N] [--live] [FILE]`, and what arguments ask for with it.
 use Rattle.std.specs.Prelude.{◌≡◌, ◌≢◌, ◌≤◌, ◌<◌, ◌↔◌, ◌==◌, ◌&&◌, if◌then◌else◌, not, ℕ, Bool, List, [], ◌∷◌, Option, Some, None, true}
 use Rattle.std.specs.Prelude.{false, codes, option_map, pos, ⊤}
 use Rattle.std.specs.Str.{bytes_eq}
@@ -38,7 +38,7 @@ command_line = with_rule (with_rule (with_rule (with_rule (with_rule (new_app (c
 abbrev pub found_in : List Text → List Row
 found_in arguments = matches_of command_line arguments
 
--- the number that is written, and else the default
+-- the number that is written, or else the default
 abbrev pub number_or : ℕ → Option Text → ℕ
 number_or default (Some text) = digits_value 10 (without_leading_plus text)
 number_or default None = default
@@ -48,13 +48,13 @@ abbrev pub is_set : Option Text → Bool
 is_set (Some text) = bytes_eq text (codes "true")
 is_set None = false
 
--- a session has no readers, and may be told so
+-- a session has no readers, and an option may say so
 abbrev pub session_faults : List Row → Kinds
 session_faults found =
     if is_set (one_of (codes "live") found) && not (number_or 0 (one_of (codes "readers") found) == 0)
     then ArgumentConflict ∷ [] else []
 
--- what is wrong with the arguments, if anything is: what `clap` refuses, and else readers of a session
+-- what is wrong with the arguments, if anything is: what `clap` refuses, or else readers of a session
 abbrev pub faults_of : List Text → Kinds
 faults_of arguments = or_else (fault_of command_line arguments) (session_faults (found_in arguments))
 

@@ -16,7 +16,7 @@ abbrev pub range_ahead : List ℕ → Bool
 range_ahead (dash ∷ next ∷ text) = dash == 45 && not (next == 93)
 range_ahead _ = false
 
--- `[.`, `[=` and `[:` open a symbol: after a `[` that stands for itself comes none of `.`, `=`, `:`.
+-- `[.`, `[=` and `[:` open a symbol: after a `[` that stands for itself no `.`, `=` or `:` comes.
 abbrev pub opens_symbol : List ℕ → Bool
 opens_symbol text = begins_with 46 text || (begins_with 61 text || begins_with 58 text)
 

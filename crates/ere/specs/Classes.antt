@@ -45,7 +45,7 @@ is_space b = between 9 13 b || b == 32
 abbrev pub is_cntrl : ℕ → Bool
 is_cntrl b = nat_le b 31 || b == 127
 
--- the set that a class name stands for, where it is the name of a class
+-- the set of a class, if this is the name of one
 unfoldable pub class_named : List ℕ → Option (List Bool)
 class_named name =
     if bytes_eq name (codes "upper") then Some (set_of is_upper)

@@ -38,7 +38,7 @@ copies_counted least (Some greatest) = max greatest 1
 copies_counted least None = max least 1
 
 unfoldable mutual
-  -- the leaves, each as often as the counts of the repeats round it allow
+  -- the leaves, each as often as the counts of the repeats around it allow
   pub leaves : Tree → ℕ
   leaves empty = 1
   leaves (set members) = 1

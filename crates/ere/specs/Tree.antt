@@ -1,4 +1,4 @@
--- The tree of an extended regular expression as plain data, without where it lies in memory.
+-- The tree of an extended regular expression as plain data, without its place in memory.
 use Rattle.std.specs.Prelude.{ℕ, Bool, List, [], ◌∷◌, Option}
 use Rattle.ere.specs.declared.tree.Ere.{Ere, Ere-F}
 use Rattle.ere.specs.declared.tree.Ere.TheOpen as layer
@@ -32,6 +32,6 @@ form_step (layer.Cat members) = cat (trees_of members.items)
 form_step (layer.Alt members) = alt (trees_of members.items)
 form_step (layer.Repeat body least greatest) = repeat body.value least greatest
 
--- what tree a program's tree is
+-- the plain tree of a program's tree
 unfoldable pub form : Ere → Tree
 form = fold-Ere Tree form_step

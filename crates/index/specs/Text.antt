@@ -1,4 +1,4 @@
--- What is a name, and what is a body (this program's choices).
+-- What a name is, and what a body is (this program's choices).
 use Rattle.std.specs.Prelude.{◌≡◌, ℕ, ◌<◌, ◌≤◌, Bool, true, false, not, ◌&&◌, ◌==◌, nat_le, nat_lt, List, length}
 use Rattle.std.specs.List.{list_any}
 use Rattle.ere.specs.Lines.{lines_of, greatest_line}
@@ -23,7 +23,7 @@ pub record IsName (bytes : List ℕ) : Type 0 where
   pub short : length bytes ≤ greatest_name
   pub printable : has_bad_byte bytes ≡ false
 
--- The first cause for which bytes are no name. If memory runs out they are one.
+-- The first cause for which bytes are not a name. Memory runs out only for what is a name.
 unfoldable pub IsNameFault : NameError → List ℕ → Type 0
 IsNameFault name_error.Empty bytes = length bytes ≡ 0
 IsNameFault name_error.TooLong bytes = greatest_name < length bytes
@@ -47,7 +47,7 @@ pub record IsBody (bytes : List ℕ) : Type 0 where
   pub text : has_byte_0 bytes ≡ false
   pub lines : has_long_line bytes ≡ false
 
--- The first cause for which bytes are no body.
+-- The first cause for which bytes are not a body.
 unfoldable pub IsBodyFault : BodyErrorKind → List ℕ → Type 0
 IsBodyFault body_error.TooLong bytes = greatest_body < length bytes
 IsBodyFault body_error.NotText bytes = (length bytes ≤ greatest_body) × (has_byte_0 bytes ≡ true)

@@ -1,2 +1,2 @@
--- What only the contracts of private functions cite. A clause cites `pub` modules alone.
+-- What only the contracts of private functions cite. A clause can cite only `pub` modules.
 pub mod Serving

@@ -39,7 +39,7 @@ pub record IsServed (options : LiveOptions) (Holds : List ℕ → List ℕ → T
   pub is_status : status ≡ status_of entries
   pub over : IsOver input left entries
 
--- A session that ended early: what was written is a beginning of such a text, for the first of the bytes that were read.
+-- A session that ended early: what was written is a beginning of such a text, for a beginning of the bytes that were read.
 pub record IsBroken (options : LiveOptions) (Holds : List ℕ → List ℕ → Type 0) (failed failed' : ℕ) (input left old new : Option (List ℕ)) : Type 0 where
   pub script : List ℕ
   pub others : List ℕ

@@ -11,7 +11,7 @@ pub record ListValue : Type 0 where
 abbrev pub has : List ℕ → ℕ → Bool
 has numbers n = list_any (λ m. m == n) numbers
 
--- the numbers but this one
+-- the numbers without this one
 abbrev pub without : ℕ → List ℕ → List ℕ
 without n numbers = filter (λ m. not (m == n)) numbers
 

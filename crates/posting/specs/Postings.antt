@@ -29,7 +29,7 @@ IsPrepared table trigrams = All (λ trigram. HasRoom (set_of table trigram)) tri
 abbrev pub IsAbove : List ListValue → List ℕ → ℕ → Type 0
 IsAbove table trigrams number = (trigram n : ℕ) → IsTrue (has trigrams trigram) → IsTrue (holds table trigram n) → n < number
 
--- each once
+-- no two are the same
 abbrev pub AllDiffer : List ℕ → Type 0
 AllDiffer = AllPairs (λ s t. s ≢ t)
 
@@ -37,7 +37,7 @@ AllDiffer = AllPairs (λ s t. s ≢ t)
 abbrev pub SameSets : List ListValue → List ListValue → Type 0
 SameSets old new = (trigram n : ℕ) → holds new trigram n ≡ holds old trigram n
 
--- Where a set had room for one more number it has it still.
+-- Each set that had room for one more number still has it.
 abbrev pub KeepsRoom : List ListValue → List ListValue → Type 0
 KeepsRoom old new = (trigram : ℕ) → HasRoom (set_of old trigram) → HasRoom (set_of new trigram)
 
@@ -49,7 +49,7 @@ AddsNumber old new trigrams number = (trigram n : ℕ) → holds new trigram n �
 abbrev pub WithdrawsNumber : List ListValue → List ListValue → List ℕ → ℕ → Type 0
 WithdrawsNumber old new trigrams number = (trigram n : ℕ) → holds new trigram n ≡ (holds old trigram n && not (has trigrams trigram && n == number))
 
--- Where one of these trigrams' sets has no number it has no room either.
+-- If the set of one of these trigrams has no number, it has no room either.
 abbrev pub GivesBack : List ListValue → List ℕ → Type 0
 GivesBack table trigrams = (trigram : ℕ) → IsTrue (has trigrams trigram) → (set_of table trigram).members ≡ [] → set_of table trigram ≡ no_numbers
 

@@ -1,4 +1,4 @@
--- What only the contracts of private functions cite. A clause cites `pub` modules alone.
+-- What only the contracts of private functions cite. A clause can cite only `pub` modules.
 pub mod Gaps
 pub mod Pages
 pub mod Selection

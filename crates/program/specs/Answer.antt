@@ -41,8 +41,8 @@ pub record IsSessionOf (opens : List ℕ → Option (List ℕ) → Type 0) (inpu
   pub is_input : IsInputFrom opens input settings.file all
   pub served : IsServed (live_options_of settings) (IsLoadFrom opens) failed failed' all left old new status
 
--- Arguments that spell settings lead to their run, or to their session if they ask for one, and those that ask for the
--- help to the help and 0.
+-- Arguments that spell settings lead to their run, or to their session if they ask for one, and arguments that ask for
+-- the help lead to the help and 0.
 pub data IsAnswer (arguments : List (List ℕ)) (opens : List ℕ → Option (List ℕ) → Type 0) (input : Option (List ℕ)) (failed failed' : ℕ)
     (old new : Option (List ℕ)) (status : ℕ) : Type 0 where
   ran : (settings : Settings) → SpellSettings arguments settings → settings.live ≡ false
@@ -51,12 +51,12 @@ pub data IsAnswer (arguments : List (List ℕ)) (opens : List ℕ → Option (Li
       → IsSessionOf opens input failed failed' old new settings status → IsAnswer arguments opens input failed failed' old new status
   helped : AskForHelp arguments → Appends old new HELP.now → status ≡ 0 → IsAnswer arguments opens input failed failed' old new status
 
--- What may keep a run or a session from its answer.
+-- Why a run or a session may have no answer.
 abbrev pub IsFailureOfRun : ProgramError → Type 0
 IsFailureOfRun (error.Arguments fault) = ⊥
 IsFailureOfRun _ = ⊤
 
--- What may keep the program from an answer to the arguments.
+-- Why the program may have no answer to the arguments.
 abbrev pub IsFailure : List (List ℕ) → ProgramError → Type 0
 IsFailure arguments (error.Arguments fault) = IsRefusalOf arguments fault
 IsFailure arguments error.OutOfMemory = faults_of arguments ≡ []

@@ -1,3 +1,3 @@
--- What only the contracts of private functions cite. A clause cites `pub` modules alone.
+-- What only the contracts of private functions cite. A clause can cite only `pub` modules.
 pub mod Cuts
 pub mod Taking

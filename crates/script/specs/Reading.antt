@@ -9,7 +9,7 @@ use Rattle.script.specs.declared.item.Item.TheVariants as variants
 pub record Takes (old : Position) (item : Numbered) (new : Position) : Type 0 where
   pub whole : (items : List Numbered) → ItemsFrom new.line new.rest items → ItemsFrom old.line old.rest (item ∷ items)
 
--- an item without where its bytes lie
+-- an item, without the place of its bytes in memory
 abbrev pub shown_item : program.Item → Item
 shown_item (variants.Put name body) = put name.now body.now
 shown_item (variants.Load name path) = load name.now path.now

@@ -42,7 +42,7 @@ pub record IsScanOf (state : State) (pattern : Pattern) (scan : List Hit) : Type
 abbrev pub candidates_of : State → Tree → List Document
 candidates_of state tree = filter (λ d. condition tree (trigrams_of_body d.body)) state.documents
 
--- an answer: the number of commands that it rests on, the lines found, and how many documents there are,
+-- an answer: the number of commands that it is of, the lines found, and how many documents there are,
 -- and how many of them are candidates
 pub record Answer : Type 0 where
   pub version : ℕ

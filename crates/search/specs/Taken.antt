@@ -24,7 +24,7 @@ pub record AreWanted (state : State) (pattern : Pattern) (wanted : List Document
   pub rises : RisesByName wanted
   pub exact : (d : Document) → Contains wanted d ↔ IsWanted state pattern d
 
--- It was taken of an index in this state, for this pattern.
+-- It was taken from an index in this state, for this pattern.
 pub record IsTakenOf (state : State) (pattern : Pattern) (taken : Taken) : Type 0 where
   pub prepared : pattern_of taken.prepared.now ≡ pattern
   pub version : taken.version ≡ state.version

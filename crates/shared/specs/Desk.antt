@@ -28,11 +28,11 @@ with_command command desk = record desk { accepted = desk.accepted ++ command �
 abbrev pub all_published : DeskState → DeskState
 all_published desk = record desk { published = desk.accepted }
 
--- as many commands are accepted as there may be
+-- the greatest number of commands is accepted
 abbrev pub IsFull : DeskState → Type 0
 IsFull desk = length desk.accepted ≡ desk.limit
 
--- one more command may be accepted
+-- there is room for one more command
 abbrev pub HasRoom : DeskState → Type 0
 HasRoom desk = length desk.accepted < desk.limit
 

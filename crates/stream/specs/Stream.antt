@@ -18,7 +18,7 @@ pub record Place : Type 0 where
 abbrev pub place : ℕ → Bool → Place
 place line ended = record { line = line; ended = ended }
 
--- the item, without where its bytes lie; of a body that was passed over only its length is known, or nothing
+-- the item, without the place of its bytes in memory; of a body that was passed over, only that it is too long is known, or nothing
 abbrev pub Shows : StreamItem → Item → Type 0
 Shows (variants.Put name body) item = item ≡ put name.now body.items
 Shows (variants.LongPut name) item = (body : List ℕ) × (item ≡ put name.now body) × (MAX_BODY < length body)

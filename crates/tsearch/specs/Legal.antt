@@ -48,7 +48,7 @@ pub data HasLoaded (Holds : List ℕ → List ℕ → Type 0) (most : ℕ) (stat
   failed : loaded ≡ None → entry ≡ Refused line reason.CannotLoad → HasLoaded Holds most state path loaded line entry
   loaded_body : (body : List ℕ) → loaded ≡ Some body → Holds path body → HasBody most state body line entry → HasLoaded Holds most state path loaded line entry
 
--- A remove wants a document of that name after all accepted commands.
+-- A remove needs a document of that name after all accepted commands.
 pub data IsRemove (most : ℕ) (state : State) (name : List ℕ) (line : ℕ) (entry : Entry) : Type 0 where
   no_such_file : number_of name state.documents ≡ None → entry ≡ Refused line reason.NoSuchFile → IsRemove most state name line entry
   is_there : number_of name state.documents ≢ None → IsRoomFor most state line entry → IsRemove most state name line entry

@@ -7,7 +7,7 @@ use Rattle.tsearch.specs.declared.transcript.Entry.{Entry}
 use Rattle.tsearch.specs.declared.transcript.Reason.TheVariants.{CannotLoad}
 use Rattle.tsearch.specs.declared.transcript.Entry.TheVariants.{Accepted, Refused, Published}
 
--- loaded: of a load, the bytes that the source answered, where it didn't fail.
+-- loaded: of a load, the bytes that the source answered, if it did not fail.
 -- entry: a sync has none.
 pub record Row : Type 0 where
   pub numbered : Numbered

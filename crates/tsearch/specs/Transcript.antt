@@ -50,6 +50,6 @@ has_hit (Published line version) = false
 has_hit (Found number reader turn answer) = nat_lt 0 (length answer.hits)
 has_hit (SearchRefused number reason) = false
 
--- 2 where anything was refused, else 0 where some search has a hit, else 1
+-- 2 if anything was refused, otherwise 0 if some search has a hit, otherwise 1
 abbrev pub status_of : List Entry → ℕ
 status_of entries = if list_any is_refusal entries then 2 else (if list_any has_hit entries then 0 else 1)

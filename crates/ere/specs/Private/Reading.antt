@@ -51,7 +51,7 @@ begins_longer b text = b == 91 || (b == 92 || (b == 123 && digit_ahead text))
 abbrev pub NoDuplication : Case → List ℕ → Type 0
 NoDuplication case from = (rest : List ℕ) (least : ℕ) (greatest : Option ℕ) → SpellsToken case from rest (tokens.times least greatest) → ⊥
 
--- All decimal digits at the front, and the count that they spell, where they spell one.
+-- All decimal digits at the front, and the count that they spell, if they spell one.
 pub record ReadsCount (from rest : List ℕ) (count : Option ℕ) : Type 0 where
   pub digits : List ℕ
   pub is_front : from ≡ digits ++ rest
@@ -93,7 +93,7 @@ pub record Reads (case : Case) (from to : List ℕ) (spells : List tokens.Token 
   pub forward : (rest : List tokens.Token) → tokens.Tokens case to rest → (all : List tokens.Token) × tokens.Tokens case from all × spells all rest
   pub backward : (all : List tokens.Token) → tokens.Tokens case from all → (rest : List tokens.Token) × tokens.Tokens case to rest × spells all rest
 
--- The tree as it is kept: a part with its height, or none where it is higher than the limit.
+-- The tree as it is kept: a part with its height, or nothing if it is higher than the limit.
 abbrev pub IsBuilt : Option Part → Tree → Type 0
 IsBuilt (Some part) tree = (form part.tree ≡ tree) × (height tree ≡ part.height) × (part.height ≤ greatest_height)
 IsBuilt None tree = greatest_height < height tree

@@ -33,7 +33,7 @@ marks_of entries = record { refused = list_any is_refusal entries; hit = list_an
 abbrev pub status_by : Marks → ℕ
 status_by marks = if marks.refused then 2 else (if marks.hit then 0 else 1)
 
--- What stood before a session: how many commands it takes, how often the source had failed, what the input had left,
+-- What there was before a session: how many commands it takes, how often the source had failed, what the input had left,
 -- and what had been written.
 pub record Start : Type 0 where
   pub limit : ℕ
@@ -41,7 +41,7 @@ pub record Start : Type 0 where
   pub input : Option (List ℕ)
   pub output : Option (List ℕ)
 
--- What stands between two items.
+-- What there is between two items.
 pub record Now : Type 0 where
   pub run : LoneState
   pub place : Place

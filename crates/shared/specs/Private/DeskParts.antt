@@ -20,8 +20,8 @@ accepted_of shown pending = shown.front.commands ++ commands_in pending
 abbrev pub lacking : Known → Shelf → List Operation → List Command
 lacking front shown pending = drop (length front.commands) (accepted_of shown pending)
 
--- The head and the shelf are of the front's opening. The front, as far as the history is known to go, begins
--- what is accepted, which is counted and has the names.
+-- The head and the shelf are of the front's opening. What is accepted begins with the front, which is as far as the
+-- history is known. It is counted, and its documents have the names.
 pub record IsDesk (shown : Shelf) (pending : List Operation) (head : Named) (front : Known) (names : Names) (accepted limit : ℕ) : Type 0 where
   pub one : shown.front.opening ≡ front.opening
   pub head_is : head ≡ head_of front.opening

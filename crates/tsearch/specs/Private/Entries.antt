@@ -62,7 +62,7 @@ pub record IsCounted (failures failed failed' : ℕ) : Type 0 where
   pub rises : IsFailedTimes failures failed failed'
   pub stays : failed ≡ greatest_failures → failed' ≡ greatest_failures
 
--- A load: the source is asked once, unless the name is none, and failed exactly where the entry says so.
+-- A load: the source is asked once, unless the name is not a name, and failed exactly if the entry says so.
 pub record IsLoaded (Holds : List ℕ → List ℕ → Type 0) (desk : DeskState) (failed : ℕ) (name path : List ℕ) (done : Result ℕ Reason)
     (desk' : DeskState) (failed' : ℕ) : Type 0 where
   pub loaded : Option (List ℕ)

@@ -40,7 +40,7 @@ pub record IsUseful (searches : List (Option Prepared)) (told : List Command) (g
   pub listed : slice_get searches (given.search - 1) ≡ Some (Some prepared)
   pub exact : given.answer.version ≤ length told → IsAnswerOf (state_of (take given.answer.version told)) (pattern_of prepared) given.answer
 
--- What is tested of an answer before it stands.
+-- What is tested of an answer before it is accepted.
 pub record CanStand (told : List Command) (versions : List ℕ) (least : ℕ) (last : Last) (given : Given) : Type 0 where
   pub seen : given.answer.version ≤ length told
   pub not_older : least ≤ given.answer.version
