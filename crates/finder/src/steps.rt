@@ -6,12 +6,18 @@ use ere::Ere;
 /// How many rounds a star may take: one for each byte of the longest line.
 const ROUNDS: u64 = 16_384;
 
+/// What a plain star takes instead. It goes through the line window by window, each of 64 positions: at most 64
+/// rounds within a window, each of which looks at a single word of the set, and one over the whole line. In all
+/// that is measured to be no more than this many rounds over the line.
+const PLAIN_ROUNDS: u64 = 32;
+
 /// The most steps that the matcher may take for a line, about: a step takes a set of positions over one set of bytes.
 ///
 /// A star takes a step for each set in its body in each of its rounds. It takes one round if it is at the front: if
 /// nothing is before it but what can be empty, in the tree if `leads`, or in the body of the star around it. In the
 /// tree it then begins with all positions of the line, so there are none to reach. In the body of another star it
-/// goes on only from what is new. A star of a single set is one step. No answer depends on this number.
+/// goes on only from what is new. A star of a single set is one step. Elsewhere a star takes few rounds if its body
+/// is plain, and otherwise a round for each byte. No answer depends on this number.
 #[cycle(steps)]
 pub fn steps_of(tree: &Ere, leads: bool) -> u64 {
     match tree {
@@ -26,8 +32,7 @@ pub fn steps_of(tree: &Ere, leads: bool) -> u64 {
                 if is_one_set(body) {
                     return 1;
                 }
-                let rounds = if leads && *least < 2 { 1 } else { ROUNDS };
-                steps_of(body, true).saturating_mul(rounds)
+                steps_of(body, true).saturating_mul(rounds_of(body, leads && *least < 2))
             }
             Some(most) => {
                 // Only the first copy is at the front.
@@ -36,6 +41,44 @@ pub fn steps_of(tree: &Ere, leads: bool) -> u64 {
             }
         },
     }
+}
+
+// How many rounds a star of this body takes.
+fn rounds_of(body: &Ere, leads: bool) -> u64 {
+    if leads {
+        1
+    } else if is_plain(body) {
+        PLAIN_ROUNDS
+    } else {
+        ROUNDS
+    }
+}
+
+// Whether the tree has no `$` and no star but of single sets. The matcher goes through a star of such a body window
+// by window.
+#[cycle(plain)]
+fn is_plain(tree: &Ere) -> bool {
+    match tree {
+        Ere::Empty => true,
+        Ere::Set(_) => true,
+        Ere::Start => true,
+        Ere::End => false,
+        Ere::Cat(members) => are_plain(members.as_slice()),
+        Ere::Alt(members) => are_plain(members.as_slice()),
+        Ere::Repeat(body, _least, greatest) => (greatest.is_some() || is_one_set(body))
+            && is_plain(body),
+    }
+}
+
+// Whether all members are plain.
+#[cycle(plain)]
+fn are_plain(members: &[Ere]) -> bool {
+    for member in members {
+        if !is_plain(member) {
+            return false;
+        }
+    }
+    true
 }
 
 // The steps of all members, one after the other.
