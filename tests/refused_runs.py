@@ -155,8 +155,6 @@ def runs_of_no_room(folder):
     for words in NO_READERS, TWO_READERS, SESSION:
         yield "a long load", loads, words, EVERY, (2, NO_ROOM + OLD_LEFT, b"")
         yield "many hits", MANY_HITS, words, EVERY, (2, FEW_FIRST + SECOND_REFUSED + THIRD_REFUSED + FEW_LAST, b"")
-    for words in NO_READERS, SESSION:
-        yield "many hits", MANY_HITS, words, 1, (2, FEW_FIRST + SECOND_REFUSED + THIRD + FEW_LAST, b"")
     # the reader that is refused leaves its search to reader 0
     yield "many hits", MANY_HITS, TWO_READERS, 1, (0, FEW_FIRST + SECOND + THIRD + FEW_LAST, b"")
 
