@@ -160,6 +160,7 @@ fn command<'a>(alloc: Global) -> Result<Command<'a>, AllocError>
         .action(ArgAction::SetTrue);
     let file = Arg::new(alloc, "FILE");
     Command::new(alloc, "tsearch")
+        .bin_name("tsearch")?
         .override_help(HELP)
         .arg(readers)?
         .arg(stats)?

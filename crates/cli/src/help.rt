@@ -14,11 +14,12 @@ Options:
                           With 0 each search is answered in its place. More readers help
                           where many searches between two syncs match much, up to the
                           number of processors
-      --stats             Tells of each answer how many documents its trigrams left to be searched
+      --stats             Shows with each answer how many documents may have a match, judged by
+                          their trigrams, and how many there are
       --max-commands <N>  How many puts, loads and removes are accepted, 1 to 1000000
                           [default: 65536, and 1000000 with --live]
-      --live              Carries out each line as it comes, and writes what it causes before
-                          the next one is waited for. Each search is answered in its place
+      --live              Carries out each line as it arrives, and writes its output before waiting
+                          for the next line. Each search is answered at once
   -h, --help              Print help
 
 A script is a list of lines:

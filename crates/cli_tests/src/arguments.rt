@@ -171,3 +171,28 @@ fn arguments_that_are_no_text_are_refused(rt: HostRuntime) -> Result<(), Fail> {
     assert!(rt; text.as_str().starts_with("error: invalid UTF-8"));
     Ok(())
 }
+
+/// The program, called by some name, refuses an argument and shows how `tsearch` is used.
+fn assert_shows_usage(
+    rt: &impl Abort,
+    alloc: Global,
+    called: &str,
+    argument: &str,
+) -> Result<(), Fail> {
+    let mut arguments = vec![in alloc; String::from_str(alloc, called)?]?;
+    arguments.push(String::from_str(alloc, argument)?)?;
+    match read_arguments(alloc, &arguments) {
+        Err(error) => {
+            let text = format!(in alloc; "{}", error)?;
+            assert!(rt; text.as_str().contains("\nUsage: tsearch "));
+            Ok(())
+        }
+        Ok(_) => Err(Fail::from("arguments that were to be refused")),
+    }
+}
+
+#[test]
+fn the_usage_names_tsearch_whatever_the_program_is_called(rt: HostRuntime) -> Result<(), Fail> {
+    assert_shows_usage(&rt, rt.alloc(), "program", "--version")?;
+    assert_shows_usage(&rt, rt.alloc(), "/a/b", "--live=2")
+}

@@ -7,8 +7,8 @@ use Rattle.std.proofs.Math.Seq.{take-append_seam, drop-append_seam}
 use Rattle.std.proofs.lemmas.List.Elements.{recursion_from_All}
 use Rattle.ere.specs.Classes.{is_digit}
 use Rattle.script.specs.Fields.{fields_of, SpellsSize}
-use Rattle.script.specs.Private.Cuts.{Lacks, FirstLineOf}
-use Rattle.script.specs.Items.{Numbered, numbered, ItemsFrom, done, blank_line, other_line, closed_put, last_put, malformed_put}
+use Rattle.script.specs.Private.Cuts.{Lacks, CutsLine}
+use Rattle.script.specs.Items.{Numbered, numbered, ItemsFrom, done, blank_line, other_line, closed_put, last_put, bad_put_line}
 use Rattle.script.specs.Items.{missing_body, short_body, open_body, BeginsWithLine, ended, last, IsPutLine, is_put, is_blank, item_of_line}
 use Rattle.script.specs.Items.{line_feeds, put, bad_put, truncated, body_not_closed}
 use Rattle.script.proofs.ReaderLemmas.{in_back, last_cut_once, lacks_byte}
@@ -43,7 +43,7 @@ IsHeader true line (Some header) = IsPutLine line header.0 header.1
 
 data Leads (n : ℕ) (text : List ℕ) (next : Next) : Type 0 where
   nothing : text ≡ [] → next ≡ end → Leads n text next
-  something : (line : List ℕ) (left : Option (List ℕ)) (header : Option (List ℕ × ℕ)) → 0 < length text → FirstLineOf text line left
+  something : (line : List ℕ) (left : Option (List ℕ)) (header : Option (List ℕ × ℕ)) → 0 < length text → CutsLine text line left
       → IsHeader (is_put line) line header → next ≡ after_line n line left header → Leads n text next
 
 first_cut_front : (byte : ℕ) (front front' back back' : List ℕ) → front ++ byte ∷ back ≡ front' ++ byte ∷ back' → Lacks byte front
@@ -70,14 +70,14 @@ last_cut_front byte (c ∷ front) (c' ∷ front') back e l =
     cc
 
 -- A text has one first line, and one rest.
-one_first_line : (text line line' : List ℕ) (left left' : Option (List ℕ)) → FirstLineOf text line left → FirstLineOf text line' left'
+one_cut_line : (text line line' : List ℕ) (left left' : Option (List ℕ)) → CutsLine text line left → CutsLine text line' left'
     → (line ≡ line') × (left ≡ left')
-one_first_line text line line' (Some rest) (Some rest') is is' =
+one_cut_line text line line' (Some rest) (Some rest') is is' =
     let same = first_cut_front 10 line line' rest rest' (sym is.whole ∙ is'.whole) is.first is'.first in
     (same, ap Some (same_back 10 line rest rest' (sym is.whole ∙ is'.whole ∙ ap (λ l. l ++ 10 ∷ rest') (sym same))))
-one_first_line text line line' (Some rest) None is is' = absurd (in_back 10 line rest line' (sym is'.0 ∙ is.whole) is'.1)
-one_first_line text line line' None (Some rest') is is' = absurd (in_back 10 line' rest' line (sym is.0 ∙ is'.whole) is.1)
-one_first_line text line line' None None is is' = (sym is.0 ∙ is'.0, refl)
+one_cut_line text line line' (Some rest) None is is' = absurd (in_back 10 line rest line' (sym is'.0 ∙ is.whole) is'.1)
+one_cut_line text line line' None (Some rest') is is' = absurd (in_back 10 line' rest' line (sym is.0 ∙ is'.whole) is.1)
+one_cut_line text line line' None None is is' = (sym is.0 ∙ is'.0, refl)
 
 lacks_space : (digits : List ℕ) (size : ℕ) → SpellsSize digits size → Lacks 32 digits
 lacks_space digits size is = lacks_byte 32 digits (omega arith) (recursion_from_All (λ d. is_digit d ≡ true) digits is.decimal)
@@ -112,7 +112,7 @@ leads_once n text next next' (nothing none is) (nothing none' is') = is ∙ sym 
 leads_once n text next next' (nothing none is) (something line left header some first head is') = absurd (omega (arith, ap length none))
 leads_once n text next next' (something line left header some first head is) (nothing none' is') = absurd (omega (arith, ap length none'))
 leads_once n text next next' (something line left header some first head is) (something line' left' header' some' first' head' is') =
-    let lines = one_first_line text line line' left left' first first' in
+    let lines = one_cut_line text line line' left left' first first' in
     let same = one_header (is_put line) line header header' head (subst (λ l. IsHeader (is_put l) l header') (sym lines.0) head') in
     is ∙ ap (λ l. after_line n l left header) lines.0 ∙ ap (λ f. after_line n line' f header) lines.1 ∙ ap (after_line n line' left') same ∙ sym is'
 
@@ -132,7 +132,7 @@ is_put_first line name size is = subst (λ l. is_put l ≡ true) (sym is.2) refl
 
 record FirstOf (text line rest : List ℕ) : Type 0 where
   left : Option (List ℕ)
-  first : FirstLineOf text line left
+  first : CutsLine text line left
   same : rest ≡ unwrap_or left []
   some : 0 < length text
 
@@ -169,9 +169,9 @@ leads_other n text line rest begins blank is_a_put =
     let yes : is_blank line ≡ false = blank in
     something line f.left None f.some f.first (rw no refl) (rw (no, yes) (ap (one (numbered n (item_of_line line)) (n + 1)) f.same))
 
-leads_malformed : (n : ℕ) (text line rest : List ℕ) → BeginsWithLine text line rest → IsTrue (is_put line)
+leads_bad_put : (n : ℕ) (text line rest : List ℕ) → BeginsWithLine text line rest → IsTrue (is_put line)
     → ((name : List ℕ) (size : ℕ) → IsPutLine line name size → ⊥) → Leads n text (stop (numbered n bad_put))
-leads_malformed n text line rest begins is_a_put none =
+leads_bad_put n text line rest begins is_a_put none =
     let f = first_of_text text line rest begins in
     let yes : is_put line ≡ true = is_a_put in
     something line f.left None f.some f.first (rw yes none) (rw yes refl)
@@ -206,7 +206,7 @@ next_of n text items (blank_line line rest begins blank more) = skip (n + 1) res
 next_of n text items (other_line line rest begins blank is_a_put more) = one (numbered n (item_of_line line)) (n + 1) rest
 next_of n text items (closed_put {name = name} {body = body} line rest whole is more) = one (numbered n (put name body)) (n + 2 + line_feeds body) rest
 next_of n text items (last_put {name = name} {body = body} line whole is) = stop (numbered n (put name body))
-next_of n text items (malformed_put line rest begins is_a_put none) = stop (numbered n bad_put)
+next_of n text items (bad_put_line line rest begins is_a_put none) = stop (numbered n bad_put)
 next_of n text items (missing_body name size is) = stop (numbered n truncated)
 next_of n text items (short_body line name left size whole is short) = stop (numbered n truncated)
 next_of n text items (open_body line name body rest b whole is other) = stop (numbered n body_not_closed)
@@ -218,7 +218,7 @@ leads n text items (other_line line rest begins blank is_a_put more) = leads_oth
 leads n text items (closed_put {name = name} {body = body} line rest whole is more) = leads_body n text line name body (10 ∷ rest) whole is _ refl
 leads n text items (last_put {name = name} {body = body} line whole is) =
     leads_body n text line name body [] (whole ∙ ap (λ b. line ++ 10 ∷ b) (sym (append-nil body))) is _ refl
-leads n text items (malformed_put line rest begins is_a_put none) = leads_malformed n text line rest begins is_a_put none
+leads n text items (bad_put_line line rest begins is_a_put none) = leads_bad_put n text line rest begins is_a_put none
 leads n text items (missing_body name size is) = leads_missing n text name size is
 leads n text items (short_body line name left size whole is short) = leads_short n text line name left size whole is short
 leads n text items (open_body line name body rest b whole is other) =
@@ -238,7 +238,7 @@ rest_of n text items (blank_line line rest begins blank more) = more
 rest_of n text items (other_line {items = others} line rest begins blank is_a_put more) = (others, refl, more)
 rest_of n text items (closed_put {items = others} line rest whole is more) = (others, refl, more)
 rest_of n text items (last_put line whole is) = refl
-rest_of n text items (malformed_put line rest begins is_a_put none) = refl
+rest_of n text items (bad_put_line line rest begins is_a_put none) = refl
 rest_of n text items (missing_body name size is) = refl
 rest_of n text items (short_body line name left size whole is short) = refl
 rest_of n text items (open_body line name body rest b whole is other) = refl
@@ -259,8 +259,8 @@ one_reading n text items items' (closed_put {name = name} {body = body} {items =
     let rest' = other_rest n text items items' (closed_put line rest whole is more) h' in
     ap (λ l. numbered n (put name body) ∷ l) (one_reading (n + 2 + line_feeds body) rest others rest'.0 more rest'.2) ∙ sym rest'.1
 one_reading n text items items' (last_put line whole is) h' = sym (other_rest n text items items' (last_put line whole is) h')
-one_reading n text items items' (malformed_put line rest begins is_a_put none) h' =
-    sym (other_rest n text items items' (malformed_put line rest begins is_a_put none) h')
+one_reading n text items items' (bad_put_line line rest begins is_a_put none) h' =
+    sym (other_rest n text items items' (bad_put_line line rest begins is_a_put none) h')
 one_reading n text items items' (missing_body name size is) h' = sym (other_rest n text items items' (missing_body name size is) h')
 one_reading n text items items' (short_body line name left size whole is short) h' =
     sym (other_rest n text items items' (short_body line name left size whole is short) h')

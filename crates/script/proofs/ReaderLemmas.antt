@@ -11,8 +11,8 @@ use Rattle.std.proofs.lemmas.Bool.Decides.{nat_tests}
 use Rattle.ere.specs.Classes.{is_digit}
 use Rattle.std.proofs.lemmas.List.Elements.{recursion_from_All}
 use Rattle.script.specs.Fields.{fields_of, SpellsSize, IsPutHeader}
-use Rattle.script.specs.Private.Cuts.{CutsLast, Lacks, FirstLineOf, shown_fields}
-use Rattle.script.specs.Items.{Item, Numbered, numbered, ItemsFrom, done, blank_line, other_line, closed_put, last_put, malformed_put}
+use Rattle.script.specs.Private.Cuts.{CutsLast, Lacks, CutsLine, shown_fields}
+use Rattle.script.specs.Items.{Item, Numbered, numbered, ItemsFrom, done, blank_line, other_line, closed_put, last_put, bad_put_line}
 use Rattle.script.specs.Items.{missing_body, short_body, open_body, BeginsWithLine, ended, last, IsLine, IsPutLine, IsBlankText, empty}
 use Rattle.script.specs.Items.{one_more, is_put, is_blank, item_of, item_of_line, line_feeds, put, bad_put, truncated, body_not_closed}
 use Rattle.script.specs.Private.Taking.{TakesFrom, FollowsLine, HasHeader, LacksHeader}
@@ -32,7 +32,7 @@ nothing_left _ e (blank_line line rest begins blank items) = absurd (no_line (su
 nothing_left _ e (other_line line rest begins blank isnt items) = absurd (no_line (subst (λ t. BeginsWithLine t line rest) e begins))
 nothing_left _ e (closed_put line rest whole is items) = absurd (no_middle _ _ _ (sym e ∙ whole))
 nothing_left _ e (last_put line whole is) = absurd (no_middle _ _ _ (sym e ∙ whole))
-nothing_left _ e (malformed_put line rest begins is none) = absurd (no_line (subst (λ t. BeginsWithLine t line rest) e begins))
+nothing_left _ e (bad_put_line line rest begins is none) = absurd (no_line (subst (λ t. BeginsWithLine t line rest) e begins))
 nothing_left _ e (missing_body name size is) = absurd (no_middle [] _ _ (sym e ∙ is.2))
 nothing_left _ e (short_body line name left size whole is short) = absurd (no_middle _ _ _ (sym e ∙ whole))
 nothing_left _ e (open_body line name body rest b whole is other) = absurd (no_middle _ _ _ (sym e ∙ whole))
@@ -134,16 +134,16 @@ put_line_by_fields line fields name size is split header =
 pub is_put_by_keyword : (line : List ℕ) (others : Option (List ℕ)) → fields_of line ≡ shown_fields (codes "put") others → IsTrue (is_put line)
 is_put_by_keyword line others fields = rw fields refl
 
-pub begins_by_first : (text line : List ℕ) (rest : Option (List ℕ)) → 0 < length text → FirstLineOf text line rest
+pub begins_by_first : (text line : List ℕ) (rest : Option (List ℕ)) → 0 < length text → CutsLine text line rest
     → BeginsWithLine text line (unwrap_or rest [])
 begins_by_first text line (Some rest) some is = ended is.whole is.first
 begins_by_first text line None some is = last is.0 is.1 (λ e. absurd (omega (arith, ap length (is.0 ∙ e)))) refl
 
-pub takes_bad_put : (n : ℕ) (text line : List ℕ) (rest others : Option (List ℕ)) → 0 < length text → FirstLineOf text line rest
+pub takes_bad_put : (n : ℕ) (text line : List ℕ) (rest others : Option (List ℕ)) → 0 < length text → CutsLine text line rest
     → fields_of line ≡ shown_fields (codes "put") others → LacksHeader others → TakesFrom n text bad_put n []
 takes_bad_put n text line rest others some first fields none =
     takes_the_end n text bad_put some
-    (malformed_put line (unwrap_or rest []) (begins_by_first text line rest some first) (is_put_by_keyword line others fields)
+    (bad_put_line line (unwrap_or rest []) (begins_by_first text line rest some first) (is_put_by_keyword line others fields)
     (no_put_line line others fields none))
 
 not_digit : (byte d : ℕ) → byte < 48 → is_digit d ≡ true → d ≢ byte
@@ -210,7 +210,7 @@ blank_without_items n text items e (blank_line line rest begins blank more) = on
 blank_without_items n text items e (other_line line rest begins blank isnt more) = cc
 blank_without_items n text items e (closed_put line rest whole is more) = cc
 blank_without_items n text items e (last_put line whole is) = cc
-blank_without_items n text items e (malformed_put line rest begins is none) = cc
+blank_without_items n text items e (bad_put_line line rest begins is none) = cc
 blank_without_items n text items e (missing_body name size is) = cc
 blank_without_items n text items e (short_body line name left size whole is short) = cc
 blank_without_items n text items e (open_body line name body rest b whole is other) = cc

@@ -117,7 +117,7 @@ pub data ItemsFrom : ℕ → List ℕ → List Numbered → Type 0 where
       → ItemsFrom n text (numbered n (put name body) ∷ items)
   last_put : {n : ℕ} {text name body : List ℕ} (line : List ℕ) → text ≡ line ++ 10 ∷ body → IsPutLine line name (length body)
       → ItemsFrom n text (numbered n (put name body) ∷ [])
-  malformed_put : {n : ℕ} {text : List ℕ} (line rest : List ℕ) → BeginsWithLine text line rest → IsTrue (is_put line)
+  bad_put_line : {n : ℕ} {text : List ℕ} (line rest : List ℕ) → BeginsWithLine text line rest → IsTrue (is_put line)
       → ((name : List ℕ) (size : ℕ) → IsPutLine line name size → ⊥) → ItemsFrom n text (numbered n bad_put ∷ [])
   -- the script ends with the put's line, or within its body
   missing_body : {n : ℕ} {line : List ℕ} (name : List ℕ) (size : ℕ) → IsPutLine line name size → ItemsFrom n line (numbered n truncated ∷ [])

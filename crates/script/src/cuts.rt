@@ -2,7 +2,7 @@
 
 ghost use Rattle.std.specs.Prelude.{◌≡◌, ◌≢◌, ℕ, ◌+◌, ◌<◌, ◌^◌, List, [], ◌∷◌, ◌++◌, length, MatchOption, IsTrue, option_map};
 ghost use Rattle.script.specs.Fields.{SpellsSize, fields_of};
-ghost use Rattle.script.specs.Private.Cuts.{Cuts, CutsLast, Lacks, FirstLineOf, shown_fields};
+ghost use Rattle.script.specs.Private.Cuts.{Cuts, CutsLast, Lacks, CutsLine, shown_fields};
 
 use memchr::{memchr, memrchr};
 
@@ -24,7 +24,7 @@ pub fn cut_at_last(byte: u8, text: &[u8]) -> Option<(&[u8], &[u8])>
 
 /// The first line of a text that is not empty.
 #[derive(Clone, Copy, Debug)]
-pub struct FirstLine<'a> {
+pub struct CutLine<'a> {
     /// The line, without its line feed.
     pub line: &'a [u8],
     /// What follows the line's line feed, if it has one.
@@ -32,15 +32,15 @@ pub struct FirstLine<'a> {
 }
 
 /// The first line, without its line feed, and what follows that.
-pub fn first_line(text: &[u8]) -> FirstLine<'_>
-    ensures { FirstLineOf text.now result.line.now (option_map (λ rest. rest.now) result.rest) }
+pub fn cut_line(text: &[u8]) -> CutLine<'_>
+    ensures { CutsLine text.now result.line.now (option_map (λ rest. rest.now) result.rest) }
 {
     match cut_at(b'\n', text) {
-        Some((line, rest)) => FirstLine {
+        Some((line, rest)) => CutLine {
             line,
             rest: Some(rest),
         },
-        None => FirstLine {
+        None => CutLine {
             line: text,
             rest: None,
         },

@@ -39,7 +39,7 @@ pub enum Item<'a> {
     Sync,
     /// Any other line.
     BadLine,
-    /// A malformed put. Nothing is read after it.
+    /// A bad put: a line of a put without a name and a size. Nothing is read after it.
     BadPut,
     /// A put that the script's end cuts short. Nothing is read after it.
     Truncated,

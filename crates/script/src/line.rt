@@ -15,7 +15,7 @@ pub enum Line<'a> {
     Blank,
     /// `put NAME N`. The N bytes after the line and its line feed are the body.
     Put { name: &'a [u8], size: usize },
-    /// A malformed put. Nothing is read after it.
+    /// A bad put: a line of a put without a name and a size. Nothing is read after it.
     BadPut,
     /// Any other line. It is an item by itself.
     Other(Item<'a>),

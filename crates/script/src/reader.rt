@@ -1,13 +1,13 @@
 //! The reader of scripts.
 
 ghost use Rattle.std.specs.Prelude.{◌≡◌, ℕ, ◌+◌, ◌<◌, ◌≤◌, List, [], ◌∷◌, ◌++◌, length, codes, IsFalse, MatchOption, OnSome, IfNone, option_map};
-ghost use Rattle.script.specs.Private.Cuts.{FirstLineOf, shown_fields};
+ghost use Rattle.script.specs.Private.Cuts.{CutsLine, shown_fields};
 ghost use Rattle.script.specs.Items.{Numbered as NumberedItem, is_blank, item_of, item_of_keyword, item_of_keyword_and_others, load_of, search_in_of, line_feeds, numbered, ItemsFrom, BeginsWithLine, IsPutLine};
 ghost use Rattle.script.specs.Reading.{shown_item};
 ghost use Rattle.script.specs.Fields.{fields_of, IsPutHeader};
 ghost use Rattle.script.specs.Private.Taking.{TakesFrom, FollowsLine, HasHeader, LacksHeader};
 
-use crate::cuts::{FirstLine, cut_at_last, cut_at_space, first_line, size_of};
+use crate::cuts::{CutLine, cut_at_last, cut_at_space, cut_line, size_of};
 use crate::item::{Item, Numbered};
 use ere::Case;
 use std::marker::Model;
@@ -100,7 +100,7 @@ fn skip_blank(text: &[u8], line: u32) -> Start<'_>
 {
     let mut start = Start { text, line };
     while !start.text.is_empty() {
-        let first = first_line(start.text);
+        let first = cut_line(start.text);
         if !is_blank_line(first.line) {
             return start;
         }
@@ -119,10 +119,10 @@ pub fn is_blank_line(line: &[u8]) -> bool
 }
 
 /// What follows the first line.
-fn after_line<'a>(start: Start<'a>, first: FirstLine<'a>) -> Start<'a>
+fn after_line<'a>(start: Start<'a>, first: CutLine<'a>) -> Start<'a>
     requires room { start.line + length start.text.now ≤ 67108865 }
     requires some { 0 < length start.text.now }
-    requires line { FirstLineOf start.text.now first.line.now (option_map (λ rest. rest.now) first.rest) }
+    requires line { CutsLine start.text.now first.line.now (option_map (λ rest. rest.now) first.rest) }
     ensures { FollowsLine start.entry.line start.entry.text.now first.entry.line.now result.line result.text.now }
 {
     Start {
@@ -138,7 +138,7 @@ fn take_item(start: Start<'_>) -> Taken<'_>
     requires not_blank { (first rest : List ℕ) → BeginsWithLine start.text.now first rest → IsFalse (is_blank first) }
     ensures { TakesFrom start.entry.line start.entry.text.now (shown_item result.item) result.after.line result.after.text.now }
 {
-    let first = first_line(start.text);
+    let first = cut_line(start.text);
     let (keyword, others) = cut_at_space(first.line);
     if keyword == b"put".as_slice() {
         take_put(start, first, others)
@@ -261,10 +261,10 @@ pub fn header_in(others: Option<&[u8]>) -> Option<Header<'_>>
 }
 
 /// Takes a put, whose line's keyword is `put`.
-fn take_put<'a>(start: Start<'a>, first: FirstLine<'a>, others: Option<&'a [u8]>) -> Taken<'a>
+fn take_put<'a>(start: Start<'a>, first: CutLine<'a>, others: Option<&'a [u8]>) -> Taken<'a>
     requires room { start.line + length start.text.now ≤ 67108865 }
     requires some { 0 < length start.text.now }
-    requires line { FirstLineOf start.text.now first.line.now (option_map (λ rest. rest.now) first.rest) }
+    requires line { CutsLine start.text.now first.line.now (option_map (λ rest. rest.now) first.rest) }
     requires fields { fields_of first.line.now ≡ shown_fields (codes "put") (option_map (λ rest. rest.now) others) }
     ensures { TakesFrom start.entry.line start.entry.text.now (shown_item result.item) result.after.line result.after.text.now }
 {

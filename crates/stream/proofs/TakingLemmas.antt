@@ -1,7 +1,7 @@
 -- The items of lines, with puts' bytes.
 use Rattle.std.proofs.Common.{◌≡◌, ◌≢◌, ℕ, ◌+◌, ◌^◌, ◌<◌, List, [], ◌∷◌, ◌++◌, length, Option, Some, None, is_none, unwrap_or, Ok, Err}
 use Rattle.std.proofs.Common.{IfOk, IsTrue, IsFalse, refl, sym, ap, subst, ◌∙◌, append_assoc, append-nil, true≢false}
-use Rattle.script.specs.Items.{Item, numbered, ItemsFrom, done, other_line, closed_put, last_put, malformed_put, short_body, open_body}
+use Rattle.script.specs.Items.{Item, numbered, ItemsFrom, done, other_line, closed_put, last_put, bad_put_line, short_body, open_body}
 use Rattle.script.specs.Items.{ended, last, IsLine, IsPutLine, is_blank, is_put, item_of_line, line_feeds, put, bad_put, truncated}
 use Rattle.script.specs.Items.{body_not_closed}
 use Rattle.std.specs.declared.result.Result.{Result}
@@ -22,7 +22,7 @@ some_byte (b ∷ line) not_blank = λ e. cc
 module _ (n : ℕ) (line : List ℕ) (is : IsLine line) where
   pub last_bad_put : IsFalse (is_blank line) → IsTrue (is_put line) → ((name : List ℕ) (size : ℕ) → IsPutLine line name size → ⊥)
       → ItemsFrom n line (numbered n bad_put ∷ [])
-  last_bad_put not_blank is_put none = malformed_put line [] (last refl is (some_byte line not_blank) refl) is_put none
+  last_bad_put not_blank is_put none = bad_put_line line [] (last refl is (some_byte line not_blank) refl) is_put none
 
   pub last_other : (item : Item) → IsFalse (is_blank line) → IsFalse (is_put line) → item ≡ item_of_line line → ItemsFrom n line (numbered n item ∷ [])
   last_other item not_blank not_put same =
@@ -30,7 +30,7 @@ module _ (n : ℕ) (line : List ℕ) (is : IsLine line) where
       (other_line line [] (last refl is (some_byte line not_blank) refl) not_blank not_put done)
 
   pub step_bad_put : IsTrue (is_put line) → ((name : List ℕ) (size : ℕ) → IsPutLine line name size → ⊥) → IsStep n (line ++ 10 ∷ []) bad_put None
-  step_bad_put is_put none = malformed_put line [] (ended refl is) is_put none
+  step_bad_put is_put none = bad_put_line line [] (ended refl is) is_put none
 
   pub step_other : (item : Item) (next : ℕ) → IsFalse (is_blank line) → IsFalse (is_put line) → item ≡ item_of_line line → next ≡ n + 1
       → IsStep n (line ++ 10 ∷ []) item (Some next)

@@ -50,7 +50,7 @@ pub enum RunError {
 /// The transcript is legal for the script (`docs/DEFINITIONS.md`), whatever the number of readers and however their
 /// steps fall: each search is answered for the documents after some published list of commands, and lists exactly the
 /// lines with a match. An item that is refused is an entry of the transcript, and the run goes on with the next item,
-/// except after the three faults that end the reading of a script: a malformed put, a put that the script's end cuts
+/// except after the three faults that end the reading of a script: a bad put, a put that the script's end cuts
 /// short, or one with a byte other than a line feed after its bytes.
 ///
 /// Whatever the result, the source holds afterwards what it held before, and its count of failures has not fallen.

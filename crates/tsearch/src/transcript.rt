@@ -14,7 +14,7 @@ use std::alloc::AllocError;
 pub enum Reason {
     /// The line is not an item.
     BadLine,
-    /// A malformed put.
+    /// A bad put.
     BadPut,
     /// A put that the script's end cuts short.
     Truncated,

@@ -18,9 +18,9 @@ pub record CutsLast (byte : ℕ) (text front back : List ℕ) : Type 0 where
   pub last : Lacks byte back
 
 -- the first line, and what follows its line feed, where it has one
-abbrev pub FirstLineOf : List ℕ → List ℕ → Option (List ℕ) → Type 0
-FirstLineOf text line (Some rest) = Cuts 10 text line rest
-FirstLineOf text line None = (text ≡ line) × IsLine line
+abbrev pub CutsLine : List ℕ → List ℕ → Option (List ℕ) → Type 0
+CutsLine text line (Some rest) = Cuts 10 text line rest
+CutsLine text line None = (text ≡ line) × IsLine line
 
 abbrev pub shown_fields : List ℕ → Option (List ℕ) → Fields
 shown_fields first others = record { first = first; others = others }

@@ -9,7 +9,7 @@ loop-first-preserved c =
       same =
           λ items h.
           c.loop-first.invariant.same items
-          (blank_line c.first_line-first.result.line.now c.after_line-start.result.text.now after.begins
+          (blank_line c.cut_line-first.result.line.now c.after_line-start.result.text.now after.begins
           (sym c.if-not-is_blank_line.ensures)
           (subst (λ n. ItemsFrom n c.after_line-start.result.text.now items) after.next h));
       room = omega arith;
