@@ -212,6 +212,37 @@ fn names_as_lines(rt: HostRuntime) -> Result<(), Fail> {
     Ok(())
 }
 
+/// Thirty stars, each inside the next one and after a letter. Name by name, each of them doubles the time, so the test
+/// ends only if the pattern is compiled.
+#[test]
+fn names_in_many_stars(rt: HostRuntime) -> Result<(), Fail> {
+    let alloc = rt.alloc();
+    let pieces: [(&[u8], usize); 5] = [
+        (b"^(aa)*", 1),
+        (b"(a", 30),
+        (b"a*", 1),
+        (b")*", 30),
+        (b"b$", 1),
+    ];
+    let pattern = built(alloc, &pieces)?;
+    let commands = built(
+        alloc,
+        &[(b"a", 200), (b"c x|", 1), (b"a", 200), (b"b x", 1)],
+    )?;
+    let index = index_of(&rt, alloc, &commands)?;
+    let want = built(
+        alloc,
+        &[
+            (b"search 7 version 2 lines 1\n", 1),
+            (b"a", 200),
+            (b"b:1:x\n", 1),
+        ],
+    )?;
+    let text = text_within(alloc, &index, &pattern, b"x")?;
+    assert_eq!(rt; text.as_slice(), want.as_slice());
+    Ok(())
+}
+
 #[test]
 fn refused_patterns(rt: HostRuntime) -> Result<(), Fail> {
     let alloc = rt.alloc();
