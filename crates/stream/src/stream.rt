@@ -4,7 +4,7 @@ ghost use Rattle.std.specs.Prelude.{◌≡◌, ◌+◌, ◌<◌, ◌^◌, List, 
 ghost use Rattle.std.specs.Io.KnownBytes.{Consumes};
 ghost use Rattle.script.specs.Items.{numbered, put, IsLine, IsPutLine, ItemsFrom, is_blank};
 ghost use Rattle.script.specs.Reading.{shown_item};
-ghost use Rattle.stream.specs.Stream.{Place, place, IsNext, Shows};
+ghost use Rattle.stream.specs.Stream.{StreamState, stream_at, IsNext, Shows};
 ghost use Rattle.stream.specs.Private.Bytes.{Holds};
 ghost use Rattle.stream.specs.Private.Taking.{TakesItem};
 
@@ -28,17 +28,17 @@ pub struct ItemStream {
 }
 
 impl Model for ItemStream {
-    ghost use Rattle.stream.specs.Stream.{Place, place};
+    ghost use Rattle.stream.specs.Stream.{StreamState, stream_at};
 
-    ghost Value = { Place };
+    ghost Value = { StreamState };
 
-    ghost view = { λ s. place s.line s.ended };
+    ghost view = { λ s. stream_at s.line s.ended };
 }
 
 impl ItemStream {
     /// Before the first byte of an input. The first line has the number 1.
     pub fn new(alloc: Global) -> ItemStream
-        ensures { result ≡ place 1 false }
+        ensures { result ≡ stream_at 1 false }
     {
         ItemStream {
             alloc,
@@ -101,7 +101,7 @@ impl ItemStream {
     /// Goes on with the line of this number, if there is one.
     fn go_on(&mut self, next: Option<u32>)
         requires { self.old.ended ≡ true }
-        ensures { self.new ≡ place (unwrap_or next self.old.line) (is_none next) }
+        ensures { self.new ≡ stream_at (unwrap_or next self.old.line) (is_none next) }
     {
         if let Some(line) = next {
             self.line = line;
