@@ -10,8 +10,8 @@ use Rattle.std.proofs.lemmas.List.Folds.{list_any-append}
 use Rattle.index.specs.Text.{greatest_body}
 use Rattle.script.specs.Items.{Item, Numbered, numbered, ItemsFrom, done, IsItemsOf, put, bad_put, body_not_closed}
 use Rattle.stream.specs.declared.item.Taken.{Taken}
-use Rattle.stream.specs.Stream.{Place, IsItemOf, IsFault}
-use Rattle.stream.specs.Stream as stream
+use Rattle.stream.specs.Stream.{StreamState, IsItemOf, IsFault}
+use Rattle.stream.specs.Stream as streams
 use Rattle.tsearch.specs.declared.transcript.Entry.{Entry}
 use Rattle.tsearch.specs.declared.transcript.Entry.TheVariants.{Refused}
 use Rattle.tsearch.specs.declared.transcript.Reason.{Reason}
@@ -56,10 +56,10 @@ shown_other Holds old failed line item other entry new failed' is goes_on =
 
 -- A session before its first item.
 pub serving_begins : (Holds : List ℕ → List ℕ → Type 0) (stats : Bool) (limit failed : ℕ) (input output : Option (List ℕ)) (run : LoneState)
-    (place : Place) (marks : Marks) → run ≡ first_state limit → place ≡ stream.place 1 false → marks ≡ marks_of []
+    (stream : StreamState) (marks : Marks) → run ≡ first_state limit → stream ≡ streams.stream_at 1 false → marks ≡ marks_of []
     → IsServing Holds stats (record { limit = limit; failed = failed; input = input; output = output })
-    (now run place marks failed input output)
-serving_begins Holds stats limit failed input output run place marks fresh first is = rw (fresh, first) (record {
+    (now run stream marks failed input output)
+serving_begins Holds stats limit failed input output run stream marks fresh first is = rw (fresh, first) (record {
   script = [];
   rows = [];
   read = Consumes-nil input;
@@ -181,10 +181,10 @@ fault_entry : (Holds : List ℕ → List ℕ → Type 0) (most : ℕ) (context :
     → HasEntry Holds most context item entry → IsFault item
     → (line : ℕ) × (why : Reason) × (entry ≡ Some (Refused line why)) × EndsReading why
 unfolding IsEntryOf
-fault_entry Holds most context _ None is stream.no_header = absurd is
-fault_entry Holds most context _ (Some entry) is stream.no_header = (context.row.numbered.line, reason.BadPut, ap Some is, served.bad_put)
-fault_entry Holds most context _ None is stream.no_end = absurd is
-fault_entry Holds most context _ (Some entry) is stream.no_end = (context.row.numbered.line, reason.BodyNotClosed, ap Some is, served.body_not_closed)
+fault_entry Holds most context _ None is streams.no_header = absurd is
+fault_entry Holds most context _ (Some entry) is streams.no_header = (context.row.numbered.line, reason.BadPut, ap Some is, served.bad_put)
+fault_entry Holds most context _ None is streams.no_end = absurd is
+fault_entry Holds most context _ (Some entry) is streams.no_end = (context.row.numbered.line, reason.BodyNotClosed, ap Some is, served.body_not_closed)
 
 module _ (Holds : List ℕ → List ℕ → Type 0) (stats : Bool) (start : Start) (old : Now) (serving : IsServing Holds stats start old)
     (bytes : List ℕ) (left : Option (List ℕ)) (read : Consumes old.left left bytes) where
@@ -192,8 +192,8 @@ module _ (Holds : List ℕ → List ℕ → Type 0) (stats : Bool) (start : Star
   read_now = Consumes-trans start.input old.left left serving.script bytes serving.read read
 
   -- Nothing was carried out.
-  stays : (place : Place) (marks : Marks) → IsStopped Holds stats start (now old.run place marks old.failed left old.written)
-  stays place marks = record {
+  stays : (stream : StreamState) (marks : Marks) → IsStopped Holds stats start (now old.run stream marks old.failed left old.written)
+  stays stream marks = record {
     script = serving.script;
     others = bytes;
     rows = serving.rows;
@@ -218,9 +218,9 @@ module _ (Holds : List ℕ → List ℕ → Type 0) (stats : Bool) (start : Star
   known_end (Some xs) (Some ys) script consumes ended = ended
 
   -- Only empty lines and comments were left.
-  is_over : ItemsFrom old.place.line bytes [] → OnSome old.left (IsAtEnd left) → (place : Place)
-      → IsDone Holds stats start (now old.run place old.marks old.failed left old.written)
-  is_over none ended place = record {
+  is_over : ItemsFrom old.stream.line bytes [] → OnSome old.left (IsAtEnd left) → (stream : StreamState)
+      → IsDone Holds stats start (now old.run stream old.marks old.failed left old.written)
+  is_over none ended stream = record {
     script = serving.script ++ bytes;
     rows = serving.rows;
     read = read_now;
@@ -264,7 +264,7 @@ module _ (Holds : List ℕ → List ℕ → Type 0) (stats : Bool) (start : Star
       appended = Appends-trans start.output old.written written (text_of_transcript stats (entries_of serving.rows)) is.front serving.written is.appended;
     }
 
-    all_items : (rest : List ℕ) (items : List Numbered) → ItemsFrom old.place.line (bytes ++ rest) (item ∷ items)
+    all_items : (rest : List ℕ) (items : List Numbered) → ItemsFrom old.stream.line (bytes ++ rest) (item ∷ items)
         → IsItemsOf ((serving.script ++ bytes) ++ rest) (items_of rows ++ items)
     all_items rest items h =
         subst (λ s. IsItemsOf s (items_of rows ++ items)) (sym (append_assoc serving.script bytes rest))
@@ -272,20 +272,20 @@ module _ (Holds : List ℕ → List ℕ → Type 0) (stats : Bool) (start : Star
         (sym (append_assoc (items_of serving.rows) (item ∷ []) items) ∙ ap (λ l. l ++ items) (sym more.items))
         (serving.items (bytes ++ rest) (item ∷ items) h))
 
-    last_items : ItemsFrom old.place.line bytes (item ∷ []) → IsItemsOf (serving.script ++ bytes) (items_of rows)
+    last_items : ItemsFrom old.stream.line bytes (item ∷ []) → IsItemsOf (serving.script ++ bytes) (items_of rows)
     last_items h = subst (λ l. IsItemsOf (serving.script ++ bytes) l) (sym more.items) (serving.items bytes (item ∷ []) h)
 
-    these_items : (ended : Bool) (next : ℕ) → IsItemOf old.place.line bytes item ended next → IsItemsOf (serving.script ++ bytes) (items_of rows)
+    these_items : (ended : Bool) (next : ℕ) → IsItemOf old.stream.line bytes item ended next → IsItemsOf (serving.script ++ bytes) (items_of rows)
     these_items true next is = last_items is
-    these_items false next is = last_items (subst (λ b. ItemsFrom old.place.line b (item ∷ [])) (append-nil bytes) (is [] [] done))
+    these_items false next is = last_items (subst (λ b. ItemsFrom old.stream.line b (item ∷ [])) (append-nil bytes) (is [] [] done))
 
     limit_now : run.limit ≡ start.limit
     limit_now = goes_on.same_limit ∙ serving.limit
 
-    is_serving : (place : Place) (marks : Marks) (written : Option (List ℕ)) → IsItemOf old.place.line bytes item false place.line
-        → place.ended ≡ false → marks ≡ marks_after old.marks entry → Appends old.written written (text_of_shown stats entry)
-        → IsServing Holds stats start (now run place marks failed left written)
-    is_serving place marks written whole goes same shown = record {
+    is_serving : (stream : StreamState) (marks : Marks) (written : Option (List ℕ)) → IsItemOf old.stream.line bytes item false stream.line
+        → stream.ended ≡ false → marks ≡ marks_after old.marks entry → Appends old.written written (text_of_shown stats entry)
+        → IsServing Holds stats start (now run stream marks failed left written)
+    is_serving stream marks written whole goes same shown = record {
       script = serving.script ++ bytes;
       rows = rows;
       read = read_now;
@@ -311,10 +311,10 @@ module _ (Holds : List ℕ → List ℕ → Type 0) (stats : Bool) (start : Star
         served.at_fault (entries_of serving.rows) refused.0 refused.1
         (more.entries ∙ ap (λ e. entries_of serving.rows ++ list_of e) (sym more.is ∙ refused.2)) refused.3
 
-    is_done : (place : Place) (marks : Marks) (written : Option (List ℕ)) → ItemsFrom old.place.line bytes (item ∷ [])
+    is_done : (stream : StreamState) (marks : Marks) (written : Option (List ℕ)) → ItemsFrom old.stream.line bytes (item ∷ [])
         → OnSome old.left (IsAtEnd left) ⊎ IsFault item.item → marks ≡ marks_after old.marks entry
-        → Appends old.written written (text_of_shown stats entry) → IsDone Holds stats start (now run place marks failed left written)
-    is_done place marks written whole ended same shown = record {
+        → Appends old.written written (text_of_shown stats entry) → IsDone Holds stats start (now run stream marks failed left written)
+    is_done stream marks written whole ended same shown = record {
       script = serving.script ++ bytes;
       rows = rows;
       read = read_now;
@@ -327,65 +327,65 @@ module _ (Holds : List ℕ → List ℕ → Type 0) (stats : Bool) (start : Star
     }
 
     -- All of the text is written.
-    pub shown_whole : (ended : Bool) (place : Place) (marks : Marks) (written : Option (List ℕ))
-        → IsItemOf old.place.line bytes item ended place.line → place.ended ≡ ended
+    pub shown_whole : (ended : Bool) (stream : StreamState) (marks : Marks) (written : Option (List ℕ))
+        → IsItemOf old.stream.line bytes item ended stream.line → stream.ended ≡ ended
         → (IsTrue ended → OnSome old.left (IsAtEnd left) ⊎ IsFault item.item) → marks ≡ marks_after old.marks entry
         → Appends old.written written (text_of_shown stats entry)
-        → IsAdvanced Holds stats start (Ok (not ended)) (now run place marks failed left written)
-    shown_whole false place marks written whole same end is shown = is_serving place marks written whole same is shown
-    shown_whole true place marks written whole same end is shown = is_done place marks written whole (end refl) is shown
+        → IsAdvanced Holds stats start (Ok (not ended)) (now run stream marks failed left written)
+    shown_whole false stream marks written whole same end is shown = is_serving stream marks written whole same is shown
+    shown_whole true stream marks written whole same end is shown = is_done stream marks written whole (end refl) is shown
 
     -- A beginning of it is.
-    pub shown_in_part : (error : LiveError) (ended : Bool) (place : Place) (marks : Marks) (written : Option (List ℕ))
-        → IsItemOf old.place.line bytes item ended place.line → AppendsFront old.written written (text_of_shown stats entry)
-        → IsAdvanced Holds stats start (Err error) (now run place marks failed left written)
-    shown_in_part error ended place marks written whole shown = record {
+    pub shown_in_part : (error : LiveError) (ended : Bool) (stream : StreamState) (marks : Marks) (written : Option (List ℕ))
+        → IsItemOf old.stream.line bytes item ended stream.line → AppendsFront old.written written (text_of_shown stats entry)
+        → IsAdvanced Holds stats start (Err error) (now run stream marks failed left written)
+    shown_in_part error ended stream marks written whole shown = record {
       script = serving.script ++ bytes;
       others = [];
       rows = rows;
       read = subst (Consumes start.input left) (sym (append-nil (serving.script ++ bytes))) read_now;
-      items = these_items ended place.line whole;
+      items = these_items ended stream.line whole;
       limit = limit_now;
       so_far = more.so_far;
       written = front_now written shown;
     }
 
 module _ (Holds : List ℕ → List ℕ → Type 0) (stats : Bool) (start : Start) (old : Now) (bytes : List ℕ) (left : Option (List ℕ))
-    (serving : IsServing Holds stats start old) (read : Consumes old.left left bytes) (place : Place) where
+    (serving : IsServing Holds stats start old) (read : Consumes old.left left bytes) (stream : StreamState) where
   -- The input's end was met.
-  pub advanced_none : stream.IsNext old.place (Ok None) place bytes old.left left
-      → IsAdvanced Holds stats start (Ok false) (now old.run place old.marks old.failed left old.written)
-  advanced_none next = is_over Holds stats start old serving bytes left read next.0 (by_end next.2) place
+  pub advanced_none : streams.IsNext old.stream (Ok None) stream bytes old.left left
+      → IsAdvanced Holds stats start (Ok false) (now old.run stream old.marks old.failed left old.written)
+  advanced_none next = is_over Holds stats start old serving bytes left read next.0 (by_end next.2) stream
     where
-      by_end : IsTrue old.place.ended ⊎ OnSome old.left (IsAtEnd left) → OnSome old.left (IsAtEnd left)
+      by_end : IsTrue old.stream.ended ⊎ OnSome old.left (IsAtEnd left) → OnSome old.left (IsAtEnd left)
       by_end (inl over) = absurd (let both : false ≡ true = sym serving.more ∙ over in cc)
       by_end (inr ended) = ended
 
   -- No item could be had, or none is taken any more.
-  pub advanced_error : (error : LiveError) → IsAdvanced Holds stats start (Err error) (now old.run place old.marks old.failed left old.written)
-  advanced_error error = stays Holds stats start old serving bytes left read place old.marks
+  pub advanced_error : (error : LiveError) → IsAdvanced Holds stats start (Err error) (now old.run stream old.marks old.failed left old.written)
+  advanced_error error = stays Holds stats start old serving bytes left read stream old.marks
 
-  module _ (taken : Taken) (takes : stream.Takes old.place taken place bytes old.left left) (entry : Option Entry) (run : LoneState)
+  module _ (taken : Taken) (takes : streams.Takes old.stream taken stream bytes old.left left) (entry : Option Entry) (run : LoneState)
       (failed : ℕ) (goes_on : GoesOn Holds old.run old.failed (numbered taken.line takes.item) entry run failed) (marks : Marks)
       (written : Option (List ℕ)) where
     -- An item was carried out, and its text written whole,
-    pub advanced_item : (last : Place) → last ≡ place → marks ≡ marks_after old.marks entry
+    pub advanced_item : (last : StreamState) → last ≡ stream → marks ≡ marks_after old.marks entry
         → Appends old.written written (text_of_shown stats entry)
         → IsAdvanced Holds stats start (Ok (not taken.ended)) (now run last marks failed left written)
     advanced_item last same is shown =
         subst (λ p. IsAdvanced Holds stats start (Ok (not taken.ended)) (now run p marks failed left written)) (sym same)
         (shown_whole Holds stats start old serving bytes left read (numbered taken.line takes.item) entry run failed goes_on taken.ended
-        place marks written takes.whole takes.ended takes.end is shown)
+        stream marks written takes.whole takes.ended takes.end is shown)
 
     -- or in part.
-    pub advanced_in_part : (last : Place) → last ≡ place → (result : Result Bool LiveError) → IsErr result
+    pub advanced_in_part : (last : StreamState) → last ≡ stream → (result : Result Bool LiveError) → IsErr result
         → AppendsFront old.written written (text_of_shown stats entry)
         → IsAdvanced Holds stats start result (now run last marks failed left written)
     advanced_in_part last same (Ok more) is_error shown = absurd (let both : false ≡ true = is_error in cc)
     advanced_in_part last same (Err error) is_error shown =
         subst (λ p. IsStopped Holds stats start (now run p marks failed left written)) (sym same)
         (shown_in_part Holds stats start old serving bytes left read (numbered taken.line takes.item) entry run failed goes_on error
-        taken.ended place marks written takes.whole shown)
+        taken.ended stream marks written takes.whole shown)
 
 -- What a session has done so far makes a legal transcript.
 legal_so_far : (Holds : List ℕ → List ℕ → Type 0) (options : LiveOptions) (script : List ℕ) (failed failed' : ℕ) (run : LoneState)

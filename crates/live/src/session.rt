@@ -4,7 +4,7 @@ ghost use Rattle.std.specs.Prelude.{◌≡◌, ℕ, ◌+◌, ◌<◌, ◌≤◌,
 ghost use Rattle.std.specs.Io.KnownBytes.{Appends};
 ghost use Rattle.tsearch.specs.Written.{AppendsFront};
 ghost use Rattle.script.specs.Items.{Item as ItemValue, numbered as numbered_item};
-ghost use Rattle.stream.specs.Stream.{Shows, place};
+ghost use Rattle.stream.specs.Stream.{Shows, stream_at};
 ghost use Rattle.tsearch.specs.Lone.{GoesOn};
 ghost use Rattle.live.specs.Private.Serving.{Start, now, IsServing, IsAdvanced, marks_of, marks_after, text_of_shown};
 
@@ -40,7 +40,7 @@ pub(crate) struct Session {
 impl Session {
     /// Before the first item.
     pub(crate) fn new(alloc: Global) -> Session
-        ensures stream { result.stream ≡ place 1 false }
+        ensures stream { result.stream ≡ stream_at 1 false }
         ensures marks { result.marks ≡ marks_of [] }
     {
         Session {

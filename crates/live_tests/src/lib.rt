@@ -1,5 +1,5 @@
 //! Tests of sessions that stay open, by call: each public function does its work if memory is ample. They also test
-//! what no contract says: that the text of an item is flushed before a byte behind the item is waited for.
+//! what no contract says: that the text of an item is flushed before a byte after the item is waited for.
 //!
 //! They are a separate crate because a crate with tests is proved twice: with its tests and without.
 #![tactic(auto)]

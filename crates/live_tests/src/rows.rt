@@ -8,7 +8,7 @@ use std::sync::Wait;
 use std::test::Fail;
 use std::thread::Threads;
 use tsearch::run::run;
-use tsearch::{Gate, Options, Place, status, write_transcript};
+use tsearch::{Gate, Options, Point, status, write_transcript};
 
 /// A script, how it is run, and its outcome.
 #[derive(Clone, Copy, Debug)]
@@ -167,7 +167,7 @@ const ROWS: &[Case<'static>] = &[
 struct Open;
 
 impl Gate for Open {
-    fn turn(&self, _search: u32, _place: Place) {}
+    fn turn(&self, _search: u32, _point: Point) {}
 }
 
 /// A run without readers has the case's text and status.

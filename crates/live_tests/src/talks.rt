@@ -53,7 +53,7 @@ fn expect_in_pieces<'a, R: AllocGlobal + Wait + Abort>(
 
 const FIRST: &[u8] = b"search 1 version 0 lines 0\n";
 
-/// No byte behind a search's line is waited for, nor behind the line feed of a put's body.
+/// No byte after a search's line is waited for, nor after the line feed of a put's body.
 #[test]
 fn each_answer_comes_before_the_next_command(rt: HostRuntime) -> Result<(), Fail> {
     let turns = [

@@ -18,7 +18,7 @@ use std::mem::forget;
 use std::sync::Wait;
 use std::thread::Threads;
 use tsearch::run::run;
-use tsearch::{Gate, Options, Place};
+use tsearch::{Gate, Options, Point};
 
 /// The status if an argument is refused, or the program has no answer or cannot write it.
 const REFUSED: u8 = 2;
@@ -104,7 +104,7 @@ fn show_help<O: Write + Drop>(mut out: O) -> Result<(u8, O), ProgramError>
 struct Open;
 
 impl Gate for Open {
-    fn turn(&self, _search: u32, _place: Place) {}
+    fn turn(&self, _search: u32, _point: Point) {}
 }
 
 /// Reads the script, runs it and writes its transcript, and returns the status of the run.

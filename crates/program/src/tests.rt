@@ -13,7 +13,7 @@ use std::sync::Wait;
 use std::test::Fail;
 use std::thread::Threads;
 use tsearch::run::run;
-use tsearch::{Gate, Options, Place, Transcript};
+use tsearch::{Gate, Options, Point, Transcript};
 
 /// Files in memory: paths with their bytes.
 #[derive(Drop)]
@@ -181,7 +181,7 @@ const TEXT: &[u8] = b"search 1 version 1 lines 1\na:1:x\n";
 struct Open;
 
 impl Gate for Open {
-    fn turn(&self, _search: u32, _place: Place) {}
+    fn turn(&self, _search: u32, _point: Point) {}
 }
 
 fn one_hit<R: AllocGlobal + Threads + Wait + Sync>(rt: &R) -> Result<Transcript, Fail> {

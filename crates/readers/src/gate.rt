@@ -2,7 +2,7 @@
 
 /// A point in a worker's search.
 #[derive(Clone, Copy, Debug, PartialEq, Eq)]
-pub enum Place {
+pub enum Point {
     /// The search begins: nothing is looked at yet.
     Begin,
     /// The documents are taken, and their lines are matched next. What is published can change meanwhile.
@@ -15,5 +15,5 @@ pub enum Place {
 /// worker there. Several workers may call at once.
 pub trait Gate: Sync {
     /// The search of this number is at this point.
-    fn turn(&self, search: u32, place: Place);
+    fn turn(&self, search: u32, point: Point);
 }

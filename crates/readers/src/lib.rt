@@ -9,7 +9,7 @@ mod report;
 mod work;
 mod worker;
 
-pub use gate::{Gate, Place};
+pub use gate::{Gate, Point};
 pub use report::{Given, Report};
 pub use shared::{Answer, Prepared, Reading};
 pub use worker::Worker;

@@ -7,7 +7,7 @@ ghost use Rattle.search.specs.Prepared.{pattern_of};
 ghost use Rattle.search.specs.Scan.{IsAnswerOf};
 ghost use Rattle.readers.specs.Report.{IsReport};
 
-use crate::gate::{Gate, Place};
+use crate::gate::{Gate, Point};
 use crate::report::{Given, Report};
 use crossbeam_channel::Receiver;
 use search::{Answer, Prepared};
@@ -54,9 +54,9 @@ impl Report {
         let Some(prepared) = search_at(searches, search) else {
             return;
         };
-        gate.turn(search, Place::Begin);
+        gate.turn(search, Point::Begin);
         let answered = answer(alloc, &mut self.reading, prepared, gate, search);
-        gate.turn(search, Place::Done);
+        gate.turn(search, Point::Done);
         if let Ok(answer) = answered {
             self.give(search, answer);
         }
@@ -101,7 +101,7 @@ fn answer<G: Gate>(
     ensures answer { IfOk result (IsAnswerOf (state_of reading.new.commands) (pattern_of prepared.now)) }
 {
     let taken = reading.take(alloc, prepared)?;
-    gate.turn(search, Place::Matching);
+    gate.turn(search, Point::Matching);
     let answer = taken.answer(alloc)?;
     Ok(answer)
 }

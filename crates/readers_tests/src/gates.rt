@@ -1,6 +1,6 @@
 //! Gates that hold workers, and gates that remember where workers were.
 
-use readers::{Gate, Place};
+use readers::{Gate, Point};
 use std::sync::atomic::{AtomicBool, AtomicU64, Ordering};
 
 /// How often a flag is looked at before a wait for it is given up.
@@ -46,7 +46,7 @@ impl Flag {
 pub(crate) struct Open;
 
 impl Gate for Open {
-    fn turn(&self, _search: u32, _place: Place) {}
+    fn turn(&self, _search: u32, _point: Point) {}
 }
 
 /// Holds search 1 at its beginning until search 2 is done.
@@ -56,11 +56,11 @@ pub(crate) struct SecondFirst {
 }
 
 impl Gate for SecondFirst {
-    fn turn(&self, search: u32, place: Place) {
-        if search == 1 && place == Place::Begin {
+    fn turn(&self, search: u32, point: Point) {
+        if search == 1 && point == Point::Begin {
             self.second_done.wait();
         }
-        if search == 2 && place == Place::Done {
+        if search == 2 && point == Point::Done {
             self.second_done.raise();
         }
     }
@@ -83,8 +83,8 @@ impl HeldMatching {
 }
 
 impl Gate for HeldMatching {
-    fn turn(&self, search: u32, place: Place) {
-        if search == 1 && place == Place::Matching {
+    fn turn(&self, search: u32, point: Point) {
+        if search == 1 && point == Point::Matching {
             self.matching.raise();
             self.released.wait();
         }
@@ -99,11 +99,11 @@ pub(crate) struct Digits {
 }
 
 impl Gate for Digits {
-    fn turn(&self, search: u32, place: Place) {
-        let digit = match place {
-            Place::Begin => 1,
-            Place::Matching => 2,
-            Place::Done => 3,
+    fn turn(&self, search: u32, point: Point) {
+        let digit = match point {
+            Point::Begin => 1,
+            Point::Matching => 2,
+            Point::Done => 3,
         };
         let word = self.word.load(Ordering::SeqCst);
         let call = u64::from(search).wrapping_mul(10).wrapping_add(digit);

@@ -1,7 +1,7 @@
 //! Gates that hold readers.
 
 use std::sync::atomic::{AtomicBool, Ordering};
-use tsearch::{Gate, Place};
+use tsearch::{Gate, Point};
 
 /// How often a flag is looked at before a wait for it is given up.
 const LOOKS: u64 = 2_000_000_000;
@@ -56,7 +56,7 @@ fn is_seen(word: &AtomicBool, looks: u64) -> bool {
 pub(crate) struct Open;
 
 impl Gate for Open {
-    fn turn(&self, _search: u32, _place: Place) {}
+    fn turn(&self, _search: u32, _point: Point) {}
 }
 
 /// Holds each search for a while at its beginning, so the script goes on before it is answered. A search with an odd
@@ -75,8 +75,8 @@ impl Late {
 }
 
 impl Gate for Late {
-    fn turn(&self, search: u32, place: Place) {
-        if place == Place::Begin || place == Place::Matching && search % 2 == 1 {
+    fn turn(&self, search: u32, point: Point) {
+        if point == Point::Begin || point == Point::Matching && search % 2 == 1 {
             is_seen(&self.never, LATE_LOOKS);
         }
     }
@@ -89,11 +89,11 @@ pub(crate) struct SecondFirst {
 }
 
 impl Gate for SecondFirst {
-    fn turn(&self, search: u32, place: Place) {
-        if search == 1 && place == Place::Begin {
+    fn turn(&self, search: u32, point: Point) {
+        if search == 1 && point == Point::Begin {
             self.second_done.wait();
         }
-        if search == 2 && place == Place::Done {
+        if search == 2 && point == Point::Done {
             self.second_done.raise();
         }
     }
@@ -123,13 +123,13 @@ impl InOrder {
 }
 
 impl Gate for InOrder {
-    fn turn(&self, search: u32, place: Place) {
+    fn turn(&self, search: u32, point: Point) {
         let (first, second, third) = self.order;
-        match place {
-            Place::Begin if search == second => self.first_done.wait(),
-            Place::Begin if search == third => self.second_done.wait(),
-            Place::Done if search == first => self.first_done.raise(),
-            Place::Done if search == second => self.second_done.raise(),
+        match point {
+            Point::Begin if search == second => self.first_done.wait(),
+            Point::Begin if search == third => self.second_done.wait(),
+            Point::Done if search == first => self.first_done.raise(),
+            Point::Done if search == second => self.second_done.raise(),
             _ => {}
         }
     }
@@ -138,15 +138,15 @@ impl Gate for InOrder {
 /// Tells when search 1 is at a point, and holds it there until it is released.
 #[derive(Drop)]
 pub(crate) struct Held {
-    place: Place,
+    point: Point,
     pub(crate) there: Flag,
     pub(crate) released: Flag,
 }
 
 impl Held {
-    pub(crate) fn at(place: Place) -> Held {
+    pub(crate) fn at(point: Point) -> Held {
         Held {
-            place,
+            point,
             there: Flag::new(),
             released: Flag::new(),
         }
@@ -159,8 +159,8 @@ impl Held {
 }
 
 impl Gate for Held {
-    fn turn(&self, search: u32, place: Place) {
-        if search == 1 && place == self.place {
+    fn turn(&self, search: u32, point: Point) {
+        if search == 1 && point == self.point {
             self.there.raise();
             self.released.wait();
         }

@@ -10,7 +10,7 @@ use std::sync::Wait;
 use std::test::Fail;
 use std::thread::Threads;
 use tsearch::run::run;
-use tsearch::{Entry, Gate, Options, Place};
+use tsearch::{Entry, Gate, Options, Point};
 
 /// Two readers are at work at once: search 1 begins when search 2 is done. A run that answers one search after the
 /// other never gets that far.
@@ -101,7 +101,7 @@ fn publish_during_matching(rt: HostRuntime) -> Result<(), Fail> {
         text: b"search 1 version 1 lines 1\nf:1:x\nsearch 2 version 4 lines 1\nf:1:y\n",
         status: 0,
     };
-    expect_held(&rt, rt.alloc(), &case, Place::Matching)
+    expect_held(&rt, rt.alloc(), &case, Point::Matching)
 }
 
 /// While the one reader is held before it has looked at anything, the script goes on, with a publish. The reader then
@@ -115,7 +115,7 @@ fn publish_before_a_search_begins(rt: HostRuntime) -> Result<(), Fail> {
         text: b"search 1 version 3 lines 0\nsearch 2 version 3 lines 1\nf:1:y\n",
         status: 0,
     };
-    expect_held(&rt, rt.alloc(), &case, Place::Begin)
+    expect_held(&rt, rt.alloc(), &case, Point::Begin)
 }
 
 // The case has its text with one reader, which answers both searches, the first of them while it is held at a point.
@@ -123,9 +123,9 @@ fn expect_held<R: Threads + Wait + Abort + Sync>(
     rt: &R,
     alloc: Global,
     case: &Case<'_>,
-    place: Place,
+    point: Point,
 ) -> Result<(), Fail> {
-    let gate = Held::at(place);
+    let gate = Held::at(point);
     let mut source = Timed::new(&gate);
     let transcript = expect(rt, alloc, case, 1, &mut source, &gate)?;
     assert!(rt; !gate.is_given_up());

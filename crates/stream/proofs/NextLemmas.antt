@@ -8,7 +8,7 @@ use Rattle.script.specs.declared.item.Item as program
 use Rattle.stream.specs.declared.item.StreamItem.TheVariants as variants
 use Rattle.stream.specs.declared.line.LineStart.{LineStart}
 use Rattle.stream.specs.declared.stream.Step.{Step}
-use Rattle.stream.specs.Stream.{Place, place, Takes, IsItemOf, IsFault}
+use Rattle.stream.specs.Stream.{StreamState, stream_at, Takes, IsItemOf, IsFault}
 use Rattle.stream.specs.Private.Lines.{TakesLine, line_feed_if}
 use Rattle.stream.specs.Private.Taking.{TakesStep}
 use Rattle.stream.proofs.EndLemmas.{end_later}
@@ -28,7 +28,7 @@ end_or_fault : (was mid left : Option (List ℕ)) (bytes : List ℕ) (item : Ite
 end_or_fault was mid left bytes item taken (inl end) = inl (end_later was mid left bytes taken end)
 end_or_fault was mid left bytes item taken (inr fault) = inr fault
 
-module _ (old inside new : Place) (start : LineStart) (line bytes : List ℕ) (same : inside ≡ old) where
+module _ (old inside new : StreamState) (start : LineStart) (line bytes : List ℕ) (same : inside ≡ old) where
   -- an item whose line the input's end closes
   pub takes_last : (was left : Option (List ℕ)) (found : program.Item) → TakesLine inside.line start line bytes was left → start.closed ≡ false
       → ((number : ℕ) → ItemsFrom number line (numbered number (shown_item found) ∷ []))
@@ -38,14 +38,14 @@ module _ (old inside new : Place) (start : LineStart) (line bytes : List ℕ) (s
     item = shown_item found;
     shows = refl;
     whole =
-        subst (λ (p : Place). ItemsFrom p.line bytes (numbered start.line (shown_item found) ∷ [])) same
+        subst (λ (p : StreamState). ItemsFrom p.line bytes (numbered start.line (shown_item found) ∷ [])) same
         (last_after_skipped inside.line start.line taken.skipped line bytes (shown_item found)
         (taken.whole ∙ ap (λ closed. taken.skipped ++ (line ++ line_feed_if closed)) unclosed) taken.skips (is start.line));
     ended = is_ended;
     end = λ _. inl (taken.end unclosed);
   }
 
-  module _ (step : Step) (ended : Bool) (is_new : new ≡ place (unwrap_or step.next inside.line) (is_none step.next))
+  module _ (step : Step) (ended : Bool) (is_new : new ≡ stream_at (unwrap_or step.next inside.line) (is_none step.next))
       (is_ended : ended ≡ is_none step.next) where
     -- an item whose line a line feed closes, with what follows the line
     pub takes_step : (more : List ℕ) (was mid left : Option (List ℕ)) → Consumes was mid bytes
@@ -58,9 +58,11 @@ module _ (old inside new : Place) (start : LineStart) (line bytes : List ℕ) (s
           let whole =
           item_after_skipped inside.line start.line taken.skipped line bytes more is.item step.next
           (taken.whole ∙ ap (λ closed. taken.skipped ++ (line ++ line_feed_if closed)) closed) taken.skips is.whole in
-          let next = subst (λ (p : Place). IsItemOf inside.line (bytes ++ more) (numbered start.line is.item) (is_none step.next) p.line) (sym is_new) whole in
+          let next =
+          subst (λ (p : StreamState). IsItemOf inside.line (bytes ++ more) (numbered start.line is.item) (is_none step.next) p.line)
+          (sym is_new) whole in
           let over = subst (λ b. IsItemOf inside.line (bytes ++ more) (numbered start.line is.item) b new.line) (sym is_ended) next in
-          subst (λ (p : Place). IsItemOf p.line (bytes ++ more) (numbered start.line is.item) ended new.line) same over;
-      ended = ap (λ (p : Place). p.ended) is_new ∙ sym is_ended;
+          subst (λ (p : StreamState). IsItemOf p.line (bytes ++ more) (numbered start.line is.item) ended new.line) same over;
+      ended = ap (λ (p : StreamState). p.ended) is_new ∙ sym is_ended;
       end = λ over. end_or_fault was mid left bytes is.item consumed (is.end (none_if step.next (sym is_ended ∙ over)));
     }

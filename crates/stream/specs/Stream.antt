@@ -11,12 +11,12 @@ use Rattle.stream.specs.declared.item.Taken.{Taken}
 use Rattle.stream.specs.declared.item.StreamError.{StreamError}
 
 -- the number of the line that comes next, and whether the reading has ended
-pub record Place : Type 0 where
+pub record StreamState : Type 0 where
   pub line : ℕ
   pub ended : Bool
 
-abbrev pub place : ℕ → Bool → Place
-place line ended = record { line = line; ended = ended }
+abbrev pub stream_at : ℕ → Bool → StreamState
+stream_at line ended = record { line = line; ended = ended }
 
 -- the item, without the place of its bytes in memory; of a body that was passed over, only that it is too long is known, or nothing
 abbrev pub Shows : StreamItem → Item → Type 0
@@ -36,7 +36,7 @@ IsItemOf line bytes item false next = (rest : List ℕ) (items : List Numbered) 
 IsItemOf line bytes item true next = ItemsFrom line bytes (item ∷ [])
 
 -- An item was taken from an input, as these bytes. This was left of the input, and this is left of it then.
-pub record Takes (old : Place) (taken : Taken) (new : Place) (bytes : List ℕ) (was left : Option (List ℕ)) : Type 0 where
+pub record Takes (old : StreamState) (taken : Taken) (new : StreamState) (bytes : List ℕ) (was left : Option (List ℕ)) : Type 0 where
   pub item : Item
   pub shows : Shows taken.item item
   pub whole : IsItemOf old.line bytes (numbered taken.line item) taken.ended new.line
@@ -44,7 +44,7 @@ pub record Takes (old : Place) (taken : Taken) (new : Place) (bytes : List ℕ) 
   pub end : IsTrue taken.ended → OnSome was (IsAtEnd left) ⊎ IsFault item
 
 -- What a call gives, where these bytes were taken from the input.
-abbrev pub IsNext : Place → Result (Option Taken) StreamError → Place → List ℕ → Option (List ℕ) → Option (List ℕ) → Type 0
+abbrev pub IsNext : StreamState → Result (Option Taken) StreamError → StreamState → List ℕ → Option (List ℕ) → Option (List ℕ) → Type 0
 IsNext old (Ok (Some taken)) new bytes was left = Takes old taken new bytes was left
 IsNext old (Ok None) new bytes was left = ItemsFrom old.line bytes [] × IsTrue new.ended × (IsTrue old.ended ⊎ OnSome was (IsAtEnd left))
 IsNext old (Err error) new bytes was left = ⊤

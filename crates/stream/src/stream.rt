@@ -4,7 +4,7 @@ ghost use Rattle.std.specs.Prelude.{◌≡◌, ◌+◌, ◌<◌, ◌^◌, List, 
 ghost use Rattle.std.specs.Io.KnownBytes.{Consumes};
 ghost use Rattle.script.specs.Items.{numbered, put, IsLine, IsPutLine, ItemsFrom, is_blank};
 ghost use Rattle.script.specs.Reading.{shown_item};
-ghost use Rattle.stream.specs.Stream.{Place, place, IsNext, Shows};
+ghost use Rattle.stream.specs.Stream.{StreamState, stream_at, IsNext, Shows};
 ghost use Rattle.stream.specs.Private.Bytes.{Holds};
 ghost use Rattle.stream.specs.Private.Taking.{TakesItem};
 
@@ -28,17 +28,17 @@ pub struct ItemStream {
 }
 
 impl Model for ItemStream {
-    ghost use Rattle.stream.specs.Stream.{Place, place};
+    ghost use Rattle.stream.specs.Stream.{StreamState, stream_at};
 
-    ghost Value = { Place };
+    ghost Value = { StreamState };
 
-    ghost view = { λ s. place s.line s.ended };
+    ghost view = { λ s. stream_at s.line s.ended };
 }
 
 impl ItemStream {
     /// Before the first byte of an input. The first line has the number 1.
     pub fn new(alloc: Global) -> ItemStream
-        ensures { result ≡ place 1 false }
+        ensures { result ≡ stream_at 1 false }
     {
         ItemStream {
             alloc,
@@ -47,7 +47,7 @@ impl ItemStream {
         }
     }
 
-    /// Takes the next item from the input, and waits for no byte behind the item's last one. This is the line
+    /// Takes the next item from the input, and waits for no byte after the item's last one. This is the line
     /// feed of its line, or the byte after a put's body. Empty lines and comments are skipped.
     ///
     /// All calls on a stream are given the same input. `text` is changed: the item's name and texts lie in it.
@@ -101,7 +101,7 @@ impl ItemStream {
     /// Goes on with the line of this number, if there is one.
     fn go_on(&mut self, next: Option<u32>)
         requires { self.old.ended ≡ true }
-        ensures { self.new ≡ place (unwrap_or next self.old.line) (is_none next) }
+        ensures { self.new ≡ stream_at (unwrap_or next self.old.line) (is_none next) }
     {
         if let Some(line) = next {
             self.line = line;

@@ -19,7 +19,7 @@ use Rattle.tsearch.specs.Rows.{Row, commands_of, published_in, published_last, i
 use Rattle.tsearch.specs.Legal.{Context, all_rows, search_number, IsEntryOf, HasEntry, IsLegalRow, IsNamed, bad_name, no_memory, named}
 use Rattle.tsearch.specs.Legal.{HasLoaded, loaded_body, IsAnswered, newest_allowed, IsSearched, IsSearch, IsSearchIn}
 use Rattle.tsearch.specs.Legal as legal
-use Rattle.tsearch.specs.Private.Searches.{Asks, IsRefusalOf}
+use Rattle.tsearch.specs.Private.Searches.{Asks, IsReasonOfRefusal}
 use Rattle.tsearch.proofs.RowLemmas.{commands_of-append, published_in-append, Rises, last_never_falls, until_sync, until_is_before, until_longer}
 
 -- the context of a row: these rows before and after it
@@ -84,7 +84,7 @@ legal_sync Holds most context body_not_closed is = cc
 
 -- A search may be refused where the refusal is that of its texts.
 pub legal_refusal : (Holds : List ℕ → List ℕ → Type 0) (most : ℕ) (context : Context) (item : Item) (why : SearchReason)
-    → searches_of item ≡ 1 → IsRefusalOf item why
+    → searches_of item ≡ 1 → IsReasonOfRefusal item why
     → HasEntry Holds most context item (Some (SearchRefused (count_searches context.before + 1) why))
 unfolding IsEntryOf
 legal_refusal Holds most context (search case text) why one refusal = refusal context
@@ -100,7 +100,7 @@ legal_refusal Holds most context truncated why one refusal = absurd (omega (arit
 legal_refusal Holds most context body_not_closed why one refusal = absurd (omega (arith, one))
 
 -- Memory may run out for each search.
-pub no_memory_refusal : (item : Item) → IsRefusalOf item search_reason.OutOfMemory
+pub no_memory_refusal : (item : Item) → IsReasonOfRefusal item search_reason.OutOfMemory
 no_memory_refusal (search case text) = λ context. legal.searched (legal.no_memory refl)
 no_memory_refusal (search_in case name_text text) = λ context. legal.searched (legal.no_memory refl)
 no_memory_refusal (put name body) = tt

@@ -1,7 +1,7 @@
 pub mod ItemLemmas
 pub mod CarryLemmas
 pub mod SearchLemmas
-pub mod SeatLemmas
+pub mod ReaderLemmas
 pub mod CloseLemmas
 pub mod RowLemmas
 pub mod TallyLemmas

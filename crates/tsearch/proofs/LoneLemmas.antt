@@ -31,7 +31,7 @@ use Rattle.tsearch.specs.Private.Items.{row_of, searches_in, Tells, IsEntered, I
 use Rattle.tsearch.specs.Private.Items as items
 use Rattle.tsearch.specs.Private.Lone.{IsAnsweredAlone, IsSearchedAlone, counted}
 use Rattle.tsearch.specs.Private.Lone as lone
-use Rattle.tsearch.specs.Private.Searches.{Asks, IsRefusalOf}
+use Rattle.tsearch.specs.Private.Searches.{Asks, IsReasonOfRefusal}
 use Rattle.tsearch.proofs.CarryLemmas.{accepted_after, same_opening}
 use Rattle.tsearch.proofs.RowLemmas.{commands_of-append, commands_of-one, published_in-append, published_last-push, count_searches-push}
 use Rattle.tsearch.proofs.RowLemmas.{count_failures-push, split_push}
@@ -354,7 +354,7 @@ no_entry_commands (Published line version) commands is = absurd (omega (arith, i
 
 module _ (Holds : List ℕ → List ℕ → Type 0) (old : LoneState) (failed : ℕ) (item : Numbered) (one : searches_of item.item ≡ 1) where
   -- a search that is refused
-  refused_goes_on : (why : SearchReason) → IsRefusalOf item.item why
+  refused_goes_on : (why : SearchReason) → IsReasonOfRefusal item.item why
       → GoesOn Holds old failed item (Some (SearchRefused (old.searches + 1) why)) (counted old) failed
   refused_goes_on why refusal = record {
     by = λ first rows are.
@@ -522,7 +522,7 @@ module _ (desk : DeskState) (told : Known) (searches turn : ℕ) (old : LoneStat
       → IsAnsweredAlone (state_at desk told (searches + 1) turn) (pattern_of prepared) entry new → IsSearchedAlone old item entry new
   searched_from item prepared entry new asks is = subst (λ s. IsSearchedAlone s item entry new) view (lone.answered prepared asks is)
 
-  pub refused_from : (item : Item) (why : SearchReason) → IsRefusalOf item why
+  pub refused_from : (item : Item) (why : SearchReason) → IsReasonOfRefusal item why
       → IsSearchedAlone old item (SearchRefused (searches + 1) why) (state_at desk told (searches + 1) turn)
   refused_from item why is =
       subst (λ s. IsSearchedAlone s item (SearchRefused (searches + 1) why) (state_at desk told (searches + 1) turn)) view

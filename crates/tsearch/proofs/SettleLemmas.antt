@@ -18,7 +18,7 @@ use Rattle.tsearch.specs.Rows.{Row, entries_of, list_of, commands_of, accepted_b
 use Rattle.tsearch.specs.Rows.{published_last, is_sync, searches_of, count_searches, failures_in}
 use Rattle.tsearch.specs.Legal.{HasEntry, IsLegalRow}
 use Rattle.tsearch.specs.Private.Items.{row_of, searches_in}
-use Rattle.tsearch.specs.Private.Searches.{IsRefusalOf}
+use Rattle.tsearch.specs.Private.Searches.{IsReasonOfRefusal}
 use Rattle.tsearch.specs.Private.Tallies.{last, last_of, Tally, tally_with, IsTaken, IsClosed, no_memory, found, Settles}
 use Rattle.tsearch.specs.Private.Tallies as tallies
 use Rattle.tsearch.proofs.RowLemmas.{commands_of-append, commands_of-one, published_in-append, published_last-push, count_searches-push}
@@ -35,7 +35,7 @@ pub data IsPendingRow (Holds : List ℕ → List ℕ → Type 0) (most : ℕ) (c
       → IsLegalRow Holds most (context_of readers before row after))
       → searches_of row.numbered.item ≡ 0 → is_sync row.numbered.item ≡ false → searches_in entry ≡ 0 → IsPendingRow Holds most commands count row
   refused : (why : SearchReason) → row.entry ≡ Some (SearchRefused (count + 1) why) → searches_of row.numbered.item ≡ 1
-      → IsRefusalOf row.numbered.item why → IsPendingRow Holds most commands count row
+      → IsReasonOfRefusal row.numbered.item why → IsPendingRow Holds most commands count row
   asked : row.entry ≡ None → searches_of row.numbered.item ≡ 1 → IsPendingRow Holds most commands count row
 
 abbrev pub accepted_in : Row → List Command

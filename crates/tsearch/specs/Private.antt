@@ -3,7 +3,7 @@ pub mod Entries
 pub mod Items
 pub mod Searches
 pub mod Tallies
-pub mod Seats
+pub mod Readers
 pub mod Sessions
 pub mod Runs
 pub mod Lone

@@ -4,10 +4,10 @@ ghost use Rattle.std.specs.Prelude.{◌≡◌, ℕ, ◌+◌, ◌-◌, ◌<◌, �
 ghost use Rattle.index.specs.State.{state_of};
 ghost use Rattle.search.specs.Prepared.{pattern_of};
 ghost use Rattle.search.specs.Scan.{IsAnswerOf};
-ghost use Rattle.tsearch.specs.Private.Seats.{IsSeat};
+ghost use Rattle.tsearch.specs.Private.Readers.{IsReader};
 ghost use Rattle.tsearch.specs.Private.Tallies.{IsUseful, IsClosed, IsTaken, CanStand, last, last_of};
 
-use crate::seats::Seat;
+use crate::reader::Reader;
 use crate::settled::Last;
 use crate::transcript::{Entry, SearchReason};
 use readers::Given;
@@ -19,7 +19,7 @@ use std::thread::Threads;
 
 /// An open search, once everything to be answered with it has been read.
 #[derive(Clone, Copy)]
-pub struct Open<'a> {
+pub struct OpenSearch<'a> {
     pub searches: &'a [Option<Prepared>],
     /// What was published last.
     pub told: &'a Told,
@@ -33,30 +33,31 @@ pub struct Open<'a> {
 
 /// Closes an open search with the answer of its reader, if that is accepted, or otherwise with an answer of
 /// reader 0. The search is refused if reader 0 runs out of memory.
-pub fn close<R: Threads + Wait>(
+pub fn close_search<R: Threads + Wait>(
     rt: &R,
     alloc: Global,
-    asked: Open<'_>,
+    open: OpenSearch<'_>,
     lasts: &mut Vec<Last>,
     reading: &mut Reading,
-    seats: &mut Vec<Seat<'_>>,
+    readers: &mut Vec<Reader<'_>>,
 ) -> Entry
-    requires number { 0 < asked.number }
-    requires opening { reading.old.opening ≡ asked.told.now.opening }
-    requires seats { All (IsSeat asked.told.now.opening asked.searches.now) seats.old.items }
-    requires count { (length lasts.old.items ≡ length seats.old.items + 1) × (length seats.old.items ≤ 16) }
-    ensures closed { IsClosed asked.entry.searches.now asked.entry.told.now.commands asked.entry.versions.now asked.entry.number asked.entry.least lasts.old.items result lasts.new.items }
+    requires number { 0 < open.number }
+    requires opening { reading.old.opening ≡ open.told.now.opening }
+    requires readers { All (IsReader open.told.now.opening open.searches.now) readers.old.items }
+    requires count { (length lasts.old.items ≡ length readers.old.items + 1) × (length readers.old.items ≤ 16) }
+    ensures closed { IsClosed open.entry.searches.now open.entry.told.now.commands open.entry.versions.now open.entry.number open.entry.least
+        lasts.old.items result lasts.new.items }
     ensures opening { reading.new.opening ≡ reading.old.opening }
-    ensures seats { All (IsSeat asked.entry.told.now.opening asked.entry.searches.now) seats.new.items }
-    ensures count { length seats.new.items ≡ length seats.old.items }
+    ensures readers { All (IsReader open.entry.told.now.opening open.entry.searches.now) readers.new.items }
+    ensures count { length readers.new.items ≡ length readers.old.items }
 {
-    if let Some(found) = answer_of_reader(rt, asked, lasts, seats) {
+    if let Some(found) = answer_of_reader(rt, open, lasts, readers) {
         return found;
     }
-    match answer_of_first(rt, alloc, asked, lasts, reading) {
+    match answer_of_first(rt, alloc, open, lasts, reading) {
         Some(found) => found,
         None => Entry::SearchRefused {
-            search: asked.number,
+            search: open.number,
             reason: SearchReason::OutOfMemory,
         },
     }
@@ -65,26 +66,27 @@ pub fn close<R: Threads + Wait>(
 /// The answer of the reader that the search was sent to, if it gave one that is accepted.
 fn answer_of_reader<R: Threads>(
     rt: &R,
-    asked: Open<'_>,
+    open: OpenSearch<'_>,
     lasts: &mut Vec<Last>,
-    seats: &mut Vec<Seat<'_>>,
+    readers: &mut Vec<Reader<'_>>,
 ) -> Option<Entry>
-    requires number { 0 < asked.number }
-    requires seats { All (IsSeat asked.told.now.opening asked.searches.now) seats.old.items }
-    requires count { (length lasts.old.items ≡ length seats.old.items + 1) × (length seats.old.items ≤ 16) }
-    ensures closed { IfSome result (λ entry. IsClosed asked.entry.searches.now asked.entry.told.now.commands asked.entry.versions.now asked.entry.number asked.entry.least lasts.old.items entry lasts.new.items) }
+    requires number { 0 < open.number }
+    requires readers { All (IsReader open.told.now.opening open.searches.now) readers.old.items }
+    requires count { (length lasts.old.items ≡ length readers.old.items + 1) × (length readers.old.items ≤ 16) }
+    ensures closed { IfSome result (λ entry. IsClosed open.entry.searches.now open.entry.told.now.commands open.entry.versions.now
+        open.entry.number open.entry.least lasts.old.items entry lasts.new.items) }
     ensures none { IfNone result (lasts.new.items ≡ lasts.old.items) }
-    ensures seats { All (IsSeat asked.entry.told.now.opening asked.entry.searches.now) seats.new.items }
-    ensures count { length seats.new.items ≡ length seats.old.items }
+    ensures readers { All (IsReader open.entry.told.now.opening open.entry.searches.now) readers.new.items }
+    ensures count { length readers.new.items ≡ length readers.old.items }
 {
-    let count = seats.len();
+    let count = readers.len();
     if count == 0 {
         return None;
     }
-    let at = (asked.number as usize - 1) % count;
-    let given = seats[at].next_answer(rt, asked.told, asked.number)?;
+    let at = (open.number as usize - 1) % count;
+    let given = readers[at].next_answer(rt, open.told, open.number)?;
     let last = lasts[at + 1];
-    if !can_stand(asked, last, &given) {
+    if !can_stand(open, last, &given) {
         return None;
     }
     let version = given.answer.version();
@@ -93,7 +95,7 @@ fn answer_of_reader<R: Threads>(
         version,
     };
     Some(Entry::Found {
-        search: asked.number,
+        search: open.number,
         reader: at as u32 + 1,
         turn: given.turn,
         answer: given.answer,
@@ -102,14 +104,14 @@ fn answer_of_reader<R: Threads>(
 
 /// Whether an answer is accepted: its version was published and is no older than what the search and its reader
 /// had seen, and its turn is after the reader's last one.
-fn can_stand(asked: Open<'_>, last: Last, given: &Given) -> bool
-    ensures { MatchBool result (CanStand asked.entry.told.now.commands asked.entry.versions.now asked.entry.least last given.now) Unit }
+fn can_stand(open: OpenSearch<'_>, last: Last, given: &Given) -> bool
+    ensures { MatchBool result (CanStand open.entry.told.now.commands open.entry.versions.now open.entry.least last given.now) Unit }
 {
     let version = given.answer.version();
-    if version > asked.told.version() {
+    if version > open.told.version() {
         return false;
     }
-    if version < asked.least {
+    if version < open.least {
         return false;
     }
     if version < last.version {
@@ -118,7 +120,7 @@ fn can_stand(asked: Open<'_>, last: Last, given: &Given) -> bool
     if given.turn <= last.turn {
         return false;
     }
-    is_published(asked.versions, version)
+    is_published(open.versions, version)
 }
 
 /// Whether a version is among these, which rise.
@@ -132,30 +134,31 @@ fn is_published(versions: &[u32], version: u32) -> bool
 fn answer_of_first<R: Wait>(
     rt: &R,
     alloc: Global,
-    asked: Open<'_>,
+    open: OpenSearch<'_>,
     lasts: &mut Vec<Last>,
     reading: &mut Reading,
 ) -> Option<Entry>
-    requires number { 0 < asked.number }
-    requires opening { reading.old.opening ≡ asked.told.now.opening }
+    requires number { 0 < open.number }
+    requires opening { reading.old.opening ≡ open.told.now.opening }
     requires count { 0 < length lasts.old.items }
-    ensures closed { IfSome result (λ entry. IsClosed asked.entry.searches.now asked.entry.told.now.commands asked.entry.versions.now asked.entry.number asked.entry.least lasts.old.items entry lasts.new.items) }
+    ensures closed { IfSome result (λ entry. IsClosed open.entry.searches.now open.entry.told.now.commands open.entry.versions.now
+        open.entry.number open.entry.least lasts.old.items entry lasts.new.items) }
     ensures none { IfNone result (lasts.new.items ≡ lasts.old.items) }
     ensures opening { reading.new.opening ≡ reading.old.opening }
 {
-    let prepared = search_at(asked.searches, asked.number)?;
+    let prepared = search_at(open.searches, open.number)?;
     let last = lasts[0];
     if last.turn == u32::MAX {
         return None;
     }
     let turn = last.turn + 1;
-    let answer = answer_last(rt, alloc, reading, asked.told, prepared)?;
+    let answer = answer_last(rt, alloc, reading, open.told, prepared)?;
     lasts[0] = Last {
         turn,
         version: answer.version(),
     };
     Some(Entry::Found {
-        search: asked.number,
+        search: open.number,
         reader: 0,
         turn,
         answer,

@@ -8,11 +8,11 @@ ghost use Rattle.shared.specs.Desk.{desk_state};
 ghost use Rattle.shared.specs.History.{known};
 ghost use Rattle.tsearch.specs.Legal.{IsLegal};
 ghost use Rattle.tsearch.specs.Private.Searches.{ArePrepared};
-ghost use Rattle.tsearch.specs.Private.Seats.{IsSeat};
+ghost use Rattle.tsearch.specs.Private.Readers.{IsReader};
 ghost use Rattle.tsearch.specs.Private.Sessions.{Advances, IsKept, IsStart};
 
+use crate::reader::{Reader, at_rest};
 use crate::run::Options;
-use crate::seats::{Seat, seats};
 use crate::session::{Session, Step};
 use crate::source::Source;
 use crate::transcript::Entry;
@@ -46,7 +46,7 @@ pub fn drive<'s, 'a: 's, E, R: Threads + Wait + Sync, S: Source, G: Gate>(
 ) -> Result<Vec<Entry>, AllocError>
     requires script { length plan.now.script.now ≤ MAX_SCRIPT }
     requires searches { ArePrepared plan.now.script.now plan.now.searches.now }
-    requires readers { plan.now.options.readers ≤ 16 }
+    requires few { plan.now.options.readers ≤ 16 }
     requires desk { desk.old ≡ desk_state desk.old.opening plan.now.options.max_commands [] [] }
     requires readings { All (λ reading. reading ≡ known desk.old.opening []) readings.items }
     requires count { length readings.items ≡ plan.now.options.readers + 1 }
@@ -54,12 +54,12 @@ pub fn drive<'s, 'a: 's, E, R: Threads + Wait + Sync, S: Source, G: Gate>(
     ensures same { (path body : List ℕ) → (S.holds source.new path body → S.holds source.old path body) × (S.holds source.old path body → S.holds source.new path body) }
     ensures counted { S.failed source.old ≤ S.failed source.new }
 {
-    let (mut session, mut seats) = start(plan, desk, readings)?;
-    let mut reader = ScriptReader::new(plan.script);
-    while let Some(item) = reader.next_item() {
-        advance(scope, plan, desk, source, &mut session, &mut seats, item)?;
+    let (mut session, mut readers) = start(plan, desk, readings)?;
+    let mut items = ScriptReader::new(plan.script);
+    while let Some(item) = items.next_item() {
+        advance(scope, plan, desk, source, &mut session, &mut readers, item)?;
     }
-    session.settle(plan.rt, plan.alloc, plan.searches, &mut seats)?;
+    session.settle(plan.rt, plan.alloc, plan.searches, &mut readers)?;
     let settled = session.settled;
     Ok(settled.entries)
 }
@@ -69,13 +69,13 @@ fn start<'a, R: Wait, G>(
     plan: &Plan<'a, R, G>,
     desk: &mut Desk,
     readings: Vec<Reading>,
-) -> Result<(Session, Vec<Seat<'a>>), AllocError>
-    requires readers { plan.now.options.readers ≤ 16 }
+) -> Result<(Session, Vec<Reader<'a>>), AllocError>
+    requires few { plan.now.options.readers ≤ 16 }
     requires desk { desk.old ≡ desk_state desk.old.opening plan.now.options.max_commands [] [] }
     requires readings { All (λ reading. reading ≡ known desk.old.opening []) readings.items }
     requires count { length readings.items ≡ plan.now.options.readers + 1 }
     ensures session { IfOk result (λ started. IsStart desk.old.opening plan.now.options.readers started.0) }
-    ensures seats { IfOk result (λ started. All (IsSeat desk.old.opening plan.now.searches.now) started.1.items) }
+    ensures readers { IfOk result (λ started. All (IsReader desk.old.opening plan.now.searches.now) started.1.items) }
     ensures count { IfOk result (λ started. length started.1.items ≡ plan.now.options.readers) }
     ensures desk { desk.new ≡ desk.old }
 {
@@ -85,8 +85,8 @@ fn start<'a, R: Wait, G>(
         return Err(AllocError);
     };
     let session = Session::new(plan.alloc, told, reading, plan.options.readers)?;
-    let seats = seats(plan.alloc, readings)?;
-    Ok((session, seats))
+    let readers = at_rest(plan.alloc, readings)?;
+    Ok((session, readers))
 }
 
 /// Takes an item. A search is sent to its reader. All that is pending is settled at a sync, and whenever no
@@ -97,26 +97,27 @@ fn advance<'s, 'a: 's, E, R: Threads + Wait + Sync, S: Source, G: Gate>(
     desk: &mut Desk,
     source: &mut S,
     session: &mut Session,
-    seats: &mut Vec<Seat<'a>>,
+    readers: &mut Vec<Reader<'a>>,
     item: Numbered<'_>,
 ) -> Result<(), AllocError>
     requires searches { session.old.searches + 1 < 2 ^ 32 }
     requires opening { (session.old.reading.opening ≡ session.old.told.opening) × (session.old.told.opening ≡ desk.old.opening) }
-    requires seats { All (IsSeat desk.old.opening plan.now.searches.now) seats.old.items }
-    requires count { (length session.old.settled.lasts.items ≡ length seats.old.items + 1) × (length seats.old.items ≤ 16) × (length seats.old.items ≡ plan.now.options.readers) }
+    requires readers { All (IsReader desk.old.opening plan.now.searches.now) readers.old.items }
+    requires count { (length session.old.settled.lasts.items ≡ length readers.old.items + 1) × (length readers.old.items ≤ 16)
+        × (length readers.old.items ≡ plan.now.options.readers) }
     requires few { session.old.settled.searches + length session.old.pending.items + 1 < 2 ^ 32 }
     ensures ok { OnOk result (Advances (S.holds source.old) plan.now.searches.now plan.now.options.readers desk.old (S.failed source.old) session.old
         (numbered_item item.entry.line (shown_item item.entry.item)) desk.new (S.failed source.new) session.new) }
     ensures kept { OnOk result (IsKept desk.old session.old desk.new session.new) }
-    ensures seats { OnOk result (All (IsSeat desk.old.opening plan.now.searches.now) seats.new.items) }
-    ensures count { OnOk result (length seats.new.items ≡ length seats.old.items) }
+    ensures readers { OnOk result (All (IsReader desk.old.opening plan.now.searches.now) readers.new.items) }
+    ensures count { OnOk result (length readers.new.items ≡ length readers.old.items) }
     ensures same { (path body : List ℕ) → (S.holds source.new path body → S.holds source.old path body) × (S.holds source.old path body → S.holds source.new path body) }
     ensures counted { S.failed source.old ≤ S.failed source.new }
 {
     let step = session.take(plan.rt, plan.alloc, desk, source, plan.searches, item)?;
-    send(scope, plan, seats, step);
+    send(scope, plan, readers, step);
     if is_to_settle(step, plan.options.readers, session.waits) {
-        session.settle(plan.rt, plan.alloc, plan.searches, seats)?;
+        session.settle(plan.rt, plan.alloc, plan.searches, readers)?;
     }
     Ok(())
 }
@@ -135,18 +136,19 @@ fn is_to_settle(step: Step, readers: u32, waits: bool) -> bool
 fn send<'s, 'a: 's, E, R: Wait + Sync, G: Gate>(
     scope: &Scope<'s, E>,
     plan: &Plan<'a, R, G>,
-    seats: &mut Vec<Seat<'a>>,
+    readers: &mut Vec<Reader<'a>>,
     step: Step,
 )
-    ensures seats { (opening : Book) → All (IsSeat opening plan.now.searches.now) seats.old.items → All (IsSeat opening plan.now.searches.now) seats.new.items }
-    ensures count { length seats.new.items ≡ length seats.old.items }
+    ensures readers { (opening : Book) → All (IsReader opening plan.now.searches.now) readers.old.items
+        → All (IsReader opening plan.now.searches.now) readers.new.items }
+    ensures count { length readers.new.items ≡ length readers.old.items }
 {
     let Step::Search(number) = step else {
         return;
     };
-    if seats.is_empty() {
+    if readers.is_empty() {
         return;
     }
-    let at = (number as usize).saturating_sub(1) % seats.len();
-    seats[at].send(scope, plan.rt, plan.alloc, plan.searches, plan.gate, number);
+    let at = (number as usize).saturating_sub(1) % readers.len();
+    readers[at].send(scope, plan.rt, plan.alloc, plan.searches, plan.gate, number);
 }

@@ -16,7 +16,7 @@ use crate::closing::answer_last;
 use crate::items::{
     Outcome, carry_out, entry_of, put_read, reason_of_long_put, reason_of_lost_put,
 };
-use crate::searches::{prepare, refusal};
+use crate::searches::{prepare, reason_of_refusal};
 use crate::source::Source;
 use crate::transcript::{Entry, SearchReason};
 use script::{Item, Numbered};
@@ -146,7 +146,7 @@ impl LoneRun {
             Some(prepared) => self.answer(rt, alloc, &prepared),
             None => Entry::SearchRefused {
                 search: self.searches,
-                reason: refusal(alloc, item),
+                reason: reason_of_refusal(alloc, item),
             },
         }
     }

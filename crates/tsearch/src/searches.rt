@@ -6,7 +6,7 @@ ghost use Rattle.script.specs.Reading.{shown_item};
 ghost use Rattle.script.specs.Items.{search as search_item, search_in as search_in_item};
 ghost use Rattle.tsearch.specs.Rows.{searches_of};
 ghost use Rattle.tsearch.specs.Private.Entries.{reason_of_fault};
-ghost use Rattle.tsearch.specs.Private.Searches.{Asks, IsListed, ArePrepared, IsRefusalOf};
+ghost use Rattle.tsearch.specs.Private.Searches.{Asks, IsListed, ArePrepared, IsReasonOfRefusal};
 
 use crate::transcript::SearchReason;
 use ere::{Case, EreError, EreErrorKind};
@@ -20,9 +20,9 @@ pub fn prepare_all(alloc: Global, script: &[u8]) -> Result<Vec<Option<Prepared>>
     requires { length script.now ≤ MAX_SCRIPT }
     ensures { IfOk result (λ searches. ArePrepared script.now searches.items) }
 {
-    let mut reader = ScriptReader::new(script);
+    let mut items = ScriptReader::new(script);
     let mut searches = Vec::new(alloc);
-    while let Some(item) = reader.next_item() {
+    while let Some(item) = items.next_item() {
         list(alloc, item.item, &mut searches)?;
     }
     Ok(searches)
@@ -68,39 +68,44 @@ pub fn prepare(alloc: Global, item: Item<'_>) -> Option<Prepared>
 }
 
 /// Why a search was not prepared: its first fault, or that memory ran out.
-pub fn refusal(alloc: Global, item: Item<'_>) -> SearchReason
-    ensures { IsRefusalOf (shown_item item.entry) result }
+pub fn reason_of_refusal(alloc: Global, item: Item<'_>) -> SearchReason
+    ensures { IsReasonOfRefusal (shown_item item.entry) result }
 {
     match item {
-        Item::Search { case, pattern } => search_refusal(alloc, case, pattern),
+        Item::Search { case, pattern } => reason_of_search(alloc, case, pattern),
         Item::SearchIn {
             case,
             name_pattern,
             pattern,
-        } => search_in_refusal(alloc, case, name_pattern, pattern),
+        } => reason_of_search_in(alloc, case, name_pattern, pattern),
         _ => SearchReason::OutOfMemory,
     }
 }
 
-fn search_refusal(alloc: Global, case: Case, pattern: &[u8]) -> SearchReason
-    ensures { IsRefusalOf (search_item case pattern.now) result }
+fn reason_of_search(alloc: Global, case: Case, pattern: &[u8]) -> SearchReason
+    ensures { IsReasonOfRefusal (search_item case pattern.now) result }
 {
     match Prepared::with_case(alloc, pattern, case) {
         Ok(_) => SearchReason::OutOfMemory,
-        Err(error) => reason_of(false, error),
+        Err(error) => reason_of_fault(false, error),
     }
 }
 
-fn search_in_refusal(alloc: Global, case: Case, name_pattern: &[u8], pattern: &[u8]) -> SearchReason
-    ensures { IsRefusalOf (search_in_item case name_pattern.now pattern.now) result }
+fn reason_of_search_in(
+    alloc: Global,
+    case: Case,
+    name_pattern: &[u8],
+    pattern: &[u8],
+) -> SearchReason
+    ensures { IsReasonOfRefusal (search_in_item case name_pattern.now pattern.now) result }
 {
     match Prepared::within_with_case(alloc, name_pattern, pattern, case) {
         Ok(_) => SearchReason::OutOfMemory,
-        Err(error) => reason_of(error.in_name, error.error),
+        Err(error) => reason_of_fault(error.in_name, error.error),
     }
 }
 
-fn reason_of(in_name: bool, error: EreError) -> SearchReason
+fn reason_of_fault(in_name: bool, error: EreError) -> SearchReason
     ensures { result ≡ reason_of_fault in_name error }
 {
     if error.kind == EreErrorKind::OutOfMemory {

@@ -9,10 +9,10 @@ ghost use Rattle.script.specs.Reading.{shown_item};
 ghost use Rattle.tsearch.specs.Rows.{searches_of};
 ghost use Rattle.tsearch.specs.Private.Items.{searches_in};
 
-use crate::closing::{Open, close};
+use crate::closing::{OpenSearch, close_search};
 use crate::items::{Outcome, carry_out};
-use crate::searches::refusal;
-use crate::seats::Seat;
+use crate::reader::Reader;
+use crate::searches::reason_of_refusal;
 use crate::settled::Settled;
 use crate::source::Source;
 use crate::transcript::{Entry, SearchReason};
@@ -57,7 +57,7 @@ pub enum Step {
 
 impl Session {
     ghost use Rattle.tsearch.specs.Private.Sessions.{IsFresh, IsStep, IsSettled, IsAsked, AreListed, SettlesNext};
-    ghost use Rattle.tsearch.specs.Private.Seats.{IsSeat};
+    ghost use Rattle.tsearch.specs.Private.Readers.{IsReader};
 
     /// A run before its first item, with `readers` readers in addition to reader 0. An `Err` means that memory ran out.
     pub fn new(
@@ -144,7 +144,7 @@ impl Session {
                 Ok(Step::Search(number))
             }
             _ => {
-                let reason = refusal(alloc, item);
+                let reason = reason_of_refusal(alloc, item);
                 let entry = Entry::SearchRefused {
                     search: number,
                     reason,
@@ -162,19 +162,19 @@ impl Session {
         rt: &R,
         alloc: Global,
         searches: &[Option<Prepared>],
-        seats: &mut Vec<Seat<'_>>,
+        readers: &mut Vec<Reader<'_>>,
     ) -> Result<(), AllocError>
         requires opening { self.old.reading.opening ≡ self.old.told.opening }
-        requires seats { All (IsSeat self.old.told.opening searches.now) seats.old.items }
-        requires count { (length self.old.settled.lasts.items ≡ length seats.old.items + 1) × (length seats.old.items ≤ 16) }
+        requires readers { All (IsReader self.old.told.opening searches.now) readers.old.items }
+        requires count { (length self.old.settled.lasts.items ≡ length readers.old.items + 1) × (length readers.old.items ≤ 16) }
         requires few { self.old.settled.searches + length self.old.pending.items < 2 ^ 32 }
         ensures ok { OnOk result (IsSettled searches.now self.old self.new) }
         ensures opening { self.new.reading.opening ≡ self.new.told.opening }
-        ensures seats { All (IsSeat self.old.told.opening searches.now) seats.new.items }
-        ensures count { length seats.new.items ≡ length seats.old.items }
+        ensures readers { All (IsReader self.old.told.opening searches.now) readers.new.items }
+        ensures count { length readers.new.items ≡ length readers.old.items }
     {
         while let Some(entry) = self.pending.pop_front() {
-            self.settle_next(rt, alloc, searches, seats, entry)?;
+            self.settle_next(rt, alloc, searches, readers, entry)?;
         }
         self.waits = false;
         Ok(())
@@ -186,24 +186,25 @@ impl Session {
         rt: &R,
         alloc: Global,
         searches: &[Option<Prepared>],
-        seats: &mut Vec<Seat<'_>>,
+        readers: &mut Vec<Reader<'_>>,
         entry: Option<Entry>,
     ) -> Result<(), AllocError>
         requires opening { self.old.reading.opening ≡ self.old.told.opening }
-        requires seats { All (IsSeat self.old.told.opening searches.now) seats.old.items }
-        requires count { (length self.old.settled.lasts.items ≡ length seats.old.items + 1) × (length seats.old.items ≤ 16) }
+        requires readers { All (IsReader self.old.told.opening searches.now) readers.old.items }
+        requires count { (length self.old.settled.lasts.items ≡ length readers.old.items + 1) × (length readers.old.items ≤ 16) }
         requires few { self.old.settled.searches + 1 < 2 ^ 32 }
         ensures ok { OnOk result (SettlesNext searches.now self.old entry self.new) }
         ensures few { self.new.settled.searches ≤ self.old.settled.searches + 1 }
         ensures kept { (self.new.told ≡ self.old.told) × (self.new.versions ≡ self.old.versions) × (self.new.searches ≡ self.old.searches) × (self.new.pending ≡ self.old.pending) }
         ensures opening { self.new.reading.opening ≡ self.old.reading.opening }
-        ensures seats { All (IsSeat self.old.told.opening searches.now) seats.new.items }
-        ensures count { (length seats.new.items ≡ length seats.old.items) × (length self.new.settled.lasts.items ≡ length self.old.settled.lasts.items) }
+        ensures readers { All (IsReader self.old.told.opening searches.now) readers.new.items }
+        ensures count { (length readers.new.items ≡ length readers.old.items)
+            × (length self.new.settled.lasts.items ≡ length self.old.settled.lasts.items) }
     {
         match entry {
             Some(entry) => self.settled.push(entry),
             None => {
-                let asked = Open {
+                let open = OpenSearch {
                     searches,
                     told: &self.told,
                     versions: &self.versions,
@@ -211,7 +212,7 @@ impl Session {
                     least: self.settled.published,
                 };
                 let lasts = &mut self.settled.lasts;
-                let entry = close(rt, alloc, asked, lasts, &mut self.reading, seats);
+                let entry = close_search(rt, alloc, open, lasts, &mut self.reading, readers);
                 self.settled.push(entry)
             }
         }

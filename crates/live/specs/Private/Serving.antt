@@ -3,7 +3,7 @@ use Rattle.std.specs.Prelude.{◌≡◌, ℕ, ◌||◌, Bool, true, false, if◌
 use Rattle.std.specs.List.{list_any}
 use Rattle.std.specs.Io.KnownBytes.{Appends, Consumes}
 use Rattle.script.specs.Items.{Numbered, ItemsFrom, IsItemsOf}
-use Rattle.stream.specs.Stream.{Place}
+use Rattle.stream.specs.Stream.{StreamState}
 use Rattle.tsearch.specs.declared.transcript.Entry.{Entry}
 use Rattle.tsearch.specs.Lone.{LoneState, AreSoFar}
 use Rattle.tsearch.specs.Rows.{Row, items_of, entries_of}
@@ -44,14 +44,14 @@ pub record Start : Type 0 where
 -- What there is between two items.
 pub record Now : Type 0 where
   pub run : LoneState
-  pub place : Place
+  pub stream : StreamState
   pub marks : Marks
   pub failed : ℕ
   pub left : Option (List ℕ)
   pub written : Option (List ℕ)
 
-abbrev pub now : LoneState → Place → Marks → ℕ → Option (List ℕ) → Option (List ℕ) → Now
-now run place marks failed left written = record { run = run; place = place; marks = marks; failed = failed; left = left; written = written }
+abbrev pub now : LoneState → StreamState → Marks → ℕ → Option (List ℕ) → Option (List ℕ) → Now
+now run stream marks failed left written = record { run = run; stream = stream; marks = marks; failed = failed; left = left; written = written }
 
 -- The session goes on: these bytes were read, and their items are those of the rows. The text of their entries is
 -- written, and more is to be read.
@@ -59,12 +59,12 @@ pub record IsServing (Holds : List ℕ → List ℕ → Type 0) (stats : Bool) (
   pub script : List ℕ
   pub rows : List Row
   pub read : Consumes start.input at.left script
-  pub items : (rest : List ℕ) (items : List Numbered) → ItemsFrom at.place.line rest items → IsItemsOf (script ++ rest) (items_of rows ++ items)
+  pub items : (rest : List ℕ) (items : List Numbered) → ItemsFrom at.stream.line rest items → IsItemsOf (script ++ rest) (items_of rows ++ items)
   pub limit : at.run.limit ≡ start.limit
   pub so_far : AreSoFar Holds start.failed at.run at.failed rows
   pub written : Appends start.output at.written (text_of_transcript stats (entries_of rows))
   pub marks : at.marks ≡ marks_of (entries_of rows)
-  pub more : at.place.ended ≡ false
+  pub more : at.stream.ended ≡ false
 
 -- The reading has ended.
 pub record IsDone (Holds : List ℕ → List ℕ → Type 0) (stats : Bool) (start : Start) (at : Now) : Type 0 where

@@ -11,7 +11,7 @@ use Rattle.tsearch.specs.declared.transcript.Entry.TheVariants.{Found, SearchRef
 use Rattle.tsearch.specs.declared.transcript.SearchReason.{SearchReason}
 use Rattle.tsearch.specs.declared.transcript.SearchReason.TheVariants as search_reason
 use Rattle.tsearch.specs.Lone.{LoneState}
-use Rattle.tsearch.specs.Private.Searches.{Asks, IsRefusalOf}
+use Rattle.tsearch.specs.Private.Searches.{Asks, IsReasonOfRefusal}
 
 -- The search that was counted last is answered from what was published last, in the next turn, or memory ran out.
 pub data IsAnsweredAlone (old : LoneState) (pattern : Pattern) (entry : Entry) (new : LoneState) : Type 0 where
@@ -26,4 +26,5 @@ counted state = record state { searches = state.searches + 1 }
 pub data IsSearchedAlone (old : LoneState) (item : Item) (entry : Entry) (new : LoneState) : Type 0 where
   answered : (prepared : Prepared) → Asks item (pattern_of prepared) → IsAnsweredAlone (counted old) (pattern_of prepared) entry new
       → IsSearchedAlone old item entry new
-  refused : (why : SearchReason) → IsRefusalOf item why → entry ≡ SearchRefused (old.searches + 1) why → new ≡ counted old → IsSearchedAlone old item entry new
+  refused : (why : SearchReason) → IsReasonOfRefusal item why → entry ≡ SearchRefused (old.searches + 1) why → new ≡ counted old
+      → IsSearchedAlone old item entry new

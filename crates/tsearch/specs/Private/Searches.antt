@@ -42,7 +42,7 @@ pub record ArePrepared (script : List ℕ) (searches : List (Option Prepared)) :
   pub paired : ArePaired items searches
 
 -- The search may be refused like this, whatever rows are around it.
-abbrev pub IsRefusalOf : Item → SearchReason → Type 0
-IsRefusalOf (search case text) why = (context : Context) → IsSearch context case text (SearchRefused (search_number context) why)
-IsRefusalOf (search_in case name_text text) why = (context : Context) → IsSearchIn context case name_text text (SearchRefused (search_number context) why)
-IsRefusalOf _ why = Unit {0}
+abbrev pub IsReasonOfRefusal : Item → SearchReason → Type 0
+IsReasonOfRefusal (search case text) why = (context : Context) → IsSearch context case text (SearchRefused (search_number context) why)
+IsReasonOfRefusal (search_in case name_text text) why = (context : Context) → IsSearchIn context case name_text text (SearchRefused (search_number context) why)
+IsReasonOfRefusal _ why = Unit {0}

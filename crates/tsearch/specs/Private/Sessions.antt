@@ -15,7 +15,7 @@ use Rattle.tsearch.specs.declared.transcript.Entry.TheVariants.{SearchRefused}
 use Rattle.tsearch.specs.declared.transcript.SearchReason.{SearchReason}
 use Rattle.tsearch.specs.Rows.{version_in, searches_of, is_sync}
 use Rattle.tsearch.specs.Private.Items.{IsEntered, IsLeft}
-use Rattle.tsearch.specs.Private.Searches.{IsRefusalOf}
+use Rattle.tsearch.specs.Private.Searches.{IsReasonOfRefusal}
 use Rattle.tsearch.specs.Private.Tallies.{last, Tally, tally, tally_with, IsClosed, Settles}
 
 abbrev pub tally_of : Settled → Tally
@@ -42,7 +42,7 @@ pub data IsPended (Holds : List ℕ → List ℕ → Type 0) (desk : DeskState) 
     → DeskState → Known → ℕ → Type 0 where
   entered : {desk' : DeskState} {told' : Known} {failed' : ℕ} (entry : Entry) → IsEntered Holds desk told failed item entry desk' told' failed'
       → IsPended Holds desk told failed number item (Some entry) desk' told' failed'
-  refused : {desk' : DeskState} {told' : Known} {failed' : ℕ} (why : SearchReason) → searches_of item.item ≡ 1 → IsRefusalOf item.item why
+  refused : {desk' : DeskState} {told' : Known} {failed' : ℕ} (why : SearchReason) → searches_of item.item ≡ 1 → IsReasonOfRefusal item.item why
       → IsLeft desk told failed desk' told' failed'
       → IsPended Holds desk told failed number item (Some (SearchRefused number why)) desk' told' failed'
   asked : {desk' : DeskState} {told' : Known} {failed' : ℕ} → searches_of item.item ≡ 1 → IsLeft desk told failed desk' told' failed'
@@ -65,7 +65,7 @@ pub record Pends (Holds : List ℕ → List ℕ → Type 0) (desk : DeskState) (
 
 -- A search was taken: it is open, or refused.
 pub data IsPendingSearch (number : ℕ) (item : Item) : Option Entry → Type 0 where
-  refused : (why : SearchReason) → IsRefusalOf item why → IsPendingSearch number item (Some (SearchRefused number why))
+  refused : (why : SearchReason) → IsReasonOfRefusal item why → IsPendingSearch number item (Some (SearchRefused number why))
   asked : IsPendingSearch number item None
 
 pub record IsAsked (old : Session) (item : Item) (next : Step) (new : Session) : Type 0 where

@@ -1,16 +1,16 @@
 use Rattle.std.proofs.Common.{◌∙◌, sym, subst, All}
-use Rattle.tsearch.specs.Private.Seats.{IsSeat}
+use Rattle.tsearch.specs.Private.Readers.{IsReader}
 use Rattle.tsearch.proofs.DriveLemmas.{step_keeps, settled_keeps, step_settled, step_waits}
 use Rattle.tsearch.proofs.drive.advance.Goals as goal
 
 pub settle-requires-clause-opening : goal.settle-requires-clause-opening
 settle-requires-clause-opening g c = (step_keeps c.in_ok-step.ensures.ok c.requires.opening.0 c.requires.opening.1).reading
 
-pub settle-requires-clause-seats : goal.settle-requires-clause-seats
-settle-requires-clause-seats g c =
+pub settle-requires-clause-readers : goal.settle-requires-clause-readers
+settle-requires-clause-readers g c =
     let kept = step_keeps c.in_ok-step.ensures.ok c.requires.opening.0 c.requires.opening.1 in
-    subst (λ o. All (IsSeat o c.args.plan.now.searches.now) c.send.new.seats.items) (sym (kept.told ∙ kept.same))
-    (c.send.ensures.seats c.args.desk.now.opening c.requires.seats)
+    subst (λ o. All (IsReader o c.args.plan.now.searches.now) c.send.new.readers.items) (sym (kept.told ∙ kept.same))
+    (c.send.ensures.readers c.args.desk.now.opening c.requires.readers)
 
 pub returns-in_ok-settle-clause-ok : goal.returns-in_ok-settle-clause-ok
 returns-in_ok-settle-clause-ok g c = step_settled c.in_ok-step.ensures.ok c.in_ok-settle.ensures.ok
@@ -20,10 +20,10 @@ returns-in_ok-settle-clause-kept g c =
     settled_keeps (step_keeps c.in_ok-step.ensures.ok c.requires.opening.0 c.requires.opening.1) c.in_ok-settle.ensures.ok
     c.in_ok-settle.ensures.opening
 
-pub returns-in_ok-settle-clause-seats : goal.returns-in_ok-settle-clause-seats
-returns-in_ok-settle-clause-seats g c =
+pub returns-in_ok-settle-clause-readers : goal.returns-in_ok-settle-clause-readers
+returns-in_ok-settle-clause-readers g c =
     let kept = step_keeps c.in_ok-step.ensures.ok c.requires.opening.0 c.requires.opening.1 in
-    subst (λ o. All (IsSeat o c.args.plan.now.searches.now) c.settle.new.seats.items) (kept.told ∙ kept.same) c.in_ok-settle.ensures.seats
+    subst (λ o. All (IsReader o c.args.plan.now.searches.now) c.settle.new.readers.items) (kept.told ∙ kept.same) c.in_ok-settle.ensures.readers
 
 pub returns-else-is_to_settle-clause-ok : goal.returns-else-is_to_settle-clause-ok
 returns-else-is_to_settle-clause-ok g c = step_waits c.in_ok-step.ensures.ok c.if-is_to_settle.ensures
@@ -31,5 +31,5 @@ returns-else-is_to_settle-clause-ok g c = step_waits c.in_ok-step.ensures.ok c.i
 pub returns-else-is_to_settle-clause-kept : goal.returns-else-is_to_settle-clause-kept
 returns-else-is_to_settle-clause-kept g c = step_keeps c.in_ok-step.ensures.ok c.requires.opening.0 c.requires.opening.1
 
-pub returns-else-is_to_settle-clause-seats : goal.returns-else-is_to_settle-clause-seats
-returns-else-is_to_settle-clause-seats g c = c.send.ensures.seats c.args.desk.now.opening c.requires.seats
+pub returns-else-is_to_settle-clause-readers : goal.returns-else-is_to_settle-clause-readers
+returns-else-is_to_settle-clause-readers g c = c.send.ensures.readers c.args.desk.now.opening c.requires.readers

@@ -1,17 +1,17 @@
 use Rattle.std.proofs.Common.{◌≡◌, ◌≤◌, ◌+◌, ℕ, List, length, All}
-use Rattle.tsearch.specs.Private.Seats.{IsSeat}
+use Rattle.tsearch.specs.Private.Readers.{IsReader}
 use Rattle.tsearch.proofs.RunLemmas.{IsRun}
 use Rattle.tsearch.proofs.drive.drive.Given as goal
 
 abbrev pub invariant-loop-item : goal.invariant-loop-item
 invariant-loop-item g l = record {
   run : IsRun (g.S.Source.holds l.initial.source) l.plan.options l.plan.searches.now l.plan.script.now (g.S.Source.failed l.initial.source)
-      l.desk l.session l.reader (g.S.Source.failed l.source);
+      l.desk l.session l.items (g.S.Source.failed l.source);
   opening : (l.session.reading.opening ≡ l.session.told.opening) × (l.session.told.opening ≡ l.desk.opening);
-  seats : All (IsSeat l.desk.opening l.plan.searches.now) l.seats.items;
-  count : (length l.session.settled.lasts.items ≡ length l.seats.items + 1) × (length l.seats.items ≡ l.plan.options.readers);
-  few : l.session.searches + length l.reader.rest ≤ 67108864;
-  waiting : l.session.settled.searches + length l.session.pending.items + length l.reader.rest ≤ 67108864;
+  readers : All (IsReader l.desk.opening l.plan.searches.now) l.readers.items;
+  count : (length l.session.settled.lasts.items ≡ length l.readers.items + 1) × (length l.readers.items ≡ l.plan.options.readers);
+  few : l.session.searches + length l.items.rest ≤ 67108864;
+  waiting : l.session.settled.searches + length l.session.pending.items + length l.items.rest ≤ 67108864;
   held : (path body : List ℕ)
       → (g.S.Source.holds l.source path body → g.S.Source.holds l.initial.source path body)
       × (g.S.Source.holds l.initial.source path body → g.S.Source.holds l.source path body);
@@ -19,4 +19,4 @@ invariant-loop-item g l = record {
 }
 
 abbrev pub decreases-loop-item : goal.decreases-loop-item
-decreases-loop-item g l = length l.reader.rest
+decreases-loop-item g l = length l.items.rest

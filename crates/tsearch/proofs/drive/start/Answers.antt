@@ -18,9 +18,9 @@ returns-clause-session g c =
       settled = session.settled;
     }
 
-pub returns-clause-seats : goal.returns-clause-seats
-returns-clause-seats g c =
+pub returns-clause-readers : goal.returns-clause-readers
+returns-clause-readers g c =
     let read =
     All-pop (λ reading. reading ≡ known c.args.desk.now.opening []) c.args.readings.items c.pop.new.self.items (Some c.in-Some.reading)
     c.in-Some.ensures.items c.requires.readings in
-    c.in_ok-seats.ensures.seats c.args.desk.now.opening c.args.plan.now.searches.now (λ k d few. ap (λ r. r.opening) (read.0 k d few))
+    c.in_ok-readers.ensures.readers c.args.desk.now.opening c.args.plan.now.searches.now (λ k d few. ap (λ r. r.opening) (read.0 k d few))

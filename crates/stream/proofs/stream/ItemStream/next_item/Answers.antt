@@ -1,7 +1,7 @@
 use Rattle.std.proofs.Common.{◌++◌, [], inl, inr, refl, subst, rules}
 use Rattle.std.proofs.KnownBytes.{Consumes-nil, Consumes-trans}
 use Rattle.script.specs.Items.{ItemsFrom, done}
-use Rattle.stream.specs.Stream.{Place}
+use Rattle.stream.specs.Stream.{StreamState}
 use Rattle.stream.proofs.NotLemmas.{if_not, unless_not}
 use Rattle.stream.proofs.NextLemmas.{takes_last, takes_step, none_by_test}
 use Rattle.stream.proofs.stream.ItemStream.next_item.Goals as goal
@@ -12,7 +12,7 @@ returns-then-self-clause-taken g c = ([], Consumes-nil _, (done, search rules, i
 pub returns-in-Ok-None-clause-taken : goal.returns-in-Ok-None-clause-taken
 returns-in-Ok-None-clause-taken g c =
     let (bytes, taken, (none, end)) = rw c.in-Ok-None.field-0-is at c.in-Ok-None.ensures in
-    (bytes, taken, (subst (λ (p : Place). ItemsFrom p.line bytes []) c.self.view_is none, refl, inr end))
+    (bytes, taken, (subst (λ (p : StreamState). ItemsFrom p.line bytes []) c.self.view_is none, refl, inr end))
 
 pub returns-then-not-start-clause-taken : goal.returns-then-not-start-clause-taken
 returns-then-not-start-clause-taken g c =

@@ -12,4 +12,4 @@ pub returns-in-None : goal.returns-in-None
 returns-in-None g c =
     λ one.
     refused_from c.self.inside.desk c.self.inside.told c.self.inside.searches c.self.inside.turn c.args.self.now c.self.view_is
-    (shown_item c.args.item) c.refusal.result c.refusal.ensures
+    (shown_item c.args.item) c.reason_of_refusal.result c.reason_of_refusal.ensures

@@ -18,7 +18,7 @@ returns-in_ok-push_back-in-Some-Some c = record {
 pub returns-in_ok-push_back-in_default : goal.returns-in_ok-push_back-in_default
 returns-in_ok-push_back-in_default c = record {
   entry = Some _;
-  is = sessions.refused c.refusal-reason.result c.refusal-reason.ensures;
+  is = sessions.refused c.reason_of_refusal-reason.result c.reason_of_refusal-reason.ensures;
   no_sync = λ same. cc;
   pending = c.in_ok-push_back-in_default.ensures.items;
   searches = refl;

@@ -1,5 +1,5 @@
 use Rattle.std.proofs.Common.{◌∙◌, ◌+◌, refl, sym, ap, subst, arith, length, All}
-use Rattle.tsearch.specs.Private.Seats.{IsSeat}
+use Rattle.tsearch.specs.Private.Readers.{IsReader}
 use Rattle.tsearch.proofs.LoopLemmas.{settling_starts, settling_goes_on}
 use Rattle.tsearch.proofs.session.Session.settle.Goals as goal
 
@@ -7,9 +7,9 @@ pub loop-entry-init : goal.loop-entry-init
 loop-entry-init g c = record {
   so_far = settling_starts c.args.searches.now c.args.self.now;
   opening = c.requires.opening;
-  seats = c.requires.seats;
+  readers = c.requires.readers;
   count = c.requires.count.0;
-  seat_count = refl;
+  reader_count = refl;
   few = c.requires.few;
 }
 
@@ -24,8 +24,8 @@ loop-entry-preserved g c =
           settling_goes_on c.args.searches.now c.args.self.now c.loop-entry.self _ c.settle_next.new.self c.in-Some.entry was.so_far front
           refl refl refl refl step.ok step.kept.0 step.kept.1 step.kept.2 step.kept.3;
       opening = step.opening ∙ was.opening ∙ ap (λ k. k.opening) (sym step.kept.0);
-      seats = subst (λ o. All (IsSeat o c.args.searches.now) c.settle_next.new.seats.items) opening step.seats;
+      readers = subst (λ o. All (IsReader o c.args.searches.now) c.settle_next.new.readers.items) opening step.readers;
       count = step.count.1 ∙ was.count ∙ ap (λ n. n + 1) (sym step.count.0);
-      seat_count = step.count.0 ∙ was.seat_count;
+      reader_count = step.count.0 ∙ was.reader_count;
       few = omega (arith, was.few, ap length front, step.few, ap (λ p. length p.items) step.kept.3);
     }

@@ -1,6 +1,6 @@
 use Rattle.std.proofs.Common.{◌≡◌, ◌+◌, ◌<◌, ◌^◌, length}
 use Rattle.std.specs.Prelude.{All}
-use Rattle.tsearch.specs.Private.Seats.{IsSeat}
+use Rattle.tsearch.specs.Private.Readers.{IsReader}
 use Rattle.tsearch.proofs.LoopLemmas.{IsSettling}
 use Rattle.tsearch.proofs.session.Session.settle.Given as goal
 
@@ -8,9 +8,9 @@ abbrev pub invariant-loop-entry : goal.invariant-loop-entry
 invariant-loop-entry g l = record {
   so_far : IsSettling l.searches l.initial.self l.self;
   opening : l.self.reading.opening ≡ l.self.told.opening;
-  seats : All (IsSeat l.initial.self.told.opening l.searches) l.seats.items;
-  count : length l.self.settled.lasts.items ≡ length l.seats.items + 1;
-  seat_count : length l.seats.items ≡ length l.initial.seats.items;
+  readers : All (IsReader l.initial.self.told.opening l.searches) l.readers.items;
+  count : length l.self.settled.lasts.items ≡ length l.readers.items + 1;
+  reader_count : length l.readers.items ≡ length l.initial.readers.items;
   few : l.self.settled.searches + length l.self.pending.items < 2 ^ 32;
 }
 

@@ -19,8 +19,8 @@ returns-in-None-clause-ok g c =
     let closed =
     subst (λ versions.
     IsClosed c.args.searches.now old.told.commands versions (old.settled.searches + 1) old.settled.published old.settled.lasts.items
-    c.close-entry.result c.close-entry.new.lasts.items) c.deref.ensures.value c.close-entry.ensures.closed in
+    c.close_search-entry.result c.close_search-entry.new.lasts.items) c.deref.ensures.value c.close_search-entry.ensures.closed in
     on_ok_weaker c.push-in-None.result (λ entries.
     rw c.in-None.is
-    (settled_closed c.args.searches.now old _ c.close-entry.result c.close-entry.new.lasts.items closed entries pushed.searches
+    (settled_closed c.args.searches.now old _ c.close_search-entry.result c.close_search-entry.new.lasts.items closed entries pushed.searches
     pushed.published (ap (λ l. l.items) pushed.lasts))) pushed.entries

@@ -6,7 +6,7 @@ ghost use Rattle.shared.specs.History.{Known};
 ghost use Rattle.search.specs.declared.pattern.Prepared.{Prepared as PreparedValue};
 ghost use Rattle.readers.specs.Report.{IsReport};
 ghost use Rattle.tsearch.specs.Private.Tallies.{IsUseful};
-ghost use Rattle.tsearch.specs.Private.Seats.{IsOf, IsSeat};
+ghost use Rattle.tsearch.specs.Private.Readers.{IsOf, IsReader};
 
 use readers::{Gate, Given, Reading, Report, Worker};
 use search::Prepared;
@@ -17,7 +17,7 @@ use std::thread::{Scope, Threads};
 
 /// A reader of a run.
 #[derive(Drop)]
-pub struct Seat<'a> {
+pub struct Reader<'a> {
     /// At rest.
     reading: Option<Reading>,
     /// At work.
@@ -28,23 +28,24 @@ pub struct Seat<'a> {
 }
 
 /// Readers with these readings, all at rest.
-pub fn seats<'a>(alloc: Global, readings: Vec<Reading>) -> Result<Vec<Seat<'a>>, AllocError>
-    ensures count { IfOk result (λ seats. length seats.items ≡ length readings.items) }
-    ensures seats { IfOk result (λ seats. (opening : Book) (searches : List (Option PreparedValue)) → All (λ reading. reading.opening ≡ opening) readings.items → All (IsSeat opening searches) seats.items) }
+pub fn at_rest<'a>(alloc: Global, readings: Vec<Reading>) -> Result<Vec<Reader<'a>>, AllocError>
+    ensures count { IfOk result (λ readers. length readers.items ≡ length readings.items) }
+    ensures readers { IfOk result (λ readers. (opening : Book) (searches : List (Option PreparedValue))
+        → All (λ reading. reading.opening ≡ opening) readings.items → All (IsReader opening searches) readers.items) }
 {
-    let mut seats = Vec::with_capacity(alloc, readings.len())?;
+    let mut readers = Vec::with_capacity(alloc, readings.len())?;
     for reading in readings {
-        seats.push(Seat {
+        readers.push(Reader {
             reading: Some(reading),
             worker: None,
             turns: 0,
             given: Vec::new(alloc),
         })?;
     }
-    Ok(seats)
+    Ok(readers)
 }
 
-impl<'a> Seat<'a> {
+impl<'a> Reader<'a> {
     /// Sends the number of a search to the reader's worker, which is started if there is none. If it cannot be
     /// started, or the number cannot be sent, the search stays open.
     pub fn send<'s, E, R: Wait + Sync, G: Gate>(
@@ -58,7 +59,7 @@ impl<'a> Seat<'a> {
     )
     where
         'a: 's,
-        ensures { (opening : Book) → IsSeat opening searches.now self.old → IsSeat opening searches.now self.new }
+        ensures { (opening : Book) → IsReader opening searches.now self.old → IsReader opening searches.now self.new }
     {
         self.start(scope, rt, alloc, searches, gate);
         if let Some(worker) = &self.worker {
@@ -77,7 +78,7 @@ impl<'a> Seat<'a> {
     )
     where
         'a: 's,
-        ensures { (opening : Book) → IsSeat opening searches.now self.old → IsSeat opening searches.now self.new }
+        ensures { (opening : Book) → IsReader opening searches.now self.old → IsReader opening searches.now self.new }
     {
         let Some(reading) = self.reading.take() else {
             return;
@@ -91,7 +92,7 @@ impl<'a> Seat<'a> {
     // The reading is with this worker from now on.
     fn work_with(&mut self, worker: Worker<'a>)
         requires { self.old.reading ≡ None }
-        ensures { (opening : Book) → worker.entry.before.opening ≡ opening → IsSeat opening worker.entry.searches self.new }
+        ensures { (opening : Book) → worker.entry.before.opening ≡ opening → IsReader opening worker.entry.searches self.new }
     {
         self.worker = Some(worker);
     }
@@ -101,8 +102,9 @@ impl<'a> Seat<'a> {
     pub fn next_answer<R: Threads>(&mut self, rt: &R, told: &Told, number: u32) -> Option<Given>
         requires { IsOf told.now.opening self.old }
         ensures given { IfSome result (λ given. given.search ≡ number) }
-        ensures seat { (searches : List (Option PreparedValue)) → IsSeat told.now.opening searches self.old → IsSeat told.now.opening searches self.new }
-        ensures useful { (searches : List (Option PreparedValue)) → IsSeat told.now.opening searches self.old → IfSome result (IsUseful searches told.now.commands) }
+        ensures reader { (searches : List (Option PreparedValue)) → IsReader told.now.opening searches self.old → IsReader told.now.opening searches self.new }
+        ensures useful { (searches : List (Option PreparedValue)) → IsReader told.now.opening searches self.old
+            → IfSome result (IsUseful searches told.now.commands) }
     {
         self.rest(rt);
         self.next_given(told, number)
@@ -111,7 +113,7 @@ impl<'a> Seat<'a> {
     // Waits until the reader's worker has ended, if it has one.
     fn rest<R: Threads>(&mut self, rt: &R)
         ensures opening { (opening : Book) → IsOf opening self.old → IsOf opening self.new }
-        ensures seat { (opening : Book) (searches : List (Option PreparedValue)) → IsSeat opening searches self.old → IsSeat opening searches self.new }
+        ensures reader { (opening : Book) (searches : List (Option PreparedValue)) → IsReader opening searches self.old → IsReader opening searches self.new }
     {
         let Some(worker) = self.worker.take() else {
             return;
@@ -123,8 +125,9 @@ impl<'a> Seat<'a> {
     fn next_given(&mut self, told: &Told, number: u32) -> Option<Given>
         requires { IsOf told.now.opening self.old }
         ensures given { IfSome result (λ given. given.search ≡ number) }
-        ensures seat { (searches : List (Option PreparedValue)) → IsSeat told.now.opening searches self.old → IsSeat told.now.opening searches self.new }
-        ensures useful { (searches : List (Option PreparedValue)) → IsSeat told.now.opening searches self.old → IfSome result (IsUseful searches told.now.commands) }
+        ensures reader { (searches : List (Option PreparedValue)) → IsReader told.now.opening searches self.old → IsReader told.now.opening searches self.new }
+        ensures useful { (searches : List (Option PreparedValue)) → IsReader told.now.opening searches self.old
+            → IfSome result (IsUseful searches told.now.commands) }
     {
         let Some(reading) = &mut self.reading else {
             return None;
@@ -139,7 +142,7 @@ impl<'a> Seat<'a> {
     // Keeps the reading and the answers of a worker that has ended.
     fn keep(&mut self, report: Report)
         ensures { (opening : Book) (searches : List (Option PreparedValue)) (before : Known) → before.opening ≡ opening → IsReport searches before report
-            → IfSome self.old.worker (λ worker. (worker.searches ≡ searches) × (worker.before.opening ≡ opening)) → IsSeat opening searches self.new }
+            → IfSome self.old.worker (λ worker. (worker.searches ≡ searches) × (worker.before.opening ≡ opening)) → IsReader opening searches self.new }
     {
         let mut given = report.given;
         given.reverse();

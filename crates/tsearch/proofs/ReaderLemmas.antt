@@ -13,9 +13,9 @@ use Rattle.search.specs.declared.pattern.Prepared.{Prepared}
 use Rattle.search.specs.Prepared.{pattern_of}
 use Rattle.search.specs.Scan.{IsAnswerOf}
 use Rattle.shared.specs.History.{Known}
-use Rattle.tsearch.specs.declared.seats.Seat.{Seat}
+use Rattle.tsearch.specs.declared.reader.Reader.{Reader}
 use Rattle.tsearch.specs.Private.Tallies.{IsUseful}
-use Rattle.tsearch.specs.Private.Seats.{IsOf, IsSeat}
+use Rattle.tsearch.specs.Private.Readers.{IsOf, IsReader}
 
 -- of two beginnings of one list, the first so many of one are those of the other
 prefix_take : {A : Type 0} (xs ys : List A) (n : ℕ) → IsPrefix xs ys → n ≤ length xs → take n ys ≡ take n xs
@@ -49,26 +49,26 @@ useful searches seen told p given is = record {
 }
 
 -- a reader at rest that has answered nothing
-pub fresh_seat : (opening : Book) (searches : List (Option Prepared)) (seat : Seat) (reading : Known)
-    → seat.reading ≡ Some reading → seat.worker ≡ None → seat.given.items ≡ [] → reading.opening ≡ opening → IsSeat opening searches seat
-fresh_seat opening searches seat reading is none empty one = record {
+pub fresh_reader : (opening : Book) (searches : List (Option Prepared)) (reader : Reader) (reading : Known)
+    → reader.reading ≡ Some reading → reader.worker ≡ None → reader.given.items ≡ [] → reading.opening ≡ opening → IsReader opening searches reader
+fresh_reader opening searches reader reading is none empty one = record {
   reading = subst (λ r. IfSome r (λ known. known.opening ≡ opening)) (sym is) one;
-  given = subst (λ r. IfSome r (λ known. All (IsGiven searches known.commands) seat.given.items)) (sym is)
+  given = subst (λ r. IfSome r (λ known. All (IsGiven searches known.commands) reader.given.items)) (sym is)
       (subst (All (IsGiven searches reading.commands)) (sym empty) (All-nil (IsGiven searches reading.commands)));
   worker = subst (λ w. IfSome w (λ worker. (worker.searches ≡ searches) × (worker.before.opening ≡ opening))) (sym none) tt;
 }
 
 -- the reading has learnt more
-pub learnt_seat : (opening : Book) (searches : List (Option Prepared)) (seat : Seat) (reading reading' : Known)
-    → seat.reading ≡ Some reading → reading'.opening ≡ reading.opening → IsPrefix reading.commands reading'.commands → IsSeat opening searches seat
-    → (reading'.opening ≡ opening) × All (IsGiven searches reading'.commands) seat.given.items
-learnt_seat opening searches seat reading reading' is same more seated =
-    let one : reading.opening ≡ opening = subst (λ r. IfSome r (λ known. known.opening ≡ opening)) is seated.reading in
-    let given : All (IsGiven searches reading.commands) seat.given.items =
-    subst (λ r. IfSome r (λ known. All (IsGiven searches known.commands) seat.given.items)) is seated.given in (
+pub learnt_reader : (opening : Book) (searches : List (Option Prepared)) (reader : Reader) (reading reading' : Known)
+    → reader.reading ≡ Some reading → reading'.opening ≡ reading.opening → IsPrefix reading.commands reading'.commands → IsReader opening searches reader
+    → (reading'.opening ≡ opening) × All (IsGiven searches reading'.commands) reader.given.items
+learnt_reader opening searches reader reading reading' is same more whole =
+    let one : reading.opening ≡ opening = subst (λ r. IfSome r (λ known. known.opening ≡ opening)) is whole.reading in
+    let given : All (IsGiven searches reading.commands) reader.given.items =
+    subst (λ r. IfSome r (λ known. All (IsGiven searches known.commands) reader.given.items)) is whole.given in (
       same ∙ one,
       All-weaker (IsGiven searches reading.commands) (IsGiven searches reading'.commands)
-          (given_grows searches reading.commands reading'.commands more) seat.given.items given,
+          (given_grows searches reading.commands reading'.commands more) reader.given.items given,
     )
 
 pub if_useful : (searches : List (Option Prepared)) (seen told : List Command) → IsPrefix told seen → (given : Option Given)
@@ -80,8 +80,8 @@ pub if_second : {A : Type 0} (P Q : A → Type 0) (o : Option A) → IfSome o (�
 if_second P Q None both = tt
 if_second P Q (Some x) both = both.1
 
-pub seat_is_of : (opening : Book) (searches : List (Option Prepared)) (seat : Seat) → IsSeat opening searches seat → IsOf opening seat
-seat_is_of opening searches seat is = record {
+pub reader_is_of : (opening : Book) (searches : List (Option Prepared)) (reader : Reader) → IsReader opening searches reader → IsOf opening reader
+reader_is_of opening searches reader is = record {
   reading = is.reading;
-  worker = if_second (λ at. at.searches ≡ searches) (λ at. at.before.opening ≡ opening) seat.worker is.worker;
+  worker = if_second (λ at. at.searches ≡ searches) (λ at. at.before.opening ≡ opening) reader.worker is.worker;
 }

@@ -1,5 +1,5 @@
 use Rattle.std.proofs.Common.{◌≡◌, Some, IfSome, subst, sym, ◌∙◌}
-use Rattle.tsearch.proofs.seats.Seat.start.Goals as goal
+use Rattle.tsearch.proofs.reader.Reader.start.Goals as goal
 
 pub returns-in-Err : goal.returns-in-Err
 returns-in-Err g c = λ opening is.

@@ -1,7 +1,7 @@
 use Rattle.std.proofs.Common.{◌∙◌}
 use Rattle.std.proofs.lemmas.List.Sorted.{All-permutation}
 use Rattle.readers.specs.Report.{IsGiven}
-use Rattle.tsearch.proofs.seats.Seat.keep.Goals as goal
+use Rattle.tsearch.proofs.reader.Reader.keep.Goals as goal
 
 pub returns : goal.returns
 returns c = λ opening searches before same is worker.
