@@ -58,6 +58,14 @@ fn short_lines(rt: HostRuntime) -> Result<(), Fail> {
     expect(&rt, alloc, b"[^\x01-\xff]", b"", false)
 }
 
+/// The line of a row of pieces contains a match of its pattern, or none.
+fn expect_row(rt: &impl Abort, alloc: Global, row: &[u8]) -> Result<(), Fail> {
+    let found = row.starts_with(b"+");
+    let (pattern, line) = halves(&row[1.min(row.len())..]);
+    let pattern = built(alloc, pattern)?;
+    expect(rt, alloc, &pattern, &built(alloc, line)?, found)
+}
+
 /// The rows are `+PATTERN~LINE` if the line contains a match, and `-PATTERN~LINE` if it contains none.
 /// Patterns and lines consist of pieces. Each star doubles the work of the star inside it, unless a star of a
 /// star takes one round.
@@ -105,10 +113,62 @@ const LONG_LINES: &[u8] = b"+^a*b$;1~a;63;b;1
 fn long_lines(rt: HostRuntime) -> Result<(), Fail> {
     let alloc = rt.alloc();
     for row in LONG_LINES.split(|b| *b == b'\n') {
-        let found = row.starts_with(b"+");
-        let (pattern, line) = halves(&row[1.min(row.len())..]);
-        let pattern = built(alloc, pattern)?;
-        expect(&rt, alloc, &pattern, &built(alloc, line)?, found)?;
+        expect_row(&rt, alloc, row)?;
+    }
+    Ok(())
+}
+
+/// Stars that are not at the front, on lines where their words lead from one window of 64 positions into others.
+const STARS_OVER_WINDOWS: &[u8] = b"+x(ab|c)*e;1~x;1;ab;31;e;1
++x(ab|c)*e;1~x;1;ab;31;c;1;e;1
++x(ab|c)*e;1~x;1;ab;32;e;1
+-x(ab|c)*e;1~x;1;ab;31;a;1;e;1
+-x(ab|c)*e;1~x;1;ab;31;b;1;ab;9;e;1
++x(ab|c)*e;1~q;63;x;1;ab;40;e;1
++x(ab|c)*e;1~q;62;x;1;c;1;ab;40;e;1
++x(ab|c)*e;1~q;61;x;1;ab;1;e;1
++x(ab|c)*e;1~x;1;ab;2079;e;1
++x(ab|c)*e;1~x;1;ab;2080;c;3;e;1
++x(ab|c)*e;1~x;1;ab;8190;e;1
+-x(ab|c)*e;1~x;1;ab;8190;f;1
+-x(ab|c)*e;1~x;1;ab;2079;cb;1;e;1
++^x([ab]{64})*$;1~x;1;a;4160
+-^x([ab]{64})*$;1~x;1;a;4161
++^x([ab]{63})*$;1~x;1;b;4158
+-^x([ab]{63})*$;1~x;1;b;4160
++^x([ab]{65}|c)*$;1~x;1;b;64;a;1;c;64;b;4160
+-^x([ab]{65}|c)*$;1~x;1;b;64;c;64;b;4160
++^x(a{200}b|a)*$;1~x;1;a;199;a;200;b;1;a;64
+-^x(a{200}b|a)*$;1~x;1;a;199;b;1;a;64
++x([ab]|a([ab]{25}){5}c)*e;1~x;1;b;63;a;1;b;125;c;1;e;1
+-x([ab]|a([ab]{25}){5}c)*e;1~x;1;b;63;a;1;b;124;c;1;e;1
++x([ab]|a([ab]{25}){5}c)*e;1~x;1;a;4160;c;1;a;64;e;1
+-x([ab]|a([ab]{25}){5}c)*e;1~x;1;b;4160;c;1;e;1
++x(a*b|c)*e;1~x;1;a;130;b;1;a;64;b;2;e;1
+-x(a*b|c)*e;1~x;1;a;130;b;1;a;64;e;1
++x(.*y|z)+e;1~x;1;a;64;y;1;b;64;yz;1;e;1
+-x(.*y|z)+e;1~x;1;a;64;z;1;e;1
++x((ab)*c|d)*e;1~x;1;ab;33;c;1;ab;33;cd;1;e;1
+-x((ab)*c|d)*e;1~x;1;ab;33;c;1;ab;33;d;1;e;1
++x((a|bb)*(c|dd)*)*e;1~x;1;abbcdd;40;e;1
+-x((a|bb)*(c|dd)*)*e;1~x;1;abbcdd;40;b;1;e;1
++^(ab|cd)*$;1~abcd;1040
+-^(ab|cd)*$;1~abcd;1040;c;1
+-x(^a|b)*e;1~x;1;b;64;a;1;e;1
++x*(^a|b)*e;1~a;1;b;64;e;1
++x(a|b$)*;1~x;1;a;64;b;1
+-x(a|b$)+c;1~x;1;a;64;bc;1
++x(ab|c){3,}e;1~x;1;c;2;ab;63;e;1
+-x(ab|c){66,}e;1~x;1;c;2;ab;63;e;1
++x(ab|c){65,}e;1~x;1;c;2;ab;63;e;1
++x((a?b?){2,}c){2,}e;1~x;1;ab;40;c;1;b;65;c;1;e;1
+-x((a?b?){2,}c){2,}e;1~x;1;ab;40;b;65;c;1;e;1";
+
+#[test]
+fn stars_over_windows(rt: HostRuntime) -> Result<(), Fail> {
+    let alloc = rt.alloc();
+    for row in STARS_OVER_WINDOWS.split(|b| *b == b'\n') {
+        expect_row(&rt, alloc, row)?;
     }
     Ok(())
 }
