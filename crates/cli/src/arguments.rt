@@ -5,7 +5,8 @@ ghost use Rattle.clap.specs.Faults.{fault_of};
 ghost use Rattle.clap.specs.Kinds.{FailsBy};
 ghost use Rattle.clap.specs.Simple.{app_of};
 ghost use Rattle.clap.specs.Values.{kind_of};
-ghost use Rattle.cli.specs.CommandLine.{IsInLimits, IsRefusalOf, IsRequestOf, IsSettingsIn, SpellSettings, command_line, default_max_commands, default_readers, faults_of, found_in};
+ghost use Rattle.cli.specs.CommandLine.{IsInLimits, IsRefusalOf, IsRequestOf, IsSettingsIn, SpellSettings};
+ghost use Rattle.cli.specs.CommandLine.{command_line, default_max_commands, default_readers, faults_of, found_in};
 
 use crate::error::ArgumentError;
 use crate::help::HELP;

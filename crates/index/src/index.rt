@@ -1,6 +1,7 @@
 //! The index: the documents that commands leave, and the sets by which they are found.
 
-ghost use Rattle.std.specs.Prelude.{◌≡◌, ℕ, List, ◌+◌, ◌^◌, ◌<◌, [], ◌∷◌, map, length, OnOk, OnErr, IfErr, IfOk, IfSome, IsSome, Option, option_map, filter, bytes_eq, if◌then◌else◌, Some};
+ghost use Rattle.std.specs.Prelude.{◌≡◌, ℕ, List, ◌+◌, ◌^◌, ◌<◌, [], ◌∷◌, map, length, OnOk};
+ghost use Rattle.std.specs.Prelude.{OnErr, IfErr, IfOk, IfSome, IsSome, Option, option_map, filter, bytes_eq, if◌then◌else◌, Some};
 ghost use Rattle.std.specs.Ordering.{nat_cmp};
 ghost use Rattle.std.specs.Cmp.Lexicographic.{slice_cmp};
 ghost use Rattle.std.specs.BTreeMap.{IsUnchanged, IsOrdered, get, values};

@@ -43,7 +43,8 @@ pub fn serve<R: Wait, S: Source, I: BufRead, O: Write>(
         (I.remaining input.old) (I.remaining input.new) (O.contents out.old) (O.contents out.new)) }
     ensures err { OnErr result (IsBroken options (S.holds source.old) (S.failed source.old) (S.failed source.new)
         (I.remaining input.old) (I.remaining input.new) (O.contents out.old) (O.contents out.new)) }
-    ensures same { (path body : List ℕ) → (S.holds source.new path body → S.holds source.old path body) × (S.holds source.old path body → S.holds source.new path body) }
+    ensures same { (path body : List ℕ) → (S.holds source.new path body → S.holds source.old path body)
+        × (S.holds source.old path body → S.holds source.new path body) }
     ensures counted { S.failed source.old ≤ S.failed source.new }
 {
     let mut run = match LoneRun::open(rt, alloc, options.max_commands) {
@@ -70,7 +71,8 @@ fn serve_items<R: Wait, S: Source, I: BufRead, O: Write>(
         (I.remaining input.old) (I.remaining input.new) (O.contents out.old) (O.contents out.new)) }
     ensures err { OnErr result (IsBroken options (S.holds source.old) (S.failed source.old) (S.failed source.new)
         (I.remaining input.old) (I.remaining input.new) (O.contents out.old) (O.contents out.new)) }
-    ensures same { (path body : List ℕ) → (S.holds source.new path body → S.holds source.old path body) × (S.holds source.old path body → S.holds source.new path body) }
+    ensures same { (path body : List ℕ) → (S.holds source.new path body → S.holds source.old path body)
+        × (S.holds source.old path body → S.holds source.new path body) }
     ensures counted { S.failed source.old ≤ S.failed source.new }
 {
     let plan = Plan {

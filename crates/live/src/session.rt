@@ -84,9 +84,12 @@ pub(crate) fn advance<R: Wait, S: Source, I: BufRead, O: Write>(
     source: &mut S,
     out: &mut O,
 ) -> Result<bool, LiveError>
-    ensures advanced { (start : Start) → IsServing (S.holds source.old) plan.now.stats start (now run.old session.old.stream session.old.marks (S.failed source.old) (I.remaining input.old) (O.contents out.old))
-        → IsAdvanced (S.holds source.old) plan.now.stats start result (now run.new session.new.stream session.new.marks (S.failed source.new) (I.remaining input.new) (O.contents out.new)) }
-    ensures same { (path body : List ℕ) → (S.holds source.new path body → S.holds source.old path body) × (S.holds source.old path body → S.holds source.new path body) }
+    ensures advanced { (start : Start) → IsServing (S.holds source.old) plan.now.stats start
+        (now run.old session.old.stream session.old.marks (S.failed source.old) (I.remaining input.old) (O.contents out.old))
+        → IsAdvanced (S.holds source.old) plan.now.stats start result
+        (now run.new session.new.stream session.new.marks (S.failed source.new) (I.remaining input.new) (O.contents out.new)) }
+    ensures same { (path body : List ℕ) → (S.holds source.new path body → S.holds source.old path body)
+        × (S.holds source.old path body → S.holds source.new path body) }
     ensures counted { S.failed source.old ≤ S.failed source.new }
 {
     if run.is_full() {
@@ -113,7 +116,8 @@ fn carry_out<R: Wait, S: Source>(
     requires { run.old.searches + 1 < 2 ^ 32 }
     ensures goes_on { (item : ItemValue) → Shows taken.entry.item item
         → GoesOn (S.holds source.old) run.old (S.failed source.old) (numbered_item taken.entry.line item) result run.new (S.failed source.new) }
-    ensures same { (path body : List ℕ) → (S.holds source.new path body → S.holds source.old path body) × (S.holds source.old path body → S.holds source.new path body) }
+    ensures same { (path body : List ℕ) → (S.holds source.new path body → S.holds source.old path body)
+        × (S.holds source.old path body → S.holds source.new path body) }
     ensures counted { S.failed source.old ≤ S.failed source.new }
 {
     let line = taken.line;

@@ -328,7 +328,8 @@ fn any_past<S: PositionSet>(body: &Ere, line: &[u8], at: &mut S, done: &S)
 #[cycle(walk)]
 fn more_past<S: PositionSet>(body: &Ere, line: &[u8], at: &mut S, done: &S)
     requires { length line.now < S.room }
-    ensures { MovesPast (λ from to. (more : ℕ) × Steps (Spans line.now (form body.now)) (suc more) from to) (S.words done.now) (S.words at.old) (S.words at.new) }
+    ensures { MovesPast (λ from to. (more : ℕ)
+        × Steps (Spans line.now (form body.now)) (suc more) from to) (S.words done.now) (S.words at.old) (S.words at.new) }
 {
     if let Ere::Set(members) = body {
         at.step(members, line);
@@ -381,7 +382,8 @@ fn rounds_past<S: PositionSet>(
 #[cycle(walk)]
 fn begin_plain<S: PositionSet>(body: &Ere, line: &[u8], at: &mut S, found: &mut S, known: &mut S)
     requires { length line.now < S.room }
-    ensures { KeepsRounds (Spans line.now (form body.now)) (S.words found.old) (S.words known.old) (S.words at.old) (S.words found.new) (S.words known.new) (S.words at.new) }
+    ensures { KeepsRounds (Spans line.now (form body.now)) (S.words found.old) (S.words known.old)
+        (S.words at.old) (S.words found.new) (S.words known.new) (S.words at.new) }
 {
     if line.len() < BITS {
         return;
@@ -397,7 +399,8 @@ fn begin_plain<S: PositionSet>(body: &Ere, line: &[u8], at: &mut S, found: &mut 
 #[cycle(walk)]
 fn go_on<S: PositionSet>(body: &Ere, line: &[u8], at: &mut S, found: &mut S, known: &mut S)
     requires { length line.now < S.room }
-    ensures { GoesOn (Spans line.now (form body.now)) (S.words at.old) (S.words found.old) (S.words known.old) (S.words at.new) (S.words found.new) (S.words known.new) }
+    ensures { GoesOn (Spans line.now (form body.now)) (S.words at.old) (S.words found.old) (S.words known.old)
+        (S.words at.new) (S.words found.new) (S.words known.new) }
 {
     advance(body, line, at);
     found.add(at);
@@ -416,7 +419,8 @@ fn window_by_window<S: PositionSet>(
 )
     requires longer { HoldsInLonger (form body.now) }
     requires room { length line.now < S.room }
-    ensures { KeepsRounds (Spans line.now (form body.now)) (S.words found.old) (S.words known.old) (S.words at.old) (S.words found.new) (S.words known.new) (S.words at.new) }
+    ensures { KeepsRounds (Spans line.now (form body.now)) (S.words found.old) (S.words known.old)
+        (S.words at.old) (S.words found.new) (S.words known.new) (S.words at.new) }
 {
     for _window in 0..=line.len() / BITS {
         if at.is_empty() {
@@ -432,7 +436,8 @@ fn window_by_window<S: PositionSet>(
 fn over_window<S: PositionSet>(body: &Ere, line: &[u8], at: &mut S, found: &mut S, known: &mut S)
     requires longer { HoldsInLonger (form body.now) }
     requires room { length line.now < S.room }
-    ensures { KeepsRounds (Spans line.now (form body.now)) (S.words found.old) (S.words known.old) (S.words at.old) (S.words found.new) (S.words known.new) (S.words at.new) }
+    ensures { KeepsRounds (Spans line.now (form body.now)) (S.words found.old) (S.words known.old)
+        (S.words at.old) (S.words found.new) (S.words known.new) (S.words at.new) }
 {
     let mut here = S::none();
     let last = at.take_window(&mut here);
@@ -476,7 +481,8 @@ fn can_be_empty(tree: &Ere) -> bool
 /// Whether two words of the tree, one after the other, are always a word of it: true of a repeat
 /// without a greatest count.
 fn joins_words(tree: &Ere) -> bool
-    ensures { IsTrue result → (line : List ℕ) (start middle end : ℕ) → Spans line (form tree.now) start middle → Spans line (form tree.now) middle end → Spans line (form tree.now) start end }
+    ensures { IsTrue result → (line : List ℕ) (start middle end : ℕ) → Spans line (form tree.now) start middle
+        → Spans line (form tree.now) middle end → Spans line (form tree.now) start end }
 {
     match tree {
         Ere::Repeat(_body, _least, greatest) => greatest.is_none(),

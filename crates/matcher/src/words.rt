@@ -29,7 +29,8 @@ pub const WORDS: usize = MAX_LINE / BITS + 1;
 /// has at most `MAX_LINE` bytes.
 pub fn step(members: &ByteSet, line: &[u8], from: &[u64; WORDS]) -> [u64; WORDS]
     requires { length line.now ≤ MAX_LINE }
-    ensures { (k : ℕ) → IsTrue (has_position result k) ↔ ((1 ≤ k) × (k ≤ length line.now) × IsTrue (has_position from.now (k - 1)) × IsTrue (has members.now (slice_index line.now (k - 1)))) }
+    ensures { (k : ℕ) → IsTrue (has_position result k)
+        ↔ ((1 ≤ k) × (k ≤ length line.now) × IsTrue (has_position from.now (k - 1)) × IsTrue (has members.now (slice_index line.now (k - 1)))) }
 {
     let mut to = *from;
     shift(members, line, &mut to, 0, WORDS);

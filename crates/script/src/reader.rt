@@ -2,7 +2,8 @@
 
 ghost use Rattle.std.specs.Prelude.{◌≡◌, ℕ, ◌+◌, ◌<◌, ◌≤◌, List, [], ◌∷◌, ◌++◌, length, codes, IsFalse, MatchOption, OnSome, IfNone, option_map};
 ghost use Rattle.script.specs.Private.Cuts.{CutsLine, shown_fields};
-ghost use Rattle.script.specs.Items.{Numbered as NumberedItem, is_blank, item_of, item_of_keyword, item_of_keyword_and_others, load_of, search_in_of, line_feeds, numbered, ItemsFrom, BeginsWithLine, IsPutLine};
+ghost use Rattle.script.specs.Items.{Numbered as NumberedItem, is_blank, item_of, item_of_keyword, item_of_keyword_and_others, load_of};
+ghost use Rattle.script.specs.Items.{search_in_of, line_feeds, numbered, ItemsFrom, BeginsWithLine, IsPutLine};
 ghost use Rattle.script.specs.Reading.{shown_item};
 ghost use Rattle.script.specs.Fields.{fields_of, IsPutHeader};
 ghost use Rattle.script.specs.Private.Taking.{TakesFrom, FollowsLine, HasHeader, LacksHeader};
@@ -239,7 +240,8 @@ pub struct Header<'a> {
 
 /// The name and the size in what follows `put `.
 fn put_header(fields: &[u8]) -> Option<Header<'_>>
-    ensures { MatchOption result ((name : List ℕ) (size : ℕ) → IsPutHeader fields.now name size → ⊥) (λ header. IsPutHeader fields.now header.name.now header.size) }
+    ensures { MatchOption result ((name : List ℕ) (size : ℕ) → IsPutHeader fields.now name size
+        → ⊥) (λ header. IsPutHeader fields.now header.name.now header.size) }
 {
     let (name, digits) = cut_at_last(b' ', fields)?;
     let size = size_of(digits)?;

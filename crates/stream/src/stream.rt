@@ -1,6 +1,7 @@
 //! The stream of items.
 
-ghost use Rattle.std.specs.Prelude.{◌≡◌, ◌+◌, ◌<◌, ◌^◌, List, [], ◌∷◌, ℕ, Ok, Some, None, true, false, length, is_none, unwrap_or, OnErr, IfOk, IfSome, IsFalse};
+ghost use Rattle.std.specs.Prelude.{◌≡◌, ◌+◌, ◌<◌, ◌^◌, List, [], ◌∷◌, ℕ, Ok, Some};
+ghost use Rattle.std.specs.Prelude.{None, true, false, length, is_none, unwrap_or, OnErr, IfOk, IfSome, IsFalse};
 ghost use Rattle.std.specs.Io.KnownBytes.{Consumes};
 ghost use Rattle.script.specs.Items.{numbered, put, IsLine, IsPutLine, ItemsFrom, is_blank};
 ghost use Rattle.script.specs.Reading.{shown_item};

@@ -50,8 +50,10 @@ pub fn drive<'s, 'a: 's, E, R: Threads + Wait + Sync, S: Source, G: Gate>(
     requires desk { desk.old ≡ desk_state desk.old.opening plan.now.options.max_commands [] [] }
     requires readings { All (λ reading. reading ≡ known desk.old.opening []) readings.items }
     requires count { length readings.items ≡ plan.now.options.readers + 1 }
-    ensures legal { IfOk result (λ entries. IsLegal plan.now.script.now plan.now.options (S.holds source.old) (S.failed source.old) (S.failed source.new) entries.items) }
-    ensures same { (path body : List ℕ) → (S.holds source.new path body → S.holds source.old path body) × (S.holds source.old path body → S.holds source.new path body) }
+    ensures legal { IfOk result (λ entries. IsLegal plan.now.script.now plan.now.options (S.holds source.old)
+        (S.failed source.old) (S.failed source.new) entries.items) }
+    ensures same { (path body : List ℕ) → (S.holds source.new path body → S.holds source.old path body)
+        × (S.holds source.old path body → S.holds source.new path body) }
     ensures counted { S.failed source.old ≤ S.failed source.new }
 {
     let (mut session, mut readers) = start(plan, desk, readings)?;
@@ -111,7 +113,8 @@ fn advance<'s, 'a: 's, E, R: Threads + Wait + Sync, S: Source, G: Gate>(
     ensures kept { OnOk result (IsKept desk.old session.old desk.new session.new) }
     ensures readers { OnOk result (All (IsReader desk.old.opening plan.now.searches.now) readers.new.items) }
     ensures count { OnOk result (length readers.new.items ≡ length readers.old.items) }
-    ensures same { (path body : List ℕ) → (S.holds source.new path body → S.holds source.old path body) × (S.holds source.old path body → S.holds source.new path body) }
+    ensures same { (path body : List ℕ) → (S.holds source.new path body → S.holds source.old path body)
+        × (S.holds source.old path body → S.holds source.new path body) }
     ensures counted { S.failed source.old ≤ S.failed source.new }
 {
     let step = session.take(plan.rt, plan.alloc, desk, source, plan.searches, item)?;

@@ -77,7 +77,8 @@ pub fn put_read(alloc: Global, desk: &mut Desk, name: &[u8], body: Vec<u8>) -> R
 
 /// Why a put is refused whose body is too long.
 pub fn reason_of_long_put(alloc: Global, name: &[u8]) -> Reason
-    ensures { (most : ℕ) (state : State) (body : List ℕ) (line : ℕ) → greatest_body < length body → IsPut most state name.now body line (Entry.Refused line result) }
+    ensures { (most : ℕ) (state : State) (body : List ℕ) (line : ℕ)
+        → greatest_body < length body → IsPut most state name.now body line (Entry.Refused line result) }
 {
     match Name::new(alloc, name) {
         Ok(_) => Reason::Body(BodyErrorKind::TooLong),
@@ -105,7 +106,8 @@ fn load<S: Source>(
 ) -> Result<u32, Reason>
     ensures counted { S.failed source.old ≤ S.failed source.new }
     ensures entry { IsLoaded (S.holds source.old) desk.old (S.failed source.old) name.now path.now result desk.new (S.failed source.new) }
-    ensures same { (path body : List ℕ) → (S.holds source.new path body → S.holds source.old path body) × (S.holds source.old path body → S.holds source.new path body) }
+    ensures same { (path body : List ℕ) → (S.holds source.new path body → S.holds source.old path body)
+        × (S.holds source.old path body → S.holds source.new path body) }
 {
     let name = match Name::new(alloc, name) {
         Ok(name) => name,
@@ -119,7 +121,8 @@ fn load<S: Source>(
 }
 
 fn remove(alloc: Global, desk: &mut Desk, name: &[u8]) -> Result<u32, Reason>
-    ensures entry { (line : ℕ) → IsNamed name.now line (entry_of line result) (IsRemove desk.old.limit (state_of desk.old.accepted) name.now line (entry_of line result)) }
+    ensures entry { (line : ℕ) → IsNamed name.now line (entry_of line result)
+        (IsRemove desk.old.limit (state_of desk.old.accepted) name.now line (entry_of line result)) }
     ensures desk { desk.new ≡ desk_after result (remove_command name.now ∷ []) desk.old }
 {
     let name = match Name::new(alloc, name) {
@@ -192,7 +195,8 @@ pub fn carry_out<R: Wait, S: Source>(
 ) -> Outcome
     ensures done { IsCarriedOut (S.holds source.old) desk.old told.old (S.failed source.old)
         (numbered_item item.entry.line (shown_item item.entry.item)) result desk.new told.new (S.failed source.new) }
-    ensures same { (path body : List ℕ) → (S.holds source.new path body → S.holds source.old path body) × (S.holds source.old path body → S.holds source.new path body) }
+    ensures same { (path body : List ℕ) → (S.holds source.new path body → S.holds source.old path body)
+        × (S.holds source.old path body → S.holds source.new path body) }
     ensures counted { S.failed source.old ≤ S.failed source.new }
 {
     let line = item.line;

@@ -93,7 +93,8 @@ impl LoneRun {
         requires { self.old.searches + 1 < 2 ^ 32 }
         ensures goes_on { GoesOn (S.holds source.old) self.old (S.failed source.old)
             (numbered_item item.entry.line (shown_item item.entry.item)) result self.new (S.failed source.new) }
-        ensures same { (path body : List ℕ) → (S.holds source.new path body → S.holds source.old path body) × (S.holds source.old path body → S.holds source.new path body) }
+        ensures same { (path body : List ℕ) → (S.holds source.new path body → S.holds source.old path body)
+            × (S.holds source.old path body → S.holds source.new path body) }
         ensures counted { S.failed source.old ≤ S.failed source.new }
     {
         match carry_out(rt, alloc, &mut self.desk, &mut self.told, source, item) {

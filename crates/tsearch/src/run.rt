@@ -69,8 +69,10 @@ pub fn run<R: Threads + Wait + Sync, S: Source + Drop, G: Gate>(
     requires readers { options.readers ≤ 16 }
     requires commands { 0 < options.max_commands }
     requires few_commands { options.max_commands ≤ 1000000 }
-    ensures legal { IfOk result (λ transcript. IsLegal script.now options (S.holds source.old) (S.failed source.old) (S.failed source.new) transcript.entries.items) }
-    ensures same { (path body : List ℕ) → (S.holds source.new path body → S.holds source.old path body) × (S.holds source.old path body → S.holds source.new path body) }
+    ensures legal { IfOk result (λ transcript. IsLegal script.now options (S.holds source.old)
+        (S.failed source.old) (S.failed source.new) transcript.entries.items) }
+    ensures same { (path body : List ℕ) → (S.holds source.new path body → S.holds source.old path body)
+        × (S.holds source.old path body → S.holds source.new path body) }
     ensures counted { S.failed source.old ≤ S.failed source.new }
     ensures too_long { IsErrOf result RunError.ScriptTooLong ↔ (MAX_SCRIPT < length script.now) }
 {
@@ -123,8 +125,10 @@ fn in_scope<R: Threads + Wait + Sync, S: Source + Drop, G: Gate>(
 ) -> Result<Vec<Entry>, AllocError>
     requires script { length plan.now.script.now ≤ MAX_SCRIPT }
     requires ready { IsReady plan.now.script.now plan.now.searches.now plan.now.options desk.old readings.items }
-    ensures legal { IfOk result (λ entries. IsLegal plan.now.script.now plan.now.options (S.holds source.old) (S.failed source.old) (S.failed source.new) entries.items) }
-    ensures same { (path body : List ℕ) → (S.holds source.new path body → S.holds source.old path body) × (S.holds source.old path body → S.holds source.new path body) }
+    ensures legal { IfOk result (λ entries. IsLegal plan.now.script.now plan.now.options (S.holds source.old)
+        (S.failed source.old) (S.failed source.new) entries.items) }
+    ensures same { (path body : List ℕ) → (S.holds source.new path body → S.holds source.old path body)
+        × (S.holds source.old path body → S.holds source.new path body) }
     ensures counted { S.failed source.old ≤ S.failed source.new }
 {
     replace_with(
@@ -133,8 +137,10 @@ fn in_scope<R: Threads + Wait + Sync, S: Source + Drop, G: Gate>(
         |source: S, readings: Vec<Reading>| -> (S, Result<Vec<Entry>, AllocError>)
             requires script { length plan.now.script.now ≤ MAX_SCRIPT }
             requires ready { IsReady plan.now.script.now plan.now.searches.now plan.now.options desk.now readings.items }
-            ensures legal { IfOk result.1 (λ entries. IsLegal plan.entry.now.script.now plan.entry.now.options (S.holds source) (S.failed source) (S.failed result.0) entries.items) }
-            ensures same { (path body : List ℕ) → (S.holds result.0 path body → S.holds source path body) × (S.holds source path body → S.holds result.0 path body) }
+            ensures legal { IfOk result.1 (λ entries. IsLegal plan.entry.now.script.now plan.entry.now.options
+                (S.holds source) (S.failed source) (S.failed result.0) entries.items) }
+            ensures same { (path body : List ℕ) → (S.holds result.0 path body → S.holds source path body)
+                × (S.holds source path body → S.holds result.0 path body) }
             ensures counted { S.failed source ≤ S.failed result.0 }
         { scoped(plan, desk, readings, source) },
     )
@@ -149,7 +155,8 @@ fn scoped<R: Threads + Wait + Sync, S: Source + Drop, G: Gate>(
 ) -> (S, Result<Vec<Entry>, AllocError>)
     requires script { length plan.now.script.now ≤ MAX_SCRIPT }
     requires ready { IsReady plan.now.script.now plan.now.searches.now plan.now.options desk.old readings.items }
-    ensures legal { IfOk result.1 (λ entries. IsLegal plan.now.script.now plan.now.options (S.holds source) (S.failed source) (S.failed result.0) entries.items) }
+    ensures legal { IfOk result.1 (λ entries. IsLegal plan.now.script.now plan.now.options
+        (S.holds source) (S.failed source) (S.failed result.0) entries.items) }
     ensures same { (path body : List ℕ) → (S.holds result.0 path body → S.holds source path body) × (S.holds source path body → S.holds result.0 path body) }
     ensures counted { S.failed source ≤ S.failed result.0 }
 {
@@ -159,8 +166,10 @@ fn scoped<R: Threads + Wait + Sync, S: Source + Drop, G: Gate>(
         move |scope| -> (S, Result<Vec<Entry>, AllocError>)
             requires script { length plan.now.script.now ≤ MAX_SCRIPT }
             requires ready { IsReady plan.now.script.now plan.now.searches.now plan.now.options desk.now readings.items }
-            ensures legal { IfOk result.1 (λ entries. IsLegal plan.entry.now.script.now plan.entry.now.options (S.holds source) (S.failed source) (S.failed result.0) entries.items) }
-            ensures same { (path body : List ℕ) → (S.holds result.0 path body → S.holds source path body) × (S.holds source path body → S.holds result.0 path body) }
+            ensures legal { IfOk result.1 (λ entries. IsLegal plan.entry.now.script.now plan.entry.now.options
+                (S.holds source) (S.failed source) (S.failed result.0) entries.items) }
+            ensures same { (path body : List ℕ) → (S.holds result.0 path body → S.holds source path body)
+                × (S.holds source path body → S.holds result.0 path body) }
             ensures counted { S.failed source ≤ S.failed result.0 }
         {
             let mut source = source;

@@ -96,7 +96,8 @@ impl Session {
         requires searches { self.old.searches + 1 < 2 ^ 32 }
         ensures ok { IfOk result (λ step. IsStep (S.holds source.old) desk.old (S.failed source.old) self.old
             (numbered_item item.entry.line (shown_item item.entry.item)) step desk.new (S.failed source.new) self.new) }
-        ensures same { (path body : List ℕ) → (S.holds source.new path body → S.holds source.old path body) × (S.holds source.old path body → S.holds source.new path body) }
+        ensures same { (path body : List ℕ) → (S.holds source.new path body → S.holds source.old path body)
+            × (S.holds source.old path body → S.holds source.new path body) }
         ensures counted { S.failed source.old ≤ S.failed source.new }
     {
         match carry_out(rt, alloc, desk, &mut self.told, source, item) {
@@ -195,7 +196,8 @@ impl Session {
         requires few { self.old.settled.searches + 1 < 2 ^ 32 }
         ensures ok { OnOk result (SettlesNext searches.now self.old entry self.new) }
         ensures few { self.new.settled.searches ≤ self.old.settled.searches + 1 }
-        ensures kept { (self.new.told ≡ self.old.told) × (self.new.versions ≡ self.old.versions) × (self.new.searches ≡ self.old.searches) × (self.new.pending ≡ self.old.pending) }
+        ensures kept { (self.new.told ≡ self.old.told) × (self.new.versions ≡ self.old.versions)
+            × (self.new.searches ≡ self.old.searches) × (self.new.pending ≡ self.old.pending) }
         ensures opening { self.new.reading.opening ≡ self.old.reading.opening }
         ensures readers { All (IsReader self.old.told.opening searches.now) readers.new.items }
         ensures count { (length readers.new.items ≡ length readers.old.items)
