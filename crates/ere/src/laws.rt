@@ -36,7 +36,7 @@ pub fn only_the_empty_word()
 pub fn star_unrolls()
     ensures { (body : Tree) (before word after : List ℕ) → InLanguage (repeat body 0 None) before word after
         ↔ ((word ≡ []) ⊎ ((front back : List ℕ) × (word ≡ front ++ back)
-            × InLanguage (repeat body 0 None) before front (back ++ after) × InLanguage body (before ++ front) back after)) }
+        × InLanguage (repeat body 0 None) before front (back ++ after) × InLanguage body (before ++ front) back after)) }
 {}
 
 /// `^`, a set and `$` match exactly the lines of one byte of the set (POSIX.1-2017 XBD 9.4.9).

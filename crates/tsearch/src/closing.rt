@@ -36,28 +36,28 @@ pub struct OpenSearch<'a> {
 pub fn close_search<R: Threads + Wait>(
     rt: &R,
     alloc: Global,
-    open: OpenSearch<'_>,
+    asked: OpenSearch<'_>,
     lasts: &mut Vec<Last>,
     reading: &mut Reading,
     readers: &mut Vec<Reader<'_>>,
 ) -> Entry
-    requires number { 0 < open.number }
-    requires opening { reading.old.opening ≡ open.told.now.opening }
-    requires readers { All (IsReader open.told.now.opening open.searches.now) readers.old.items }
+    requires number { 0 < asked.number }
+    requires opening { reading.old.opening ≡ asked.told.now.opening }
+    requires readers { All (IsReader asked.told.now.opening asked.searches.now) readers.old.items }
     requires count { (length lasts.old.items ≡ length readers.old.items + 1) × (length readers.old.items ≤ 16) }
-    ensures closed { IsClosed open.entry.searches.now open.entry.told.now.commands open.entry.versions.now open.entry.number open.entry.least
+    ensures closed { IsClosed asked.entry.searches.now asked.entry.told.now.commands asked.entry.versions.now asked.entry.number asked.entry.least
         lasts.old.items result lasts.new.items }
     ensures opening { reading.new.opening ≡ reading.old.opening }
-    ensures readers { All (IsReader open.entry.told.now.opening open.entry.searches.now) readers.new.items }
+    ensures readers { All (IsReader asked.entry.told.now.opening asked.entry.searches.now) readers.new.items }
     ensures count { length readers.new.items ≡ length readers.old.items }
 {
-    if let Some(found) = answer_of_reader(rt, open, lasts, readers) {
+    if let Some(found) = answer_of_reader(rt, asked, lasts, readers) {
         return found;
     }
-    match answer_of_first(rt, alloc, open, lasts, reading) {
+    match answer_of_first(rt, alloc, asked, lasts, reading) {
         Some(found) => found,
         None => Entry::SearchRefused {
-            search: open.number,
+            search: asked.number,
             reason: SearchReason::OutOfMemory,
         },
     }
@@ -66,27 +66,27 @@ pub fn close_search<R: Threads + Wait>(
 /// The answer of the reader that the search was sent to, if it gave one that is accepted.
 fn answer_of_reader<R: Threads>(
     rt: &R,
-    open: OpenSearch<'_>,
+    asked: OpenSearch<'_>,
     lasts: &mut Vec<Last>,
     readers: &mut Vec<Reader<'_>>,
 ) -> Option<Entry>
-    requires number { 0 < open.number }
-    requires readers { All (IsReader open.told.now.opening open.searches.now) readers.old.items }
+    requires number { 0 < asked.number }
+    requires readers { All (IsReader asked.told.now.opening asked.searches.now) readers.old.items }
     requires count { (length lasts.old.items ≡ length readers.old.items + 1) × (length readers.old.items ≤ 16) }
-    ensures closed { IfSome result (λ entry. IsClosed open.entry.searches.now open.entry.told.now.commands open.entry.versions.now
-        open.entry.number open.entry.least lasts.old.items entry lasts.new.items) }
+    ensures closed { IfSome result (λ entry. IsClosed asked.entry.searches.now asked.entry.told.now.commands asked.entry.versions.now
+        asked.entry.number asked.entry.least lasts.old.items entry lasts.new.items) }
     ensures none { IfNone result (lasts.new.items ≡ lasts.old.items) }
-    ensures readers { All (IsReader open.entry.told.now.opening open.entry.searches.now) readers.new.items }
+    ensures readers { All (IsReader asked.entry.told.now.opening asked.entry.searches.now) readers.new.items }
     ensures count { length readers.new.items ≡ length readers.old.items }
 {
     let count = readers.len();
     if count == 0 {
         return None;
     }
-    let at = (open.number as usize - 1) % count;
-    let given = readers[at].next_answer(rt, open.told, open.number)?;
+    let at = (asked.number as usize - 1) % count;
+    let given = readers[at].next_answer(rt, asked.told, asked.number)?;
     let last = lasts[at + 1];
-    if !can_stand(open, last, &given) {
+    if !can_stand(asked, last, &given) {
         return None;
     }
     let version = given.answer.version();
@@ -95,7 +95,7 @@ fn answer_of_reader<R: Threads>(
         version,
     };
     Some(Entry::Found {
-        search: open.number,
+        search: asked.number,
         reader: at as u32 + 1,
         turn: given.turn,
         answer: given.answer,
@@ -104,14 +104,14 @@ fn answer_of_reader<R: Threads>(
 
 /// Whether an answer is accepted: its version was published and is no older than what the search and its reader
 /// had seen, and its turn is after the reader's last one.
-fn can_stand(open: OpenSearch<'_>, last: Last, given: &Given) -> bool
-    ensures { MatchBool result (CanStand open.entry.told.now.commands open.entry.versions.now open.entry.least last given.now) Unit }
+fn can_stand(asked: OpenSearch<'_>, last: Last, given: &Given) -> bool
+    ensures { MatchBool result (CanStand asked.entry.told.now.commands asked.entry.versions.now asked.entry.least last given.now) Unit }
 {
     let version = given.answer.version();
-    if version > open.told.version() {
+    if version > asked.told.version() {
         return false;
     }
-    if version < open.least {
+    if version < asked.least {
         return false;
     }
     if version < last.version {
@@ -120,7 +120,7 @@ fn can_stand(open: OpenSearch<'_>, last: Last, given: &Given) -> bool
     if given.turn <= last.turn {
         return false;
     }
-    is_published(open.versions, version)
+    is_published(asked.versions, version)
 }
 
 /// Whether a version is among these, which rise.
@@ -134,31 +134,31 @@ fn is_published(versions: &[u32], version: u32) -> bool
 fn answer_of_first<R: Wait>(
     rt: &R,
     alloc: Global,
-    open: OpenSearch<'_>,
+    asked: OpenSearch<'_>,
     lasts: &mut Vec<Last>,
     reading: &mut Reading,
 ) -> Option<Entry>
-    requires number { 0 < open.number }
-    requires opening { reading.old.opening ≡ open.told.now.opening }
+    requires number { 0 < asked.number }
+    requires opening { reading.old.opening ≡ asked.told.now.opening }
     requires count { 0 < length lasts.old.items }
-    ensures closed { IfSome result (λ entry. IsClosed open.entry.searches.now open.entry.told.now.commands open.entry.versions.now
-        open.entry.number open.entry.least lasts.old.items entry lasts.new.items) }
+    ensures closed { IfSome result (λ entry. IsClosed asked.entry.searches.now asked.entry.told.now.commands asked.entry.versions.now
+        asked.entry.number asked.entry.least lasts.old.items entry lasts.new.items) }
     ensures none { IfNone result (lasts.new.items ≡ lasts.old.items) }
     ensures opening { reading.new.opening ≡ reading.old.opening }
 {
-    let prepared = search_at(open.searches, open.number)?;
+    let prepared = search_at(asked.searches, asked.number)?;
     let last = lasts[0];
     if last.turn == u32::MAX {
         return None;
     }
     let turn = last.turn + 1;
-    let answer = answer_last(rt, alloc, reading, open.told, prepared)?;
+    let answer = answer_last(rt, alloc, reading, asked.told, prepared)?;
     lasts[0] = Last {
         turn,
         version: answer.version(),
     };
     Some(Entry::Found {
-        search: open.number,
+        search: asked.number,
         reader: 0,
         turn,
         answer,

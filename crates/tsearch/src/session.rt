@@ -206,7 +206,7 @@ impl Session {
         match entry {
             Some(entry) => self.settled.push(entry),
             None => {
-                let open = OpenSearch {
+                let asked = OpenSearch {
                     searches,
                     told: &self.told,
                     versions: &self.versions,
@@ -214,7 +214,7 @@ impl Session {
                     least: self.settled.published,
                 };
                 let lasts = &mut self.settled.lasts;
-                let entry = close_search(rt, alloc, open, lasts, &mut self.reading, readers);
+                let entry = close_search(rt, alloc, asked, lasts, &mut self.reading, readers);
                 self.settled.push(entry)
             }
         }
