@@ -60,7 +60,7 @@ NO_ROOM, OLD_LEFT = b"line 4 refused: out of memory\n", b"search 1 version 1 lin
 NO_ROOM_AGAIN, NOTHING_NEW = b"line 100008 refused: out of memory\n", b"search 2 version 1 lines 0\n"
 NEW_LAST, BAD_LINE = b"search 2 version 2 lines 1\na:100000:last line\n", b"line 200012 refused: bad line\n"
 
-# A line and an answer for whose texts a session has no room, behind an answer.
+# A line and an answer for whose texts a session has no room, after an answer.
 ANSWERED = b"put a 3\nold\npublish\nsearch old\n"
 LONG_LINE = ANSWERED + b"#" * len(LONG) + b"\nsearch old\n"
 WIDE_LINE = b"x" * 16_000
