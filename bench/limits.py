@@ -129,7 +129,8 @@ class Meter:
         return int(words[0]) / rounds / 1e9, words[1]
 
     def cell(self, way, text, pattern):
-        """The microseconds of a round: the least of five runs, of so many rounds that they are above the noise. One run where it is long."""
+        """The microseconds of a round: the least of five runs, each of enough rounds to be above the noise; or of one
+        run if that takes long."""
         rounds, runs = 1, [self.run(way, text, pattern)]
         while rounds < 4**9 and runs[0][0] * rounds < 0.02:
             rounds *= 4

@@ -43,7 +43,7 @@ class Session:
         return self.lines.get() or sys.exit(f"the session has ended with status {self.process.wait()}")
 
     def search(self, pattern):
-        """Publishes. The lines of the answer, and what was refused since the last: numbers of lines with reasons."""
+        """Publishes, searches, and gives the answer's lines and the refusals before it, as line numbers with reasons."""
         self.send(b"publish\nsearch %s\n" % pattern)
         refused = []
         while (words := (line := self.take_line()).split())[0] == b"line":

@@ -41,7 +41,8 @@ class TooSlow(Exception):
 
 
 class Patterns:
-    """Random patterns that spell a tree, each with whether it has an anchor in a repeated group."""
+    """Random patterns, three in four of which are made to spell a tree. With each comes whether it may have an anchor
+    in a repeated group."""
 
     def __init__(self, chance):
         self.chance = chance

@@ -19,7 +19,7 @@ class Counted:
         print(f"FAILED {what}", flush=True)
 
     def judge(self, faults):
-        """Counts one for each fault of a list, which is None where all is well."""
+        """Counts each of these as failed, or as passed if it is None."""
         for fault in faults:
             if fault is None:
                 self.passes()

@@ -1,9 +1,9 @@
 #!/usr/bin/env python3
 """Talks to sessions of the built program (--live) as clients do, and checks what they write, and when.
 
-A client here waits for each answer before it sends what follows. An answer that waited for a byte behind its item would
-never come, and shows as a time that runs out. What has to come is written by hand, or is what a run writes for the same
-script, which tests/run.py and tests/check_transcripts.py check.
+A client here waits for each answer before it sends what follows. If an answer waited for a byte after its item, it
+would never come, and the test would fail at its limit of time. The texts that must come are written by hand, or are
+what a run writes for the same script, which tests/run.py and tests/check_transcripts.py check.
 
 Usage: tests/live.py [NAME..]   The last line counts: N passed, M failed.
 """
@@ -31,7 +31,7 @@ PROGRAM = TOP / "crates/program/out/program"
 CLIENT = TOP / "examples/live_folder.py"
 EXAMPLES = sorted((TOP / "examples").glob("*.script"))
 SECONDS = 60
-# How long nothing has to come until a test takes it that nothing comes.
+# How many seconds a test waits before it concludes that nothing comes.
 QUIET = 0.05
 REPLACEMENTS = 20_000
 MEBIBYTE = 1_048_576
@@ -46,7 +46,7 @@ TALK = [
     (b"search o w\n", b"search 2 version 1 lines 1\na.txt:1:hello world\n"),
     (b"remove b.txt\n", b"line 6 refused: no such file\n"),
     (b"search (\n", b"search 3 refused: group not closed at 0\n"),
-    (b"# a remark\n", b""),
+    (b"# a comment\n", b""),
     (b"\n", b""),
     (b"what\n", b"line 10 refused: bad line\n"),
     (b"put b.txt 3\nx\0y\n", b"line 11 refused: byte 0 in body\n"),
@@ -146,7 +146,7 @@ class Session:
         same("the status", got, status)
 
     def memory(self, name):
-        """A number of bytes from the system's words on the process: VmRSS is what it has, VmHWM the most that it had."""
+        """The process's memory in bytes, as the system tells it: VmRSS is what it has, VmHWM the most it ever had."""
         words = pathlib.Path(f"/proc/{self.pid}/status").read_text().split(f"{name}:")[1].split()
         return int(words[0]) * 1024
 
@@ -336,11 +336,11 @@ def options_of_a_session():
 
 
 def input_longer_than_a_script():
-    """Remarks and texts that are too long are passed over without being kept, and the numbers of lines go on."""
+    """Comments, and bodies that are too long, are passed over and not kept. The lines are counted all the same."""
     with Session() as session:
-        remark = b"#" * (MEBIBYTE - 1) + b"\n"
+        comment = b"#" * (MEBIBYTE - 1) + b"\n"
         for _ in range(70):
-            session.send(remark)
+            session.send(comment)
         session.send(b"put a 1\nx\npublish\n")
         session.ask(b"search x\n", b"search 1 version 1 lines 1\na:1:x\n")
         session.send(b"put a 100000000\n")

@@ -257,7 +257,7 @@ class Source:
         return function, " / ".join(heads + [made])
 
     def joined(self, start, end):
-        """Tokens as one line, with spaces only between words."""
+        """Tokens as one line, with spaces only between words and around some operators."""
         line = ""
         for at in range(start, end):
             text = self.text(at)

@@ -9,9 +9,9 @@ requests. With readers, the requests of two threads come in a different order ea
 Then a body is searched that is so large that the pattern is compiled, which takes some hundreds of requests in a row. If one of
 them is refused, the body is searched line by line and the answer stays the same; with stars inside stars the search is refused.
 
-At last, large requests are refused and small ones are not. Then it is known which item has no memory, and what is written: a put, a
-load or a search with no room is refused by name, and the next item is carried out. A script with no room, or in a session a line or
-the text of an answer, ends the run.
+Finally, large requests are refused and small ones are not. It is then known which item gets no memory, and so what must
+be written: a put, a load or a search with no room is refused with its line or number, and the next item is carried out.
+A script with no room ends the run. In a session, so does a line with no room, or the text of an answer.
 
 Usage: tests/refused_runs.py   The last line counts: N passed, M failed.
 """
@@ -83,7 +83,7 @@ def build(folder):
 
 def run(library, script, words, refused, least=0):
     """The status, the output and the messages of the run whose request with this number is refused, and how many there were.
-    With `least`, only requests of at least so many bytes count, and the first of them are refused, as many as this number."""
+    With `least`, only requests of at least that many bytes count, and the first `refused` of them are refused."""
     env = dict(os.environ, LD_PRELOAD=library, REFUSED=str(refused), LEAST=str(least))
     done = subprocess.run([PROGRAM, *words], input=script, env=env, capture_output=True, check=False, timeout=60)
     messages, count = re.fullmatch(rb"(.*)requests (\d+)\n", done.stderr, re.DOTALL).groups()
@@ -140,7 +140,8 @@ def each_request_of_a_search(library, search):
 
 
 def runs_of_no_room(folder):
-    """What a run is of, its script and words, how many large requests are refused, and the status, the text and the messages."""
+    """For each run: its name, its script and words, how many large requests are refused, and what must come of it: the
+    status, the text and the messages."""
     path = os.path.join(folder, "long")
     with open(path, "wb") as file:
         file.write(LONG)

@@ -120,7 +120,8 @@ def words_of(base):
 
 
 def make_live_program(folder):
-    """Makes a program that runs the built one as a session. The documents of the repository are where they are to it."""
+    """Makes a program that runs the built one as a session. From its path, docs/ and examples/ are where they are from
+    the built program's."""
     program = folder / PROGRAM.relative_to(TOP)
     program.parent.mkdir(parents=True)
     program.write_text(f'#!/bin/sh\nexec "{PROGRAM}" {LIVE} "$@"\n')
@@ -156,7 +157,7 @@ def run_once(base, readers):
 
 
 def ways_to_run(base):
-    """The numbers of readers that a case is run with, where None is none, and LIVE where it is a session too."""
+    """The numbers of readers that a case is run with. None means without a number, and LIVE as a session."""
     own_run = base.with_suffix(".run")
     live = [] if base.name in WHOLE_SCRIPTS else [LIVE]
     if own_run.exists():

@@ -48,9 +48,10 @@ pub enum Request<'a> {
     Help,
 }
 
-/// Reads the arguments as `clap` does. The first is the program's name.
+/// Reads the arguments. The first one is the program's name.
 ///
-/// `Refused` means that `clap` refuses them, and `OutOfMemory` that memory ran out.
+/// `Refused` means that `clap` refuses them, or that they ask for a session with readers. `OutOfMemory` means that
+/// memory ran out.
 pub fn read_arguments<'a>(
     alloc: Global,
     arguments: &'a [String],
@@ -81,7 +82,7 @@ pub fn not_text(alloc: Global) -> ArgumentError {
     }
 }
 
-/// Reads the arguments by the command line, and refuses readers of a session.
+/// Reads the settings from the arguments, and refuses a session that has readers.
 #[tactic(auto, using(crate::proofs::SessionLemmas::spells, crate::proofs::SessionLemmas::conflicts))]
 fn parse<'a>(alloc: Global, arguments: &'a [String]) -> Result<Settings<'a>, Error>
     ensures settings { IfOk result (SpellSettings (map string_bytes arguments.entry.now)) }
@@ -103,7 +104,7 @@ fn readers_of_session(alloc: Global) -> Result<Error, AllocError>
     command(alloc)?.error(ErrorKind::ArgumentConflict, message)
 }
 
-/// Reads the arguments by the command line, with the defaults for those that are missing.
+/// Reads the settings from the arguments, with the defaults for those that are missing.
 fn read_settings<'a>(alloc: Global, arguments: &'a [String]) -> Result<Settings<'a>, Error>
     ensures found { IfOk result (IsSettingsIn (found_in (map string_bytes arguments.entry.now))) }
     ensures limits { IfOk result IsInLimits }

@@ -1,7 +1,7 @@
 //! The command line of `tsearch`: `tsearch [--readers N] [--stats] [--max-commands N] [--live] [FILE]`.
 //!
 //! `read_arguments` turns the arguments of the program into its settings, or says that they ask for the help,
-//! or why they are refused. The arguments are read as `clap` reads them.
+//! or why they are refused. `clap` reads them.
 #![tactic(auto)]
 
 pub mod arguments;

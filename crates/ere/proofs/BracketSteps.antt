@@ -28,7 +28,7 @@ and_parts : (a b : Bool) → IsTrue (a && b) → IsTrue a × IsTrue b
 and_parts true b h = (refl, h)
 and_parts false b h = absurd (cc)
 
--- `[` and a mark stand at an offset
+-- `[` and a mark are at an offset
 pub record Opens (text : List ℕ) (at mark : ℕ) : Type 0 where
   pub bracket : Stands text at 91
   pub marked : Stands text (at + 1) mark
@@ -281,7 +281,7 @@ pub class_item : (first : Bool) (from rest : List ℕ) (set : List Bool)
     → (name : List ℕ) × IsCharacterClass from name rest × (class_named name ≡ Some set) → SpellsItem first from rest set
 class_item first from rest set (name, e, known) = item.class name e known
 
--- an item that fails, behind items that were read
+-- an item that fails, after items that were read
 pub items_fail : (from middle : List ℕ) (set : List Bool) → SpellsItems true from middle set → IsFalse (begins_with 93 middle)
     → ((r : List ℕ) (s : List Bool) → SpellsItem false middle r s → ⊥) → (rest : List ℕ) (t : List Bool)
     → SpellsItems true from (93 ∷ rest) t → ⊥
@@ -297,7 +297,7 @@ pub first_fails : (from : List ℕ) → ((r : List ℕ) (s : List Bool) → Spel
 first_fails from none rest t (items.last a) = none (93 ∷ rest) t a
 first_fails from none rest t (items.more {middle = m} {set = s} a b) = none m s a
 
--- behind a `^`
+-- after a `^`
 pub hat_fails : {case : Case} → (from after : List ℕ) → from ≡ 94 ∷ after
     → ((rest : List ℕ) (t : List Bool) → SpellsItems true after (93 ∷ rest) t → ⊥) → (rest : List ℕ) (t : List Bool)
     → SpellsBracket case from rest t → ⊥

@@ -8,7 +8,7 @@ use Rattle.ere.specs.Spelling.{SpellsDuplications as duplications, SpellsAtom as
 use Rattle.ere.specs.Spelling.{SpellsBranch as branches_are, SpellsAlternatives as alternatives_are}
 use Rattle.ere.specs.Private.Reading.{Ends, EndsBranch, NoTimes, join}
 
--- what may stand behind
+-- what may follow
 pub ends_branch_of : (ts : List Token) (depth : ℕ) → Ends ts depth → EndsBranch ts depth
 ends_branch_of [] depth h = tt
 ends_branch_of (token.closes ∷ ts) (suc depth) h = tt
@@ -141,7 +141,7 @@ module _ (limit : ℕ) where
   alternatives_push (alternatives_are.last a) b = alternatives_are.bar a (alternatives_are.last b)
   alternatives_push (alternatives_are.bar a c) b = alternatives_are.bar a (alternatives_push c b)
 
-  -- Where alternatives have been read up to a bar, all alternatives go on behind it.
+  -- Where alternatives have been read up to a bar, all alternatives go on after it.
   pub alternatives_left : {depth : ℕ} {from middle rest : List Token} {bs cs : Trees}
       → SpellsAlternatives limit depth from (token.bar ∷ middle) bs → SpellsAlternatives limit depth from rest cs → Ends rest depth
       → (us : Trees) × SpellsAlternatives limit depth middle rest us

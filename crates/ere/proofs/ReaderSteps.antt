@@ -30,7 +30,7 @@ pub no_tokens : {case : Case} → (ts : List Token) → Tokens case [] ts → ts
 no_tokens [] a = refl
 no_tokens (t ∷ ts) (tokens.more {rest = r} s a) = absurd (no_token r t s)
 
--- the first token of a text, and the tokens of what is behind it
+-- the first token of a text, and the tokens of what follows it
 pub first_token : {case : Case} → (from to : List ℕ) (t : Token) (all : List Token) → SpellsToken case from to t → Tokens case from all
     → (rest : List Token) × Tokens case to rest × (all ≡ t ∷ rest)
 first_token {case} from to t [] s a = absurd (empty_text from to t s a)
@@ -54,7 +54,7 @@ Reads-map from to P Q f r = record {
   backward = λ all a. let found = r.backward all a in (found.0, found.1, f all found.0 found.2);
 }
 
--- one behind the other
+-- one after the other
 pub Reads-then : {case : Case} → (from middle to : List ℕ) (P Q R : List Token → List Token → Type 0)
     → ((all between rest : List Token) → P all between → Q between rest → R all rest) → Reads case from middle P → Reads case middle to Q
     → Reads case from to R

@@ -5,11 +5,11 @@ use Rattle.std.proofs.lemmas.Bool.Decides.{nat_tests}
 use native.Mathlib.Decide.{dec_lt}
 use Rattle.ere.specs.Brackets.{begins_with}
 
--- the first byte, and what is behind it
+-- the first byte, and what is after it
 pub front : (text : List ℕ) (at : ℕ) → at < length text → drop at text ≡ get_or text at 0 ∷ drop (at + 1) text
 front text at inside = drop_more text at 0 inside
 
--- A byte stands at an offset.
+-- A byte is at an offset.
 pub record Stands (text : List ℕ) (at byte : ℕ) : Type 0 where
   pub inside : at < length text
   pub is : get_or text at 0 ≡ byte

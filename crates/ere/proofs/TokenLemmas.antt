@@ -31,7 +31,7 @@ one_run (c ∷ a) (d ∷ b) r q x y f g e =
 pub all_digits : (digits : List ℕ) → AllPass is_digit digits → AllDigits digits
 all_digits digits h = recursion_from_All (λ b. is_digit b ≡ true) digits h
 
--- an interval, behind the digits of its first count
+-- an interval, after the digits of its first count
 pub data IntervalView (digits tail rest : List ℕ) (least : ℕ) (greatest : Option ℕ) : Type 0 where
   exactly : tail ≡ 125 ∷ rest → SpellsCount digits least → greatest ≡ Some least → IntervalView digits tail rest least greatest
   at_least : tail ≡ 44 ∷ 125 ∷ rest → SpellsCount digits least → greatest ≡ None → IntervalView digits tail rest least greatest
@@ -53,7 +53,7 @@ interval_view from digits tail rest least greatest e d f (interval.between other
 pub one_count : (digits : List ℕ) (m n : ℕ) → SpellsCount digits m → SpellsCount digits n → m ≡ n
 one_count digits m n a b = a.value ∙ sym b.value
 
--- a count has a digit, and a `}` is none
+-- a count has a digit, and `}` is not a digit
 pub no_empty_count : (high rest r : List ℕ) (most : ℕ) → 125 ∷ r ≡ high ++ 125 ∷ rest → SpellsCount high most → ⊥
 no_empty_count high rest r most e count =
     let none : [] ≡ high = (one_run [] high (125 ∷ r) (125 ∷ rest) tt (all_digits high count.decimal) refl refl e).0 in
@@ -85,7 +85,7 @@ one_interval from r q l m g h (interval.between digits high most e count count2 
     one_interval_view digits (44 ∷ (high ++ 125 ∷ r)) r q l m g h (between high most refl count count2 order is)
     (interval_view from digits (44 ∷ (high ++ 125 ∷ r)) q m h e count.decimal refl b)
 
--- a byte that begins a longer token is none by itself
+-- a byte that begins a longer token is not a token by itself
 pub no_bracket_byte : (case : Case) → (text : List ℕ) (t : Token) → token_of_byte case 91 text ≡ Some t → ⊥
 unfolding token_of_byte
 no_bracket_byte case text t e = absurd (cc)

@@ -21,7 +21,7 @@ use Rattle.ere.proofs.Texts.{first_begins, front}
 use Rattle.ere.proofs.TokenLemmas.{tail_of, at_byte, no_bracket_byte, no_escape_byte, no_brace_byte, no_token, one_token, IntervalView}
 use Rattle.ere.proofs.TokenLemmas.{IntervalView as view, interval_view, one_run, all_digits, one_count}
 
--- No token stands at the front.
+-- No token is at the front.
 abbrev pub NoToken : Case → List ℕ → Type 0
 NoToken case from = (rest : List ℕ) (t : Token) → SpellsToken case from rest t → ⊥
 
@@ -79,7 +79,7 @@ no_duplication from b rest e star plus question brace r l g (spelled.interval co
 pub no_duplication_end : {case : Case} → NoDuplication case []
 no_duplication_end r l g h = no_token r (times l g) h
 
--- another token stands there
+-- another token is there
 pub no_duplication_other : {case : Case} → (from q : List ℕ) (t : Token) → SpellsToken case from q t
     → ((l : ℕ) (g : Option ℕ) → t ≡ times l g → ⊥) → NoDuplication case from
 no_duplication_other from q t h other r l g k = other l g (one_token from q r t (times l g) h k).1
@@ -149,7 +149,7 @@ counted_no from rest value count r ends why = record {
     not_both n c (inl none) = omega (arith, c.some, r.long)
     not_both n c (inr above) = omega (arith, c.value, c.within, r.value_is)
 
--- the interval's first count, and what comes behind its digits
+-- the interval's first count, and what follows its digits
 pub low_view : (from tail : List ℕ) (count : Option ℕ) (r : ReadsCount from tail count) (rest : List ℕ) (l : ℕ) (g : Option ℕ)
     → SpellsInterval from rest l g → IntervalView r.digits tail rest l g
 low_view from tail count r rest l g h = interval_view from r.digits tail rest l g r.is_front r.decimal r.ends h
@@ -187,7 +187,7 @@ tail_fails from tail count r no_brace no_comma rest l g h = go (low_view from ta
     go (view.at_least e a i) = begins_not tail 44 (125 ∷ rest) e no_comma
     go (view.between high most e a c o i) = begins_not tail 44 (high ++ 125 ∷ rest) e no_comma
 
--- what is left to fail behind the comma
+-- how an interval still can fail after the comma
 pub comma_fails : (from tail behind tail2 : List ℕ) (count count2 : Option ℕ) → ReadsCount from tail count → tail ≡ 44 ∷ behind
     → false ≡ begins_with 125 behind → (q : ReadsCount behind tail2 count2)
     → ((rest : List ℕ) (l m : ℕ) → tail2 ≡ 125 ∷ rest → SpellsCount q.digits m → MatchOption count (Unit {0}) (λ n. l ≡ n) → l ≤ m → ⊥)

@@ -164,7 +164,7 @@ fn holds(words: &[u64; WORDS], byte: u8) -> bool
     words[byte as usize / 64] >> byte % 64 & 1 == 1
 }
 
-/// The same with the byte.
+/// The words with the byte.
 fn with(words: &[u64; WORDS], byte: u8) -> [u64; WORDS]
     ensures whole { length result ≡ WORDS }
     ensures each { (b : ℕ) → has_byte result b ≡ (has_byte words.now b || b == byte) }
@@ -175,7 +175,7 @@ fn with(words: &[u64; WORDS], byte: u8) -> [u64; WORDS]
     more
 }
 
-/// The same without the byte.
+/// The words without the byte.
 fn without(words: &[u64; WORDS], byte: u8) -> [u64; WORDS]
     ensures whole { length result ≡ WORDS }
     ensures each { (b : ℕ) → has_byte result b ≡ (has_byte words.now b && not (b == byte)) }

@@ -30,7 +30,8 @@ pub enum EreErrorKind {
     BadClass,
     /// `{` and a digit do not begin a valid interval. Reported at the `{`.
     BadInterval,
-    /// A duplication with nothing before it. Reported at its first byte.
+    /// A duplication with nothing before it to repeat: at the start of a branch, or after an anchor. Reported at its
+    /// first byte.
     NothingToRepeat,
     /// A group has no end. Reported at the innermost open `(`.
     Unclosed,

@@ -1,5 +1,5 @@
--- What it means that a pattern of the toolchain's engine stands for a tree: in each line of each text it matches from
--- where to where the tree's words lead.
+-- When a pattern of the toolchain's engine stands for a tree: in each line of each text its matches begin and end
+-- where the tree's words do.
 use Rattle.std.specs.Prelude.{◌≡◌, ◌≢◌, ℕ, ◌+◌, ◌<◌, ◌≤◌, true, List, [], ◌∷◌, length, Some, slice_get, slice_index}
 use Rattle.regex_hir.specs.Looks.{holds}
 use Rattle.regex_hir.specs.declared.look.Look.TheVariants.{StartLf, EndLf}

@@ -20,8 +20,8 @@ const MOST_TABLES: usize = 8192;
 /// within the limits take.
 const MOST_TABLES_WHATEVER: usize = 1 << 30;
 
-/// The most steps of the matcher, each over a whole line, with which a tree is left to it. They are those of a star
-/// that is not at the front, with eight sets in its body, and of the greatest tree around it.
+/// A tree may be left to the matcher if it takes no more steps than this, each over a whole line. These are the steps
+/// of a star that is not at the front and has eight sets in its body, and of the greatest tree around it.
 const MOST_STEPS: u64 = 8 * 16_384 + 4_096;
 
 /// A pattern compiled for the engine.

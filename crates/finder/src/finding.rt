@@ -20,8 +20,8 @@ pub struct FirstLine {
     pub end: usize,
 }
 
-/// Looks for the matches of a compiled pattern. It takes memory while it works. If it gets none it works
-/// without, so a search is never refused.
+/// Looks for the matches of a compiled pattern. It takes memory while it works. If it gets none, it goes on without
+/// it, so `first_line` and `matches` never fail.
 pub struct Finder<'p> {
     pub(crate) searcher: Searcher<'p>,
 }

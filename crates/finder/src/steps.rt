@@ -13,11 +13,11 @@ const PLAIN_ROUNDS: u64 = 32;
 
 /// The most steps that the matcher may take for a line, about: a step takes a set of positions over one set of bytes.
 ///
-/// A star takes a step for each set in its body in each of its rounds. It takes one round if it is at the front: if
-/// nothing is before it but what can be empty, in the tree if `leads`, or in the body of the star around it. In the
-/// tree it then begins with all positions of the line, so there are none to reach. In the body of another star it
-/// goes on only from what is new. A star of a single set is one step. Elsewhere a star takes few rounds if its body
-/// is plain, and otherwise a round for each byte. No answer depends on this number.
+/// A star takes a step for each set in its body in each of its rounds. It takes one round if it is at the front of
+/// the tree (if `leads`) or of the body of the star around it, with nothing before it there but what can be empty. At
+/// the front of the tree it begins with all positions of the line, so there are no others to reach. At the front of
+/// another star's body it goes on only from what is new. Elsewhere a star takes few rounds if its body is plain, and
+/// otherwise a round for each byte. A star of a single set is one step anywhere. No answer depends on this number.
 #[cycle(steps)]
 pub fn steps_of(tree: &Ere, leads: bool) -> u64 {
     match tree {
@@ -54,8 +54,8 @@ fn rounds_of(body: &Ere, leads: bool) -> u64 {
     }
 }
 
-// Whether the tree has no `$` and no star but of single sets. The matcher goes through a star of such a body window
-// by window.
+// Whether the tree has no `$`, and no star except of a single set. The matcher goes through a star with such a body
+// window by window.
 #[cycle(plain)]
 fn is_plain(tree: &Ere) -> bool {
     match tree {

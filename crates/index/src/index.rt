@@ -25,8 +25,8 @@ use std::alloc::{AllocError, Global};
 use std::collections::BTreeMap;
 use std::marker::Model;
 
-/// A list with fewer numbers than this part of all documents is sorted by name. For a longer list the names of all
-/// documents are gone through.
+/// If a list has fewer numbers than there are documents divided by this, its numbers are sorted by name. For a longer
+/// list the names of all documents are gone through.
 const FEW: usize = 8;
 
 /// The documents that commands leave.

@@ -52,8 +52,8 @@ pub(crate) fn take(slots: &mut Vec<Slot>, number: u32) -> Option<Entry>
     }
 }
 
-/// Drops the empty slots if half the number of slots is more than `documents`. For the number of documents in the
-/// slots, few of the slots are then empty.
+/// Drops the empty slots if half the number of slots is more than `documents`. If that is the number of documents in
+/// the slots, few of the slots are empty afterwards.
 pub(crate) fn compact(slots: &mut Vec<Slot>, documents: usize)
     ensures documents { documents_in slots.new.items ≡ documents_in slots.old.items }
     ensures numbers { (last : ℕ) → RiseTo last slots.old.items → RiseTo last slots.new.items }

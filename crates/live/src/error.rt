@@ -5,7 +5,7 @@ use stream::StreamError;
 use thiserror::Error;
 use tsearch::WriteError;
 
-/// Why a session ends before its input does.
+/// Why a session ends without a status.
 #[derive(Clone, Copy, Debug, PartialEq, Eq, Error)]
 pub enum LiveError {
     /// The input could not be read.

@@ -28,8 +28,9 @@ pub struct LiveOptions {
 /// the script nor the entries are kept.
 ///
 /// What is written is the text of a transcript that is legal for the bytes that were read, with no readers
-/// (`docs/DEFINITIONS.md`). After an `Err` it is a beginning of such a text, for a beginning of those bytes. `LiveError`
-/// says why. The source holds afterwards what it held before, and its count of failures has not fallen.
+/// (`docs/DEFINITIONS.md`). After an `Err`, which says why the session ended early, it is a beginning of such a text,
+/// for a beginning of those bytes. The source holds afterwards what it held before, and its count of failures has not
+/// fallen.
 pub fn serve<R: Wait, S: Source, I: BufRead, O: Write>(
     rt: &R,
     alloc: Global,

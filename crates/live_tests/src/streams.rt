@@ -117,7 +117,7 @@ impl Write for Shown<'_> {
     }
 }
 
-/// A reader of some bytes, some times over, and then of some more. One read, counted from 1, may fail.
+/// A reader of `round`, `times` times, and then of `last`. One read, counted from 1, may fail.
 #[derive(Drop)]
 pub(crate) struct Repeated<'a> {
     pub(crate) round: &'a [u8],

@@ -56,7 +56,7 @@ pub fn matches(tree: &Ere, line: &[u8]) -> bool
     }
 }
 
-/// Whether a word of the tree leads from a position of the line to another.
+/// Whether a word of the tree leads from a position of the line to that position or to a later one.
 fn is_led_on<S: PositionSet>(tree: &Ere, line: &[u8]) -> bool
     requires { length line.now < S.room }
     ensures { IsTrue result ↔ ContainsMatch (form tree.now) line.now }

@@ -6,8 +6,8 @@ ghost use Rattle.matcher.specs.Private.Longer.{HoldsInLonger};
 
 use ere::Ere;
 
-/// Whether a tree has no `$` and no star but of single sets. So where its words lead in the beginning of a line,
-/// they lead in the line.
+/// Whether a tree has no `$`, and no star except of a single set. Without a `$`, wherever a word leads in a beginning
+/// of a line, it leads there in the whole line too.
 #[cycle(plain)]
 pub fn is_plain(tree: &Ere) -> bool
     ensures { IsTrue result → HoldsInLonger (form tree.now) }

@@ -36,7 +36,8 @@ pub trait PositionSet: Drop {
         ensures none { HasNone (words self.new) }
         ensures empty { (i : ℕ) → slice_index (words self.new) i ≡ 0 };
 
-    /// Whether the set is the same as another. No answer depends on a false `false`.
+    /// `true` only if the set is the same as another. It may be `false` for sets that are the same, which changes no
+    /// answer.
     fn is_same(&self, other: &Self) -> bool
         ensures { IsTrue result → words self.now ≡ words other.now };
 
@@ -61,13 +62,13 @@ pub trait PositionSet: Drop {
         ensures new { IsNew (words fresh.old) (words self.old) (words fresh.new) }
         ensures grown { MatchBool result (absent (words self.new) < absent (words self.old)) (HasNone (words fresh.new)) };
 
-    /// Moves each position over the byte after it if that byte is in the set. Otherwise, and at the end
-    /// of the line, the position is lost.
+    /// Moves each position over the byte after it if that byte is in `members`. Otherwise, and at the end of the
+    /// line, the position is lost.
     fn step(&mut self, members: &ByteSet, line: &[u8])
         requires { length line.now < room }
         ensures { Moves (Spans line.now (set members.now)) (words self.old) (words self.new) };
 
-    /// Moves each position over any number of bytes that are in the set.
+    /// Adds the positions to which any number of bytes in `members` lead from those in the set.
     fn sweep(&mut self, members: &ByteSet, line: &[u8])
         requires { length line.now < room }
         ensures { Moves (λ from to. (count : ℕ) × Steps (Spans line.now (set members.now)) count from to) (words self.old) (words self.new) };

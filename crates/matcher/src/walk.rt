@@ -94,7 +94,7 @@ fn advance_counted<S: PositionSet>(
             advance_at_most(body, most - least, line, at);
         }
         None => {
-            // If two words of the body are together one, a single further round finds everything.
+            // If any two words of the body together are one word of it, a single further round finds everything.
             if joins_words(body) {
                 advance_exactly(body, least, line, at);
                 if least == 0 {
@@ -378,7 +378,8 @@ fn rounds_past<S: PositionSet>(
 
 /// Goes on from `at` if the body is plain and the line is long, so that mostly nothing is left.
 ///
-/// Stars inside the body would go through all windows of the line for each window of this one.
+/// A body is not plain if it has a star inside that is not of a single set: that star would go through all windows of
+/// the line for each window of this one.
 #[cycle(walk)]
 fn begin_plain<S: PositionSet>(body: &Ere, line: &[u8], at: &mut S, found: &mut S, known: &mut S)
     requires { length line.now < S.room }
@@ -407,7 +408,7 @@ fn go_on<S: PositionSet>(body: &Ere, line: &[u8], at: &mut S, found: &mut S, kno
     known.add(at);
 }
 
-/// Goes on from `at`, one window after the other. No word goes backwards, so nothing is mostly left in the end.
+/// Goes on from `at`, one window after the other. No word goes backwards, so mostly nothing is left in the end.
 #[cycle(walk)]
 #[inline(never)]
 fn window_by_window<S: PositionSet>(
@@ -441,7 +442,7 @@ fn over_window<S: PositionSet>(body: &Ere, line: &[u8], at: &mut S, found: &mut 
 {
     let mut here = S::none();
     let last = at.take_window(&mut here);
-    // Nothing goes past the end of this line, so each round looks at one word.
+    // Nothing goes past the end of `window`, so each round looks at one word.
     let window = &line[..last.min(line.len())];
     widen(body, window, &mut here, known);
     go_on(body, line, &mut here, found, known);

@@ -79,8 +79,8 @@ pub(crate) fn first_held<const N: usize>(words: &[u64; N], first: usize, end: us
     end
 }
 
-/// Adds each position to which bytes of the set lead from positions of the set. All positions are in the
-/// words from `first` up to but not at `end`; the answer is that end afterwards.
+/// Adds each position to which bytes in `members` lead from the positions of the words. All of these are in the words
+/// from `first` up to but not at `end`; the answer is that end afterwards.
 pub(crate) fn sweep<const N: usize>(
     members: &ByteSet,
     line: &[u8],

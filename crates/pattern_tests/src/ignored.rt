@@ -111,8 +111,8 @@ fn is_abc(text: &[u8; 3]) -> bool {
         && (text[2] == b'c' || text[2] == b'C')
 }
 
-/// How many of the trigrams of these bytes are such that the query holds of the trigram alone, or `None` if
-/// one of them is another than the spellings of `abc`.
+/// How many trigrams of these bytes meet the query by themselves. `None` if these are not exactly the spellings of
+/// `abc`, or if the query is met without any trigram.
 fn met_alone(alloc: Global, pattern: &[u8], bytes: &[u8]) -> Result<Option<usize>, Fail> {
     let query = analyse(alloc, &parse_with(alloc, pattern, Case::Ignore)?)?;
     let mut count: usize = 0;

@@ -60,7 +60,7 @@ groups-end (suc more) g k small is = cases (nat_lt g 128) refl k is (λ j. group
         let there = later k (omega (arith, is, ap length (groups-high more g high))) in
         rw (groups-high more g high) there
 
--- The bytes are none, or the last one ends a number.
+-- There are no bytes, or the last one ends a number.
 abbrev pub EndsLow : List ℕ → Type 0
 EndsLow bytes = (k : ℕ) → k + 1 ≡ length bytes → get_or bytes k 0 < 128
 

@@ -2,7 +2,7 @@
 use Rattle.std.specs.Prelude.{ℕ, ◌<◌, Bool, not, ◌==◌, List, filter}
 use Rattle.std.specs.List.{list_any}
 
--- the numbers of the set, rising, and for how many more there is surely room
+-- the numbers of the set, rising, and at least how many more there is room for
 pub record ListValue : Type 0 where
   pub members : List ℕ
   pub room : ℕ

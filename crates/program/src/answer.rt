@@ -27,8 +27,8 @@ const REFUSED: u8 = 2;
 ///
 /// A run or a session reads its script from the file that the arguments name, or from `input`, and its loads
 /// from the files of the source. A run's transcript is written to `out` at its end, the text of a session as its
-/// items come, and the help if the arguments ask for that. If the program cannot do this, it says why on standard error. If standard error fails too,
-/// only the status tells.
+/// items come, and the help if the arguments ask for that. If the program cannot do this, it says why on standard
+/// error. If standard error fails too, only the status tells.
 #[tactic(auto, using(crate::proofs::AnswerLemmas::refused_have_none))]
 pub fn respond<R: Eprint + Threads + Wait + Sync, D: Disk, I: Read + Drop, O: Write + Drop>(
     rt: &R,

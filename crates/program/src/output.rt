@@ -15,8 +15,8 @@ const OUTPUT_BUFFER: usize = 65536;
 
 /// Writes the text of a transcript to a writer, and gives the writer back once it has the whole text.
 ///
-/// `OutOfMemory` means that there was no memory for the buffer, `Write` that the text was not written whole,
-/// and `CannotWrite` that its last part was not.
+/// `OutOfMemory` means that there was no memory for the buffer, `Write` that the text could not be written to the
+/// buffer whole, and `CannotWrite` that its last part could not be written from the buffer.
 pub fn write_text<W: Write + Drop>(
     alloc: Global,
     transcript: &Transcript,

@@ -75,9 +75,9 @@ impl Answer {
         self.candidates
     }
 
-    /// Appends the text of the answer of the search with this number: a line `search K version V lines L`,
-    /// with `stats` followed by ` candidates C of D`, and then a line `NAME:LINE:TEXT` for each hit. An `Err`
-    /// means that memory ran out, and `out` stays as it was.
+    /// Appends the text of the answer to the search with this number: a line `search K version V lines L`, which
+    /// goes on with ` candidates C of D` if `stats`, and then a line `NAME:LINE:TEXT` for each hit. An `Err` means
+    /// that memory ran out, and `out` stays as it was.
     pub fn write_to(&self, search: u32, stats: bool, out: &mut Vec<u8>) -> Result<(), AllocError>
         ensures ok { OnOk result (out.new.items ≡ out.old.items ++ text_of_answer search stats self.now) }
         ensures err { OnErr result (out.new.items ≡ out.old.items) }

@@ -29,7 +29,7 @@ pub fn nests_stars(tree: &Ere) -> bool
 }
 
 /// The pattern of the tree, compiled. `None` if it would be too large, or if memory ran out: the tree is then
-/// searched for line by line. A tree with stars inside stars is not if memory ran out, and an `Err` says so.
+/// searched for line by line. For a tree with stars inside stars, an `Err` means that memory ran out.
 pub fn compile(alloc: Global, tree: &Ere) -> Result<Option<Compiled>, AllocError>
     ensures { IfOk result (λ o. IfSome o (IsCompiledFrom (form tree.now))) }
 {

@@ -201,8 +201,8 @@ impl Desk {
         Ok(())
     }
 
-    /// Publishes all accepted commands; with nothing new it publishes the same again. It may wait for
-    /// readings that are inside. An `Err` means that memory ran out, and changes nothing.
+    /// Publishes all accepted commands; with nothing new it publishes the same again. It may wait for readings that
+    /// are taking what a search needs. An `Err` means that memory ran out, and that nothing has changed.
     pub fn publish<R: Wait>(&mut self, rt: &R) -> Result<Told, AllocError>
         ensures ok { IfOk result (λ told. (self.new ≡ all_published self.old) × (told ≡ known self.old.opening self.old.accepted)) }
         ensures err { OnErr result (self.new ≡ self.old) }
@@ -283,8 +283,8 @@ impl Desk {
         }
     }
 
-    /// Gives the desk up. It waits for readings that are inside; afterwards every search is refused. Commands
-    /// that are not published are dropped.
+    /// Gives the desk up. It waits for readings that are taking what a search needs; afterwards every search is refused
+    /// with `NoEntry`. Commands that are not published are dropped.
     pub fn close<R: Wait>(self, rt: &R) {
         let Desk {
             writer,

@@ -90,7 +90,7 @@ impl From<AllocError> for RemoveError {
 pub enum SearchError {
     /// Memory ran out.
     OutOfMemory,
-    /// The published documents could not be entered.
+    /// There is no entry to the published documents, since the desk was closed.
     NoEntry,
 }
 

@@ -37,7 +37,7 @@ impl Rule<Batch, u64> for Counted {
     ghost moves = { λ ask before after answer. Unit {0} };
 }
 
-// Callers trade nothing.
+// A caller gains nothing by a step.
 struct Nothing;
 
 impl Gain<Batch, u64> for Nothing {

@@ -26,6 +26,8 @@ pub const MAX_READINGS: usize = 17;
 /// Opens a desk for at most `max_commands` commands, and `readers` readings. Nothing is accepted or
 /// published, and no reading has seen anything. The desk and the readings belong to one opening. It never
 /// waits if it succeeds.
+///
+/// `OutOfMemory` means that memory ran out, and `NoPlace` that a reading got no place.
 pub fn open<R: Wait>(
     rt: &R,
     alloc: Global,

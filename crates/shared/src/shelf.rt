@@ -22,7 +22,7 @@ pub enum Edit {
 pub enum Operation {
     /// The documents change.
     Change(Edit),
-    /// The history is this long after the changes before this one.
+    /// Notes the front of the history that the changes so far reach.
     Stamp(Front),
 }
 

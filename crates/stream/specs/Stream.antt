@@ -35,7 +35,8 @@ abbrev pub IsItemOf : ℕ → List ℕ → Numbered → Bool → ℕ → Type 0
 IsItemOf line bytes item false next = (rest : List ℕ) (items : List Numbered) → ItemsFrom next rest items → ItemsFrom line (bytes ++ rest) (item ∷ items)
 IsItemOf line bytes item true next = ItemsFrom line bytes (item ∷ [])
 
--- An item was taken from an input, as these bytes. This was left of the input, and this is left of it then.
+-- An item was taken from an input, as these bytes. `was` is what the input had before them, and `left` what it has
+-- after them.
 pub record Takes (old : StreamState) (taken : Taken) (new : StreamState) (bytes : List ℕ) (was left : Option (List ℕ)) : Type 0 where
   pub item : Item
   pub shows : Shows taken.item item

@@ -55,7 +55,8 @@ fn part_of(shown: &[u8]) -> Part<'_>
     }
 }
 
-/// A read that was interrupted is to be tried again. At any other error nothing more can be read.
+/// `Ok` if the error is that of an interrupted read, which is to be tried again. For any other error, after which
+/// nothing more can be read, `CannotRead`.
 pub fn interrupted(error: &Error) -> Result<(), StreamError>
     ensures again { OnOk result (error_kind error.now ≡ ErrorKind.Interrupted) }
     ensures no_more { IfErr result (λ fault. (fault ≡ StreamError.CannotRead) × (error_kind error.now ≢ ErrorKind.Interrupted)) }
@@ -67,7 +68,7 @@ pub fn interrupted(error: &Error) -> Result<(), StreamError>
     }
 }
 
-/// Appends bytes.
+/// Appends the bytes to the text. The only error is `OutOfMemory`.
 pub fn append(text: &mut Vec<u8>, bytes: &[u8]) -> Result<(), StreamError>
     ensures { IfOk result (λ _. text.new.items ≡ text.old.items ++ bytes.now) }
 {

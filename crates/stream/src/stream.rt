@@ -162,7 +162,8 @@ fn take_item<'t, I: BufRead>(
     }
 }
 
-/// An item after which so many lines more are counted.
+/// The step of an item, after which the number of the line grows by `lines`. `TooManyLines` means that it would not fit
+/// in 32 bits.
 fn go_on_after(item: StreamItem<'_>, number: u32, lines: usize) -> Result<Step<'_>, StreamError>
     ensures { IfOk result (λ step. (step.item ≡ item.entry) × (step.next ≡ Some (number + lines)) × (number + lines < 2 ^ 32)) }
 {

@@ -6,8 +6,8 @@ use std::io::BufReader;
 use std::test::Fail;
 use stream::{ItemStream, StreamError, Taken};
 
-/// Items, each with the number of bytes up to its last one. A reader of one byte a read has then been asked as
-/// often.
+/// Items, each with the number of bytes up to its last one. A reader that gives one byte for each read has been asked
+/// that many times when the item comes.
 const ITEMS: [(&[u8], usize); 5] = [
     (b"1:publish;", 8),
     (b"2:put|a|x\ny;", 20),
@@ -19,7 +19,7 @@ const ITEMS: [(&[u8], usize); 5] = [
 const INPUT: &[u8] = b"publish\nput a 3\nx\ny\nsearch x\n# c\nput b 0\n\nsync\n";
 
 #[test]
-fn nothing_is_read_behind_an_item(rt: HostRuntime) -> Result<(), Fail> {
+fn nothing_is_read_after_an_item(rt: HostRuntime) -> Result<(), Fail> {
     let alloc = rt.alloc();
     let mut input = BufReader::new(alloc, Pieces::new(INPUT, 1))?;
     let mut stream = ItemStream::new(alloc);

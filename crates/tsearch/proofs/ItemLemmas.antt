@@ -151,7 +151,7 @@ counted_none entry failed failed' none same = record {
   stays = λ e. same ∙ e;
 }
 
--- A read that failed, said so.
+-- A read that failed said so.
 pub counted_one : (entry : Entry) (failed failed' : ℕ) → failures_in (Some entry) ≡ 1 → failed ≤ failed' → failed' ≤ failed + 1
     → failed' < 2 ^ 64 → (failed < failed') ⊎ (failed' ≡ 2 ^ 64 - 1) → IsCounted (failures_in (Some entry)) failed failed'
 counted_one entry failed failed' one grows by_one below failure = record {

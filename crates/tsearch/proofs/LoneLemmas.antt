@@ -151,7 +151,7 @@ module _ (Holds : List ℕ → List ℕ → Type 0) (failed : ℕ) (rows : List 
         (count_more (count_failures rows) (failures_in row.entry) failed before after are.failures next.fails);
   }
 
--- what a desk and what was told of are seen as
+-- the state of a run with this desk, when this was told of
 abbrev pub state_at : DeskState → Known → ℕ → ℕ → LoneState
 state_at desk told searches turn = record { limit = desk.limit; accepted = desk.accepted; told = told.commands; searches = searches; turn = turn }
 

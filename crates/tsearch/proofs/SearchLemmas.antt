@@ -11,7 +11,7 @@ use Rattle.script.specs.Reading.{Takes}
 use Rattle.tsearch.specs.Rows.{searches_of}
 use Rattle.tsearch.specs.Private.Searches.{Asks, IsListed, other, listed, searches_among, ArePaired, ArePrepared}
 
--- the item so far, and how the searches stand to them
+-- the items so far, and how the searches go with them
 pub record ArePreparing (script : List ℕ) (position : Position) (searches : List (Option Prepared)) : Type 0 where
   pub items : List Numbered
   pub whole : (more : List Numbered) → ItemsFrom position.line position.rest more → IsItemsOf script (items ++ more)

@@ -71,8 +71,8 @@ all_rows context = context.before ++ context.row ∷ context.after
 abbrev pub state_before : Context → State
 state_before context = state_of (commands_of context.before)
 
--- No answer is of a version that was published only after the first sync after the search; without
--- readers, after the search itself.
+-- The newest version that an answer may be of: the one published last before the first sync after the search or,
+-- without readers, before the search itself. If no sync comes after the search, there is no newest one.
 abbrev pub newest_allowed : Context → Option ℕ
 newest_allowed context =
     if context.readers == 0 then Some (published_last context.before)
@@ -135,7 +135,7 @@ HasEntry Holds most context item (Some entry) = IsEntryOf Holds most context con
 abbrev pub IsLegalRow : (List ℕ → List ℕ → Type 0) → ℕ → Context → Type 0
 IsLegalRow Holds most context = HasEntry Holds most context context.row.numbered.item context.row.entry
 
--- The turns of one reader are distinct, and its versions never fall as they rise.
+-- The turns of one reader are distinct, and as they rise, its versions never fall.
 pub record IsInTurn (first second : ℕ) (first_version second_version : ℕ) : Type 0 where
   pub distinct : first ≢ second
   pub rises : first < second → first_version ≤ second_version

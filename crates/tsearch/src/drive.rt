@@ -91,8 +91,8 @@ fn start<'a, R: Wait, G>(
     Ok((session, readers))
 }
 
-/// Takes an item. A search is sent to its reader. All that is pending is settled at a sync, and whenever no
-/// reader is waited for.
+/// Takes an item. A search is sent to its reader. All that is pending is settled at a sync, and after any other item
+/// if there are no readers or no search is open.
 fn advance<'s, 'a: 's, E, R: Threads + Wait + Sync, S: Source, G: Gate>(
     scope: &Scope<'s, E>,
     plan: &Plan<'a, R, G>,

@@ -75,7 +75,7 @@ pub fn put_read(alloc: Global, desk: &mut Desk, name: &[u8], body: Vec<u8>) -> R
     }
 }
 
-/// Why a put is refused whose body is too long.
+/// Why a put whose body is too long is refused: for its name, if that is not valid, and otherwise for the body.
 pub fn reason_of_long_put(alloc: Global, name: &[u8]) -> Reason
     ensures { (most : ℕ) (state : State) (body : List ℕ) (line : ℕ)
         → greatest_body < length body → IsPut most state name.now body line (Entry.Refused line result) }
@@ -86,7 +86,8 @@ pub fn reason_of_long_put(alloc: Global, name: &[u8]) -> Reason
     }
 }
 
-/// Why a put is refused for whose bytes there is no memory.
+/// Why a put for whose bytes there is no memory is refused: for its name, if that is not valid, and otherwise for want
+/// of memory.
 pub fn reason_of_lost_put(alloc: Global, name: &[u8]) -> Reason
     ensures { (most : ℕ) (state : State) (body : List ℕ) (line : ℕ) → IsPut most state name.now body line (Entry.Refused line result) }
 {
@@ -96,7 +97,8 @@ pub fn reason_of_lost_put(alloc: Global, name: &[u8]) -> Reason
     }
 }
 
-/// Asks the source once if the name is valid, and gives `CannotLoad` exactly when the source then failed.
+/// Loads a body and puts it. If the name is valid the source is asked for the body, once. `CannotLoad` means that
+/// the source failed.
 fn load<S: Source>(
     alloc: Global,
     desk: &mut Desk,

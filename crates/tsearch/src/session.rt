@@ -181,7 +181,7 @@ impl Session {
         Ok(())
     }
 
-    /// Settles what was pending first.
+    /// Settles the first pending entry. `None` is that of an open search, which is closed first.
     fn settle_next<R: Threads + Wait>(
         &mut self,
         rt: &R,

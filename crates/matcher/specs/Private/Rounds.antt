@@ -16,8 +16,8 @@ MoreSteps relation from to = (more : ℕ) × Steps relation (suc more) from to
 abbrev pub Covered : Relation → List ℕ → ℕ → Type 0
 Covered relation done to = (before : ℕ) × IsTrue (has_position done before) × relation before to
 
--- What rounds have found. Whatever a known position leads to is found or covered, unless the position is fresh; whatever a position
--- that is over leads to is found or covered.
+-- What rounds have found. Whatever a known position leads to is found or covered, unless the position is fresh.
+-- Whatever a position in `over` leads to is found or covered.
 pub record IsRounded (relation : Relation) (done start found over known fresh : List ℕ) : Type 0 where
   pub sound : (k : ℕ) → IsTrue (has_position found k) → (i : ℕ) × IsTrue (has_position start i) × MoreSteps relation i k
   pub begun : (k : ℕ) → IsTrue (has_position fresh k) → (i : ℕ) × IsTrue (has_position start i) × AnySteps relation i k

@@ -42,7 +42,7 @@ pub record IsFirstNumber (before : ℕ) (bytes : List ℕ) (number : ℕ) (rest 
   pub order : before ≤ number
   pub shorter : length rest < length bytes
 
--- what groups of seven bits hold is below this, where so many follow the first one
+-- a number in groups of seven bits is below this, if this many groups follow the first one
 unfoldable pub limit : ℕ → ℕ
 limit zero = 128
 limit (suc more) = 128 * limit more

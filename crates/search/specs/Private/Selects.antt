@@ -25,7 +25,7 @@ pub data Selects {X : Type 0} (Has : X → Type 0) : List X → List X → Type 
   keep : {x : X} {all kept : List X} → Has x → Selects Has all kept → Selects Has (x ∷ all) (x ∷ kept)
   skip : {x : X} {all kept : List X} → (Has x → ⊥) → Selects Has all kept → Selects Has (x ∷ all) kept
 
--- At the end of the old ones the new have those of all that have a property.
+-- The new list is the old one, followed by those of `all` that have the property.
 pub record Adds (Has : Hit → Type 0) (all old new : List Hit) : Type 0 where
   pub added : List Hit
   pub appended : new ≡ old ++ added

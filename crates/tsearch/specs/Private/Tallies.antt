@@ -48,9 +48,9 @@ pub record CanStand (told : List Command) (versions : List ℕ) (least : ℕ) (l
   pub later : last.turn < given.turn
   pub published : Contains versions given.answer.version
 
--- An answer for the search of this number. The version was published, and is no older than what was published last
--- before the search, nor than the reader's last one, unless all that was told of is that version. The turn is after the
--- reader's last one.
+-- An answer for the search of this number. Its version was published, is no older than what was published last before
+-- the search, and is no older than the reader's last one; none of the three is asked of the version of all that was told
+-- of. Its turn is after the reader's last one.
 pub record IsTaken (searches : List (Option Prepared)) (told : List Command) (versions : List ℕ) (number least : ℕ) (lasts : List Last)
     (reader turn : ℕ) (answer : Answer) (lasts' : List Last) : Type 0 where
   pub prepared : Prepared
