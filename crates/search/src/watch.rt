@@ -1,6 +1,6 @@
 //! Watches are told which documents a search looks at.
 
-/// What a search tells of the documents that it looks at.
+/// A watch is told of the documents that a search looks at.
 pub trait Watch {
     /// The lines of the document with this number are now matched.
     fn reads(&mut self, number: u32);
