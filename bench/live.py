@@ -15,6 +15,7 @@ import subprocess
 import sys
 import time
 
+import quiet
 from corpus import files_below, is_body, is_name
 from timed import PROGRAM, need_program
 
@@ -106,8 +107,10 @@ def measure(folder):
         names = [name for name, body in documents.items() if low <= len(body) <= high]
         rounds = ROUNDS if label == "10 KB" else OTHER_ROUNDS
         if names:
-            print("| a change of a file of %s | %d | %s |" % (label, rounds, shown(changes(session, documents, names, rounds, rng))))
-    alone = [session.ask(b"search changed_none\n")[1] for _ in range(OTHER_ROUNDS)]
+            what = "a change of a file of " + label
+            seconds = quiet.measured(what, lambda: changes(session, documents, names, rounds, rng))
+            print("| %s | %d | %s |" % (what, rounds, shown(seconds)), flush=True)
+    alone = quiet.measured("a search alone", lambda: [session.ask(b"search changed_none\n")[1] for _ in range(OTHER_ROUNDS)])
     print("| a search for a rare literal alone | %d | %s |" % (OTHER_ROUNDS, shown(alone)))
     after = session.resident()
     print("\nresident %.1f MB after them; the end takes %.0f ms" % (after / 1e6, 1000 * session.end()))
@@ -119,6 +122,7 @@ def main():
     need_program()
     for folder in sys.argv[1:]:
         measure(folder)
+    print("\n" + quiet.told())
 
 
 if __name__ == "__main__":

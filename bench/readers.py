@@ -11,6 +11,7 @@ import tempfile
 
 sys.path.insert(0, os.path.dirname(os.path.abspath(__file__)))
 import corpus
+import quiet
 import timed
 import trees
 
@@ -26,7 +27,8 @@ def main():
 
         def spent(readers, searches):
             words = [timed.PROGRAM, "--readers", str(readers), "--max-commands", "1000000", trees.script_with(target, searches)]
-            return [timed.run(words)["seconds"] for _ in range(RUNS)]
+            what = "%d readers" % readers
+            return quiet.measured(what, lambda: [timed.run(words)["seconds"] for _ in range(RUNS)])
 
         print("| readers | seconds | times as fast as one |\n|---|---|---|")
         one = None
@@ -35,6 +37,7 @@ def main():
             seconds = [second - base for second in spent(readers, SEARCHES)]
             one = one or statistics.median(seconds)
             print("| %d | %.2f / %.2f | %.2f |" % (readers, min(seconds), statistics.median(seconds), one / statistics.median(seconds)), flush=True)
+        print(quiet.told())
 
 
 if __name__ == "__main__":

@@ -13,6 +13,7 @@ import tempfile
 
 sys.path.insert(0, os.path.dirname(os.path.abspath(__file__)))
 import corpus
+import quiet
 import trigrams
 
 # The program reads the words KIND FILE DOCUMENTS READINGS PATTERN.
@@ -301,7 +302,8 @@ def build(folder):
 def ask(program, kind, path, documents, readings, pattern):
     """The numbers of each of five blocks."""
     words = [program, kind, path, str(documents), str(readings), pattern]
-    written = subprocess.run(words, capture_output=True, check=True, text=True).stdout
+    what = "%s %d %d %s" % (kind, documents, readings, pattern)
+    written = quiet.measured(what, lambda: subprocess.run(words, capture_output=True, check=True, text=True).stdout)
     blocks = [[int(word) for word in line.split()] for line in written.splitlines()]
     if len(blocks) != 5:
         sys.exit("readings.py: the program wrote %r" % written)
@@ -356,6 +358,7 @@ def main():
         with open(listed, "w", encoding="utf-8") as file:
             file.writelines(path + "\n" for path in copies)
         show_searches(program, listed)
+        print(quiet.told())
 
 
 if __name__ == "__main__":

@@ -14,6 +14,7 @@ import tempfile
 
 sys.path.insert(0, os.path.dirname(os.path.abspath(__file__)))
 import corpus
+import quiet
 import timed
 
 RUNS = 5
@@ -69,7 +70,7 @@ def script_with(target, searches, name="script"):
 
 def spent(words, env=None):
     """The seconds of each of some runs."""
-    return [timed.run(words, env=env)["seconds"] for _ in range(RUNS)]
+    return quiet.measured(" ".join(words), lambda: [timed.run(words, env=env)["seconds"] for _ in range(RUNS)])
 
 
 def words_of(path):
@@ -130,7 +131,7 @@ def others(files, env, pattern, name=None, glob=None, ignoring=()):
 
 
 def row(target, files, env, base, what, search, pattern, name=None, glob=None, ignoring=()):
-    seconds, head = search_times(target, search, base)
+    seconds, head = quiet.measured(search, lambda: search_times(target, search, base))
     lines, candidates = (head[1].decode(), head[2].decode()) if head else ("?", "?")
     ours = "%.2f / %.2f" % tuple(1000 * second for second in seconds)
     cells = [what, "`%s`" % (pattern if name is None else name + " " + pattern).replace("|", "\\|"), lines, candidates, ours]
@@ -144,15 +145,15 @@ def main():
         taken = corpus.make(folder, target)
         print("files %(files)d, bytes %(bytes)d, refused %(refused)d, by load lines: %(loaded)s" % taken)
         words = words_of(script_with(target, []))
-        empty = [timed.run(words) for _ in range(RUNS)]
-        base = statistics.median(run["seconds"] for run in empty)
-        first = shown([run["seconds"] for run in empty])
+        empty = spent(words)
+        base = statistics.median(empty)
+        first = shown(empty)
         speed, resident = taken["bytes"] / base / 1e6, timed.memory(words) / taken["bytes"]
         print("to the first publish %s ms, %.1f MB/s, resident %.2f bytes a byte" % (first, speed, resident))
         files = os.path.join(target, "files")
         env = dict(os.environ, CSEARCHINDEX=os.path.join(target, "csearchindex"), LC_ALL="C")
         if shutil.which("cindex"):
-            print("cindex %s ms" % shown(index_times(files, env)))
+            print("cindex %s ms" % shown(quiet.measured("cindex", lambda: index_times(files, env))))
         print("| kind | pattern | lines | candidates | tsearch | csearch | rg -j1 | rg | grep -rE |\n|---|---|---|---|---|---|---|---|---|")
         for what, pattern in PATTERNS:
             row(target, files, env, base, what, "search " + pattern, pattern)
@@ -161,6 +162,7 @@ def main():
             row(target, files, env, base, "case ignored", "isearch " + pattern, pattern, ignoring=["-i"])
         for name, glob, pattern in NAMED:
             row(target, files, env, base, "by name", "searchin %s %s" % (name, pattern), pattern, name, glob)
+        print(quiet.told())
 
 
 if __name__ == "__main__":

@@ -1,0 +1,74 @@
+"""Takes measurements while the machine is quiet.
+
+A virtual machine shares its processors and its memory with others, and is slow while these are busy. So a short loop and
+a copy of memory are timed before and after each measurement, beside the least that was seen of both. If one of them takes
+over a fifth longer, the machine is busy: then the measurement waits, for two minutes at most, or is made again, five times
+at most.
+"""
+import time
+
+ALLOWED = 1.2
+WAIT = 120
+TRIES = 5
+LOOPS = 1_000_000
+COPIED = 64 << 20
+
+FIRST_LOOKS = 40
+
+_source = bytearray(COPIED)
+_target = bytearray(COPIED)
+_least = []
+_busy = []
+
+
+def _spent(work):
+    start = time.perf_counter()
+    work()
+    return time.perf_counter() - start
+
+
+def _loop():
+    total = 0
+    for number in range(LOOPS):
+        total += number
+
+
+def _copy():
+    _target[:] = _source
+
+
+def _look(times):
+    """The least seconds of both, looked at so many times."""
+    return [min(_spent(work) for _ in range(times)) for work in (_loop, _copy)]
+
+
+def _is_quiet():
+    now = _look(2)
+    _least[:] = map(min, zip(_least or _look(FIRST_LOOKS), now))
+    return all(seconds <= ALLOWED * least for seconds, least in zip(now, _least))
+
+
+def _wait():
+    end = time.perf_counter() + WAIT
+    while not _is_quiet() and time.perf_counter() < end:
+        time.sleep(0.2)
+
+
+def measured(what, measure):
+    """The result of a measurement that was made while the machine was quiet, or of the last try."""
+    for _ in range(TRIES):
+        _wait()
+        result = measure()
+        if _is_quiet():
+            return result
+    _busy.append(what)
+    return result
+
+
+def told():
+    """What to print after the measurements: the speed of the quiet machine, and what was measured on a busy one."""
+    loop, copy = _least
+    text = "the machine: a million additions in Python in %.0f ms, memory copied with %.1f GB/s" % (1000 * loop, COPIED / copy / 1e9)
+    if not _busy:
+        return text + "; it was quiet before and after each measurement"
+    return text + "; it was busy at " + ", ".join(_busy)
