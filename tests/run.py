@@ -22,7 +22,8 @@ a PROGRAM that puts --live before its own. The cases of WHOLE_SCRIPTS are not. A
 from the top of the repository, as FILE, and must write NAME.stdout and end with NAME.status.
 
 The case `architecture` runs nothing: it compares docs/ARCHITECTURE.md with the sources. Each line of an example must be in
-the test that the document names, and each function of its tables in one of the files that are named next to it.
+the test that the document names, each function of the ways of a put, a search and a session in one of the files that are
+named next to it, and each file that it names must be there.
 
 The case `README` runs each command that README.md shows after `$ `, at the top of a copy of what the repository shows there.
 The command must write the lines below it, and nothing to standard error. Lines that are typed are not compared: those of a session
@@ -223,10 +224,21 @@ def compare_examples(text):
             raise Wrong(f"{name} in {path} does not have the lines {lines}")
 
 
+def compare_files(text):
+    """Looks for each file that is named: by its path from the top, or by the end of it."""
+    folders = ["bench", "crates", "docs", "examples", "tests"]
+    paths = [path.relative_to(TOP).parts for folder in folders for path in (TOP / folder).rglob("*.*")]
+    ends = {"/".join(parts[at:]) for parts in paths if "out" not in parts for at in range(len(parts))}
+    missing = set(re.findall(r"`([\w/]+\.(?:rt|antt|py|md))`", text)) - ends
+    if missing:
+        raise Wrong(f"there is no file {', '.join(sorted(missing))}")
+
+
 def compare_architecture(base):
     text = base.with_name("ARCHITECTURE.md").read_text()
     compare_stops(text)
     compare_examples(text)
+    compare_files(text)
 
 
 def commands_shown(text):
