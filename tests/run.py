@@ -19,7 +19,8 @@ also run without such a number. The number comes before the arguments, or is REA
 arguments set the readers or ask for the help, or whose bash script does not use READERS, is run once. Each case is
 also run as a session, and must give the same: with --live before its arguments, and a bash script with 0 for READERS and
 a PROGRAM that puts --live before its own. The cases of WHOLE_SCRIPTS are not. An example NAME.script of examples/ is run
-from the top of the repository, as FILE, and must write NAME.stdout and end with NAME.status.
+from the top of the repository, as FILE, and must write NAME.stdout and end with NAME.status. As many cases run at once
+as there are processors.
 
 The case `architecture` runs nothing: it compares docs/ARCHITECTURE.md with the sources. Each line of an example must be in
 the test that the document names, each function of the ways of a put, a search and a session in one of the files that are
@@ -33,6 +34,7 @@ way: with the script on standard input, a session, and the client.
 Usage: tests/run.py [NAME..]   The last line counts: N passed, M failed.
 """
 
+import concurrent.futures
 import os
 import pathlib
 import re
@@ -300,6 +302,16 @@ def cases_of_folders():
     return cases
 
 
+def fault_of(job):
+    """What is wrong with a case, if anything."""
+    compare_case, base = job
+    try:
+        compare_case(base)
+    except Wrong as wrong:
+        return f"{base.relative_to(TOP)}: {wrong}"
+    return None
+
+
 def main():
     if not PROGRAM.exists():
         sys.exit("tests/run.py: build the program first: ./tsearch --help")
@@ -311,15 +323,8 @@ def main():
     if missing:
         sys.exit(f"tests/run.py: no such case: {', '.join(missing)}")
     counted = Counted()
-    for job, base in jobs:
-        if wanted and base.name not in wanted:
-            continue
-        try:
-            job(base)
-        except Wrong as wrong:
-            counted.fails(f"{base.relative_to(TOP)}: {wrong}")
-        else:
-            counted.passes()
+    with concurrent.futures.ThreadPoolExecutor(os.cpu_count()) as pool:
+        counted.judge(pool.map(fault_of, [job for job in jobs if not wanted or job[1].name in wanted]))
     counted.end()
 
 

@@ -59,19 +59,21 @@ fn size_of(query: &Query) -> usize {
     size
 }
 
+/// Bodies, and the numbers of their trigrams.
+const TRIGRAMS_OF_BODIES: [(&[u8], &[u32]); 6] = [
+    (b"ab", &[]),
+    (b"", &[]),
+    (b"abcabc", &[6382179, 6447969, 6512994]),
+    (b"ab\ncd\n", &[]),
+    // xab and abc
+    (b"xabc\nabc", &[6382179, 7889250]),
+    (b"\xff\xff\xff\xff", &[16777215]),
+];
+
 #[test]
 fn trigrams_of_bodies(rt: HostRuntime) -> Result<(), Fail> {
     let alloc = rt.alloc();
-    let rows: [(&[u8], &[u32]); 6] = [
-        (b"ab", &[]),
-        (b"", &[]),
-        (b"abcabc", &[6382179, 6447969, 6512994]),
-        (b"ab\ncd\n", &[]),
-        // xab and abc
-        (b"xabc\nabc", &[6382179, 7889250]),
-        (b"\xff\xff\xff\xff", &[16777215]),
-    ];
-    for (body, want) in rows {
+    for (body, want) in TRIGRAMS_OF_BODIES {
         let found = trigrams_of(alloc, body)?;
         let numbers: Vec<u32> = found.iter().map(|t| t.number()).collect(alloc)?;
         assert_eq!(rt; numbers.as_slice(), want, "of {body:?}");
@@ -93,18 +95,20 @@ fn simplified(rt: HostRuntime) -> Result<(), Fail> {
 }
 
 /// Every set of trigrams meets the query of these.
+const NO_DEMANDS: [&[u8]; 7] = [
+    b"ab",
+    b"ab?c",
+    b"(abc)*d",
+    b"a{2,3}",
+    b"[a-q]{3}",
+    b"",
+    b"^$",
+];
+
 #[test]
 fn no_demand(rt: HostRuntime) -> Result<(), Fail> {
     let alloc = rt.alloc();
-    for pattern in [
-        b"ab".as_slice(),
-        b"ab?c".as_slice(),
-        b"(abc)*d".as_slice(),
-        b"a{2,3}".as_slice(),
-        b"[a-q]{3}".as_slice(),
-        b"".as_slice(),
-        b"^$".as_slice(),
-    ] {
+    for pattern in NO_DEMANDS {
         assert!(rt;
             analysed(&rt, alloc, pattern)? == Query::Any,
             "of {pattern:?}"

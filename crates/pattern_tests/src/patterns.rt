@@ -199,33 +199,38 @@ fn readings(rt: HostRuntime) -> Result<(), Fail> {
 }
 
 /// Bytes that no line has are looked for before anything except the length.
+const BYTES_OF_NO_LINE: [(&[u8], &[u8]); 6] = [
+    (b"a\0", b"bad byte at 1"),
+    (b"a\nb", b"bad byte at 1"),
+    (b"\0", b"bad byte at 0"),
+    (b"(*[z-a]\n", b"bad byte at 7"),
+    (b"[^\x01-\xff]", b"[]"),
+    (b"[[:blank:]_]", b"[\t _]"),
+];
+
 #[test]
 fn bytes_of_no_line(rt: HostRuntime) -> Result<(), Fail> {
-    for (pattern, want) in [
-        (b"a\0".as_slice(), b"bad byte at 1".as_slice()),
-        (b"a\nb".as_slice(), b"bad byte at 1".as_slice()),
-        (b"\0".as_slice(), b"bad byte at 0".as_slice()),
-        (b"(*[z-a]\n".as_slice(), b"bad byte at 7".as_slice()),
-        (b"[^\x01-\xff]".as_slice(), b"[]".as_slice()),
-        (b"[[:blank:]_]".as_slice(), b"[\t _]".as_slice()),
-    ] {
+    for (pattern, want) in BYTES_OF_NO_LINE {
         let found = reading(rt.alloc(), pattern)?;
         assert_eq!(rt; found.as_slice(), want, "of {pattern:?}");
     }
     Ok(())
 }
 
+/// Sets that are complements, and the bytes that they leave out.
+const COMPLEMENTS: [(&[u8], &[u8]); 3] = [
+    (b".", b""),
+    (b"[^]-]", b"]-"),
+    (
+        b"[^[:print:]^]",
+        b" !\"#$%&'()*+,-./0123456789:;<=>?@ABCDEFGHIJKLMNOPQRSTUVWXYZ[\\]^_`abcdefghijklmnopqrstuvwxyz{|}~",
+    ),
+];
+
 #[test]
 fn complements(rt: HostRuntime) -> Result<(), Fail> {
     let alloc = rt.alloc();
-    for (pattern, left_out) in [
-        (b".".as_slice(), b"".as_slice()),
-        (b"[^]-]".as_slice(), b"]-".as_slice()),
-        (
-            b"[^[:print:]^]".as_slice(),
-            b" !\"#$%&'()*+,-./0123456789:;<=>?@ABCDEFGHIJKLMNOPQRSTUVWXYZ[\\]^_`abcdefghijklmnopqrstuvwxyz{|}~".as_slice(),
-        ),
-    ] {
+    for (pattern, left_out) in COMPLEMENTS {
         let mut want = vec![in alloc; b'[']?;
         for byte in 1..=255u8 {
             if byte != b'\n' && !left_out.contains(&byte) {
@@ -240,24 +245,25 @@ fn complements(rt: HostRuntime) -> Result<(), Fail> {
 
 /// The bytes of each class as POSIX has them: how many there are, and the ends of their ranges. No byte of
 /// 128 or above is in a class.
+const CLASSES: [(&[u8], usize, &[(u8, u8)]); 12] = [
+    (b"upper", 26, &[(b'A', b'Z')]),
+    (b"lower", 26, &[(b'a', b'z')]),
+    (b"alpha", 52, &[(b'A', b'Z'), (b'a', b'z')]),
+    (b"digit", 10, &[(b'0', b'9')]),
+    (b"alnum", 62, &[(b'0', b'9'), (b'A', b'Z'), (b'a', b'z')]),
+    (b"xdigit", 22, &[(b'0', b'9'), (b'A', b'F'), (b'a', b'f')]),
+    (b"punct", 32, &[(33, 47), (58, 64), (91, 96), (123, 126)]),
+    (b"graph", 94, &[(33, 126)]),
+    (b"print", 95, &[(32, 126)]),
+    (b"blank", 2, &[(9, 9), (32, 32)]),
+    (b"space", 5, &[(9, 9), (11, 13), (32, 32)]),
+    (b"cntrl", 31, &[(1, 9), (11, 31), (127, 127)]),
+];
+
 #[test]
 fn classes(rt: HostRuntime) -> Result<(), Fail> {
     let alloc = rt.alloc();
-    let rows: [(&[u8], usize, &[(u8, u8)]); 12] = [
-        (b"upper", 26, &[(b'A', b'Z')]),
-        (b"lower", 26, &[(b'a', b'z')]),
-        (b"alpha", 52, &[(b'A', b'Z'), (b'a', b'z')]),
-        (b"digit", 10, &[(b'0', b'9')]),
-        (b"alnum", 62, &[(b'0', b'9'), (b'A', b'Z'), (b'a', b'z')]),
-        (b"xdigit", 22, &[(b'0', b'9'), (b'A', b'F'), (b'a', b'f')]),
-        (b"punct", 32, &[(33, 47), (58, 64), (91, 96), (123, 126)]),
-        (b"graph", 94, &[(33, 126)]),
-        (b"print", 95, &[(32, 126)]),
-        (b"blank", 2, &[(9, 9), (32, 32)]),
-        (b"space", 5, &[(9, 9), (11, 13), (32, 32)]),
-        (b"cntrl", 31, &[(1, 9), (11, 31), (127, 127)]),
-    ];
-    for (name, size, ranges) in rows {
+    for (name, size, ranges) in CLASSES {
         let mut pattern = Vec::from_slice(alloc, b"[[:")?;
         pattern.extend_from_slice(name)?;
         pattern.extend_from_slice(b":]]")?;

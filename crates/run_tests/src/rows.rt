@@ -5,7 +5,8 @@ use crate::cases::{Case, expect_always};
 use crate::sources::Table;
 use std::test::Fail;
 
-const ROWS: &[Case<'static>] = &[
+/// Each row is also carried out as a session.
+pub(crate) const ROWS: &[Case<'static>] = &[
     Case {
         script: b"put f 10\na^b\nab\ne$f\npublish\nsearch a^b\nsearch e$f\n",
         max_commands: 65_536,

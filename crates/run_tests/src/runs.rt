@@ -147,6 +147,15 @@ impl Write for Narrow {
     }
 }
 
+/// Whether a writer stops at a call, whether it fails at one, and how.
+const WRITERS: [(u32, u32, io::ErrorKind); 4] = [
+    (1, 0, io::ErrorKind::BrokenPipe),
+    (0, 1, io::ErrorKind::BrokenPipe),
+    // a writer that has no memory counts as one that failed
+    (0, 1, io::ErrorKind::OutOfMemory),
+    (0, 1, io::ErrorKind::WriteZero),
+];
+
 #[test]
 fn writers(rt: HostRuntime) -> Result<(), Fail> {
     let alloc = rt.alloc();
@@ -160,13 +169,7 @@ fn writers(rt: HostRuntime) -> Result<(), Fail> {
     let mut text = Vec::new(alloc);
     write_transcript(alloc, &transcript, false, &mut text)?;
     assert_eq!(rt; text.len(), 47);
-    for (stopping, failing, kind) in [
-        (1u32, 0u32, io::ErrorKind::BrokenPipe),
-        (0, 1, io::ErrorKind::BrokenPipe),
-        // a writer that has no memory counts as one that failed
-        (0, 1, io::ErrorKind::OutOfMemory),
-        (0, 1, io::ErrorKind::WriteZero),
-    ] {
+    for (stopping, failing, kind) in WRITERS {
         for call in 0..18 {
             let mut out = Narrow {
                 bytes: Vec::new(alloc),

@@ -9,7 +9,7 @@ ghost use Rattle.ere.specs.declared.case.Case.TheVariants.{Exact};
 ghost use Rattle.search.specs.Pattern.{Pattern, IsPatternOf};
 ghost use Rattle.search.specs.Scan.{IsAnswerOf};
 
-use crate::fixtures::{Kept, answer_text, built, document, index_of};
+use crate::fixtures::{Kept, MANY_STARS, answer_text, built, document, index_of};
 use ere::EreErrorKind;
 use index::{Body, Command, Index, Name};
 use search::{Answer, Prepared, find};
@@ -192,20 +192,22 @@ fn text_within(
     Ok(text)
 }
 
+/// A name pattern, a pattern, and the text of the answer.
+const NAMED: [[&[u8]; 3]; 3] = [
+    [
+        b"c$",
+        b"x",
+        b"search 7 version 2 lines 2\na.c:1:x\na.c:3:x\n",
+    ],
+    [b"", b"y", b"search 7 version 2 lines 1\na.c:2:y\n"],
+    [b"^h", b"x", b"search 7 version 2 lines 0\n"],
+];
+
 #[test]
 fn names_as_lines(rt: HostRuntime) -> Result<(), Fail> {
     let alloc = rt.alloc();
     let index = index_of(&rt, alloc, b"a.c x\ny\nx|a.h x")?;
-    let rows: [[&[u8]; 3]; 3] = [
-        [
-            b"c$",
-            b"x",
-            b"search 7 version 2 lines 2\na.c:1:x\na.c:3:x\n",
-        ],
-        [b"", b"y", b"search 7 version 2 lines 1\na.c:2:y\n"],
-        [b"^h", b"x", b"search 7 version 2 lines 0\n"],
-    ];
-    for row in &rows {
+    for row in &NAMED {
         let text = text_within(alloc, &index, row[0], row[1])?;
         assert_eq!(rt; text.as_slice(), row[2], "of {row:?}");
     }
@@ -217,14 +219,7 @@ fn names_as_lines(rt: HostRuntime) -> Result<(), Fail> {
 #[test]
 fn names_in_many_stars(rt: HostRuntime) -> Result<(), Fail> {
     let alloc = rt.alloc();
-    let pieces: [(&[u8], usize); 5] = [
-        (b"^(aa)*", 1),
-        (b"(a", 30),
-        (b"a*", 1),
-        (b")*", 30),
-        (b"b$", 1),
-    ];
-    let pattern = built(alloc, &pieces)?;
+    let pattern = built(alloc, &MANY_STARS)?;
     let commands = built(
         alloc,
         &[(b"a", 200), (b"c x|", 1), (b"a", 200), (b"b x", 1)],
@@ -243,6 +238,9 @@ fn names_in_many_stars(rt: HostRuntime) -> Result<(), Fail> {
     Ok(())
 }
 
+/// A name pattern, a pattern, and whether the refusal is for the name pattern.
+const REFUSED: [(&[u8], &[u8], bool); 2] = [(b"*a", b"*b", true), (b"a", b"*b", false)];
+
 #[test]
 fn refused_patterns(rt: HostRuntime) -> Result<(), Fail> {
     let alloc = rt.alloc();
@@ -250,10 +248,7 @@ fn refused_patterns(rt: HostRuntime) -> Result<(), Fail> {
         Ok(_) => assert!(rt; false),
         Err(error) => assert_eq!(rt; error.kind, EreErrorKind::NothingToRepeat),
     }
-    for (name_pattern, pattern, in_name) in [
-        (b"*a".as_slice(), b"*b".as_slice(), true),
-        (b"a".as_slice(), b"*b".as_slice(), false),
-    ] {
+    for (name_pattern, pattern, in_name) in REFUSED {
         match Prepared::within(alloc, name_pattern, pattern) {
             Ok(_) => assert!(rt; false),
             Err(refused) => {

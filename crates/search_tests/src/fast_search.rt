@@ -2,7 +2,7 @@
 //!
 //! The hits that are wanted are those of `grep -E` under LC_ALL=C, or worked by hand.
 
-use crate::fixtures::{Kept, answer_text, built, put};
+use crate::fixtures::{Kept, MANY_STARS, answer_text, built, put};
 use index::Index;
 use std::alloc::Global;
 use std::process::Abort;
@@ -257,14 +257,7 @@ fn patterns_of_each_kind(rt: HostRuntime) -> Result<(), Fail> {
 #[test]
 fn many_stars_inside_stars(rt: HostRuntime) -> Result<(), Fail> {
     let alloc = rt.alloc();
-    let pieces: [(&[u8], usize); 5] = [
-        (b"^(aa)*", 1),
-        (b"(a", 30),
-        (b"a*", 1),
-        (b")*", 30),
-        (b"b$", 1),
-    ];
-    let pattern = built(alloc, &pieces)?;
+    let pattern = built(alloc, &MANY_STARS)?;
     let body = built(alloc, &[(b"a", 1000), (b"c\n", 1), (b"a", 1000), (b"b", 1)])?;
     let want = built(alloc, &[(b"f:2:", 1), (b"a", 1000), (b"b\n", 1)])?;
     assert!(rt; finds(&rt, alloc, &[&body, &pattern, &want])?);
@@ -334,19 +327,21 @@ fn finds_from(
     finds(rt, alloc, &[body, pattern, want.as_slice()])
 }
 
+/// Patterns, and the least number of letters before a c that they match.
+const GREATEST: [(&[u8], usize); 4] = [
+    (b"[ab]{255}[ab]{255}[ab]{116}c", 626),
+    (b"[ab]{255}[ab]{255}[ab]{117}c", 627),
+    (b"[ab]{255}[ab]{255}[ab]{118}c", 628),
+    (b"[ab]{255}[ab]{255}[ab]{119}c", 629),
+];
+
 /// The largest pattern of its kind that is compiled has 627 sets and its c. One with a set less, one with a set more
 /// and one with two more find their lines too, with a last line feed and without.
 #[test]
 fn patterns_about_the_greatest_size(rt: HostRuntime) -> Result<(), Fail> {
     let body = letters_and_c(rt.alloc(), 610)?;
     let cut = &body[..body.len().saturating_sub(1)];
-    let rows: [(&[u8], usize); 4] = [
-        (b"[ab]{255}[ab]{255}[ab]{116}c", 626),
-        (b"[ab]{255}[ab]{255}[ab]{117}c", 627),
-        (b"[ab]{255}[ab]{255}[ab]{118}c", 628),
-        (b"[ab]{255}[ab]{255}[ab]{119}c", 629),
-    ];
-    for row in &rows {
+    for row in &GREATEST {
         assert!(rt;
             finds_from(&rt, rt.alloc(), &body, row.0, row.1)?,
             "{}",

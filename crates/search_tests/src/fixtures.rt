@@ -6,6 +6,15 @@ use std::alloc::{AllocError, Global};
 use std::process::Abort;
 use std::test::Fail;
 
+/// The pieces of a pattern of thirty stars, each inside the next one and after a letter.
+pub(crate) const MANY_STARS: [(&[u8], usize); 5] = [
+    (b"^(aa)*", 1),
+    (b"(a", 30),
+    (b"a*", 1),
+    (b")*", 30),
+    (b"b$", 1),
+];
+
 /// A document of this name and body.
 pub(crate) fn document(alloc: Global, name: &[u8], body: &[u8]) -> Result<(Name, Body), Fail> {
     Ok((

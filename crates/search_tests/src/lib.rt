@@ -1,5 +1,5 @@
-//! Tests of searches, by call: each public function does its work if memory is ample. They also test
-//! what no contract says.
+//! Tests of the libraries that keep documents and search them, by call: each public function does its work if
+//! memory is ample. They also test what no contract says.
 //!
 //! They are a separate crate because a crate with tests is proved twice: with its tests and without.
 #![tactic(auto)]
@@ -7,8 +7,12 @@
 #[cfg(test)]
 mod answers;
 #[cfg(test)]
+mod documents;
+#[cfg(test)]
 mod fast_search;
 #[cfg(test)]
 mod fixtures;
+#[cfg(test)]
+mod lists;
 #[cfg(test)]
 mod taken;

@@ -42,20 +42,22 @@ fn lists(alloc: Global, set: &List, numbers: &[u32]) -> Result<bool, AllocError>
 
 const FAR: [u32; 6] = [1, 5, 300, 70000, 70001, 4294967295];
 
+/// Numbers put in, taken out and put in, and those that are there then.
+const KEPT: [([&[u32]; 3], &[u32]); 8] = [
+    ([&[], &[], &[]], &[]),
+    ([&FAR, &[], &[]], &FAR),
+    ([&FAR, &[300, 301], &[]], &[1, 5, 70000, 70001, 4294967295]),
+    ([&FAR, &FAR, &[0]], &[0]),
+    ([&[5, 300, 70000], &[300], &[]], &[5, 70000]),
+    ([&[0, 1, 128], &[0, 0], &[127, 129]], &[1, 128, 129]),
+    ([&[0, 1, 2, 3, 4, 5], &[0, 1, 2], &[]], &[3, 4, 5]),
+    ([&[0, 1, 2, 3, 4, 5], &[5, 4, 3], &[6]], &[0, 1, 2, 6]),
+];
+
 #[test]
 fn sets_keep_their_numbers_rising(rt: HostRuntime) -> Result<(), Fail> {
     let alloc = rt.alloc();
-    let rows: [([&[u32]; 3], &[u32]); 8] = [
-        ([&[], &[], &[]], &[]),
-        ([&FAR, &[], &[]], &FAR),
-        ([&FAR, &[300, 301], &[]], &[1, 5, 70000, 70001, 4294967295]),
-        ([&FAR, &FAR, &[0]], &[0]),
-        ([&[5, 300, 70000], &[300], &[]], &[5, 70000]),
-        ([&[0, 1, 128], &[0, 0], &[127, 129]], &[1, 128, 129]),
-        ([&[0, 1, 2, 3, 4, 5], &[0, 1, 2], &[]], &[3, 4, 5]),
-        ([&[0, 1, 2, 3, 4, 5], &[5, 4, 3], &[6]], &[0, 1, 2, 6]),
-    ];
-    for (steps, want) in rows {
+    for (steps, want) in KEPT {
         let set = set_of(alloc, &steps)?;
         assert!(rt; lists(alloc, &set, want)?, "of {want:?}");
         assert!(rt; want.iter().all(|number| set.has(*number)), "of {want:?}");
@@ -64,37 +66,42 @@ fn sets_keep_their_numbers_rising(rt: HostRuntime) -> Result<(), Fail> {
     Ok(())
 }
 
+/// The same, and the bytes of the set.
+const STORED: [([&[u32]; 3], &[u8]); 5] = [
+    ([&[], &[], &[]], &[]),
+    (
+        [&[5, 300, 70000], &[], &[]],
+        &[0x05, 0xa7, 0x02, 0xc4, 0xa0, 0x04],
+    ),
+    ([&[5, 300, 70000], &[300], &[]], &[0x05, 0xeb, 0xa2, 0x04]),
+    ([&[0, 1, 128], &[], &[]], &[0x00, 0x01, 0x7f]),
+    ([&[4294967295], &[], &[]], &[0xff, 0xff, 0xff, 0xff, 0x0f]),
+];
+
 #[test]
 fn sets_are_stored_as_gaps(rt: HostRuntime) -> Result<(), Fail> {
     let alloc = rt.alloc();
-    let rows: [([&[u32]; 3], &[u8]); 5] = [
-        ([&[], &[], &[]], &[]),
-        (
-            [&[5, 300, 70000], &[], &[]],
-            &[0x05, 0xa7, 0x02, 0xc4, 0xa0, 0x04],
-        ),
-        ([&[5, 300, 70000], &[300], &[]], &[0x05, 0xeb, 0xa2, 0x04]),
-        ([&[0, 1, 128], &[], &[]], &[0x00, 0x01, 0x7f]),
-        ([&[4294967295], &[], &[]], &[0xff, 0xff, 0xff, 0xff, 0x0f]),
-    ];
-    for (steps, want) in rows {
+    for (steps, want) in STORED {
         let set = set_of(alloc, &steps)?;
         assert!(rt; set.stored() == want, "of {steps:?}");
     }
     Ok(())
 }
 
+/// Numbers, and whether they are in the set.
+const LOOKED_UP: [(u32, bool); 5] = [
+    (0, false),
+    (1, true),
+    (300, false),
+    (70000, true),
+    (4294967295, true),
+];
+
 #[test]
 fn numbers_are_looked_up(rt: HostRuntime) -> Result<(), Fail> {
     let alloc = rt.alloc();
     let lookup = set_of(alloc, &[&FAR, &[300], &[]])?.lookup(alloc)?;
-    for (number, there) in [
-        (0, false),
-        (1, true),
-        (300, false),
-        (70000, true),
-        (4294967295, true),
-    ] {
+    for (number, there) in LOOKED_UP {
         assert!(rt; lookup.has(number) == there, "of {number}");
     }
     Ok(())
@@ -132,17 +139,19 @@ fn join_and_meet(alloc: Global, texts: [&[u8]; 4]) -> Result<bool, AllocError> {
     Ok(has_letters(alloc, &union, joined)? && has_letters(alloc, &shared, met)?)
 }
 
+/// Two sets, their union, and what they share.
+const JOINED: [[&[u8]; 4]; 5] = [
+    [b"cj", b"acdefghik", b"acdefghijk", b"c"],
+    [b"acdefghik", b"cj", b"acdefghijk", b"c"],
+    [b"", b"acdefghik", b"acdefghik", b""],
+    [b"acdefghik", b"acdefghik", b"acdefghik", b"acdefghik"],
+    [b"acegikmoqAEGQrs", b"adgjmprAGs", b"cdijkmoprs", b"mrs"],
+];
+
 #[test]
 fn sets_join_and_meet(rt: HostRuntime) -> Result<(), Fail> {
     let alloc = rt.alloc();
-    let rows: [[&[u8]; 4]; 5] = [
-        [b"cj", b"acdefghik", b"acdefghijk", b"c"],
-        [b"acdefghik", b"cj", b"acdefghijk", b"c"],
-        [b"", b"acdefghik", b"acdefghik", b""],
-        [b"acdefghik", b"acdefghik", b"acdefghik", b"acdefghik"],
-        [b"acegikmoqAEGQrs", b"adgjmprAGs", b"cdijkmoprs", b"mrs"],
-    ];
-    for texts in rows {
+    for texts in JOINED {
         assert!(rt; join_and_meet(alloc, texts)?, "of {texts:?}");
     }
     Ok(())

@@ -45,15 +45,18 @@ fn names_of_each_length_and_byte(rt: HostRuntime) -> Result<(), Fail> {
     Ok(())
 }
 
+/// Two names, the lower one first.
+const RISING_NAMES: [(&[u8], &[u8]); 4] = [
+    (b"B", b"a"),
+    (b"aaa", b"b"),
+    (b"a", b"aa"),
+    (b"~", b"\x80"),
+];
+
 #[test]
 fn names_rise_by_their_bytes(rt: HostRuntime) -> Result<(), Fail> {
     let alloc = rt.alloc();
-    for (low, high) in [
-        (b"B".as_slice(), b"a".as_slice()),
-        (b"aaa".as_slice(), b"b".as_slice()),
-        (b"a".as_slice(), b"aa".as_slice()),
-        (b"~".as_slice(), b"\x80".as_slice()),
-    ] {
+    for (low, high) in RISING_NAMES {
         let low = Name::new(alloc, low)?;
         let high = Name::new(alloc, high)?;
         assert!(rt; low < high, "{low:?} and {high:?}");
@@ -122,20 +125,22 @@ fn leads_to(rt: &impl Abort, alloc: Global, state: &State<'_>) -> Result<bool, F
     )
 }
 
+const ALL: &[u8] = b"f old|f new|g x|-f|-absent";
+
+const STATES: [State<'static>; 8] = [
+    (b"", 0, 0, 1, None),
+    (b"f old", 1, 1, 1, Some(b"old")),
+    (b"f old|f new", 2, 1, 1, None),
+    (b"f old|f new", 2, 1, 2, Some(b"new")),
+    (ALL, 5, 1, 2, None),
+    (ALL, 5, 1, 3, Some(b"x")),
+    (ALL, 5, 1, 4, None),
+    (ALL, 5, 1, 6, None),
+];
+
 #[test]
 fn a_put_replaces_and_a_remove_takes_away(rt: HostRuntime) -> Result<(), Fail> {
-    let all: &[u8] = b"f old|f new|g x|-f|-absent";
-    let states: [State<'_>; 8] = [
-        (b"", 0, 0, 1, None),
-        (b"f old", 1, 1, 1, Some(b"old".as_slice())),
-        (b"f old|f new", 2, 1, 1, None),
-        (b"f old|f new", 2, 1, 2, Some(b"new".as_slice())),
-        (all, 5, 1, 2, None),
-        (all, 5, 1, 3, Some(b"x".as_slice())),
-        (all, 5, 1, 4, None),
-        (all, 5, 1, 6, None),
-    ];
-    for state in &states {
+    for state in &STATES {
         let are = leads_to(&rt, rt.alloc(), state)?;
         assert!(rt; are, "{:?} and document {}", state.0, state.3);
     }
@@ -143,17 +148,19 @@ fn a_put_replaces_and_a_remove_takes_away(rt: HostRuntime) -> Result<(), Fail> {
 }
 
 /// The bytes of all bodies, after each of four commands.
+const HELD_BYTES: [(&[u8], u64); 6] = [
+    (b"", 0),
+    (b"f abc", 3),
+    (b"f abc|f xy", 2),
+    (b"f abc|f xy|g wxyz", 6),
+    (b"f abc|f xy|g wxyz|-g", 2),
+    (b"f abc|f xy|g wxyz|-g|-g|-absent", 2),
+];
+
 #[test]
 fn bytes_that_are_held(rt: HostRuntime) -> Result<(), Fail> {
     let alloc = rt.alloc();
-    for (commands, bytes) in [
-        (b"".as_slice(), 0),
-        (b"f abc".as_slice(), 3),
-        (b"f abc|f xy".as_slice(), 2),
-        (b"f abc|f xy|g wxyz".as_slice(), 6),
-        (b"f abc|f xy|g wxyz|-g".as_slice(), 2),
-        (b"f abc|f xy|g wxyz|-g|-g|-absent".as_slice(), 2),
-    ] {
+    for (commands, bytes) in HELD_BYTES {
         let index = index_of(&rt, alloc, commands)?;
         assert_eq!(rt; index.held_bytes(), bytes, "of {commands:?}");
     }

@@ -53,78 +53,81 @@ fn expect_in_pieces<'a, R: AllocGlobal + Wait + Abort>(
 
 const FIRST: &[u8] = b"search 1 version 0 lines 0\n";
 
+const ANSWERED: [Turn; 7] = [
+    Turn {
+        shown: 0,
+        sent: b"search old\n",
+    },
+    Turn {
+        shown: 27,
+        sent: b"put f 3\nold\n",
+    },
+    Turn {
+        shown: 27,
+        sent: b"publish\n",
+    },
+    Turn {
+        shown: 27,
+        sent: b"search old\n",
+    },
+    Turn {
+        shown: 27 + 27 + 8,
+        sent: b"sync\nbad\n",
+    },
+    Turn {
+        shown: 27 + 27 + 8 + 25,
+        sent: b"put f 3\nnew\npublish\nsearch old\n",
+    },
+    Turn {
+        shown: 27 + 27 + 8 + 25 + 27,
+        sent: b"# the end\n\nsearch (\n",
+    },
+];
+
 /// No byte after a search's line is waited for, nor after the line feed of a put's body.
 #[test]
 fn each_answer_comes_before_the_next_command(rt: HostRuntime) -> Result<(), Fail> {
-    let turns = [
-        Turn {
-            shown: 0,
-            sent: b"search old\n",
-        },
-        Turn {
-            shown: 27,
-            sent: b"put f 3\nold\n",
-        },
-        Turn {
-            shown: 27,
-            sent: b"publish\n",
-        },
-        Turn {
-            shown: 27,
-            sent: b"search old\n",
-        },
-        Turn {
-            shown: 27 + 27 + 8,
-            sent: b"sync\nbad\n",
-        },
-        Turn {
-            shown: 27 + 27 + 8 + 25,
-            sent: b"put f 3\nnew\npublish\nsearch old\n",
-        },
-        Turn {
-            shown: 27 + 27 + 8 + 25 + 27,
-            sent: b"# the end\n\nsearch (\n",
-        },
-    ];
     assert_eq!(rt; FIRST.len(), 27);
     expect(
         &rt,
-        &turns,
+        &ANSWERED,
         b"search 1 version 0 lines 0\nsearch 2 version 1 lines 1\nf:1:old\nline 7 refused: bad line\nsearch 3 version 2 lines 0\nsearch 4 refused: group not closed at 0\n",
         2,
     )
 }
 
+const BAD_PUT: [Turn; 2] = [
+    Turn {
+        shown: 0,
+        sent: b"search a\nput f x\n",
+    },
+    Turn {
+        shown: 1000,
+        sent: b"search never\n",
+    },
+];
+
+const OPEN_BODY: [Turn; 2] = [
+    Turn {
+        shown: 0,
+        sent: b"put f 3\nabcd",
+    },
+    Turn {
+        shown: 1000,
+        sent: b"search never\n",
+    },
+];
+
 /// What ends the reading is refused at once, and the session ends without a look at what follows.
 #[test]
 fn a_fault_ends_the_session(rt: HostRuntime) -> Result<(), Fail> {
-    let turns = [
-        Turn {
-            shown: 0,
-            sent: b"search a\nput f x\n",
-        },
-        Turn {
-            shown: 1000,
-            sent: b"search never\n",
-        },
-    ];
     expect(
         &rt,
-        &turns,
+        &BAD_PUT,
         b"search 1 version 0 lines 0\nline 2 refused: bad put\n",
         2,
     )?;
-    let open_body = [
-        Turn {
-            shown: 0,
-            sent: b"put f 3\nabcd",
-        },
-        Turn {
-            shown: 1000,
-            sent: b"search never\n",
-        },
-    ];
-    expect(&rt, &open_body, b"line 1 refused: body not closed\n", 2)
+    expect(&rt, &OPEN_BODY, b"line 1 refused: body not closed\n", 2)
 }
 
 /// 20,000 replacements of a document leave the last one.
