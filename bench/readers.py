@@ -1,7 +1,7 @@
 """What more readers bring: python3 bench/readers.py FOLDER.
 
 One script over the folder's files: 200 searches with many matches, all sent before the script waits for an answer. Prints
-the seconds with 0, 1, 2 and 4 readers, the least and the median of five runs, without the time to the first publish and
+the seconds with 0 to 4 readers, the least and the median of five runs, without the time to the first publish and
 with the output in a file; and how many times as fast as with one reader that is.
 """
 import os
@@ -32,7 +32,7 @@ def main():
 
         print("| readers | seconds | times as fast as one |\n|---|---|---|")
         one = None
-        for readers in (1, 0, 2, 4):
+        for readers in (1, 0, 2, 3, 4):
             base = statistics.median(spent(readers, []))
             seconds = [second - base for second in spent(readers, SEARCHES)]
             one = one or statistics.median(seconds)
