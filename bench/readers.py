@@ -2,7 +2,7 @@
 
 One script over the folder's files: 200 searches with many matches, all sent before the script waits for an answer. Prints
 the seconds with 0 to 4 readers, the least and the median of five runs, without the time to the first publish and
-with the output in a file; and how many times as fast as with one reader that is.
+with the output in a file; how many searches a second that is, and how many times as fast as with one reader.
 """
 import os
 import statistics
@@ -30,13 +30,15 @@ def main():
             what = "%d readers" % readers
             return quiet.measured(what, lambda: [timed.run(words)["seconds"] for _ in range(RUNS)])
 
-        print("| readers | seconds | times as fast as one |\n|---|---|---|")
+        print("| readers | seconds | searches a second | times as fast as one |\n|---|---|---|---|")
         one = None
         for readers in (1, 0, 2, 3, 4):
             base = statistics.median(spent(readers, []))
             seconds = [second - base for second in spent(readers, SEARCHES)]
-            one = one or statistics.median(seconds)
-            print("| %d | %.2f / %.2f | %.2f |" % (readers, min(seconds), statistics.median(seconds), one / statistics.median(seconds)), flush=True)
+            least, median = min(seconds), statistics.median(seconds)
+            one = one or median
+            cells = (readers, least, median, len(SEARCHES) / least, len(SEARCHES) / median, one / median)
+            print("| %d | %.2f / %.2f | %.0f / %.0f | %.2f |" % cells, flush=True)
         print(quiet.told())
 
 
