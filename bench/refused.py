@@ -1,6 +1,6 @@
 """Which files of folders are refused as documents, and why: python3 bench/refused.py FOLDER..
 
-Of the files with a long line it counts those over the limit, and those over the former limit of 4,096 bytes.
+Of the files with a long line it counts those over the limit, and those over 4,096 bytes, a quarter of it.
 """
 import os
 import sys
@@ -8,7 +8,7 @@ import sys
 sys.path.insert(0, os.path.dirname(os.path.abspath(__file__)))
 import corpus
 
-BEFORE = 4_096
+QUARTER = 4_096
 
 
 def cause_of(name, body):
@@ -31,12 +31,12 @@ def row_of(folder):
         size += len(body)
         causes.append(cause_of(os.path.relpath(path, base), body))
     lengths = [cause for cause in causes if isinstance(cause, int)]
-    over = [sum(length > most for length in lengths) for most in (BEFORE, corpus.MAX_LINE)]
+    over = [sum(length > most for length in lengths) for most in (QUARTER, corpus.MAX_LINE)]
     return [len(causes), size] + [causes.count(cause) for cause in ("name", "size", "byte 0")] + over
 
 
 def main():
-    print("| folder | files | bytes | name | over 1 MiB | byte 0 | a line over %d | a line over %d |\n|%s" % (BEFORE, corpus.MAX_LINE, 8 * "---|"))
+    print("| folder | files | bytes | name | over 1 MiB | byte 0 | a line over %d | a line over %d |\n|%s" % (QUARTER, corpus.MAX_LINE, 8 * "---|"))
     for folder in sys.argv[1:]:
         print("| `%s` | %s |" % (folder, " | ".join(map(str, row_of(folder)))), flush=True)
 

@@ -3,7 +3,7 @@
 
 All patterns are searches of a few scripts, over one document of random lines; grep is run once for each
 pattern. With -i case is ignored, by isearch and by grep -i. Differences are counted by kind. The known kinds
-are those of docs/PATTERNS.md, "How this differs from grep -E"; any other difference ends the comparison with
+are those of docs/PATTERNS.md, "How this differs from `grep -E`"; any other difference ends the comparison with
 status 1.
 
 Usage: tests/compare_with_grep.py [-i] [--patterns N] [--lines N] [--seed N] [--show N]
