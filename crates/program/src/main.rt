@@ -49,6 +49,3 @@ fn fetch_arguments<R: Env + AllocGlobal>(rt: &R) -> Result<Vec<String>, ProgramE
         Err(_) => Err(ProgramError::OutOfMemory),
     }
 }
-
-#[cfg(test)]
-mod tests;

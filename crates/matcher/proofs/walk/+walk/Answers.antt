@@ -282,12 +282,14 @@ more_past-returns g t c =
 pub begin_plain-returns : goal.begin_plain-returns
 begin_plain-returns g t c = λ done start h.
     c.window_by_window.ensures done start
-    (rounds.rounded_on (Spans c.args.line.now (form c.args.body.now)) done start (g.S.PositionSet.words c.args.found.now) (g.S.PositionSet.words c.args.known.now) (g.S.PositionSet.words c.args.at.now) (g.S.PositionSet.words c.go_on.new.at)
+    (rounds.rounded_on (Spans c.args.line.now (form c.args.body.now)) done start (g.S.PositionSet.words c.args.found.now)
+    (g.S.PositionSet.words c.args.known.now) (g.S.PositionSet.words c.args.at.now) (g.S.PositionSet.words c.go_on.new.at)
     (g.S.PositionSet.words c.go_on.new.found) (g.S.PositionSet.words c.go_on.new.known) c.go_on.ensures h)
 
 pub rounds_past-returns-then-is_empty : goal.rounds_past-returns-then-is_empty
 rounds_past-returns-then-is_empty g t c = λ start h.
-    rounds.rounded_all (Spans c.args.line.now (form c.args.body.now)) (g.S.PositionSet.words c.args.done.now) start (g.S.PositionSet.words c.args.found.now) (g.S.PositionSet.words c.args.done.now) (g.S.PositionSet.words c.args.known.now)
+    rounds.rounded_all (Spans c.args.line.now (form c.args.body.now)) (g.S.PositionSet.words c.args.done.now) start
+    (g.S.PositionSet.words c.args.found.now) (g.S.PositionSet.words c.args.done.now) (g.S.PositionSet.words c.args.known.now)
     (g.S.PositionSet.words c.args.at.now) h c.if-is_empty.ensures
 
 pub rounds_past-loop-grown-init : goal.rounds_past-loop-grown-init
@@ -296,17 +298,22 @@ rounds_past-loop-grown-init g t c = λ start h. rw c.copy.ensures h
 pub rounds_past-loop-grown-preserved : goal.rounds_past-loop-grown-preserved
 rounds_past-loop-grown-preserved g t c = λ start h.
     rw c.copy-in-loop-grown.ensures
-    (rounds.rounded_more (Spans c.args.line.now (form c.args.body.now)) (g.S.PositionSet.words c.args.done.now) start (g.S.PositionSet.words c.loop-grown.found) (g.S.PositionSet.words c.loop-grown.over)
-    (g.S.PositionSet.words c.loop-grown.known) (g.S.PositionSet.words c.loop-grown.at) (g.S.PositionSet.words c.advance_past.new.at) (g.S.PositionSet.words c.add.new.self) (g.S.PositionSet.words c.add.new.fresh)
+    (rounds.rounded_more (Spans c.args.line.now (form c.args.body.now)) (g.S.PositionSet.words c.args.done.now) start
+    (g.S.PositionSet.words c.loop-grown.found) (g.S.PositionSet.words c.loop-grown.over)
+    (g.S.PositionSet.words c.loop-grown.known) (g.S.PositionSet.words c.loop-grown.at)
+    (g.S.PositionSet.words c.advance_past.new.at) (g.S.PositionSet.words c.add.new.self) (g.S.PositionSet.words c.add.new.fresh)
     (g.S.PositionSet.words c.add-grown.new.self) (g.S.PositionSet.words c.add-grown.new.fresh) (c.loop-grown.invariant start h) c.advance_past.ensures
     c.add.ensures.both c.add.ensures.new c.add-grown.ensures.both c.add-grown.ensures.new)
 
 pub rounds_past-returns : goal.rounds_past-returns
 rounds_past-returns g t c = λ start h.
-    rounds.rounded_all (Spans c.args.line.now (form c.args.body.now)) (g.S.PositionSet.words c.args.done.now) start (g.S.PositionSet.words c.add.new.self) (g.S.PositionSet.words c.loop-grown.known)
+    rounds.rounded_all (Spans c.args.line.now (form c.args.body.now)) (g.S.PositionSet.words c.args.done.now) start
+    (g.S.PositionSet.words c.add.new.self) (g.S.PositionSet.words c.loop-grown.known)
     (g.S.PositionSet.words c.add-grown.new.self) (g.S.PositionSet.words c.add-grown.new.fresh)
-    (rounds.rounded_more (Spans c.args.line.now (form c.args.body.now)) (g.S.PositionSet.words c.args.done.now) start (g.S.PositionSet.words c.loop-grown.found) (g.S.PositionSet.words c.loop-grown.over)
-    (g.S.PositionSet.words c.loop-grown.known) (g.S.PositionSet.words c.loop-grown.at) (g.S.PositionSet.words c.advance_past.new.at) (g.S.PositionSet.words c.add.new.self) (g.S.PositionSet.words c.add.new.fresh)
+    (rounds.rounded_more (Spans c.args.line.now (form c.args.body.now)) (g.S.PositionSet.words c.args.done.now) start
+    (g.S.PositionSet.words c.loop-grown.found) (g.S.PositionSet.words c.loop-grown.over)
+    (g.S.PositionSet.words c.loop-grown.known) (g.S.PositionSet.words c.loop-grown.at)
+    (g.S.PositionSet.words c.advance_past.new.at) (g.S.PositionSet.words c.add.new.self) (g.S.PositionSet.words c.add.new.fresh)
     (g.S.PositionSet.words c.add-grown.new.self) (g.S.PositionSet.words c.add-grown.new.fresh) (c.loop-grown.invariant start h) c.advance_past.ensures
     c.add.ensures.both c.add.ensures.new c.add-grown.ensures.both c.add-grown.ensures.new)
     (rw c.if-not-grown.true at c.add-grown.ensures.grown)
@@ -328,18 +335,24 @@ window_by_window-loop-window-preserved g t c = λ done start h. c.over_window.en
 
 pub over_window-returns : goal.over_window-returns
 over_window-returns g t c = λ done start h.
-    rounds.rounded_part _ (Spans c.args.line.now (form c.args.body.now)) (λ i k r. c.requires.longer c.args.line.now _ i k r) done start (g.S.PositionSet.words c.args.found.now)
-    (g.S.PositionSet.words c.args.known.now) (g.S.PositionSet.words c.args.at.now) (g.S.PositionSet.words c.take_window-last.new.here) (g.S.PositionSet.words c.widen.new.here) (g.S.PositionSet.words c.go_on.new.at)
-    (g.S.PositionSet.words c.take_window-last.new.self) (g.S.PositionSet.words c.widen.new.known) (g.S.PositionSet.words c.go_on.new.known) (g.S.PositionSet.words c.go_on.new.found) (g.S.PositionSet.words c.add.new.self)
+    rounds.rounded_part _ (Spans c.args.line.now (form c.args.body.now)) (λ i k r. c.requires.longer c.args.line.now _ i k r) done
+    start (g.S.PositionSet.words c.args.found.now)
+    (g.S.PositionSet.words c.args.known.now) (g.S.PositionSet.words c.args.at.now)
+    (g.S.PositionSet.words c.take_window-last.new.here) (g.S.PositionSet.words c.widen.new.here) (g.S.PositionSet.words c.go_on.new.at)
+    (g.S.PositionSet.words c.take_window-last.new.self) (g.S.PositionSet.words c.widen.new.known)
+    (g.S.PositionSet.words c.go_on.new.known) (g.S.PositionSet.words c.go_on.new.found) (g.S.PositionSet.words c.add.new.self)
     c.take_window-last.ensures c.widen.ensures c.go_on.ensures c.add.ensures.both h
 
 pub widen-loop-round-init : goal.widen-loop-round-init
-widen-loop-round-init g t c = rw c.copy.ensures (rounds.widened_first (Spans c.args.line.now (form c.args.body.now)) (g.S.PositionSet.words c.args.here.now) (g.S.PositionSet.words c.args.known.now))
+widen-loop-round-init g t c = rw c.copy.ensures (rounds.widened_first (Spans c.args.line.now (form c.args.body.now))
+    (g.S.PositionSet.words c.args.here.now) (g.S.PositionSet.words c.args.known.now))
 
 pub widen-loop-round-preserved : goal.widen-loop-round-preserved
 widen-loop-round-preserved g t c =
-    rounds.widened_more (Spans c.args.line.now (form c.args.body.now)) (g.S.PositionSet.words c.args.here.now) (g.S.PositionSet.words c.args.known.now) (g.S.PositionSet.words c.loop-round.here) (g.S.PositionSet.words c.loop-round.known)
-    (g.S.PositionSet.words c.loop-round.next) (g.S.PositionSet.words c.advance.new.at) (g.S.PositionSet.words c.add-has_new.new.self) (g.S.PositionSet.words c.add-has_new.new.fresh) (g.S.PositionSet.words c.add.new.self)
+    rounds.widened_more (Spans c.args.line.now (form c.args.body.now)) (g.S.PositionSet.words c.args.here.now)
+    (g.S.PositionSet.words c.args.known.now) (g.S.PositionSet.words c.loop-round.here) (g.S.PositionSet.words c.loop-round.known)
+    (g.S.PositionSet.words c.loop-round.next) (g.S.PositionSet.words c.advance.new.at)
+    (g.S.PositionSet.words c.add-has_new.new.self) (g.S.PositionSet.words c.add-has_new.new.fresh) (g.S.PositionSet.words c.add.new.self)
     (g.S.PositionSet.words c.add.new.fresh) c.loop-round.invariant c.advance.ensures c.add-has_new.ensures.both c.add-has_new.ensures.new c.add.ensures.both
     c.add.ensures.new
 
@@ -354,9 +367,11 @@ advance_while_new-returns-then-is_empty g t c =
 pub advance_while_new-returns-then-is_same : goal.advance_while_new-returns-then-is_same
 advance_while_new-returns-then-is_same g t c =
     let same : g.S.PositionSet.words c.advance.new.at ≡ g.S.PositionSet.words c.loop-word.at = rw c.copy.ensures at (c.is_same.ensures c.if-is_same.true) in
-    walks.moves_still (Spans c.args.line.now (form c.args.body.now)) (c.loop-word._word + 1) c.args.count (g.S.PositionSet.words c.args.at.now) (g.S.PositionSet.words c.advance.new.at) (omega arith)
+    walks.moves_still (Spans c.args.line.now (form c.args.body.now)) (c.loop-word._word + 1) c.args.count
+    (g.S.PositionSet.words c.args.at.now) (g.S.PositionSet.words c.advance.new.at) (omega arith)
     (walks.moves_more_steps (Spans c.args.line.now (form c.args.body.now)) c.loop-word._word (c.loop-word._word + 1)
-    (g.S.PositionSet.words c.args.at.now) (g.S.PositionSet.words c.loop-word.at) (g.S.PositionSet.words c.advance.new.at) refl c.loop-word.invariant c.advance.ensures)
+    (g.S.PositionSet.words c.args.at.now) (g.S.PositionSet.words c.loop-word.at) (g.S.PositionSet.words c.advance.new.at) refl
+    c.loop-word.invariant c.advance.ensures)
     (subst (λ set. Moves (Spans c.args.line.now (form c.args.body.now)) set (g.S.PositionSet.words c.advance.new.at)) (sym same) c.advance.ensures)
 
 pub advance_while_new-loop-word-preserved : goal.advance_while_new-loop-word-preserved
