@@ -1,17 +1,34 @@
 //! Trigrams of bodies, plain queries, and what the analysis of a pattern asks of a document.
 
 use crate::fixtures::halves;
-use ere::parse;
+use ere::{Ere, parse};
 use query::{Query, Trigram, simplify, trigrams_of};
-use std::alloc::Global;
+use std::alloc::{AllocError, Global};
 use std::process::Abort;
 use std::test::Fail;
 use trigram::analyse;
 
+/// The query of a tree, which is within the limits.
+fn asked(rt: &impl Abort, alloc: Global, tree: &Ere) -> Result<Query, AllocError> {
+    assert!(rt; tree.within_limits());
+    analyse(alloc, tree)
+}
+
 fn analysed(rt: &impl Abort, alloc: Global, pattern: &[u8]) -> Result<Query, Fail> {
     let tree = parse(alloc, pattern)?;
-    assert!(rt; tree.within_limits());
-    Ok(analyse(alloc, &tree)?)
+    Ok(asked(rt, alloc, &tree)?)
+}
+
+/// Whether a set of trigrams has this one. The set is a text of trigrams with spaces between them.
+fn holds(held: &[u8], trigram: Trigram) -> bool {
+    for bytes in held.split(|b| *b == b' ') {
+        if bytes.len() == 3
+            && Trigram::of([bytes[0], bytes[1], bytes[2]]).number() == trigram.number()
+        {
+            return true;
+        }
+    }
+    false
 }
 
 /// Whether a set of trigrams meets the query. The set is a text of trigrams with spaces between them.
@@ -19,8 +36,7 @@ pub(crate) fn meets(query: &Query, held: &[u8]) -> bool {
     match query {
         Query::Any => true,
         Query::None => false,
-        Query::Has(trigram) => held.split(|b| *b == b' ').any(|bytes| bytes.len() == 3
-            && Trigram::of([bytes[0], bytes[1], bytes[2]]).number() == trigram.number()),
+        Query::Has(trigram) => holds(held, *trigram),
         Query::And(members) => {
             for member in members {
                 if !meets(member, held) {
@@ -70,27 +86,57 @@ const TRIGRAMS_OF_BODIES: [(&[u8], &[u32]); 6] = [
     (b"\xff\xff\xff\xff", &[16777215]),
 ];
 
+/// Whether the trigrams have these numbers, in their order.
+fn have_numbers(trigrams: &[Trigram], numbers: &[u32]) -> bool {
+    if trigrams.len() != numbers.len() {
+        return false;
+    }
+    for i in 0..numbers.len() {
+        if trigrams[i].number() != numbers[i] {
+            return false;
+        }
+    }
+    true
+}
+
+fn has_trigrams(alloc: Global, body: &[u8], numbers: &[u32]) -> Result<bool, AllocError> {
+    let found = trigrams_of(alloc, body)?;
+    Ok(have_numbers(&found, numbers))
+}
+
 #[test]
 fn trigrams_of_bodies(rt: HostRuntime) -> Result<(), Fail> {
-    let alloc = rt.alloc();
     for (body, want) in TRIGRAMS_OF_BODIES {
-        let found = trigrams_of(alloc, body)?;
-        let numbers: Vec<u32> = found.iter().map(|t| t.number()).collect(alloc)?;
-        assert_eq!(rt; numbers.as_slice(), want, "of {body:?}");
+        assert!(rt; has_trigrams(rt.alloc(), body, want)?, "of {body:?}");
     }
     Ok(())
+}
+
+fn has_abc() -> Query {
+    Query::Has(Trigram::of(*b"abc"))
+}
+
+/// The members and one more.
+fn with(mut members: Vec<Query>, member: Query) -> Result<Vec<Query>, AllocError> {
+    members.push(member)?;
+    Ok(members)
+}
+
+fn is_simplified(alloc: Global, query: Query, want: &Query) -> Result<bool, AllocError> {
+    Ok(simplify(alloc, query)? == *want)
 }
 
 #[test]
 fn simplified(rt: HostRuntime) -> Result<(), Fail> {
     let alloc = rt.alloc();
-    let has = || Query::Has(Trigram::of(*b"abc"));
-    assert!(rt; simplify(alloc, Query::And(Vec::new(alloc)))? == Query::Any);
-    assert!(rt; simplify(alloc, Query::Or(vec![in alloc; Query::Any, has()]?))? == Query::Any);
-    assert!(rt; simplify(alloc, Query::Or(Vec::new(alloc)))? == Query::None);
-    assert!(rt; simplify(alloc, Query::And(vec![in alloc; has(), Query::None]?))? == Query::None);
-    let inner = Query::Or(vec![in alloc; has()]?);
-    assert!(rt; simplify(alloc, Query::And(vec![in alloc; inner]?))? == has());
+    assert!(rt; is_simplified(alloc, Query::And(Vec::new(alloc)), &Query::Any)?);
+    assert!(rt; is_simplified(alloc, Query::Or(Vec::new(alloc)), &Query::None)?);
+    let any = with(with(Vec::new(alloc), Query::Any)?, has_abc())?;
+    assert!(rt; is_simplified(alloc, Query::Or(any), &Query::Any)?);
+    let never = with(with(Vec::new(alloc), has_abc())?, Query::None)?;
+    assert!(rt; is_simplified(alloc, Query::And(never), &Query::None)?);
+    let inner = Query::Or(with(Vec::new(alloc), has_abc())?);
+    assert!(rt; is_simplified(alloc, Query::And(with(Vec::new(alloc), inner)?), &has_abc())?);
     Ok(())
 }
 
@@ -105,16 +151,19 @@ const NO_DEMANDS: [&[u8]; 7] = [
     b"^$",
 ];
 
+fn is_asked(rt: &impl Abort, alloc: Global, pattern: &[u8], want: &Query) -> Result<bool, Fail> {
+    Ok(analysed(rt, alloc, pattern)? == *want)
+}
+
 #[test]
 fn no_demand(rt: HostRuntime) -> Result<(), Fail> {
-    let alloc = rt.alloc();
     for pattern in NO_DEMANDS {
         assert!(rt;
-            analysed(&rt, alloc, pattern)? == Query::Any,
+            is_asked(&rt, rt.alloc(), pattern, &Query::Any)?,
             "of {pattern:?}"
         );
     }
-    assert!(rt; analysed(&rt, alloc, b"abc.*[^\x01-\xff]")? == Query::None);
+    assert!(rt; is_asked(&rt, rt.alloc(), b"abc.*[^\x01-\xff]", &Query::None)?);
     Ok(())
 }
 
@@ -135,25 +184,34 @@ one|two|ten|six~one|two|ten|six~net|
 abc{2}d{1,2}e~abc bcc ccd cde|abc bcc ccd cdd dde~abc bcc ccd|
 [a-p]bc~abc|pbc~qbc|";
 
+/// Whether each of the sets, which bars separate, meets the query, or none does.
+fn all_meet(query: &Query, sets: &[u8], wanted: bool) -> bool {
+    for set in sets.split(|b| *b == b'|') {
+        if meets(query, set) != wanted {
+            return false;
+        }
+    }
+    true
+}
+
+/// Whether the query of the pattern is met by the sets of the one text and by none of the other.
+fn demands_agree(rt: &impl Abort, alloc: Global, row: &[u8]) -> Result<bool, Fail> {
+    let (pattern, rest) = halves(row);
+    let (wanted, others) = halves(rest);
+    let query = analysed(rt, alloc, pattern)?;
+    Ok(all_meet(&query, wanted, true) && all_meet(&query, others, false))
+}
+
 #[test]
 fn demands(rt: HostRuntime) -> Result<(), Fail> {
-    let alloc = rt.alloc();
     for row in DEMANDS.split(|b| *b == b'\n') {
-        let (pattern, rest) = halves(row);
-        let (wanted, others) = halves(rest);
-        let query = analysed(&rt, alloc, pattern)?;
-        for set in wanted.split(|b| *b == b'|') {
-            assert!(rt; meets(&query, set), "{pattern:?} at {set:?}");
-        }
-        for set in others.split(|b| *b == b'|') {
-            assert!(rt; !meets(&query, set), "{pattern:?} at {set:?}");
-        }
+        assert!(rt; demands_agree(&rt, rt.alloc(), row)?, "of {row:?}");
     }
     Ok(())
 }
 
 /// 31 groups, each of which joins 16 known texts of 55 bytes with 16 others: the hardest known kind of pattern.
-fn hardest(alloc: Global) -> Result<Vec<u8>, Fail> {
+fn hardest(alloc: Global) -> Result<Vec<u8>, AllocError> {
     let bytes = b"ABCDEFGHIJKLMNOPQRSTUVWXYZabcdefghijklmnopqrstuvwxyz0123456789";
     let mut pattern = Vec::new(alloc);
     for group in 0..31usize {
@@ -166,22 +224,37 @@ fn hardest(alloc: Global) -> Result<Vec<u8>, Fail> {
     Ok(pattern)
 }
 
-/// The query of a pattern asks each thing once: for a join of known texts at most the 108 trigrams of 256
-/// texts, if it meets them in the words, in their fronts and in their backs.
+/// The parts of a join of known texts are at most the 108 trigrams of 256 texts, if it meets them in the words, in
+/// their fronts and in their backs.
+const MOST_OF_A_JOIN: usize = 256 * 109 + 1;
+
+/// Patterns, and the greatest sizes of their queries.
+const SIZES: [(&[u8], usize); 3] = [
+    (b"(a{255}){16}", 10),
+    (b"([ab]c?){255}", 4 * 255),
+    (b"([a-p](abcdefghijklmnopqr){3}){2}", MOST_OF_A_JOIN),
+];
+
+fn size_asked(rt: &impl Abort, alloc: Global, pattern: &[u8]) -> Result<usize, Fail> {
+    Ok(size_of(&analysed(rt, alloc, pattern)?))
+}
+
+/// The query of a pattern asks each thing once.
 #[test]
 fn sizes_of_queries(rt: HostRuntime) -> Result<(), Fail> {
-    let alloc = rt.alloc();
-    let hardest = hardest(alloc)?;
-    assert_eq!(rt; hardest.len(), 1023);
-    let of_a_join: usize = 256 * 109 + 1;
-    for (pattern, most) in [
-        (b"(a{255}){16}".as_slice(), 10),
-        (b"([ab]c?){255}".as_slice(), 4 * 255),
-        (b"([a-p](abcdefghijklmnopqr){3}){2}".as_slice(), of_a_join),
-        (hardest.as_slice(), 31 * (of_a_join + 1000)),
-    ] {
-        let size = size_of(&analysed(&rt, alloc, pattern)?);
-        assert!(rt; size <= most, "{size} parts of {pattern:?}");
+    for (pattern, most) in SIZES {
+        assert!(rt;
+            size_asked(&rt, rt.alloc(), pattern)? <= most,
+            "of {pattern:?}"
+        );
     }
+    Ok(())
+}
+
+#[test]
+fn size_of_the_hardest(rt: HostRuntime) -> Result<(), Fail> {
+    let pattern = hardest(rt.alloc())?;
+    assert!(rt; pattern.len() == 1023);
+    assert!(rt; size_asked(&rt, rt.alloc(), &pattern)? <= 31 * (MOST_OF_A_JOIN + 1000));
     Ok(())
 }

@@ -1,11 +1,13 @@
 //! Patterns that are read with case ignored: their trees, their faults, and what they ask of a document.
 
 use crate::filtering::meets;
-use crate::patterns::{FAULTS_OF_THE_GRAMMAR, FAULTS_OF_TOKENS, expect_readings};
-use ere::{ByteSet, Case, Ere, parse_with};
-use matcher::matches;
+use crate::matching::agrees;
+use crate::patterns::{
+    FAULTS_OF_THE_GRAMMAR, FAULTS_OF_TOKENS, expect_readings, leaves_out, set_of,
+};
+use ere::{Case, EreError, parse_with};
+use query::Query;
 use std::alloc::Global;
-use std::process::Abort;
 use std::test::Fail;
 use trigram::analyse;
 
@@ -44,30 +46,10 @@ const RANGES: &[u8] = br"[a-Z]~bad range at 2
 [A-a]~[ABCDEFGHIJKLMNOPQRSTUVWXYZ[\]^_`abcdefghijklmnopqrstuvwxyz]";
 
 #[test]
-fn readings(rt: HostRuntime) -> Result<(), Fail> {
+fn readings(rt: HostRuntime) {
     for table in [TREES, RANGES, FAULTS_OF_TOKENS, FAULTS_OF_THE_GRAMMAR] {
-        expect_readings(&rt, rt.alloc(), Case::Ignore, table)?;
+        expect_readings(&rt, rt.alloc(), Case::Ignore, table);
     }
-    Ok(())
-}
-
-/// The set that a pattern of one set is.
-fn set_of(alloc: Global, pattern: &[u8]) -> Result<ByteSet, Fail> {
-    match parse_with(alloc, pattern, Case::Ignore)? {
-        Ere::Set(set) => Ok(set),
-        _ => Ok(ByteSet::empty()),
-    }
-}
-
-/// Whether these are the bytes that the pattern's set leaves out, but for 0 and the line feed.
-fn leaves_out(alloc: Global, pattern: &[u8], left_out: &[u8]) -> Result<bool, Fail> {
-    let set = set_of(alloc, pattern)?;
-    let mut right = true;
-    for byte in 1..=255u8 {
-        let wanted = byte != b'\n' && !left_out.contains(&byte);
-        right = right && set.has(byte) == wanted;
-    }
-    Ok(right)
 }
 
 /// The other case of what is between `[^` and `]` is left out too.
@@ -88,20 +70,23 @@ const COMPLEMENTS: [(&[u8], &[u8]); 7] = [
 fn complements(rt: HostRuntime) -> Result<(), Fail> {
     for (pattern, left_out) in COMPLEMENTS {
         assert!(rt;
-            leaves_out(rt.alloc(), pattern, left_out)?,
+            leaves_out(rt.alloc(), Case::Ignore, pattern, left_out)?,
             "of {pattern:?}"
         );
     }
     Ok(())
 }
 
+fn is_single(alloc: Global, pattern: &[u8], byte: u8) -> Result<bool, EreError> {
+    let set = set_of(alloc, Case::Ignore, pattern)?;
+    Ok(set.has(byte) && set.len() == 1)
+}
+
 /// Only ASCII letters have two cases: the bytes of `Ä` and `ä` in Latin-1 stay apart.
 #[test]
 fn bytes_above_ascii(rt: HostRuntime) -> Result<(), Fail> {
-    for pattern in [b"\xc4".as_slice(), b"[\xc4]".as_slice()] {
-        let set = set_of(rt.alloc(), pattern)?;
-        assert!(rt; set.has(0xc4) && set.len() == 1, "of {pattern:?}");
-    }
+    assert!(rt; is_single(rt.alloc(), b"\xc4", 0xc4)?);
+    assert!(rt; is_single(rt.alloc(), b"[\xc4]", 0xc4)?);
     Ok(())
 }
 
@@ -111,34 +96,41 @@ fn is_abc(text: &[u8; 3]) -> bool {
         && (text[2] == b'c' || text[2] == b'C')
 }
 
+/// Bytes of which trigrams are made.
+const BYTES_OF_TRIGRAMS: [u8; 10] = *b"abcABC12@[";
+
 /// How many trigrams of these bytes meet the query by themselves. `None` if these are not exactly the spellings of
-/// `abc`, or if the query is met without any trigram.
-fn met_alone(alloc: Global, pattern: &[u8], bytes: &[u8]) -> Result<Option<usize>, Fail> {
-    let query = analyse(alloc, &parse_with(alloc, pattern, Case::Ignore)?)?;
-    let mut count: usize = 0;
-    let mut right = !meets(&query, b"");
-    for first in bytes {
-        for second in bytes {
-            for third in bytes {
-                let text = [*first, *second, *third];
-                let met = meets(&query, &text);
-                right = right && met == is_abc(&text);
-                count = count.saturating_add(if met { 1 } else { 0 });
-            }
+/// `abc`.
+fn met_alone(query: &Query) -> Option<u32> {
+    let mut count: u32 = 0;
+    for i in 0..1000usize {
+        let text = [
+            BYTES_OF_TRIGRAMS[i / 100 % 10],
+            BYTES_OF_TRIGRAMS[i / 10 % 10],
+            BYTES_OF_TRIGRAMS[i % 10],
+        ];
+        let met = meets(query, &text);
+        if met != is_abc(&text) {
+            return None;
         }
+        count = count.saturating_add(met as u32);
     }
-    Ok(if right { Some(count) } else { None })
+    Some(count)
+}
+
+/// Whether the eight spellings of `abc` each meet the pattern's query, and no other trigram and no empty set does.
+fn asks_spellings(alloc: Global, pattern: &[u8]) -> Result<bool, Fail> {
+    let tree = parse_with(alloc, pattern, Case::Ignore)?;
+    let query = analyse(alloc, &tree)?;
+    Ok(!meets(&query, b"") && met_alone(&query) == Some(8))
 }
 
 #[test]
 fn spellings_of_a_text(rt: HostRuntime) -> Result<(), Fail> {
-    for pattern in [b"abc".as_slice(), b"ABC".as_slice(), b"[Aa]bC".as_slice()] {
-        assert_eq!(rt;
-            met_alone(rt.alloc(), pattern, b"abcABC12@[")?,
-            Some(8),
-            "of {pattern:?}"
-        );
+    for pattern in [b"abc", b"ABC"] {
+        assert!(rt; asks_spellings(rt.alloc(), pattern)?, "of {pattern:?}");
     }
+    assert!(rt; asks_spellings(rt.alloc(), b"[Aa]bC")?);
     Ok(())
 }
 
@@ -154,12 +146,18 @@ const MATCHES: [(&[u8], &[u8], bool); 9] = [
     (b"x@y", b"X`Y", false),
 ];
 
+fn line_agrees(alloc: Global, pattern: &[u8], line: &[u8], wanted: bool) -> Result<bool, EreError> {
+    let tree = parse_with(alloc, pattern, Case::Ignore)?;
+    Ok(agrees(&tree, line, wanted))
+}
+
 #[test]
 fn lines(rt: HostRuntime) -> Result<(), Fail> {
-    for (pattern, line, want) in MATCHES {
-        let tree = parse_with(rt.alloc(), pattern, Case::Ignore)?;
-        assert!(rt; tree.within_limits());
-        assert_eq!(rt; matches(&tree, line), want, "of {pattern:?} on {line:?}");
+    for (pattern, line, wanted) in MATCHES {
+        assert!(rt;
+            line_agrees(rt.alloc(), pattern, line, wanted)?,
+            "of {pattern:?} on {line:?}"
+        );
     }
     Ok(())
 }

@@ -1,69 +1,87 @@
 //! Lines that contain a match, and lines that contain none.
 
-use crate::fixtures::{built, halves};
-use ere::{ByteSet, MAX_LINE, parse};
+use crate::fixtures::{built, halves, signed};
+use ere::{ByteSet, Ere, EreError, MAX_LINE, parse};
 use matcher::{WORDS, matches, step};
-use std::alloc::Global;
+use std::alloc::{AllocError, Global};
 use std::process::Abort;
 use std::test::Fail;
 
-/// The line contains a match of the pattern, or none.
-fn expect(
-    rt: &impl Abort,
-    alloc: Global,
-    pattern: &[u8],
-    line: &[u8],
-    found: bool,
-) -> Result<(), Fail> {
-    let tree = parse(alloc, pattern)?;
-    assert!(rt; tree.within_limits());
-    assert!(rt; line.len() <= MAX_LINE);
-    assert_eq!(rt; matches(&tree, line), found, "{pattern:?} in {line:?}");
-    Ok(())
+/// Whether the line contains a match of the tree exactly if one is wanted.
+pub(crate) fn agrees(tree: &Ere, line: &[u8], wanted: bool) -> bool {
+    tree.within_limits() && line.len() <= MAX_LINE && matches(tree, line) == wanted
 }
 
-/// Each line of a table contains a match of its pattern, or none. The rows are `PATTERN~LINES~LINES`: those with a
-/// match, and those without, separated by bars.
-const SHORT_LINES: &[u8] = b"(a|b$){2}~ab|aab~ba|aba
-(^a)+b~ab~aab
-(^)*ab~xab~xa
-$^~~a
-a{3,}~baaab~aa
-^(a|){2,3}$~|aaa~aaaa
-~|a
-^(ab){2,3}c~ababc|abababc~abc|ababababc
-x[ab]*y~-xaxbaby-|xy~xabcy
-^(ab|ba)+c$~abbaabc~abbaac|c
-a{1}b{2}c{3}d{0,2}$~abbccc|xabbcccdd~abbcc|abbcccddd
-one|two|three|four~xonex|twot|three|four~on|tow|thre|fou
-\xff{2}~a\xff\xff~\xffa\xff";
+/// The rows are `PATTERN~LINES`, with bars between the lines. A plus is before a line that contains a match, and a
+/// minus before one that contains none.
+const SHORT_LINES: &[u8] = b"(a|b$){2}~+ab|+aab|-ba|-aba
+(^a)+b~+ab|-aab
+(^)*ab~+xab|-xa
+$^~+|-a
+a{3,}~+baaab|-aa
+^(a|){2,3}$~+|+aaa|-aaaa
+~+|+a
+^(ab){2,3}c~+ababc|+abababc|-abc|-ababababc
+x[ab]*y~+-xaxbaby-|+xy|-xabcy
+^(ab|ba)+c$~+abbaabc|-abbaac|-c
+a{1}b{2}c{3}d{0,2}$~+abbccc|+xabbcccdd|-abbcc|-abbcccddd
+one|two|three|four~+xonex|+twot|+three|+four|-on|-tow|-thre|-fou
+\xff{2}~+a\xff\xff|-\xffa\xff
+[^\x01-\xff]~-a|-";
+
+/// Whether each line of a row of short lines contains a match, or none.
+fn short_row_agrees(alloc: Global, row: &[u8]) -> Result<bool, EreError> {
+    let (pattern, lines) = halves(row);
+    let tree = parse(alloc, pattern)?;
+    Ok(all_agree(&tree, lines))
+}
+
+fn all_agree(tree: &Ere, lines: &[u8]) -> bool {
+    for line in lines.split(|b| *b == b'|') {
+        let (wanted, line) = signed(line);
+        if !agrees(tree, line, wanted) {
+            return false;
+        }
+    }
+    true
+}
 
 #[test]
 fn short_lines(rt: HostRuntime) -> Result<(), Fail> {
-    let alloc = rt.alloc();
     for row in SHORT_LINES.split(|b| *b == b'\n') {
-        let mut pattern = b"".as_slice();
-        for (i, part) in row.split(|b| *b == b'~').enumerate() {
-            if i == 0 {
-                pattern = part;
-            } else {
-                for line in part.split(|b| *b == b'|') {
-                    expect(&rt, alloc, pattern, line, i == 1)?;
-                }
-            }
-        }
+        assert!(rt; short_row_agrees(rt.alloc(), row)?, "of {row:?}");
     }
-    // a set with no byte
-    expect(&rt, alloc, b"[^\x01-\xff]", b"a", false)?;
-    expect(&rt, alloc, b"[^\x01-\xff]", b"", false)
+    Ok(())
 }
 
-/// The line of a row of pieces contains a match of its pattern, or none.
-fn expect_row(rt: &impl Abort, alloc: Global, row: &[u8]) -> Result<(), Fail> {
-    let found = row.starts_with(b"+");
-    let (pattern, line) = halves(&row[1.min(row.len())..]);
+fn line_agrees(alloc: Global, tree: &Ere, pieces: &[u8], wanted: bool) -> Result<bool, AllocError> {
+    let line = built(alloc, pieces)?;
+    Ok(agrees(tree, &line, wanted))
+}
+
+fn pattern_agrees(
+    alloc: Global,
+    pattern: &[u8],
+    pieces: &[u8],
+    wanted: bool,
+) -> Result<bool, Fail> {
+    let tree = parse(alloc, pattern)?;
+    Ok(line_agrees(alloc, &tree, pieces, wanted)?)
+}
+
+/// Whether the line of a row of pieces contains a match of its pattern, or none.
+fn long_row_agrees(alloc: Global, row: &[u8]) -> Result<bool, Fail> {
+    let (wanted, row) = signed(row);
+    let (pattern, line) = halves(row);
     let pattern = built(alloc, pattern)?;
-    expect(rt, alloc, &pattern, &built(alloc, line)?, found)
+    pattern_agrees(alloc, &pattern, line, wanted)
+}
+
+fn expect_long_rows(rt: &impl Abort, alloc: Global, table: &[u8]) -> Result<(), Fail> {
+    for row in table.split(|b| *b == b'\n') {
+        assert!(rt; long_row_agrees(alloc, row)?, "of {row:?}");
+    }
+    Ok(())
 }
 
 /// The rows are `+PATTERN~LINE` if the line contains a match, and `-PATTERN~LINE` if it contains none.
@@ -111,11 +129,7 @@ const LONG_LINES: &[u8] = b"+^a*b$;1~a;63;b;1
 
 #[test]
 fn long_lines(rt: HostRuntime) -> Result<(), Fail> {
-    let alloc = rt.alloc();
-    for row in LONG_LINES.split(|b| *b == b'\n') {
-        expect_row(&rt, alloc, row)?;
-    }
-    Ok(())
+    expect_long_rows(&rt, rt.alloc(), LONG_LINES)
 }
 
 /// Stars that are not at the front, on lines where their words lead from one window of 64 positions into others.
@@ -166,25 +180,28 @@ const STARS_OVER_WINDOWS: &[u8] = b"+x(ab|c)*e;1~x;1;ab;31;e;1
 
 #[test]
 fn stars_over_windows(rt: HostRuntime) -> Result<(), Fail> {
-    let alloc = rt.alloc();
-    for row in STARS_OVER_WINDOWS.split(|b| *b == b'\n') {
-        expect_row(&rt, alloc, row)?;
+    expect_long_rows(&rt, rt.alloc(), STARS_OVER_WINDOWS)
+}
+
+/// Whether a step from the last position of the first word leads to the first position of the second one, and to no
+/// other.
+fn is_led_into_the_second_word(members: &ByteSet) -> bool {
+    let mut from = [0; WORDS];
+    from[0] = 1u64 << 63;
+    let to = step(members, &[b'a'; 64], &from);
+    for i in 0..WORDS {
+        let wanted = if i == 1 { 1 } else { 0 };
+        if to[i] != wanted {
+            return false;
+        }
     }
-    Ok(())
+    true
 }
 
 /// From the last position of one word, a single step leads to the first position of the next word.
 #[test]
-fn step_into_the_next_word(rt: HostRuntime) -> Result<(), Fail> {
+fn step_into_the_next_word(rt: HostRuntime) {
     let mut members = ByteSet::empty();
     members.insert(b'a');
-    let mut from = [0; WORDS];
-    from[0] = 1u64 << 63;
-    let to = step(&members, &[b'a'; 64], &from);
-    assert_eq!(rt; to[0], 0);
-    assert_eq!(rt; to[1], 1);
-    for i in 2..WORDS {
-        assert_eq!(rt; to[i], 0);
-    }
-    Ok(())
+    assert!(rt; is_led_into_the_second_word(&members));
 }
