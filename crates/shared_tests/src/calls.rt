@@ -1,8 +1,8 @@
 //! One desk and two readings, call by call.
 
-ghost use Rattle.std.specs.Prelude.{◌≡◌, IfOk};
+ghost use Rattle.std.specs.Prelude.{◌≡◌};
 
-use crate::fixtures::{body, name, put};
+use crate::fixtures::{body, name, one_reading, prepared, publish, put};
 use shared::{
     Answer, Desk, MAX_READINGS, OpenError, Prepared, PutError, PutErrorKind, Reading, RemoveError,
     Returned, SearchError, Told, open, open_with_places,
@@ -10,25 +10,21 @@ use shared::{
 use std::alloc::Global;
 use std::process::Abort;
 use std::sync::Wait;
-use std::test::Fail;
 
 /// A desk for three commands: what is put is seen once it is published, and no reading goes back.
 #[test]
-fn a_desk_for_three_commands(rt: HostRuntime) -> Result<(), Fail> {
+fn a_desk_for_three_commands(rt: HostRuntime) {
     let alloc = rt.alloc();
+    let pattern = prepared(alloc, b"x").expect(&rt, "a pattern");
     let (mut desk, mut readings) = match open(&rt, alloc, 3, 2) {
         Ok(opened) => opened,
-        Err(_) => return Err(Fail::from("nothing opened")),
+        Err(_) => panic!(rt; "nothing opened"),
     };
-    let outcome = match readings.pop() {
-        Some(mut reading) => match prepared(alloc, b"x") {
-            Ok(pattern) => three_commands(&rt, alloc, &mut desk, &mut reading, &pattern),
-            Err(error) => Err(error),
-        },
-        None => Err(Fail::from("no reading")),
-    };
+    match readings.pop() {
+        Some(mut reading) => three_commands(&rt, alloc, &mut desk, &mut reading, &pattern),
+        None => panic!(rt; "no reading"),
+    }
     desk.close(&rt);
-    outcome
 }
 
 fn three_commands<R: Abort + Wait>(
@@ -37,111 +33,81 @@ fn three_commands<R: Abort + Wait>(
     desk: &mut Desk,
     reading: &mut Reading,
     pattern: &Prepared,
-) -> Result<(), Fail>
+)
     requires { reading.old.opening ≡ desk.old.opening }
 {
-    let first = first_publish(rt, alloc, desk)?;
-    reading.learn(&first);
-    assert_eq!(rt; reading.seen(), 1);
-    let last = last_publish(rt, alloc, desk, reading, pattern)?;
-    learns_both(rt, reading, &last, &first);
-    assert!(rt; finds(alloc, reading, pattern, 3, &[b"a"])?);
-    Ok(())
+    assert!(rt; put(alloc, desk, b"a", b"x") == Some(1));
+    let first = published(rt, desk, 1);
+    learns(rt, reading, &first, 1);
+    assert!(rt; put(alloc, desk, b"b", b"x") == Some(2));
+    assert!(rt; finds(alloc, reading, pattern, 1));
+    refuses(rt, alloc, desk);
+    let last = published(rt, desk, 3);
+    // The later one first; the earlier one then changes nothing.
+    learns(rt, reading, &last, 3);
+    learns(rt, reading, &first, 3);
+    assert!(rt; finds(alloc, reading, pattern, 3));
 }
 
-// One document, put and published.
-fn first_publish<R: Abort + Wait>(rt: &R, alloc: Global, desk: &mut Desk) -> Result<Told, Fail>
+// A publish, at this version.
+fn published<R: Abort + Wait>(rt: &R, desk: &mut Desk, version: u32) -> Told
     ensures desk { desk.new.opening ≡ desk.old.opening }
-    ensures told { IfOk result (λ told. told.opening ≡ desk.old.opening) }
+    ensures told { result.opening ≡ desk.old.opening }
 {
-    assert_eq!(rt; put(alloc, desk, b"a", b"x")?, 1);
-    let told = desk.publish(rt)?;
-    assert_eq!(rt; told.version(), 1);
-    Ok(told)
+    let told = desk.publish(rt).ok().expect(rt, "a publish");
+    assert!(rt; told.version() == version);
+    told
 }
 
-// A second document, which is not seen; it is removed again, and that is published.
-fn last_publish<R: Abort + Wait>(
-    rt: &R,
-    alloc: Global,
-    desk: &mut Desk,
-    reading: &mut Reading,
-    pattern: &Prepared,
-) -> Result<Told, Fail>
-    ensures reading { reading.new.opening ≡ reading.old.opening }
-    ensures told { IfOk result (λ told. told.opening ≡ desk.old.opening) }
+// Learns of a publish, and has then seen this many commands.
+fn learns(rt: &impl Abort, reading: &mut Reading, told: &Told, seen: u32)
+    requires { told.now.opening ≡ reading.old.opening }
+    ensures { reading.new.opening ≡ reading.old.opening }
 {
-    assert_eq!(rt; put(alloc, desk, b"b", b"x")?, 2);
-    assert!(rt; finds(alloc, reading, pattern, 1, &[b"a"])?);
-    refuses(rt, alloc, desk)?;
-    let told = desk.publish(rt)?;
-    assert_eq!(rt; told.version(), 3);
-    Ok(told)
+    reading.learn(told);
+    assert!(rt; reading.seen() == seen);
 }
 
 // With one document `b` not yet published and room for one command: what is refused, and a remove.
-fn refuses(rt: &impl Abort, alloc: Global, desk: &mut Desk) -> Result<(), Fail>
+fn refuses(rt: &impl Abort, alloc: Global, desk: &mut Desk)
     ensures { desk.new.opening ≡ desk.old.opening }
 {
-    assert_eq!(rt;
-        desk.remove(&name(alloc, b"zz")?),
-        Err(RemoveError::NoSuchFile)
-    );
-    assert_eq!(rt; desk.remove(&name(alloc, b"b")?), Ok(3));
-    let Err(refused) = desk.put(name(alloc, b"c")?, body(alloc, b"x")?) else {
-        return Err(Fail::from("a put too many"));
+    let missing = name(alloc, b"zz").expect(rt, "a name");
+    assert!(rt; desk.remove(&missing) == Err(RemoveError::NoSuchFile));
+    let there = name(alloc, b"b").expect(rt, "a name");
+    assert!(rt; desk.remove(&there) == Ok(3));
+    let name = name(alloc, b"c").expect(rt, "a name");
+    let body = body(alloc, b"x").expect(rt, "a body");
+    let refused = desk.put(name, body).err().expect(rt, "a put too many");
+    assert!(rt; comes_back(&refused));
+}
+
+// Whether the put of the body `x` under the name `c` is refused because the desk is full, and comes back as it was.
+fn comes_back(refused: &PutError) -> bool {
+    let is_same_body = match &refused.body {
+        Returned::Plain(body) => matches!(body.as_bytes(), [b'x']),
+        Returned::Shared(_) => false,
     };
-    comes_back(rt, refused);
-    Ok(())
-}
-
-// The put of the body `x` under the name `c` is refused because the desk is full, and comes back as it was.
-fn comes_back(rt: &impl Abort, refused: PutError) {
-    let PutError {
-        kind,
-        name,
-        body: returned,
-    } = refused;
-    assert_eq!(rt; kind, PutErrorKind::Full);
-    assert_eq!(rt; name.as_bytes(), b"c".as_slice());
-    match returned {
-        Returned::Plain(body) => assert_eq!(rt; body.as_bytes(), b"x".as_slice()),
-        Returned::Shared(_held) => assert!(rt; false, "no shared body was made"),
-    }
-}
-
-// The later one first; the earlier one then changes nothing.
-fn learns_both(rt: &impl Abort, reading: &mut Reading, last: &Told, first: &Told)
-    requires last { last.now.opening ≡ reading.old.opening }
-    requires first { first.now.opening ≡ reading.old.opening }
-{
-    reading.learn(last);
-    assert_eq!(rt; reading.seen(), 3);
-    reading.learn(first);
-    assert_eq!(rt; reading.seen(), 3);
+    is_same_body && refused.kind == PutErrorKind::Full && matches!(refused.name.as_bytes(), [b'c'])
 }
 
 /// Every number of readings gets its places.
 #[test]
-fn places_for_all_readings(rt: HostRuntime) -> Result<(), Fail> {
+fn places_for_all_readings(rt: HostRuntime) {
     for readers in 1..=MAX_READINGS {
         match open(&rt, rt.alloc(), 1, readers) {
             Ok((desk, _readings)) => desk.close(&rt),
-            Err(error) => assert!(rt; false, "{readers} readings: {error:?}"),
+            Err(_) => assert!(rt; false, "{readers} readings"),
         }
     }
-    Ok(())
 }
 
 /// A reading gets no place if each is in use.
 #[test]
 fn fewer_places_than_readings(rt: HostRuntime) {
     let alloc = rt.alloc();
-    assert_eq!(rt; refusal_with_two_places(&rt, alloc, 2), None);
-    assert_eq!(rt;
-        refusal_with_two_places(&rt, alloc, 3),
-        Some(OpenError::NoPlace)
-    );
+    assert!(rt; refusal_with_two_places(&rt, alloc, 2).is_none());
+    assert!(rt; refusal_with_two_places(&rt, alloc, 3) == Some(OpenError::NoPlace));
 }
 
 fn refusal_with_two_places<R: Wait>(rt: &R, alloc: Global, readers: usize) -> Option<OpenError> {
@@ -156,58 +122,22 @@ fn refusal_with_two_places<R: Wait>(rt: &R, alloc: Global, readers: usize) -> Op
 
 /// There is no entry once the desk is closed, and not before. What was seen stays.
 #[test]
-fn a_closed_desk_is_not_entered(rt: HostRuntime) -> Result<(), Fail> {
+fn a_closed_desk_is_not_entered(rt: HostRuntime) {
     let alloc = rt.alloc();
-    let pattern = prepared(alloc, b"x")?;
-    closed_after_one(&rt, alloc, &pattern)
-}
-
-fn closed_after_one<R: Abort + Wait>(
-    rt: &R,
-    alloc: Global,
-    pattern: &Prepared,
-) -> Result<(), Fail> {
-    let (mut desk, mut readings) = match open(rt, alloc, 1, 1) {
-        Ok(opened) => opened,
-        Err(_) => return Err(Fail::from("nothing opened")),
-    };
-    let published = publishes_one(rt, alloc, &mut desk);
-    match readings.pop() {
-        Some(mut reading) => {
-            let entered = refusal(alloc, &mut reading, pattern).is_none();
-            desk.close(rt);
-            published?;
-            assert!(rt; entered);
-            is_not_entered(rt, alloc, &mut reading, pattern);
-            Ok(())
-        }
-        None => {
-            desk.close(rt);
-            published?;
-            Err(Fail::from("no reading"))
-        }
-    }
-}
-
-fn publishes_one<R: Wait>(rt: &R, alloc: Global, desk: &mut Desk) -> Result<(), Fail> {
-    put(alloc, desk, b"a", b"x")?;
-    desk.publish(rt)?;
-    Ok(())
-}
-
-fn is_not_entered(rt: &impl Abort, alloc: Global, reading: &mut Reading, pattern: &Prepared) {
+    let pattern = prepared(alloc, b"x").expect(&rt, "a pattern");
+    let (mut desk, mut reading) = one_reading(&rt, alloc, 1);
+    assert!(rt; publish(&rt, alloc, &mut desk, b"a", b"x"));
+    assert!(rt; refusal(alloc, &mut reading, &pattern).is_none());
+    desk.close(&rt);
     let no_entry = Some(SearchError::NoEntry);
-    assert_eq!(rt; refusal_of_take(alloc, reading, pattern), no_entry);
-    assert_eq!(rt; refusal(alloc, reading, pattern), no_entry);
-    assert_eq!(rt; reading.seen(), 1);
+    assert!(rt; refusal_of_take(alloc, &mut reading, &pattern) == no_entry);
+    assert!(rt; refusal(alloc, &mut reading, &pattern) == no_entry);
+    assert!(rt; reading.seen() == 1);
 }
 
 // Why a search is refused, if it is.
 fn refusal(alloc: Global, reading: &mut Reading, pattern: &Prepared) -> Option<SearchError> {
-    match reading.search(alloc, pattern) {
-        Ok(_) => None,
-        Err(error) => Some(error),
-    }
+    reading.search(alloc, pattern).err()
 }
 
 fn refusal_of_take(
@@ -215,41 +145,22 @@ fn refusal_of_take(
     reading: &mut Reading,
     pattern: &Prepared,
 ) -> Option<SearchError> {
-    match reading.take(alloc, pattern) {
-        Ok(_) => None,
-        Err(error) => Some(error),
-    }
+    reading.take(alloc, pattern).err()
 }
 
-fn prepared(alloc: Global, pattern: &[u8]) -> Result<Prepared, Fail> {
-    match Prepared::new(alloc, pattern) {
-        Ok(prepared) => Ok(prepared),
-        Err(_) => Err(Fail::from("a pattern is refused")),
-    }
-}
-
-// Whether a search answers at this version, of as many documents as there are names, and has a line of each.
-fn finds(
-    alloc: Global,
-    reading: &mut Reading,
-    pattern: &Prepared,
-    version: u32,
-    names: &[&[u8]],
-) -> Result<bool, Fail>
+// Whether a search answers at this version, of one document, with one line of the document `a`.
+fn finds(alloc: Global, reading: &mut Reading, pattern: &Prepared, version: u32) -> bool
     ensures { reading.new.opening ≡ reading.old.opening }
 {
     match reading.search(alloc, pattern) {
-        Ok(answer) => Ok(answer.version() == version && are_named(&answer, names)),
-        Err(_) => Err(Fail::from("a search is refused")),
+        Ok(answer) => answer.version() == version && answer.documents() == 1 && is_of_a(&answer),
+        Err(_) => false,
     }
 }
 
-fn are_named(answer: &Answer, names: &[&[u8]]) -> bool {
-    let hits = answer.hits();
-    answer.documents() as usize == names.len()
-        && hits.len() == names.len()
-        && hits
-            .iter()
-            .zip(names.iter())
-            .all(|(hit, name)| hit.name.as_bytes() == *name)
+fn is_of_a(answer: &Answer) -> bool {
+    match answer.hits() {
+        [hit] => matches!(hit.name.as_bytes(), [b'a']),
+        _ => false,
+    }
 }

@@ -1,7 +1,7 @@
 //! Gates that hold workers, and gates that remember where workers were.
 
 use readers::{Gate, Point};
-use std::sync::atomic::{AtomicBool, AtomicU64, Ordering};
+use std::sync::atomic::{AtomicU64, Ordering};
 
 /// How often a flag is looked at before a wait for it is given up.
 const LOOKS: u64 = 2_000_000_000;
@@ -9,35 +9,35 @@ const LOOKS: u64 = 2_000_000_000;
 /// A flag that one thread raises and another waits for.
 #[derive(Drop)]
 pub(crate) struct Flag {
-    raised: AtomicBool,
-    given_up: AtomicBool,
+    raised: AtomicU64,
+    given_up: AtomicU64,
 }
 
 impl Flag {
     pub(crate) fn new() -> Flag {
         Flag {
-            raised: AtomicBool::new(false),
-            given_up: AtomicBool::new(false),
+            raised: AtomicU64::new(0),
+            given_up: AtomicU64::new(0),
         }
     }
 
     pub(crate) fn raise(&self) {
-        self.raised.store(true, Ordering::SeqCst);
+        self.raised.store(1, Ordering::SeqCst);
     }
 
     /// Returns once the flag is raised, or after `LOOKS` looks at it.
     pub(crate) fn wait(&self) {
         for _ in 0..LOOKS {
-            if self.raised.load(Ordering::SeqCst) {
+            if self.raised.load(Ordering::SeqCst) != 0 {
                 return;
             }
         }
-        self.given_up.store(true, Ordering::SeqCst);
+        self.given_up.store(1, Ordering::SeqCst);
     }
 
     /// Whether a wait was given up.
     pub(crate) fn is_given_up(&self) -> bool {
-        self.given_up.load(Ordering::SeqCst)
+        self.given_up.load(Ordering::SeqCst) != 0
     }
 }
 

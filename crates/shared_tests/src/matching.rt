@@ -1,52 +1,31 @@
 //! A publish waits for no reading that matches lines.
 
-use crate::fixtures::{publish, search, shown};
+use crate::fixtures::{are_given, one_reading, publish, searches};
 use crate::gates::HeldMatching;
 use readers::{Prepared, Reading, Report, Worker};
-use shared::{Desk, open};
+use shared::Desk;
 use std::alloc::Global;
-use std::process::Abort;
 use std::sync::Wait;
-use std::test::Fail;
 use std::thread;
 use std::thread::Threads;
+
+/// The name and the body of each put during the matching.
+const CHANGES: &[(u8, u8)] = &[(b'f', b'y'), (b'g', b'w'), (b'h', b'v')];
 
 /// While a worker is held between taking its documents and matching their lines, the desk publishes three times.
 /// The worker then answers from what it took.
 #[test]
-fn publish_during_matching(rt: HostRuntime) -> Result<(), Fail> {
+fn publish_during_matching(rt: HostRuntime) {
     let alloc = rt.alloc();
-    let (mut desk, mut readings) = match open(&rt, alloc, 4, 1) {
-        Ok(opened) => opened,
-        Err(_) => return Err(Fail::from("nothing opened")),
-    };
-    let outcome = match readings.pop() {
-        Some(reading) => answers_from_what_it_took(&rt, alloc, &mut desk, reading),
-        None => Err(Fail::from("no reading")),
-    };
-    desk.close(&rt);
-    outcome
-}
-
-fn answers_from_what_it_took<R: Threads + Wait + Abort + Sync>(
-    rt: &R,
-    alloc: Global,
-    desk: &mut Desk,
-    reading: Reading,
-) -> Result<(), Fail> {
-    publish(rt, alloc, desk, b"f", b"x")?;
-    let searches = [search(alloc, b"x")?];
+    let (mut desk, reading) = one_reading(&rt, alloc, 4);
+    assert!(rt; publish(&rt, alloc, &mut desk, b"f", b"x"));
+    let searches = searches(alloc, b"x").expect(&rt, "a pattern");
     let gate = HeldMatching::new();
-    let report = report_beside(rt, alloc, desk, reading, &searches, &gate)?;
+    let report = report_beside(&rt, alloc, &mut desk, reading, &searches, &gate);
+    desk.close(&rt);
+    let report = report.expect(&rt, "a report beside three publishes");
     assert!(rt; !gate.matching.is_given_up() && !gate.released.is_given_up());
-    assert!(rt;
-        report
-            .given
-            .iter()
-            .map(|given| shown(given))
-            .eq([(1, 1, 1, 1)])
-    );
-    Ok(())
+    assert!(rt; are_given(&report.given, &[(1, 1, 1, 1)]));
 }
 
 // Publishes three times, once the worker is about to match.
@@ -57,26 +36,27 @@ fn report_beside<R: Threads + Wait + Sync>(
     reading: Reading,
     searches: &[Option<Prepared>],
     gate: &HeldMatching,
-) -> Result<Report, Fail> {
+) -> Option<Report> {
     thread::scope(thread::scope_env(), rt, |scope| {
-        let started = Worker::start(scope, rt, alloc, searches, gate, reading, 0);
-        let worker = started.ok().ok_or("a worker starts")?;
+        let worker = Worker::start(scope, rt, alloc, searches, gate, reading, 0).ok()?;
         let sent = worker.send(rt, 1);
         gate.matching.wait();
         let published = publish_thrice(rt, alloc, desk);
         gate.released.raise();
         let report = worker.join(rt);
-        published?;
-        if sent {
-            Ok(report)
+        if sent && published {
+            Some(report)
         } else {
-            Err(Fail::from("the number is sent"))
+            None
         }
     })
 }
 
-fn publish_thrice<R: Wait>(rt: &R, alloc: Global, desk: &mut Desk) -> Result<(), Fail> {
-    publish(rt, alloc, desk, b"f", b"y")?;
-    publish(rt, alloc, desk, b"g", b"w")?;
-    publish(rt, alloc, desk, b"h", b"v")
+fn publish_thrice<R: Wait>(rt: &R, alloc: Global, desk: &mut Desk) -> bool {
+    for change in CHANGES {
+        if !publish(rt, alloc, desk, &[change.0], &[change.1]) {
+            return false;
+        }
+    }
+    true
 }

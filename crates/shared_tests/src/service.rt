@@ -9,12 +9,10 @@ ghost use Rattle.search.specs.Prepared.{pattern_of};
 ghost use Rattle.search.specs.Scan.{IsAnswerOf};
 ghost use Rattle.shared.specs.History.{known};
 
-use crate::fixtures::{body, name};
+use crate::fixtures::{body, name, prepared};
 use shared::{Answer, Body, Desk, Name, Prepared, Reading, Told, open};
 use std::alloc::Global;
-use std::process::Abort;
 use std::sync::Wait;
-use std::test::Fail;
 use std::thread::{Threads, join};
 
 /// Two threads search while a third puts a document and publishes it. Then both learn of that and search again.
@@ -85,37 +83,25 @@ fn search_after(
 }
 
 #[test]
-fn a_put_beside_two_searches(rt: HostRuntime) -> Result<(), Fail> {
+fn a_put_beside_two_searches(rt: HostRuntime) {
     let alloc = rt.alloc();
+    let pattern = prepared(alloc, b"ab*c").expect(&rt, "a pattern");
+    let name = name(alloc, b"f").expect(&rt, "a name");
+    let body = body(alloc, b"abc\nac\nb\n").expect(&rt, "a body");
     let (mut desk, mut readings) = match open(&rt, alloc, 1, 2) {
         Ok(opened) => opened,
-        Err(_) => return Err(Fail::from("nothing opened")),
+        Err(_) => panic!(rt; "nothing opened"),
     };
-    let outcome = match (readings.pop(), readings.pop()) {
-        (Some(one), Some(two)) => found_twice(&rt, alloc, &mut desk, (one, two)),
-        _ => Err(Fail::from("no readings")),
+    let answers = match (readings.pop(), readings.pop()) {
+        (Some(one), Some(two)) => {
+            search_beside_a_put(&rt, alloc, &mut desk, (one, two), (name, body), &pattern)
+        }
+        _ => panic!(rt; "no readings"),
     };
     desk.close(&rt);
-    outcome
-}
-
-fn found_twice<R: Threads + Wait + Abort + Sync>(
-    rt: &R,
-    alloc: Global,
-    desk: &mut Desk,
-    readings: (Reading, Reading),
-) -> Result<(), Fail>
-    requires one { readings.0.opening ≡ desk.old.opening }
-    requires two { readings.1.opening ≡ desk.old.opening }
-{
-    let Ok(pattern) = Prepared::new(alloc, b"ab*c") else {
-        return Err(Fail::from("a pattern is refused"));
-    };
-    let document = (name(alloc, b"f")?, body(alloc, b"abc\nac\nb\n")?);
-    let (one, two) = search_beside_a_put(rt, alloc, desk, readings, document, &pattern).ok_or(
-        "both search",
-    )?;
-    assert_eq!(rt; (one.version(), one.hits().len()), (1, 2));
-    assert_eq!(rt; (two.version(), two.hits().len()), (1, 2));
-    Ok(())
+    let (one, two) = answers.expect(&rt, "both search");
+    assert!(rt; one.version() == 1);
+    assert!(rt; one.hits().len() == 2);
+    assert!(rt; two.version() == 1);
+    assert!(rt; two.hits().len() == 2);
 }

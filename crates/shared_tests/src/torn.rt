@@ -1,43 +1,36 @@
 //! Searches in threads of their own, while a desk puts and publishes: no answer shows half of a publish.
 
-use crate::fixtures::put;
-use shared::{Answer, Desk, Prepared, Reading, open};
+use crate::fixtures::{prepared, put, two_readings};
+use shared::{Answer, Desk, Prepared, Reading};
 use std::alloc::Global;
 use std::sync::Wait;
-use std::sync::atomic::{AtomicBool, Ordering};
-use std::test::Fail;
+use std::sync::atomic::{AtomicU64, Ordering};
 use std::thread::{Threads, join};
 
 /// Two readings search as long as the desk publishes two documents at a time.
 #[test]
-fn torn(rt: HostRuntime) -> Result<(), Fail> {
+fn torn(rt: HostRuntime) {
     let alloc = rt.alloc();
-    let (mut desk, mut readings) = match open(&rt, alloc, 400, 2) {
-        Ok(opened) => opened,
-        Err(_) => return Err(Fail::from("nothing opened")),
-    };
-    let outcome = match (readings.pop(), readings.pop()) {
-        (Some(one), Some(two)) => watched(&rt, alloc, &mut desk, one, two),
-        _ => Err(Fail::from("no readings")),
-    };
+    let (mut desk, readings) = two_readings(&rt, alloc, 400);
+    let pattern = prepared(alloc, b".").expect(&rt, "a pattern");
+    let done = AtomicU64::new(0);
+    let (watched, written) = watched(&rt, alloc, &mut desk, readings, &pattern, &done);
     desk.close(&rt);
-    outcome
+    assert!(rt; written);
+    assert!(rt; watched.0 && watched.1, "an answer is torn");
 }
 
+// What both readings saw, and whether all was written.
 fn watched<R: Threads + Wait + Sync>(
     rt: &R,
     alloc: Global,
     desk: &mut Desk,
-    one: Reading,
-    two: Reading,
-) -> Result<(), Fail> {
-    let Ok(pattern) = Prepared::new(alloc, b".") else {
-        return Err(Fail::from("a pattern is refused"));
-    };
-    let pattern = &pattern;
-    let done = AtomicBool::new(false);
-    let done = &done;
-    let (both, written) = join(
+    readings: (Reading, Reading),
+    pattern: &Prepared,
+    done: &AtomicU64,
+) -> ((bool, bool), bool) {
+    let (one, two) = readings;
+    join(
         rt,
         move || {
             join(
@@ -48,34 +41,36 @@ fn watched<R: Threads + Wait + Sync>(
         },
         move || {
             let written = write(rt, alloc, desk);
-            done.store(true, Ordering::SeqCst);
+            done.store(1, Ordering::SeqCst);
             written
         },
-    );
-    written?;
-    if both.0 && both.1 {
-        Ok(())
-    } else {
-        Err(Fail::from("an answer is torn"))
-    }
+    )
 }
 
 // Puts two documents with the text of a number and publishes them, for 200 numbers.
-fn write<R: Wait>(rt: &R, alloc: Global, desk: &mut Desk) -> Result<(), Fail> {
+fn write<R: Wait>(rt: &R, alloc: Global, desk: &mut Desk) -> bool {
     for number in 1..=200u32 {
-        let text = format!(in alloc; "{number}")?;
-        put(alloc, desk, b"a", text.as_bytes())?;
-        put(alloc, desk, b"b", text.as_bytes())?;
-        desk.publish(rt)?;
+        if !write_both(rt, alloc, desk, number) {
+            return false;
+        }
     }
-    Ok(())
+    true
+}
+
+fn write_both<R: Wait>(rt: &R, alloc: Global, desk: &mut Desk, number: u32) -> bool {
+    let Ok(text) = format!(in alloc; "{number}") else {
+        return false;
+    };
+    put(alloc, desk, b"a", text.as_bytes()).is_some()
+        && put(alloc, desk, b"b", text.as_bytes()).is_some()
+        && desk.publish(rt).is_ok()
 }
 
 // Searches until the desk is done, and once again. Returns whether each answer is whole and none goes back.
-fn watch(alloc: Global, mut reading: Reading, pattern: &Prepared, done: &AtomicBool) -> bool {
+fn watch(alloc: Global, mut reading: Reading, pattern: &Prepared, done: &AtomicU64) -> bool {
     let mut least = 0;
     for _ in 0..u64::MAX {
-        let last = done.load(Ordering::SeqCst);
+        let last = done.load(Ordering::SeqCst) != 0;
         match reading.search(alloc, pattern) {
             Ok(answer) if is_whole(&answer) && least <= answer.version() => {
                 least = answer.version();
@@ -93,12 +88,16 @@ fn watch(alloc: Global, mut reading: Reading, pattern: &Prepared, done: &AtomicB
 fn is_whole(answer: &Answer) -> bool {
     let number = answer.version() / 2;
     let hits = if number == 0 { 0 } else { 2 };
-    answer.version() % 2 == 0
-        && answer.hits().len() == hits
-        && answer
-            .hits()
-            .iter()
-            .all(|hit| number_of(&hit.text) == number)
+    answer.version() % 2 == 0 && answer.hits().len() == hits && are_lines_of(answer, number)
+}
+
+fn are_lines_of(answer: &Answer, number: u32) -> bool {
+    for hit in answer.hits() {
+        if number_of(&hit.text) != number {
+            return false;
+        }
+    }
+    true
 }
 
 // The number of a decimal text.
