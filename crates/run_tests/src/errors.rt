@@ -1,9 +1,10 @@
 //! Inputs that cannot be read, or are over a limit.
 
-use crate::inputs::{Endless, Pieces};
-use crate::words::items_of_input;
+use crate::streams::Input;
+use crate::words::{Given, Reading, repeated};
 use std::alloc::Global;
-use std::io::{self, BufReader};
+use std::io::ErrorKind;
+use std::process::Abort;
 use std::test::Fail;
 use stream::StreamError;
 
@@ -11,62 +12,64 @@ const INPUT: &[u8] = b"publish\nput a 3\nx\ny\nsync\n";
 
 const WANT: &[u8] = b"1:publish;2:put|a|x\ny;5:sync;";
 
-/// The items and the error of the input, of which one read fails.
-fn items_failing(
+/// The reader gives these items before what ends the reading.
+fn expect_end(
+    rt: &impl Abort,
     alloc: Global,
-    failing: usize,
-    kind: io::ErrorKind,
-) -> Result<(Vec<u8>, Option<StreamError>), Fail> {
-    let pieces = Pieces {
-        bytes: INPUT,
-        piece: 1,
-        reads: 0,
-        failing,
-        kind,
-    };
-    let mut input = BufReader::new(alloc, pieces)?;
-    items_of_input(alloc, &mut input)
+    input: Input<'_>,
+    items: &[u8],
+    end: Given,
+) -> Result<(), Fail> {
+    let mut reading = Reading::new(alloc, input)?;
+    let found = reading.finish()?;
+    assert_eq!(rt; reading.items.as_slice(), items);
+    assert!(rt; found == end);
+    Ok(())
 }
 
-/// The items whose last byte came before the read that fails are given.
+/// The items whose last byte comes before this read of one byte.
+fn items_before(read: usize) -> &'static [u8] {
+    if read <= 8 {
+        b""
+    } else if read <= 20 {
+        b"1:publish;"
+    } else if read <= 25 {
+        b"1:publish;2:put|a|x\ny;"
+    } else {
+        WANT
+    }
+}
+
 #[test]
 fn reads_that_fail(rt: HostRuntime) -> Result<(), Fail> {
-    for failing in 1..INPUT.len() + 2 {
-        let (items, error) = items_failing(rt.alloc(), failing, io::ErrorKind::Other)?;
-        let want: &[u8] = if failing <= 8 {
-            b""
-        } else if failing <= 20 {
-            b"1:publish;"
-        } else if failing <= 25 {
-            b"1:publish;2:put|a|x\ny;"
-        } else {
-            WANT
-        };
-        assert_eq!(rt; items.as_slice(), want);
-        assert!(rt; error == Some(StreamError::CannotRead));
+    for read in 1..INPUT.len() + 2 {
+        let input = Input::failing(INPUT, 1, read, ErrorKind::Other);
+        let end = Given::Error(StreamError::CannotRead);
+        expect_end(&rt, rt.alloc(), input, items_before(read), end)?;
     }
     Ok(())
 }
 
 #[test]
 fn reads_that_are_interrupted(rt: HostRuntime) -> Result<(), Fail> {
-    for failing in 1..INPUT.len() + 2 {
-        let (items, error) = items_failing(rt.alloc(), failing, io::ErrorKind::Interrupted)?;
-        assert_eq!(rt; items.as_slice(), WANT);
-        assert!(rt; error.is_none());
+    for read in 1..INPUT.len() + 2 {
+        let input = Input::failing(INPUT, 1, read, ErrorKind::Interrupted);
+        expect_end(&rt, rt.alloc(), input, WANT, Given::Nothing)?;
     }
     Ok(())
 }
 
+/// A line of more than 67,108,864 bytes.
 #[test]
-fn a_line_without_an_end(rt: HostRuntime) -> Result<(), Fail> {
-    let endless = Endless {
-        first: b"publish\nsearch ",
-        byte: b'x',
-    };
-    let mut input = BufReader::with_capacity(rt.alloc(), 65_536, endless)?;
-    let (items, error) = items_of_input(rt.alloc(), &mut input)?;
-    assert_eq!(rt; items.as_slice(), b"1:publish;".as_slice());
-    assert!(rt; error == Some(StreamError::LineTooLong));
-    Ok(())
+fn a_line_too_long(rt: HostRuntime) -> Result<(), Fail> {
+    let bytes = repeated(
+        rt.alloc(),
+        b"publish\nsearch ",
+        b"xxxxxxxxxxxxxxxx",
+        4_194_304,
+        b"",
+    )?;
+    let end = Given::Error(StreamError::LineTooLong);
+    let input = Input::new(bytes.as_slice(), 65_536);
+    expect_end(&rt, rt.alloc(), input, b"1:publish;", end)
 }

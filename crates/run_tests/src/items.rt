@@ -1,26 +1,37 @@
 //! The items of inputs, however they come.
 
-use crate::inputs::Pieces;
-use crate::words::{items_of_input, items_of_script};
+use crate::streams::Input;
+use crate::words::{Given, Reading, items_of_script, repeated};
 use index::MAX_BODY;
 use std::alloc::Global;
-use std::io::BufReader;
 use std::process::Abort;
 use std::test::Fail;
 
+/// The items of the input are these, if it comes in pieces of `most` bytes.
+pub(crate) fn expect_items(
+    rt: &impl Abort,
+    alloc: Global,
+    input: &[u8],
+    most: usize,
+    want: &[u8],
+) -> Result<(), Fail> {
+    let mut reading = Reading::new(alloc, Input::new(input, most))?;
+    let end = reading.finish()?;
+    assert!(rt; end == Given::Nothing, "pieces of {most}");
+    assert_eq!(rt; reading.items.as_slice(), want);
+    Ok(())
+}
+
 /// The items of the input are these, whatever the length of its pieces.
-fn expect_items(rt: &impl Abort, alloc: Global, input: &[u8], want: &[u8]) -> Result<(), Fail> {
-    for piece in [1, 2, 3, 5, 1000] {
-        let mut reader = BufReader::new(alloc, Pieces::new(input, piece))?;
-        let (items, error) = items_of_input(alloc, &mut reader)?;
-        assert!(rt; error.is_none());
-        assert_eq!(rt; items.as_slice(), want, "of {:?}", input);
+fn expect_in_pieces(rt: &impl Abort, alloc: Global, input: &[u8], want: &[u8]) -> Result<(), Fail> {
+    for most in [1, 2, 3, 5, 1000] {
+        expect_items(rt, alloc, input, most, want)?;
     }
     Ok(())
 }
 
 /// Each kind of item, and lines that are skipped. The numbers are those of the lines, of which bodies have some.
-const CASES: [(&[u8], &[u8]); 25] = [
+const CASES: &[(&[u8], &[u8])] = &[
     (b"", b""),
     (b"\n", b""),
     (b"#", b""),
@@ -66,59 +77,96 @@ const CASES: [(&[u8], &[u8]); 25] = [
 #[test]
 fn items(rt: HostRuntime) -> Result<(), Fail> {
     for (input, want) in CASES {
-        expect_items(&rt, rt.alloc(), input, want)?;
+        expect_in_pieces(&rt, rt.alloc(), input, want)?;
     }
     Ok(())
 }
 
-/// An input that is cut at any byte has the items of the script that it is cut to.
+/// The input that is cut at any byte has the items of the script that it is cut to.
+fn expect_cuts(rt: &impl Abort, alloc: Global, input: &[u8]) -> Result<(), Fail> {
+    for cut in 0..input.len() {
+        let want = items_of_script(rt, alloc, &input[..cut])?;
+        expect_in_pieces(rt, alloc, &input[..cut], want.as_slice())?;
+    }
+    Ok(())
+}
+
 #[test]
 fn cuts(rt: HostRuntime) -> Result<(), Fail> {
     for (input, _) in CASES {
-        for cut in 0..input.len() {
-            let want = items_of_script(&rt, rt.alloc(), &input[..cut])?;
-            expect_items(&rt, rt.alloc(), &input[..cut], want.as_slice())?;
-        }
+        expect_cuts(&rt, rt.alloc(), input)?;
     }
     Ok(())
 }
 
-/// An input of one put, whose body has lines of one byte, and of a publish.
-fn put_of(alloc: Global, header: &[u8], size: usize, closing: &[u8]) -> Result<Vec<u8>, Fail> {
-    let mut input = Vec::new(alloc);
-    input.extend_from_slice(header)?;
-    for at in 0..size {
-        input.push(if at % 2 == 0 { b'x' } else { b'\n' })?;
-    }
-    input.extend_from_slice(closing)?;
-    Ok(input)
-}
-
-fn items_of(alloc: Global, input: &[u8]) -> Result<Vec<u8>, Fail> {
-    let mut reader = BufReader::new(alloc, Pieces::new(input, 4096))?;
-    Ok(items_of_input(alloc, &mut reader)?.0)
+/// A put whose body has lines of one byte, and what it gives.
+#[derive(Clone, Copy)]
+struct LongPut {
+    header: &'static [u8],
+    /// The body is `x` and a line feed, this many times, and the beginning of `end`.
+    lines: usize,
+    end: &'static [u8],
+    /// What is given before the body's lines, how many of them are kept, and what is given after them.
+    before: &'static [u8],
+    kept: usize,
+    after: &'static [u8],
 }
 
 /// A body of the greatest length is kept, and has 524,288 line feeds. One of one byte more is passed over.
+const LONG_PUTS: &[LongPut] = &[
+    LongPut {
+        header: b"put a 1048576\n",
+        lines: MAX_BODY / 2,
+        end: b"\npublish\n",
+        before: b"1:put|a|",
+        kept: MAX_BODY / 2,
+        after: b";1:publish;",
+    },
+    LongPut {
+        header: b"put a 1048577\n",
+        lines: MAX_BODY / 2,
+        end: b"x\npublish\n",
+        before: b"1:long put|a;1:publish;",
+        kept: 0,
+        after: b"",
+    },
+    LongPut {
+        header: b"put a 1048577\n",
+        lines: MAX_BODY / 2,
+        end: b"x",
+        before: b"1:long put|a;",
+        kept: 0,
+        after: b"",
+    },
+    LongPut {
+        header: b"put a 1048577\n",
+        lines: MAX_BODY / 2,
+        end: b"",
+        before: b"1:truncated;",
+        kept: 0,
+        after: b"",
+    },
+    LongPut {
+        header: b"put a 1048577\n",
+        lines: MAX_BODY / 2,
+        end: b"xx\npublish\n",
+        before: b"1:body not closed;",
+        kept: 0,
+        after: b"",
+    },
+];
+
+fn expect_long(rt: &impl Abort, alloc: Global, put: &LongPut) -> Result<(), Fail> {
+    let input = repeated(alloc, put.header, b"x\n", put.lines, put.end)?;
+    let want = repeated(alloc, put.before, b"x\n", put.kept, put.after)?;
+    expect_items(rt, alloc, input.as_slice(), 4096, want.as_slice())
+}
+
 #[test]
 fn long_bodies(rt: HostRuntime) -> Result<(), Fail> {
-    let alloc = rt.alloc();
-    let kept = put_of(alloc, b"put a 1048576\n", MAX_BODY, b"\npublish\n")?;
-    let items = items_of(alloc, kept.as_slice())?;
-    assert_eq!(rt; items.len(), b"1:put|a|;1:publish;".len() + MAX_BODY);
-    assert!(rt; items.as_slice().ends_with(b";1:publish;"));
-    let over = b"put a 1048577\n".as_slice();
-    let passed = put_of(alloc, over, MAX_BODY + 1, b"\npublish\n")?;
-    let items = items_of(alloc, passed.as_slice())?;
-    assert_eq!(rt; items.as_slice(), b"1:long put|a;1:publish;".as_slice());
-    let last = put_of(alloc, over, MAX_BODY + 1, b"")?;
-    let items = items_of(alloc, last.as_slice())?;
-    assert_eq!(rt; items.as_slice(), b"1:long put|a;".as_slice());
-    let short = put_of(alloc, over, MAX_BODY, b"")?;
-    let items = items_of(alloc, short.as_slice())?;
-    assert_eq!(rt; items.as_slice(), b"1:truncated;".as_slice());
-    let not_closed = put_of(alloc, over, MAX_BODY + 1, b"x\npublish\n")?;
-    let items = items_of(alloc, not_closed.as_slice())?;
-    assert_eq!(rt; items.as_slice(), b"1:body not closed;".as_slice());
+    assert_eq!(rt; MAX_BODY, 1_048_576);
+    for put in LONG_PUTS {
+        expect_long(&rt, rt.alloc(), put)?;
+    }
     Ok(())
 }

@@ -15,8 +15,6 @@ mod faults;
 #[cfg(test)]
 mod gates;
 #[cfg(test)]
-mod inputs;
-#[cfg(test)]
 mod items;
 #[cfg(test)]
 mod reads;

@@ -1,81 +1,77 @@
 //! Which bytes are read, and when.
 
-use crate::inputs::Pieces;
-use crate::words::append_taken;
-use std::io::BufReader;
+use crate::streams::Input;
+use crate::words::{Given, Reading};
+use std::alloc::Global;
+use std::process::Abort;
 use std::test::Fail;
-use stream::{ItemStream, StreamError, Taken};
 
-/// Items, each with the number of bytes up to its last one. A reader that gives one byte for each read has been asked
-/// that many times when the item comes.
-const ITEMS: [(&[u8], usize); 5] = [
-    (b"1:publish;", 8),
-    (b"2:put|a|x\ny;", 20),
-    (b"5:search|x;", 29),
-    (b"7:put|b|;", 42),
-    (b"9:sync;", 47),
-];
+/// What a stream gives, the item if it is one, and the number of reads until then. A reader that gives one byte for
+/// each read has been asked as often as there are bytes up to the item's last one.
+type Step = (Given, &'static [u8], usize);
 
 const INPUT: &[u8] = b"publish\nput a 3\nx\ny\nsearch x\n# c\nput b 0\n\nsync\n";
 
-#[test]
-fn nothing_is_read_after_an_item(rt: HostRuntime) -> Result<(), Fail> {
-    let alloc = rt.alloc();
-    let mut input = BufReader::new(alloc, Pieces::new(INPUT, 1))?;
-    let mut stream = ItemStream::new(alloc);
-    let mut text = Vec::new(alloc);
-    for (want, reads) in ITEMS {
-        let mut words = Vec::new(alloc);
-        match stream.next_item(&mut input, &mut text) {
-            Ok(Some(taken)) => {
-                append_taken(&mut words, &taken)?;
-                assert!(rt; !taken.ended);
-            }
-            _ => return Err(Fail::from("no item")),
-        }
-        assert_eq!(rt; words.as_slice(), want);
-        assert_eq!(rt; input.get_ref().reads, reads);
-    }
-    assert!(rt; is_none(stream.next_item(&mut input, &mut text)));
-    assert_eq!(rt; input.get_ref().reads, 48);
-    assert!(rt; is_none(stream.next_item(&mut input, &mut text)));
-    assert_eq!(rt; input.get_ref().reads, 48);
+const STEPS: &[Step] = &[
+    (Given::Item, b"1:publish;", 8),
+    (Given::Item, b"2:put|a|x\ny;", 20),
+    (Given::Item, b"5:search|x;", 29),
+    (Given::Item, b"7:put|b|;", 42),
+    (Given::Item, b"9:sync;", 47),
+    (Given::Nothing, b"", 48),
+    (Given::Nothing, b"", 48),
+];
+
+/// The stream goes on in this step.
+fn expect_step(
+    rt: &impl Abort,
+    reading: &mut Reading<'_>,
+    given: Given,
+    item: &[u8],
+    reads: usize,
+) -> Result<(), Fail> {
+    reading.items.clear();
+    let found = reading.go_on()?;
+    assert!(rt; found == given, "read {reads}");
+    assert_eq!(rt; reading.items.as_slice(), item);
+    assert_eq!(rt; reading.input.get_ref().reads, reads);
     Ok(())
 }
 
-fn is_none(found: Result<Option<Taken<'_>>, StreamError>) -> bool {
-    match found {
-        Ok(None) => true,
-        _ => false,
+/// The stream over these bytes goes on in these steps.
+fn expect_steps(rt: &impl Abort, alloc: Global, bytes: &[u8], steps: &[Step]) -> Result<(), Fail> {
+    let mut reading = Reading::new(alloc, Input::new(bytes, 1))?;
+    for (given, item, reads) in steps {
+        expect_step(rt, &mut reading, *given, item, *reads)?;
     }
+    Ok(())
 }
 
-/// Inputs whose first item ends the reading, and the number of reads up to its end: the byte that shows a fault
-/// is the last, or the read that gives none.
-const LAST: [(&[u8], usize); 7] = [
-    (b"put a\npublish\n", 6),
-    (b"put a 1\nxy\npublish\n", 10),
-    (b"put a 3\nx\n", 11),
-    (b"put a 3", 8),
-    (b"put a 1\nx", 10),
-    (b"publish", 8),
-    (b"# c\npublish", 12),
+#[test]
+fn nothing_is_read_after_an_item(rt: HostRuntime) -> Result<(), Fail> {
+    expect_steps(&rt, rt.alloc(), INPUT, STEPS)
+}
+
+/// Inputs whose first item ends the reading, the item, and the number of reads up to its end: the byte that shows
+/// a fault is the last, or the read that gives none.
+const LAST: &[(&[u8], &[u8], usize)] = &[
+    (b"put a\npublish\n", b"1:bad put;", 6),
+    (b"put a 1\nxy\npublish\n", b"1:body not closed;", 10),
+    (b"put a 3\nx\n", b"1:truncated;", 11),
+    (b"put a 3", b"1:truncated;", 8),
+    (b"put a 1\nx", b"1:put|a|x;", 10),
+    (b"publish", b"1:publish;", 8),
+    (b"# c\npublish", b"2:publish;", 12),
 ];
 
 #[test]
 fn nothing_is_read_after_the_last_item(rt: HostRuntime) -> Result<(), Fail> {
-    let alloc = rt.alloc();
-    for (bytes, reads) in LAST {
-        let mut input = BufReader::new(alloc, Pieces::new(bytes, 1))?;
-        let mut stream = ItemStream::new(alloc);
-        let mut text = Vec::new(alloc);
-        match stream.next_item(&mut input, &mut text) {
-            Ok(Some(taken)) => assert!(rt; taken.ended),
-            _ => return Err(Fail::from("no item")),
-        }
-        assert_eq!(rt; input.get_ref().reads, reads);
-        assert!(rt; is_none(stream.next_item(&mut input, &mut text)));
-        assert_eq!(rt; input.get_ref().reads, reads);
+    for (bytes, item, reads) in LAST {
+        let steps: [Step; 2] = [
+            (Given::LastItem, item, *reads),
+            (Given::Nothing, b"", *reads),
+        ];
+        expect_steps(&rt, rt.alloc(), bytes, &steps)?;
     }
     Ok(())
 }

@@ -106,6 +106,13 @@ pub(crate) const ROWS: &[Case<'static>] = &[
         status: 2,
     },
     Case {
+        script: b"put f 1\na\nput g 1\na\npublish\nsearch a\n",
+        max_commands: 1,
+        stats: true,
+        text: b"line 3 refused: full\nsearch 1 version 1 lines 1 candidates 1 of 1\nf:1:a\n",
+        status: 2,
+    },
+    Case {
         script: b"put b 3\nhit\nput a 3\nhit\nput B 3\nhit\npublish\nsearch hit\n",
         max_commands: 65_536,
         stats: false,
@@ -170,24 +177,4 @@ fn rows(rt: HostRuntime) -> Result<(), Fail> {
         expect_always(&rt, rt.alloc(), row, &mut source)?;
     }
     Ok(())
-}
-
-/// Faults of a load, of a pattern and of a put, after a search that is answered.
-#[test]
-fn a_hostile_script(rt: HostRuntime) -> Result<(), Fail> {
-    let alloc = rt.alloc();
-    let mut script = Vec::from_slice(
-        alloc,
-        b"put f 3\nabc\npublish\nsearch b\nload g missing\nsearch ",
-    )?;
-    script.resize(script.len() + 1025, b'a')?;
-    script.extend_from_slice(b"\nput h 10\nxyz")?;
-    let case = Case {
-        script: &script,
-        max_commands: 65_536,
-        stats: false,
-        text: b"search 1 version 1 lines 1\nf:1:abc\nline 5 refused: cannot load\nsearch 2 refused: pattern too long at 1024\nline 7 refused: truncated\n",
-        status: 2,
-    };
-    expect_always(&rt, alloc, &case, &mut Table::new(&[], b"", 0))
 }

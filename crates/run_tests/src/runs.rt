@@ -1,45 +1,23 @@
 //! Runs with sources and writers of their own.
 
-ghost use Rattle.std.specs.Prelude.{Some};
-
-use crate::cases::{Case, expect_always};
-use crate::gates::Open;
+use crate::cases::{Case, expect_always, transcript_of};
+use crate::gates::{Rule, Turns};
 use crate::sources::{File, Table};
-use std::io::{self, Write};
+use crate::streams::{Output, Stops};
+use crate::words::repeated;
+use std::alloc::Global;
+use std::io::ErrorKind;
+use std::process::Abort;
 use std::test::Fail;
-use tsearch::run::run;
-use tsearch::{Options, RunError, Source, WriteError, write_transcript};
-
-/// Loads of what the source has, of a body too long, and of what the source does not have.
-#[test]
-fn loads(rt: HostRuntime) -> Result<(), Fail> {
-    let alloc = rt.alloc();
-    let long = vec![in alloc; b'\n'; 1_048_577]?;
-    let files = [
-        File {
-            path: b"p",
-            bytes: b"hit\n",
-        },
-        File {
-            path: b"long",
-            bytes: &long,
-        },
-    ];
-    let case = Case {
-        script: b"load a p\nload b long\nload c none\nload d\npublish\nsearch hit\nsearchin *x hit\nsearchin a hit\n",
-        max_commands: 65_536,
-        stats: false,
-        text: b"line 2 refused: body too long\nline 3 refused: cannot load\nline 4 refused: bad line\nsearch 1 version 1 lines 1\na:1:hit\nsearch 2 refused: name pattern: nothing to repeat at 0\nsearch 3 version 1 lines 1\na:1:hit\n",
-        status: 2,
-    };
-    expect_always(&rt, alloc, &case, &mut Table::new(&files, b"", 0))
-}
+use tsearch::{Source, Transcript, WriteError, write_transcript};
 
 /// More than a hundred loads that succeed, of bodies over 500,000 bytes. Afterwards the source has not failed.
 #[test]
 fn many_loads(rt: HostRuntime) -> Result<(), Fail> {
     let alloc = rt.alloc();
-    let large = vec![in alloc; b'\n'; 600_000]?;
+    let large = repeated(alloc, b"", b"\n\n\n\n", 150_000, b"")?;
+    let last = b"publish\nsearch hit\n".as_slice();
+    let script = repeated(alloc, b"load b large\n", b"load a p\n", 120, last)?;
     let files = [
         File {
             path: b"p",
@@ -47,17 +25,12 @@ fn many_loads(rt: HostRuntime) -> Result<(), Fail> {
         },
         File {
             path: b"large",
-            bytes: &large,
+            bytes: large.as_slice(),
         },
     ];
-    let mut script = Vec::from_slice(alloc, b"load b large\n")?;
-    for _ in 0..120 {
-        script.extend_from_slice(b"load a p\n")?;
-    }
-    script.extend_from_slice(b"publish\nsearch hit\n")?;
     let mut source = Table::new(&files, b"", 0);
     let case = Case {
-        script: &script,
+        script: script.as_slice(),
         max_commands: 65_536,
         stats: false,
         text: b"search 1 version 121 lines 1\na:1:hit\n",
@@ -93,12 +66,13 @@ const FAULTS: &[(u32, &[u8], &[u8])] = &[
     ),
 ];
 
+const FILES: &[File<'static>] = &[File {
+    path: b"p",
+    bytes: b"hit",
+}];
+
 #[test]
 fn faults_of_loads(rt: HostRuntime) -> Result<(), Fail> {
-    let files = [File {
-        path: b"p",
-        bytes: b"hit",
-    }];
     for (failing, large, text) in FAULTS {
         let case = Case {
             script: b"load a p\nload b p\nload c p\npublish\nsearch h\n",
@@ -107,114 +81,101 @@ fn faults_of_loads(rt: HostRuntime) -> Result<(), Fail> {
             text,
             status: 2,
         };
-        let mut source = Table::new(&files, large, *failing);
+        let mut source = Table::new(FILES, large, *failing);
         expect_always(&rt, rt.alloc(), &case, &mut source)?;
     }
     Ok(())
 }
 
-/// A writer that takes at most three bytes per call. One call, counted from 1, takes none or fails.
-#[derive(Drop)]
-struct Narrow {
-    bytes: Vec<u8>,
-    calls: u32,
-    stopping: u32,
-    failing: u32,
-    /// How it fails.
-    kind: io::ErrorKind,
+/// Writes the transcript to a narrow writer. It takes this many bytes, and writing them ends so.
+fn expect_written(
+    rt: &impl Abort,
+    alloc: Global,
+    transcript: &Transcript,
+    stops: Stops,
+    taken: &[u8],
+    end: End,
+) {
+    let mut out = Output::narrow(alloc, stops);
+    let ended = end_of(write_transcript(alloc, transcript, false, &mut out));
+    assert_eq!(rt; out.bytes.as_slice(), taken);
+    assert!(rt; ended == end);
 }
 
-impl Write for Narrow {
-    ghost contents = { λ writer. Some writer.bytes.items };
+/// How the writing of a transcript ends.
+#[derive(Clone, Copy, PartialEq, Eq)]
+enum End {
+    Whole,
+    Failed,
+    Stopped,
+    OutOfMemory,
+}
 
-    fn write(&mut self, buf: &[u8]) -> io::Result<usize> {
-        self.calls = self.calls.saturating_add(1);
-        if self.calls == self.failing {
-            return Err(io::Error::from(self.kind));
-        }
-        if self.calls == self.stopping {
-            return Ok(0);
-        }
-        let count = buf.len().min(3);
-        match self.bytes.extend_from_slice(&buf[..count]) {
-            Ok(()) => Ok(count),
-            Err(_) => Err(io::Error::from(io::ErrorKind::OutOfMemory)),
-        }
-    }
-
-    fn flush(&mut self) -> io::Result<()> {
-        Ok(())
+fn end_of(written: Result<(), WriteError>) -> End {
+    match written {
+        Ok(()) => End::Whole,
+        Err(WriteError::Failed) => End::Failed,
+        Err(WriteError::Stopped) => End::Stopped,
+        Err(WriteError::OutOfMemory) => End::OutOfMemory,
     }
 }
 
-/// Whether a writer stops at a call, whether it fails at one, and how.
-const WRITERS: [(u32, u32, io::ErrorKind); 4] = [
-    (1, 0, io::ErrorKind::BrokenPipe),
-    (0, 1, io::ErrorKind::BrokenPipe),
+/// How a call of the writer fails, and how the writing ends then.
+const WRITERS: &[(ErrorKind, End)] = &[
+    // the writer takes no byte
+    (ErrorKind::BrokenPipe, End::Stopped),
+    (ErrorKind::BrokenPipe, End::Failed),
     // a writer that has no memory counts as one that failed
-    (0, 1, io::ErrorKind::OutOfMemory),
-    (0, 1, io::ErrorKind::WriteZero),
+    (ErrorKind::OutOfMemory, End::Failed),
+    (ErrorKind::WriteZero, End::Failed),
 ];
+
+const TEXT: &[u8] = b"search 1 version 1 lines 1\na.txt:1:hello world\n";
+
+/// The writer stops in no call, or in any of them: what it takes in the 16 calls is 47 bytes.
+fn expect_stops(
+    rt: &impl Abort,
+    alloc: Global,
+    transcript: &Transcript,
+    kind: ErrorKind,
+    end: End,
+) {
+    for call in 0..18u32 {
+        let (failing, taking_nothing) = if end == End::Stopped {
+            (0, call)
+        } else {
+            (call, 0)
+        };
+        let stops = Stops {
+            failing,
+            taking_nothing,
+            flush: 0,
+            kind,
+        };
+        let (taken, end) = if call == 0 || call > 16 {
+            (TEXT, End::Whole)
+        } else {
+            (&TEXT[..3 * call as usize - 3], end)
+        };
+        expect_written(rt, alloc, transcript, stops, taken, end);
+    }
+}
 
 #[test]
 fn writers(rt: HostRuntime) -> Result<(), Fail> {
     let alloc = rt.alloc();
-    let options = Options {
-        readers: 2,
+    let case = Case {
+        script: b"put a.txt 11\nhello world\npublish\nsearch o w\n",
         max_commands: 65_536,
+        stats: false,
+        text: TEXT,
+        status: 0,
     };
-    let script = b"put a.txt 11\nhello world\npublish\nsearch o w\n";
     let mut source = Table::new(&[], b"", 0);
-    let transcript = run(&rt, alloc, script, options, &mut source, &Open)?;
-    let mut text = Vec::new(alloc);
-    write_transcript(alloc, &transcript, false, &mut text)?;
-    assert_eq!(rt; text.len(), 47);
-    for (stopping, failing, kind) in WRITERS {
-        for call in 0..18 {
-            let mut out = Narrow {
-                bytes: Vec::new(alloc),
-                calls: 0,
-                stopping: stopping * call,
-                failing: failing * call,
-                kind,
-            };
-            let written = write_transcript(alloc, &transcript, false, &mut out);
-            let taken = if call == 0 || call > 16 {
-                47
-            } else {
-                3 * call as usize - 3
-            };
-            assert!(rt; taken <= text.len());
-            assert_eq!(rt; out.bytes.as_slice(), &text[..taken]);
-            match written {
-                Ok(()) => assert_eq!(rt; taken, 47),
-                Err(WriteError::Failed) => assert!(rt; failing == 1 && taken < 47),
-                Err(WriteError::Stopped) => assert!(rt; stopping == 1 && taken < 47),
-                Err(WriteError::OutOfMemory) => assert!(rt; false, "call {call}"),
-            }
-        }
+    let gate = Turns::new(Rule::Open);
+    let transcript = transcript_of(&rt, alloc, &case, 2, &mut source, &gate)?;
+    for (kind, end) in WRITERS {
+        expect_stops(&rt, alloc, &transcript, *kind, *end);
     }
     Ok(())
-}
-
-#[test]
-fn a_script_too_long(rt: HostRuntime) -> Result<(), Fail> {
-    let alloc = rt.alloc();
-    let mut script = Vec::from_slice(alloc, b"\n\n\n\n\n\n\n\n")?;
-    for _ in 0..23 {
-        let half = Vec::from_slice(alloc, &script)?;
-        script.extend_from_slice(&half)?;
-    }
-    assert_eq!(rt; script.len(), 67_108_864);
-    script.push(b'\n')?;
-    let options = Options {
-        readers: 2,
-        max_commands: 65_536,
-    };
-    let mut source = Table::new(&[], b"", 0);
-    match run(&rt, alloc, &script, options, &mut source, &Open) {
-        Err(RunError::ScriptTooLong) => Ok(()),
-        Err(error) => Err(Fail::from(error)),
-        Ok(_) => Err(Fail::from("a transcript")),
-    }
 }

@@ -9,12 +9,20 @@ use std::test::Fail;
 /// a semicolon.
 fn expect_items(rt: &impl Abort, alloc: Global, script: &[u8], want: &[u8]) -> Result<(), Fail> {
     let items = items_of_script(rt, alloc, script)?;
-    assert_eq!(rt; items.as_slice(), want, "of {:?}", script);
+    assert_eq!(rt; items.as_slice(), want);
+    Ok(())
+}
+
+/// Each script of the table has its items.
+fn expect_table(rt: &impl Abort, alloc: Global, table: &[(&[u8], &[u8])]) -> Result<(), Fail> {
+    for (script, want) in table {
+        expect_items(rt, alloc, script, want)?;
+    }
     Ok(())
 }
 
 /// Lines that are not puts.
-const LINES: [(&[u8], &[u8]); 11] = [
+const LINES: &[(&[u8], &[u8])] = &[
     (b"", b""),
     (b"\n\n# put x\n#\npublish\n", b"5:publish;"),
     (b"publish", b"1:publish;"),
@@ -54,14 +62,11 @@ const LINES: [(&[u8], &[u8]); 11] = [
 
 #[test]
 fn lines(rt: HostRuntime) -> Result<(), Fail> {
-    for (script, want) in LINES {
-        expect_items(&rt, rt.alloc(), script, want)?;
-    }
-    Ok(())
+    expect_table(&rt, rt.alloc(), LINES)
 }
 
 /// Puts with their bodies, and the numbers of the lines after them.
-const PUTS: [(&[u8], &[u8]); 11] = [
+const PUTS: &[(&[u8], &[u8])] = &[
     (b"put f 3\nabc\npublish\n", b"1:put|f|abc;3:publish;"),
     (b"put f 3\nabc", b"1:put|f|abc;"),
     (b"put f 4\na\nb\n\npublish", b"1:put|f|a\nb\n;5:publish;"),
@@ -77,14 +82,11 @@ const PUTS: [(&[u8], &[u8]); 11] = [
 
 #[test]
 fn puts(rt: HostRuntime) -> Result<(), Fail> {
-    for (script, want) in PUTS {
-        expect_items(&rt, rt.alloc(), script, want)?;
-    }
-    Ok(())
+    expect_table(&rt, rt.alloc(), PUTS)
 }
 
 /// Puts with a fault, after which nothing is read.
-const FAULTS: [(&[u8], &[u8]); 12] = [
+const FAULTS: &[(&[u8], &[u8])] = &[
     (b"put\nsync", b"1:bad put;"),
     (b"put \nsync", b"1:bad put;"),
     (b"put 5\n12345\nsync", b"1:bad put;"),
@@ -101,8 +103,5 @@ const FAULTS: [(&[u8], &[u8]); 12] = [
 
 #[test]
 fn faults_that_end_the_reading(rt: HostRuntime) -> Result<(), Fail> {
-    for (script, want) in FAULTS {
-        expect_items(&rt, rt.alloc(), script, want)?;
-    }
-    Ok(())
+    expect_table(&rt, rt.alloc(), FAULTS)
 }

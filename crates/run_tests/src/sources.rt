@@ -1,17 +1,18 @@
-//! Sources over memory.
+//! A source over memory.
 
-use crate::gates::Held;
+use crate::gates::Turns;
 use std::alloc::Global;
 use tsearch::{Fault, Source};
 
 /// A file of a table.
-#[derive(Clone, Copy, Debug)]
+#[derive(Clone, Copy)]
 pub(crate) struct File<'a> {
     pub(crate) path: &'a [u8],
     pub(crate) bytes: &'a [u8],
 }
 
-/// A table of files. It fails for each path that is not in it, and at one more read.
+/// A table of files. It fails for each path that is not in it, and at one more read. If it has a gate, it gives `q`
+/// only once a search is held there, and releases the search when it is asked for `p`.
 #[derive(Drop)]
 pub(crate) struct Table<'a> {
     files: &'a [File<'a>],
@@ -19,6 +20,7 @@ pub(crate) struct Table<'a> {
     large: &'a [u8],
     /// The read that fails, counted from 1.
     failing: u32,
+    gate: Option<&'a Turns>,
     /// The reads so far.
     pub(crate) reads: u32,
     failures: u64,
@@ -30,9 +32,33 @@ impl<'a> Table<'a> {
             files,
             large,
             failing,
+            gate: None,
             reads: 0,
             failures: 0,
         }
+    }
+
+    pub(crate) fn at_gate(files: &'a [File<'a>], gate: &'a Turns) -> Table<'a> {
+        Table {
+            files,
+            large: b"",
+            failing: 0,
+            gate: Some(gate),
+            reads: 0,
+            failures: 0,
+        }
+    }
+}
+
+/// Waits for the held search, or releases it.
+fn meet(gate: Option<&Turns>, path: &[u8]) {
+    let Some(gate) = gate else {
+        return;
+    };
+    if path == b"q".as_slice() {
+        gate.first.wait();
+    } else if path == b"p".as_slice() {
+        gate.second.raise();
     }
 }
 
@@ -45,7 +71,9 @@ impl Source for Table<'_> {
     ghost failed = { λ table. table.failures };
 
     fn read(&mut self, alloc: Global, path: &[u8]) -> Result<Vec<u8>, Fault> {
+        let failures = self.failures;
         self.reads = self.reads.saturating_add(1);
+        meet(self.gate, path);
         if path == self.large {
             return Err(Fault::OutOfMemory);
         }
@@ -59,50 +87,8 @@ impl Source for Table<'_> {
                 }
             }
         }
-        self.failures = self.failures.saturating_add(1);
+        self.failures = failures.saturating_add(1);
         Err(Fault::Failed)
-    }
-
-    fn failures(&self) -> u64 {
-        self.failures
-    }
-}
-
-/// A source that has `w` under `q` and `z` under `p`. It gives `w` only once the first search is held, and releases
-/// that search when it is asked for `p`.
-#[derive(Drop)]
-pub(crate) struct Timed<'a> {
-    gate: &'a Held,
-    failures: u64,
-}
-
-impl<'a> Timed<'a> {
-    pub(crate) fn new(gate: &'a Held) -> Timed<'a> {
-        Timed { gate, failures: 0 }
-    }
-}
-
-impl Source for Timed<'_> {
-    ghost holds = { λ source path body. Unit {0} };
-
-    ghost failed = { λ source. source.failures };
-
-    fn read(&mut self, alloc: Global, path: &[u8]) -> Result<Vec<u8>, Fault> {
-        let failures = self.failures;
-        let body = if path == b"q".as_slice() {
-            self.gate.there.wait();
-            b"w".as_slice()
-        } else if path == b"p".as_slice() {
-            self.gate.released.raise();
-            b"z".as_slice()
-        } else {
-            self.failures = failures.saturating_add(1);
-            return Err(Fault::Failed);
-        };
-        match Vec::from_slice(alloc, body) {
-            Ok(bytes) => Ok(bytes),
-            Err(_) => Err(Fault::OutOfMemory),
-        }
     }
 
     fn failures(&self) -> u64 {

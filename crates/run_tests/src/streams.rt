@@ -1,199 +1,189 @@
-//! Sources, readers and writers over memory.
+//! Readers and writers over memory.
 
 ghost use Rattle.std.specs.Prelude.{Some};
 
 use std::alloc::Global;
-use std::io::{self, Read, Write};
+use std::io::{self, ErrorKind, Read, Write};
 use std::sync::atomic::{AtomicUsize, Ordering};
-use tsearch::{Fault, Source};
-
-/// A source that has `loaded` under `p` and nothing else.
-#[derive(Drop)]
-pub(crate) struct One {
-    failures: u64,
-}
-
-impl One {
-    pub(crate) fn new() -> One {
-        One { failures: 0 }
-    }
-}
-
-impl Source for One {
-    ghost holds = { λ source path body. Unit {0} };
-
-    ghost failed = { λ source. source.failures };
-
-    fn read(&mut self, alloc: Global, path: &[u8]) -> Result<Vec<u8>, Fault> {
-        let failures = self.failures;
-        if path == b"p".as_slice() {
-            return match Vec::from_slice(alloc, b"loaded") {
-                Ok(bytes) => Ok(bytes),
-                Err(_) => Err(Fault::OutOfMemory),
-            };
-        }
-        self.failures = failures.saturating_add(1);
-        Err(Fault::Failed)
-    }
-
-    fn failures(&self) -> u64 {
-        self.failures
-    }
-}
 
 /// What a client sends at once, and the length of all text that it has been shown before it sends it.
-#[derive(Clone, Copy, Debug)]
+#[derive(Clone, Copy)]
 pub(crate) struct Turn {
     pub(crate) shown: usize,
     pub(crate) sent: &'static [u8],
 }
 
-/// A client that looks at what it has been shown before it sends more. If that is not what it waits for, it goes away:
-/// its reader fails.
+/// A reader of bytes, or of what a client sends, which looks at what it has been shown before it sends more. If that
+/// is not what it waits for, it goes away: the read fails.
 #[derive(Drop)]
-pub(crate) struct Client<'a> {
+pub(crate) struct Input<'a> {
+    /// What is left of the bytes, or of a turn.
+    rest: &'a [u8],
     turns: &'a [Turn],
     /// The turn that comes next.
     turn: usize,
-    /// What is left of the turn's bytes.
-    rest: &'static [u8],
     /// The length of what was flushed.
-    flushed: &'a AtomicUsize,
+    pub(crate) flushed: Option<&'a AtomicUsize>,
     /// At most this many bytes are given to a read.
     most: usize,
+    pub(crate) reads: usize,
+    /// The read that fails, counted from 1.
+    failing: usize,
+    kind: ErrorKind,
 }
 
-impl<'a> Client<'a> {
-    pub(crate) fn new(turns: &'a [Turn], flushed: &'a AtomicUsize, most: usize) -> Client<'a> {
-        Client {
+impl<'a> Input<'a> {
+    /// A reader of these bytes, of which no read fails.
+    pub(crate) fn new(bytes: &'a [u8], most: usize) -> Input<'a> {
+        Input::failing(bytes, most, 0, ErrorKind::BrokenPipe)
+    }
+
+    /// A reader of these bytes, of which one read fails.
+    pub(crate) fn failing(
+        bytes: &'a [u8],
+        most: usize,
+        failing: usize,
+        kind: ErrorKind,
+    ) -> Input<'a> {
+        Input {
+            rest: bytes,
+            turns: &[],
+            turn: 0,
+            flushed: None,
+            most,
+            reads: 0,
+            failing,
+            kind,
+        }
+    }
+
+    /// A client that has sent nothing yet.
+    pub(crate) fn of_client(turns: &'a [Turn], flushed: &'a AtomicUsize, most: usize) -> Input<'a> {
+        Input {
+            rest: &[],
             turns,
             turn: 0,
-            rest: &[],
-            flushed,
+            flushed: Some(flushed),
             most,
+            reads: 0,
+            failing: 0,
+            kind: ErrorKind::TimedOut,
+        }
+    }
+
+    /// Goes on with the next turn if nothing is left. Whether the client was shown what it waits for.
+    fn take_turn(&mut self) -> bool {
+        if !self.rest.is_empty() {
+            return true;
+        }
+        let Some(turn) = self.turns.get(self.turn) else {
+            return true;
+        };
+        self.turn = self.turn.saturating_add(1);
+        self.rest = turn.sent;
+        match self.flushed {
+            Some(flushed) => flushed.load(Ordering::SeqCst) == turn.shown,
+            None => true,
         }
     }
 }
 
-impl Read for Client<'_> {
+impl Read for Input<'_> {
     fn read(&mut self, buf: &mut [u8]) -> io::Result<usize> {
-        if self.rest.is_empty() {
-            let Some(turn) = self.turns.get(self.turn) else {
-                return Ok(0);
-            };
-            if self.flushed.load(Ordering::SeqCst) != turn.shown {
-                return Err(io::Error::from(io::ErrorKind::TimedOut));
-            }
-            self.turn = self.turn.saturating_add(1);
-            self.rest = turn.sent;
+        self.reads = self.reads.saturating_add(1);
+        if self.reads == self.failing || !self.take_turn() {
+            return Err(io::Error::from(self.kind));
         }
         let count = self.rest.len().min(buf.len()).min(self.most);
         buf[..count].copy_from_slice(&self.rest[..count]);
         self.rest = &self.rest[count..];
         Ok(count)
     }
+}
+
+/// The write that fails, the write that takes no byte, and the flush that fails, each counted from 1.
+#[derive(Clone, Copy)]
+pub(crate) struct Stops {
+    pub(crate) failing: u32,
+    pub(crate) taking_nothing: u32,
+    pub(crate) flush: u32,
+    /// How it fails.
+    pub(crate) kind: ErrorKind,
+}
+
+impl Stops {
+    /// A writer that does not stop.
+    pub(crate) const NEVER: Stops = Stops {
+        failing: 0,
+        taking_nothing: 0,
+        flush: 0,
+        kind: ErrorKind::BrokenPipe,
+    };
 }
 
 /// A writer that tells how much of its bytes was flushed.
 #[derive(Drop)]
-pub(crate) struct Shown<'a> {
+pub(crate) struct Output<'a> {
     pub(crate) bytes: Vec<u8>,
-    pub(crate) flushed: &'a AtomicUsize,
+    flushed: Option<&'a AtomicUsize>,
+    /// At most this many bytes are taken by a write.
+    most: usize,
+    stops: Stops,
+    writes: u32,
+    flushes: u32,
 }
 
-impl Write for Shown<'_> {
-    ghost contents = { λ writer. Some writer.bytes.items };
-
-    fn write(&mut self, buf: &[u8]) -> io::Result<usize> {
-        match self.bytes.extend_from_slice(buf) {
-            Ok(()) => Ok(buf.len()),
-            Err(_) => Err(io::Error::from(io::ErrorKind::OutOfMemory)),
+impl<'a> Output<'a> {
+    /// A writer that has no bytes yet, and takes all that it is given.
+    pub(crate) fn new(alloc: Global, stops: Stops, flushed: Option<&'a AtomicUsize>) -> Output<'a> {
+        Output {
+            bytes: Vec::new(alloc),
+            flushed,
+            most: usize::MAX,
+            stops,
+            writes: 0,
+            flushes: 0,
         }
     }
 
-    fn flush(&mut self) -> io::Result<()> {
-        self.flushed.store(self.bytes.len(), Ordering::SeqCst);
-        Ok(())
+    /// A writer that takes at most three bytes of a write.
+    pub(crate) fn narrow(alloc: Global, stops: Stops) -> Output<'a> {
+        Output {
+            bytes: Vec::new(alloc),
+            flushed: None,
+            most: 3,
+            stops,
+            writes: 0,
+            flushes: 0,
+        }
     }
 }
 
-/// A reader of `round`, `times` times, and then of `last`. One read, counted from 1, may fail.
-#[derive(Drop)]
-pub(crate) struct Repeated<'a> {
-    pub(crate) round: &'a [u8],
-    pub(crate) times: u32,
-    pub(crate) last: &'a [u8],
-    pub(crate) rest: &'a [u8],
-    pub(crate) most: usize,
-    pub(crate) reads: u32,
-    pub(crate) failing: u32,
-}
-
-impl Read for Repeated<'_> {
-    fn read(&mut self, buf: &mut [u8]) -> io::Result<usize> {
-        self.reads = self.reads.saturating_add(1);
-        if self.reads == self.failing {
-            return Err(io::Error::from(io::ErrorKind::BrokenPipe));
-        }
-        if self.rest.is_empty() {
-            if self.times > 0 {
-                self.times -= 1;
-                self.rest = self.round;
-            } else {
-                self.rest = self.last;
-                self.last = &[];
-            }
-        }
-        let count = self.rest.len().min(buf.len()).min(self.most);
-        buf[..count].copy_from_slice(&self.rest[..count]);
-        self.rest = &self.rest[count..];
-        Ok(count)
-    }
-}
-
-/// How a writer stops.
-#[derive(Clone, Copy, Debug, PartialEq, Eq)]
-pub(crate) enum Stop {
-    /// A write fails.
-    Fails,
-    /// A write takes no byte.
-    TakesNothing,
-    /// A flush fails.
-    FlushFails,
-}
-
-/// A writer that stops at one of its writes or flushes, counted from 1.
-#[derive(Drop)]
-pub(crate) struct Stopping {
-    pub(crate) bytes: Vec<u8>,
-    pub(crate) stop: Stop,
-    pub(crate) at: u32,
-    pub(crate) writes: u32,
-    pub(crate) flushes: u32,
-}
-
-impl Write for Stopping {
+impl Write for Output<'_> {
     ghost contents = { λ writer. Some writer.bytes.items };
 
     fn write(&mut self, buf: &[u8]) -> io::Result<usize> {
         self.writes = self.writes.saturating_add(1);
-        if self.writes == self.at {
-            match self.stop {
-                Stop::Fails => return Err(io::Error::from(io::ErrorKind::BrokenPipe)),
-                Stop::TakesNothing => return Ok(0),
-                Stop::FlushFails => {}
-            }
+        if self.writes == self.stops.failing {
+            return Err(io::Error::from(self.stops.kind));
         }
-        match self.bytes.extend_from_slice(buf) {
-            Ok(()) => Ok(buf.len()),
-            Err(_) => Err(io::Error::from(io::ErrorKind::OutOfMemory)),
+        if self.writes == self.stops.taking_nothing {
+            return Ok(0);
+        }
+        let count = buf.len().min(self.most);
+        match self.bytes.extend_from_slice(&buf[..count]) {
+            Ok(()) => Ok(count),
+            Err(_) => Err(io::Error::from(ErrorKind::OutOfMemory)),
         }
     }
 
     fn flush(&mut self) -> io::Result<()> {
         self.flushes = self.flushes.saturating_add(1);
-        if self.flushes == self.at && self.stop == Stop::FlushFails {
-            return Err(io::Error::from(io::ErrorKind::BrokenPipe));
+        if self.flushes == self.stops.flush {
+            return Err(io::Error::from(self.stops.kind));
+        }
+        if let Some(flushed) = self.flushed {
+            flushed.store(self.bytes.len(), Ordering::SeqCst);
         }
         Ok(())
     }

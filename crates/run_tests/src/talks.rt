@@ -1,8 +1,9 @@
 //! Clients that wait for each answer before they send more.
 
-use crate::streams::{Client, One, Repeated, Shown, Turn};
-use live::{LiveOptions, serve};
-use std::io::BufReader;
+use crate::sessions::expect_session;
+use crate::streams::{Input, Turn};
+use crate::words::repeated;
+use live::LiveOptions;
 use std::process::Abort;
 use std::sync::Wait;
 use std::sync::atomic::AtomicUsize;
@@ -37,23 +38,13 @@ fn expect_in_pieces<'a, R: AllocGlobal + Wait + Abort>(
     text: &[u8],
     status: u8,
 ) -> Result<(), Fail> {
-    let alloc = rt.alloc();
-    let mut input = BufReader::with_capacity(alloc, 1000, Client::new(turns, flushed, most))?;
-    let mut out = Shown {
-        bytes: Vec::new(alloc),
-        flushed,
-    };
-    match serve(rt, alloc, &mut input, OPTIONS, &mut One::new(), &mut out) {
-        Ok(found) => assert_eq!(rt; found, status, "pieces of {most}"),
-        Err(error) => return Err(Fail::from(error)),
-    }
-    assert_eq!(rt; out.bytes.as_slice(), text, "pieces of {most}");
-    Ok(())
+    let input = Input::of_client(turns, flushed, most);
+    expect_session(rt, input, OPTIONS, text, status)
 }
 
 const FIRST: &[u8] = b"search 1 version 0 lines 0\n";
 
-const ANSWERED: [Turn; 7] = [
+const ANSWERED: &[Turn] = &[
     Turn {
         shown: 0,
         sent: b"search old\n",
@@ -90,13 +81,13 @@ fn each_answer_comes_before_the_next_command(rt: HostRuntime) -> Result<(), Fail
     assert_eq!(rt; FIRST.len(), 27);
     expect(
         &rt,
-        &ANSWERED,
+        ANSWERED,
         b"search 1 version 0 lines 0\nsearch 2 version 1 lines 1\nf:1:old\nline 7 refused: bad line\nsearch 3 version 2 lines 0\nsearch 4 refused: group not closed at 0\n",
         2,
     )
 }
 
-const BAD_PUT: [Turn; 2] = [
+const BAD_PUT: &[Turn] = &[
     Turn {
         shown: 0,
         sent: b"search a\nput f x\n",
@@ -107,7 +98,7 @@ const BAD_PUT: [Turn; 2] = [
     },
 ];
 
-const OPEN_BODY: [Turn; 2] = [
+const OPEN_BODY: &[Turn] = &[
     Turn {
         shown: 0,
         sent: b"put f 3\nabcd",
@@ -123,33 +114,19 @@ const OPEN_BODY: [Turn; 2] = [
 fn a_fault_ends_the_session(rt: HostRuntime) -> Result<(), Fail> {
     expect(
         &rt,
-        &BAD_PUT,
+        BAD_PUT,
         b"search 1 version 0 lines 0\nline 2 refused: bad put\n",
         2,
     )?;
-    expect(&rt, &OPEN_BODY, b"line 1 refused: body not closed\n", 2)
+    expect(&rt, OPEN_BODY, b"line 1 refused: body not closed\n", 2)
 }
 
 /// 20,000 replacements of a document leave the last one.
 #[test]
 fn replacements(rt: HostRuntime) -> Result<(), Fail> {
-    let alloc = rt.alloc();
-    let reader = Repeated {
-        round: b"put f 3\nold\npublish\nput f 3\nnew\npublish\n",
-        times: 10_000,
-        last: b"search old\nsearch new",
-        rest: &[],
-        most: 1000,
-        reads: 0,
-        failing: 0,
-    };
-    let mut input = BufReader::with_capacity(alloc, 4096, reader)?;
-    let mut out = Vec::new(alloc);
-    match serve(&rt, alloc, &mut input, OPTIONS, &mut One::new(), &mut out) {
-        Ok(status) => assert_eq!(rt; status, 0),
-        Err(error) => return Err(Fail::from(error)),
-    }
+    let round: &[u8] = b"put f 3\nold\npublish\nput f 3\nnew\npublish\n";
+    let script = repeated(rt.alloc(), b"", round, 10_000, b"search old\nsearch new")?;
+    let input = Input::new(script.as_slice(), 1000);
     let text: &[u8] = b"search 1 version 20000 lines 0\nsearch 2 version 20000 lines 1\nf:1:new\n";
-    assert_eq!(rt; out.as_slice(), text);
-    Ok(())
+    expect_session(&rt, input, OPTIONS, text, 0)
 }

@@ -1,24 +1,20 @@
 //! Runs with readers: threads do the work, a publish does not wait for matching, and no answer shows half of a publish.
 
-use crate::cases::{Case, expect};
-use crate::gates::{Flag, Held, InOrder, Late, Open, SecondFirst};
-use crate::sources::{Table, Timed};
+use crate::cases::{Case, expect, transcript_of};
+use crate::gates::{Rule, Turns};
+use crate::sources::{File, Table};
 use search::Answer;
 use std::alloc::Global;
 use std::process::Abort;
 use std::sync::Wait;
 use std::test::Fail;
 use std::thread::Threads;
-use tsearch::run::run;
-use tsearch::{Entry, Gate, Options, Point};
+use tsearch::{Entry, Point};
 
 /// Two readers are at work at once: search 1 begins when search 2 is done. A run that answers one search after the
 /// other never gets that far.
 #[test]
 fn two_readers_at_once(rt: HostRuntime) -> Result<(), Fail> {
-    let gate = SecondFirst {
-        second_done: Flag::new(),
-    };
     let case = Case {
         script: b"put f 2\nab\npublish\nsearch a\nsearch b\n",
         max_commands: 65_536,
@@ -26,34 +22,28 @@ fn two_readers_at_once(rt: HostRuntime) -> Result<(), Fail> {
         text: b"search 1 version 1 lines 1\nf:1:ab\nsearch 2 version 1 lines 1\nf:1:ab\n",
         status: 0,
     };
+    let turns = &[(1, 1, 1), (2, 2, 1)];
+    expect_in_order(&rt, rt.alloc(), &case, 2, turns, (2, 1, 3))
+}
+
+/// The case has its text, and its searches have these turns, if they are done in an order.
+fn expect_in_order<R: Threads + Wait + Abort + Sync>(
+    rt: &R,
+    alloc: Global,
+    case: &Case<'_>,
+    readers: u32,
+    turns: &[(u32, u32, u32)],
+    (first, second, third): (u32, u32, u32),
+) -> Result<(), Fail> {
+    let gate = Turns::new(Rule::InOrder(first, second, third));
     let mut source = Table::new(&[], b"", 0);
-    let transcript = expect(&rt, rt.alloc(), &case, 2, &mut source, &gate)?;
-    assert!(rt; !gate.second_done.is_given_up());
-    assert!(rt;
-        transcript
-            .entries
-            .iter()
-            .filter_map(|entry| who(entry))
-            .eq([(1, 1, 1), (2, 2, 1)])
-    );
+    expect(rt, alloc, case, readers, turns, &mut source, &gate)?;
+    assert!(rt; !gate.is_given_up(), "{first}, {second}, {third}");
     Ok(())
 }
 
-// The number of a search that was answered, the reader, and its turn.
-fn who(entry: &Entry) -> Option<(u32, u32, u32)> {
-    match entry {
-        Entry::Found {
-            search,
-            reader,
-            turn,
-            ..
-        } => Some((*search, *reader, *turn)),
-        _ => None,
-    }
-}
-
 /// The orders of three searches.
-const ORDERS: [(u32, u32, u32); 6] = [
+const ORDERS: &[(u32, u32, u32)] = &[
     (1, 2, 3),
     (1, 3, 2),
     (2, 1, 3),
@@ -73,19 +63,9 @@ fn readers_done_in_each_order(rt: HostRuntime) -> Result<(), Fail> {
         text: b"search 1 version 1 lines 1\nf:1:abc\nsearch 2 version 1 lines 1\nf:1:abc\nsearch 3 version 1 lines 1\nf:1:abc\n",
         status: 0,
     };
+    let turns = &[(1, 1, 1), (2, 2, 1), (3, 3, 1)];
     for order in ORDERS {
-        let gate = InOrder::of(order);
-        let mut source = Table::new(&[], b"", 0);
-        let transcript = expect(&rt, rt.alloc(), &case, 3, &mut source, &gate)?;
-        assert!(rt; !gate.is_given_up(), "{order:?}");
-        assert!(rt;
-            transcript
-                .entries
-                .iter()
-                .filter_map(|entry| who(entry))
-                .eq([(1, 1, 1), (2, 2, 1), (3, 3, 1)]),
-            "{order:?}"
-        );
+        expect_in_order(&rt, rt.alloc(), &case, 3, turns, *order)?;
     }
     Ok(())
 }
@@ -118,83 +98,91 @@ fn publish_before_a_search_begins(rt: HostRuntime) -> Result<(), Fail> {
     expect_held(&rt, rt.alloc(), &case, Point::Begin)
 }
 
-// The case has its text with one reader, which answers both searches, the first of them while it is held at a point.
+const FILES: &[File<'static>] = &[
+    File {
+        path: b"q",
+        bytes: b"w",
+    },
+    File {
+        path: b"p",
+        bytes: b"z",
+    },
+];
+
+/// The case has its text with one reader, which answers both searches, the first of them while it is held at a point.
 fn expect_held<R: Threads + Wait + Abort + Sync>(
     rt: &R,
     alloc: Global,
     case: &Case<'_>,
     point: Point,
 ) -> Result<(), Fail> {
-    let gate = Held::at(point);
-    let mut source = Timed::new(&gate);
-    let transcript = expect(rt, alloc, case, 1, &mut source, &gate)?;
+    let gate = Turns::new(Rule::Held(point));
+    let mut source = Table::at_gate(FILES, &gate);
+    expect(
+        rt,
+        alloc,
+        case,
+        1,
+        &[(1, 1, 1), (2, 1, 2)],
+        &mut source,
+        &gate,
+    )?;
     assert!(rt; !gate.is_given_up());
-    assert!(rt;
-        transcript
-            .entries
-            .iter()
-            .filter_map(|entry| who(entry))
-            .eq([(1, 1, 1), (2, 1, 2)])
-    );
     Ok(())
 }
 
-/// Two documents at a time are put and published, for 200 numbers, with a search after each publish. No answer shows
+/// Two documents at a time are put and published, for 200 bytes, with a search after each publish. No answer shows
 /// half of a publish, and the versions are as promised.
 #[test]
 fn torn(rt: HostRuntime) -> Result<(), Fail> {
-    let alloc = rt.alloc();
-    let mut script = Vec::new(alloc);
-    for number in 1..=200u32 {
-        let text = format!(in alloc; "{number}")?;
-        let length = text.len();
-        let round = format!(in alloc;
-            "put a {length}\n{text}\nput b {length}\n{text}\npublish\nsearch .\n"
-        )?;
-        script.extend_from_slice(round.as_bytes())?;
+    let mut script = Vec::new(rt.alloc());
+    for version in 1..=200u8 {
+        let mut round = *b"put a 1\n?\nput b 1\n?\npublish\nsearch .\n";
+        round[8] = byte_of(version);
+        round[18] = byte_of(version);
+        script.extend_from_slice(&round)?;
     }
-    let late = Late::new();
     for readers in [0, 1, 2, 16] {
-        expect_whole(&rt, alloc, &script, readers, &Open)?;
-        expect_whole(&rt, alloc, &script, readers, &late)?;
+        for rule in [Rule::Open, Rule::Late] {
+            expect_whole(&rt, rt.alloc(), script.as_slice(), readers, rule)?;
+        }
     }
     Ok(())
 }
 
-// Each search is answered by its reader, in turn, from a whole publish.
-fn expect_whole<G: Gate, R: Threads + Wait + Abort + Sync>(
+/// What both documents have after this many publishes, from 1 to 200.
+fn byte_of(publishes: u8) -> u8 {
+    publishes.saturating_add(55)
+}
+
+/// Each search is answered by its reader, in turn, from a whole publish.
+fn expect_whole<R: Threads + Wait + Abort + Sync>(
     rt: &R,
     alloc: Global,
     script: &[u8],
     readers: u32,
-    gate: &G,
+    rule: Rule,
 ) -> Result<(), Fail> {
-    assert!(rt; readers <= 16);
-    let options = Options {
-        readers,
-        max_commands: 400,
-    };
-    let transcript = run(
-        rt,
-        alloc,
+    let case = Case {
         script,
-        options,
-        &mut Table::new(&[], b"", 0),
-        gate,
-    )?;
+        max_commands: 400,
+        stats: false,
+        text: b"",
+        status: 0,
+    };
+    let mut source = Table::new(&[], b"", 0);
+    let gate = Turns::new(rule);
+    let transcript = transcript_of(rt, alloc, &case, readers, &mut source, &gate)?;
     let mut course = Course::new(readers);
     for entry in &transcript.entries {
-        assert!(rt;
-            course.goes_on(entry),
-            "{readers} readers, {entry:?} after {course:?}"
-        );
+        assert!(rt; course.goes_on(entry), "{readers} readers");
     }
     assert_eq!(rt; (course.published, course.searches), (400, 200));
     Ok(())
 }
 
 /// How far a run has come.
-#[derive(Debug, Drop)]
+#[derive(Clone, Copy)]
 struct Course {
     readers: u32,
     /// The version that was published last.
@@ -232,7 +220,7 @@ impl Course {
         }
     }
 
-    // The answer is for the next search and from its reader, and is no older than what was seen before.
+    /// The answer is for the next search and from its reader, and is no older than what was seen before.
     fn is_answered(&mut self, search: u32, reader: u32, turn: u32, answer: &Answer) -> bool {
         let Some(last) = self.lasts.get_mut(reader as usize) else {
             return false;
@@ -257,24 +245,17 @@ impl Course {
     }
 }
 
-// An even version 2k, and two lines with the text of k.
+/// An even version 2k, and two lines with the byte of k.
 fn is_whole(answer: &Answer) -> bool {
-    let number = answer.version() / 2;
-    answer.version() % 2 == 0
-        && answer.hits().len() == 2
-        && answer
-            .hits()
-            .iter()
-            .all(|hit| number_of(&hit.text) == number)
-}
-
-// The number of a decimal text.
-fn number_of(text: &[u8]) -> u32 {
-    let mut number = 0u32;
-    for digit in text {
-        number = number
-            .wrapping_mul(10)
-            .wrapping_add(u32::from(digit.wrapping_sub(b'0')));
+    let version = answer.version();
+    if version % 2 != 0 || version > 400 || answer.hits().len() != 2 {
+        return false;
     }
-    number
+    let want = [byte_of((version / 2) as u8)];
+    for hit in answer.hits() {
+        if hit.text.as_slice() != want.as_slice() {
+            return false;
+        }
+    }
+    true
 }
