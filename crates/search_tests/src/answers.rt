@@ -9,7 +9,9 @@ ghost use Rattle.ere.specs.declared.case.Case.TheVariants.{Exact};
 ghost use Rattle.search.specs.Pattern.{Pattern, IsPatternOf};
 ghost use Rattle.search.specs.Scan.{IsAnswerOf};
 
-use crate::fixtures::{Kept, MANY_STARS, answer_text, built, document, index_of};
+use crate::fixtures::{
+    Kept, MANY_STARS, Pieces, answer_text, built, document, index_built, index_of, text_of_answer,
+};
 use ere::EreErrorKind;
 use index::{Body, Command, Index, Name};
 use search::{Answer, Prepared, find};
@@ -111,7 +113,7 @@ const ROWS: &[[&[u8]; 4]] = &[
 #[test]
 fn rows(rt: HostRuntime) -> Result<(), Fail> {
     for row in ROWS {
-        assert!(rt; is_answered(&rt, rt.alloc(), row)?, "of {row:?}");
+        assert!(rt; is_answered(&rt, rt.alloc(), row)?, "of {:?}", row[1]);
     }
     Ok(())
 }
@@ -141,59 +143,78 @@ fn puts_of(alloc: Global, count: u32) -> Result<Vec<u8>, Fail> {
     Ok(commands)
 }
 
+/// Whether the text of the pattern's answer with its counts begins with this one.
+fn begins(
+    alloc: Global,
+    index: &Index,
+    pattern: &[u8],
+    head: &[u8],
+    kept: &mut Kept,
+) -> Result<bool, Fail> {
+    let text = answer_text(alloc, index, pattern, true, kept)?;
+    Ok(text.starts_with(head))
+}
+
+/// The index of 300 documents.
+fn index_of_300(rt: &impl Abort, alloc: Global) -> Result<Index, Fail> {
+    let commands = puts_of(alloc, 300)?;
+    index_of(rt, alloc, &commands)
+}
+
 #[test]
 fn a_watch_sees_the_candidates_alone(rt: HostRuntime) -> Result<(), Fail> {
-    let alloc = rt.alloc();
-    let index = index_of(&rt, alloc, &puts_of(alloc, 300)?)?;
+    let index = index_of_300(&rt, rt.alloc())?;
     let mut kept = Kept::new();
-    let text = answer_text(alloc, &index, b"Google.*Search", true, &mut kept)?;
     let head = b"search 1 version 300 lines 60 candidates 120 of 300\naa:1:Google Code Search\n";
-    assert!(rt; text.starts_with(head), "{text:?}");
-    for (number, times) in kept.times.iter().enumerate() {
-        let i = number.wrapping_sub(1);
-        let is_read = i < 300 && i % 5 < 2;
-        assert_eq!(rt; *times, is_read as u8, "document {number}");
-    }
+    assert!(rt; begins(rt.alloc(), &index, b"Google.*Search", head, &mut kept)?);
+    assert!(rt; kept.has_read_two_of_five());
     Ok(())
+}
+
+/// The name f, and a body of 1,048,575 bytes.
+const LARGE: Pieces<'static> = &[(b"f ", 1), (b"straw\n", 174_760), (b"a needle\nin hay", 1)];
+
+/// The index of one document with a large body.
+fn index_of_large(rt: &impl Abort, alloc: Global) -> Result<Index, Fail> {
+    let commands = built(alloc, LARGE)?;
+    assert!(rt; commands.len() == 1_048_577);
+    index_of(rt, alloc, &commands)
+}
+
+/// Whether the search of the large body finds its needle, and nothing else.
+fn finds_the_needle(alloc: Global, index: &Index) -> Result<bool, Fail> {
+    let mut kept = Kept::new();
+    let text = answer_text(alloc, index, b"n[aeiou]{2}dle", true, &mut kept)?;
+    let want = b"search 1 version 1 lines 1 candidates 1 of 1\nf:174761:a needle\n";
+    Ok(text.as_slice() == want.as_slice())
 }
 
 /// A body of 1,048,575 bytes, searched again and again.
 #[test]
 fn a_large_body_and_many_searches(rt: HostRuntime) -> Result<(), Fail> {
-    let alloc = rt.alloc();
-    let commands = built(
-        alloc,
-        &[(b"f ", 1), (b"straw\n", 174_760), (b"a needle\nin hay", 1)],
-    )?;
-    assert_eq!(rt; commands.len(), 1_048_577);
-    let index = index_of(&rt, alloc, &commands)?;
-    let mut kept = Kept::new();
+    let index = index_of_large(&rt, rt.alloc())?;
     for _ in 0..150 {
-        let text = answer_text(alloc, &index, b"n[aeiou]{2}dle", true, &mut kept)?;
-        let want = b"search 1 version 1 lines 1 candidates 1 of 1\nf:174761:a needle\n";
-        assert_eq!(rt; text.as_slice(), want.as_slice());
+        assert!(rt; finds_the_needle(rt.alloc(), &index)?);
     }
-    let text = answer_text(alloc, &index, b"s.*w$", true, &mut kept)?;
     let head = b"search 1 version 1 lines 174760 candidates 1 of 1\nf:1:straw\n";
-    assert!(rt; text.starts_with(head));
+    assert!(rt; begins(rt.alloc(), &index, b"s.*w$", head, &mut Kept::new())?);
     Ok(())
 }
 
-/// The text of the answer within names.
-fn text_within(
-    alloc: Global,
-    index: &Index,
-    name_pattern: &[u8],
-    pattern: &[u8],
-) -> Result<Vec<u8>, Fail> {
-    let prepared = Prepared::within(alloc, name_pattern, pattern)?;
-    let mut text = Vec::new(alloc);
-    find(alloc, index, &prepared)?.write_to(7, false, &mut text)?;
-    Ok(text)
+/// The answer within names. A row begins with a name pattern and a pattern.
+fn answer_within(alloc: Global, index: &Index, row: &[&[u8]; 3]) -> Result<Answer, Fail> {
+    let prepared = Prepared::within(alloc, row[0], row[1])?;
+    Ok(find(alloc, index, &prepared)?)
 }
 
-/// A name pattern, a pattern, and the text of the answer.
-const NAMED: [[&[u8]; 3]; 3] = [
+/// Whether the answer within names has this text. A row is a name pattern, a pattern, and the text.
+fn is_within(alloc: Global, index: &Index, row: &[&[u8]; 3]) -> Result<bool, Fail> {
+    let answer = answer_within(alloc, index, row)?;
+    let text = text_of_answer(alloc, &answer, 7, false)?;
+    Ok(text.as_slice() == row[2])
+}
+
+const NAMED: &[[&[u8]; 3]] = &[
     [
         b"c$",
         b"x",
@@ -205,67 +226,67 @@ const NAMED: [[&[u8]; 3]; 3] = [
 
 #[test]
 fn names_as_lines(rt: HostRuntime) -> Result<(), Fail> {
-    let alloc = rt.alloc();
-    let index = index_of(&rt, alloc, b"a.c x\ny\nx|a.h x")?;
-    for row in &NAMED {
-        let text = text_within(alloc, &index, row[0], row[1])?;
-        assert_eq!(rt; text.as_slice(), row[2], "of {row:?}");
+    let index = index_of(&rt, rt.alloc(), b"a.c x\ny\nx|a.h x")?;
+    for row in NAMED {
+        assert!(rt; is_within(rt.alloc(), &index, row)?, "of {:?}", row[0]);
     }
     Ok(())
 }
+
+const LONG_NAMES: Pieces<'static> = &[(b"a", 200), (b"c x|", 1), (b"a", 200), (b"b x", 1)];
+
+const LONG_NAME_FOUND: Pieces<'static> = &[
+    (b"search 7 version 2 lines 1\n", 1),
+    (b"a", 200),
+    (b"b:1:x\n", 1),
+];
 
 /// Thirty stars, each inside the next one and after a letter. Name by name, each of them doubles the time, so the test
 /// ends only if the pattern is compiled.
 #[test]
 fn names_in_many_stars(rt: HostRuntime) -> Result<(), Fail> {
-    let alloc = rt.alloc();
-    let pattern = built(alloc, &MANY_STARS)?;
-    let commands = built(
-        alloc,
-        &[(b"a", 200), (b"c x|", 1), (b"a", 200), (b"b x", 1)],
-    )?;
-    let index = index_of(&rt, alloc, &commands)?;
-    let want = built(
-        alloc,
-        &[
-            (b"search 7 version 2 lines 1\n", 1),
-            (b"a", 200),
-            (b"b:1:x\n", 1),
-        ],
-    )?;
-    let text = text_within(alloc, &index, &pattern, b"x")?;
-    assert_eq!(rt; text.as_slice(), want.as_slice());
+    let index = index_built(&rt, rt.alloc(), LONG_NAMES)?;
+    let pattern = built(rt.alloc(), MANY_STARS)?;
+    let want = built(rt.alloc(), LONG_NAME_FOUND)?;
+    assert!(rt; is_within(rt.alloc(), &index, &[&pattern, b"x", &want])?);
     Ok(())
 }
 
-/// A name pattern, a pattern, and whether the refusal is for the name pattern.
-const REFUSED: [(&[u8], &[u8], bool); 2] = [(b"*a", b"*b", true), (b"a", b"*b", false)];
-
-#[test]
-fn refused_patterns(rt: HostRuntime) -> Result<(), Fail> {
-    let alloc = rt.alloc();
-    match Prepared::new(alloc, b"*a") {
-        Ok(_) => assert!(rt; false),
-        Err(error) => assert_eq!(rt; error.kind, EreErrorKind::NothingToRepeat),
+/// Whether the pattern is refused since it has nothing to repeat.
+fn is_refused(alloc: Global, pattern: &[u8]) -> bool {
+    match Prepared::new(alloc, pattern) {
+        Ok(_) => false,
+        Err(error) => error.kind == EreErrorKind::NothingToRepeat,
     }
-    for (name_pattern, pattern, in_name) in REFUSED {
-        match Prepared::within(alloc, name_pattern, pattern) {
-            Ok(_) => assert!(rt; false),
-            Err(refused) => {
-                assert_eq!(rt; refused.in_name, in_name);
-                assert_eq!(rt; refused.error.kind, EreErrorKind::NothingToRepeat);
-            }
+}
+
+/// Whether the name pattern or the pattern is refused since it has nothing to repeat. `in_name` says which of them.
+fn is_refused_within(alloc: Global, name_pattern: &[u8], pattern: &[u8], in_name: bool) -> bool {
+    match Prepared::within(alloc, name_pattern, pattern) {
+        Ok(_) => false,
+        Err(refused) => {
+            refused.in_name == in_name && refused.error.kind == EreErrorKind::NothingToRepeat
         }
     }
-    Ok(())
+}
+
+#[test]
+fn refused_patterns(rt: HostRuntime) {
+    assert!(rt; is_refused(rt.alloc(), b"*a"));
+    assert!(rt; is_refused_within(rt.alloc(), b"*a", b"*b", true));
+    assert!(rt; is_refused_within(rt.alloc(), b"a", b"*b", false));
+}
+
+/// The answer of two documents.
+fn answer_of_two(alloc: Global) -> Result<Answer, Fail> {
+    let first = document(alloc, b"f", b"abc\ndef")?;
+    let second = document(alloc, b"e", b"abd")?;
+    search_two(alloc, first, second, b"ab")
 }
 
 #[test]
 fn two_documents(rt: HostRuntime) -> Result<(), Fail> {
-    let alloc = rt.alloc();
-    let first = document(alloc, b"f", b"abc\ndef")?;
-    let second = document(alloc, b"e", b"abd")?;
-    let answer = search_two(alloc, first, second, b"ab")?;
+    let answer = answer_of_two(rt.alloc())?;
     assert_eq!(rt; answer.version(), 2);
     assert_eq!(rt; answer.documents(), 2);
     assert_eq!(rt; answer.candidates(), 2);

@@ -1,48 +1,62 @@
 //! Names, bodies, and the documents and candidates of an index.
 
-use crate::fixtures::{built, document, index_of};
+use crate::fixtures::{Pieces, apply, built, document, index_of, lists};
 use index::{Body, BodyErrorKind, Command, Held, Index, Name, NameError};
 use query::{Query, Trigram};
-use std::alloc::Global;
+use std::alloc::{AllocError, Global};
 use std::process::Abort;
 use std::test::Fail;
 
+/// The pieces of a text, and why it is no name. Too long comes before a bad byte.
+const NO_NAMES: &[(Pieces<'static>, NameError)] = &[
+    (&[], NameError::Empty),
+    (&[(b"a", 256)], NameError::TooLong),
+    (&[(b" ", 256)], NameError::TooLong),
+    (&[(b"a b", 1)], NameError::BadByte),
+    (&[(b"a\n", 1)], NameError::BadByte),
+    (&[(b"\0", 1)], NameError::BadByte),
+];
+
+/// Whether the text of these pieces is refused as a name for this reason.
+fn is_no_name(alloc: Global, pieces: Pieces<'_>, want: NameError) -> Result<bool, AllocError> {
+    let bytes = built(alloc, pieces)?;
+    match Name::new(alloc, &bytes) {
+        Ok(_) => Ok(false),
+        Err(error) => Ok(error == want),
+    }
+}
+
 #[test]
 fn names_are_refused(rt: HostRuntime) -> Result<(), Fail> {
-    let alloc = rt.alloc();
-    let longer = built(alloc, &[(b"a", 256)])?;
-    // too long comes before a bad byte
-    let longer_and_bad = built(alloc, &[(b" ", 256)])?;
-    for (bytes, want) in [
-        (b"".as_slice(), NameError::Empty),
-        (longer.as_slice(), NameError::TooLong),
-        (longer_and_bad.as_slice(), NameError::TooLong),
-        (b"a b".as_slice(), NameError::BadByte),
-        (b"a\n".as_slice(), NameError::BadByte),
-        (b"\0".as_slice(), NameError::BadByte),
-    ] {
-        match Name::new(alloc, bytes) {
-            Ok(_) => assert!(rt; false, "a name: {bytes:?}"),
-            Err(error) => assert_eq!(rt; error, want, "at {bytes:?}"),
-        }
+    for row in NO_NAMES {
+        assert!(rt; is_no_name(rt.alloc(), row.0, row.1)?, "of {:?}", row.0);
     }
     Ok(())
 }
 
-/// A name may have 1 to 255 bytes, each of them 33 to 126 or from 128 on.
+/// Whether there is a name of this length, and has its bytes.
+fn is_name_of(alloc: Global, length: usize) -> Result<bool, Fail> {
+    let bytes = built(alloc, &[(b"\xff", length)])?;
+    let name = Name::new(alloc, &bytes)?;
+    Ok(name.as_bytes() == bytes.as_slice())
+}
+
+/// A name may have 1 to 255 bytes.
 #[test]
-fn names_of_each_length_and_byte(rt: HostRuntime) -> Result<(), Fail> {
-    let alloc = rt.alloc();
+fn names_of_each_length(rt: HostRuntime) -> Result<(), Fail> {
     for length in 1..=255usize {
-        let bytes = built(alloc, &[(b"\xff", length)])?;
-        let name = Name::new(alloc, &bytes)?;
-        assert_eq!(rt; name.as_bytes(), bytes.as_slice(), "of {length} bytes");
-    }
-    for byte in 0..=255u8 {
-        let may_be = byte > 32 && byte != 127;
-        assert_eq!(rt; Name::new(alloc, &[byte]).is_ok(), may_be, "of {byte}");
+        assert!(rt; is_name_of(rt.alloc(), length)?, "of {length} bytes");
     }
     Ok(())
+}
+
+/// The bytes of a name are 33 to 126 and from 128 on.
+#[test]
+fn names_of_each_byte(rt: HostRuntime) {
+    for byte in 0..=255u8 {
+        let may_be = byte > 32 && byte != 127;
+        assert_eq!(rt; Name::new(rt.alloc(), &[byte]).is_ok(), may_be, "of {byte}");
+    }
 }
 
 /// Two names, the lower one first.
@@ -53,25 +67,25 @@ const RISING_NAMES: [(&[u8], &[u8]); 4] = [
     (b"~", b"\x80"),
 ];
 
+/// Whether the first name is below the second, and is equal to its copy.
+fn rises(alloc: Global, low: &[u8], high: &[u8]) -> Result<bool, Fail> {
+    let low = Name::new(alloc, low)?;
+    let high = Name::new(alloc, high)?;
+    let copy = low.copy()?;
+    Ok(low < high && copy == low)
+}
+
 #[test]
 fn names_rise_by_their_bytes(rt: HostRuntime) -> Result<(), Fail> {
-    let alloc = rt.alloc();
-    for (low, high) in RISING_NAMES {
-        let low = Name::new(alloc, low)?;
-        let high = Name::new(alloc, high)?;
-        assert!(rt; low < high, "{low:?} and {high:?}");
-        assert!(rt; low.copy()? == low, "{low:?}");
+    for row in &RISING_NAMES {
+        assert!(rt; rises(rt.alloc(), row.0, row.1)?, "of {:?}", row.0);
     }
     Ok(())
 }
 
 /// Whether a body of these pieces is refused for this fault and its bytes come back, or, with no fault, is made and
 /// shared.
-fn is_made(
-    alloc: Global,
-    pieces: &[(&[u8], usize)],
-    fault: Option<BodyErrorKind>,
-) -> Result<bool, Fail> {
+fn is_made(alloc: Global, pieces: Pieces<'_>, fault: Option<BodyErrorKind>) -> Result<bool, Fail> {
     let bytes = built(alloc, pieces)?;
     let handed = bytes.clone()?;
     match Body::new(bytes) {
@@ -88,7 +102,7 @@ fn is_shared(body: Body, bytes: &[u8]) -> Result<bool, Fail> {
     Ok(is_same && held.body().as_bytes() == bytes && shared.body().as_bytes() == bytes)
 }
 
-const BODIES: &[(&[(&[u8], usize)], Option<BodyErrorKind>)] = &[
+const BODIES: &[(Pieces<'static>, Option<BodyErrorKind>)] = &[
     (&[], None),
     (&[(b"a", 4097)], None),
     (&[(b"a", 16_384)], None),
@@ -157,20 +171,45 @@ const HELD_BYTES: [(&[u8], u64); 6] = [
     (b"f abc|f xy|g wxyz|-g|-g|-absent", 2),
 ];
 
+/// Whether the bodies of these commands have this number of bytes.
+fn holds_bytes(rt: &impl Abort, alloc: Global, commands: &[u8], bytes: u64) -> Result<bool, Fail> {
+    let index = index_of(rt, alloc, commands)?;
+    Ok(index.held_bytes() == bytes)
+}
+
 #[test]
 fn bytes_that_are_held(rt: HostRuntime) -> Result<(), Fail> {
-    let alloc = rt.alloc();
-    for (commands, bytes) in HELD_BYTES {
-        let index = index_of(&rt, alloc, commands)?;
-        assert_eq!(rt; index.held_bytes(), bytes, "of {commands:?}");
+    for row in &HELD_BYTES {
+        assert!(rt;
+            holds_bytes(&rt, rt.alloc(), row.0, row.1)?,
+            "of {:?}",
+            row.0
+        );
     }
     Ok(())
 }
 
+/// Puts a document into the index, which has fewer than 1,000 commands.
+fn hold(rt: &impl Abort, index: &mut Index, name: &Name, held: &Held) -> Result<(), AllocError> {
+    assert!(rt; index.version() < 1000);
+    index.apply_put(name, held)
+}
+
+/// Removes a document from the index, which has fewer than 1,000 commands.
+fn leave(rt: &impl Abort, index: &mut Index, name: &Name) -> Result<(), AllocError> {
+    assert!(rt; index.version() < 1000);
+    index.remove(name)
+}
+
 /// An index of one document.
-fn index_of_one(alloc: Global, name: &Name, held: &Held) -> Result<Index, Fail> {
+fn index_of_one(
+    rt: &impl Abort,
+    alloc: Global,
+    name: &Name,
+    held: &Held,
+) -> Result<Index, AllocError> {
     let mut index = Index::new(alloc);
-    index.apply_put(name, held)?;
+    hold(rt, &mut index, name, held)?;
     Ok(index)
 }
 
@@ -187,9 +226,8 @@ fn holds_one(index: &Index, name: &Name, bytes: &[u8]) -> bool {
 }
 
 /// Whether nothing of the document 1 is left once its name is removed.
-fn holds_none(rt: &impl Abort, index: &mut Index, name: &Name) -> Result<bool, Fail> {
-    assert!(rt; index.version() < 1000);
-    index.remove(name)?;
+fn holds_none(rt: &impl Abort, index: &mut Index, name: &Name) -> Result<bool, AllocError> {
+    leave(rt, index, name)?;
     Ok(index.number(name).is_none() && index.held(1).is_none() && index.held_bytes() == 0)
 }
 
@@ -200,9 +238,9 @@ fn stays_in_one(
     name: &Name,
     held: &Held,
     bytes: &[u8],
-) -> Result<bool, Fail> {
-    let mut first = index_of_one(alloc, name, held)?;
-    let second = index_of_one(alloc, name, held)?;
+) -> Result<bool, AllocError> {
+    let mut first = index_of_one(rt, alloc, name, held)?;
+    let second = index_of_one(rt, alloc, name, held)?;
     Ok(
         holds_one(&first, name, bytes)
             && holds_none(rt, &mut first, name)?
@@ -230,12 +268,18 @@ fn values_for_threads() {
     is_for_threads::<Command>();
 }
 
+/// Puts the document of this number.
+fn put_numbered(rt: &impl Abort, alloc: Global, index: &mut Index, i: u8) -> Result<(), Fail> {
+    let name = name_of(alloc, i)?;
+    let held = held_of(alloc, i)?;
+    Ok(hold(rt, index, &name, &held)?)
+}
+
 /// 200 documents, each under a name of its own.
 fn many(rt: &impl Abort, alloc: Global) -> Result<Index, Fail> {
     let mut index = Index::new(alloc);
     for i in 0..200u8 {
-        assert!(rt; index.version() < 1000);
-        index.apply_put(&name_of(alloc, i)?, &held_of(alloc, i)?)?;
+        put_numbered(rt, alloc, &mut index, i)?;
     }
     Ok(index)
 }
@@ -248,16 +292,28 @@ fn leaves(
     gone: u8,
     left: u8,
 ) -> Result<bool, Fail> {
-    assert!(rt; index.version() < 1000);
-    index.remove(&name_of(alloc, gone)?)?;
+    let name = name_of(alloc, gone)?;
+    leave(rt, index, &name)?;
     Ok(index.documents() == left as u32 && index.held_bytes() == 3 * left as u64)
 }
 
 /// Whether a document is found by its number and its name, or by neither.
 fn is_found(alloc: Global, index: &Index, i: u8, there: bool) -> Result<bool, Fail> {
+    let name = name_of(alloc, i)?;
     let number = i as u32 + 1;
-    let found = index.number(&name_of(alloc, i)?);
+    let found = index.number(&name);
     Ok(index.document(number).is_some() == there && found == there.then_some(number))
+}
+
+/// Whether those documents are found that go after the one of this order, and no others.
+fn are_found(alloc: Global, index: &Index, i: u8) -> Result<bool, Fail> {
+    for j in 0..200u8 {
+        let order = if j % 2 == 0 { j / 2 } else { 100 + j / 2 };
+        if !is_found(alloc, index, j, order > i)? {
+            return Ok(false);
+        }
+    }
+    Ok(true)
 }
 
 /// Each of many documents is found by its number and its name while others are removed, first every second
@@ -271,13 +327,7 @@ fn many_documents_go(rt: HostRuntime) -> Result<(), Fail> {
             leaves(&rt, rt.alloc(), &mut index, gone, 199 - i)?,
             "{gone}"
         );
-        for j in 0..200u8 {
-            let order = if j % 2 == 0 { j / 2 } else { 100 + j / 2 };
-            assert!(rt;
-                is_found(rt.alloc(), &index, j, order > i)?,
-                "{j} after {i}"
-            );
-        }
+        assert!(rt; are_found(rt.alloc(), &index, i)?, "after {i}");
     }
     Ok(())
 }
@@ -287,7 +337,8 @@ fn name_of(alloc: Global, i: u8) -> Result<Name, Fail> {
 }
 
 fn held_of(alloc: Global, i: u8) -> Result<Held, Fail> {
-    let body = Body::new(Vec::from_slice(alloc, &[b'x', b'a' + i % 26, b'a' + i / 26])?)?;
+    let bytes = Vec::from_slice(alloc, &[b'x', b'a' + i % 26, b'a' + i / 26])?;
+    let body = Body::new(bytes)?;
     Ok(Held::new(body)?)
 }
 
@@ -300,14 +351,17 @@ fn text_of(i: u32) -> [u8; 5] {
     [letter(i), letter(i / 26), letter(i / 676), b'x', b'y']
 }
 
-/// Whether the first two trigrams of the text of this number, put under f, lead to it, and the first one of the text
+/// Puts the text of this number under f.
+fn put_text(rt: &impl Abort, alloc: Global, index: &mut Index, i: u32) -> Result<(), Fail> {
+    let (name, body) = document(alloc, b"f", &text_of(i))?;
+    apply(rt, index, Command::Put(name, body))
+}
+
+/// Whether the first two trigrams of the text of this number lead to the last document, and the first one of the text
 /// before it leads to none.
-fn replaces(rt: &impl Abort, alloc: Global, index: &mut Index, i: u32) -> Result<bool, Fail> {
-    let [a, b, c, x, y] = text_of(i);
+fn leads_to_text(alloc: Global, index: &Index, i: u32) -> Result<bool, AllocError> {
+    let [a, b, c, x, _] = text_of(i);
     let [d, e, f, _, _] = text_of(i.wrapping_sub(1));
-    let (name, body) = document(alloc, b"f", &[a, b, c, x, y])?;
-    assert!(rt; index.version() < 2000);
-    index.apply(Command::Put(name, body))?;
     let number = index.version();
     Ok(
         has(alloc, index, [a, b, c], &[number])?
@@ -317,23 +371,28 @@ fn replaces(rt: &impl Abort, alloc: Global, index: &mut Index, i: u32) -> Result
     )
 }
 
+/// Whether the text of the document that stays leads to it, and to the text of this number where they share a trigram.
+fn leads_to_both(alloc: Global, index: &Index, i: u32) -> Result<bool, AllocError> {
+    let both = [1, index.version()];
+    let with_axy = if i < 676 { 2 } else { 1 };
+    Ok(has(alloc, index, *b"axy", &both[..with_axy])? && has(alloc, index, *b"0ax", &[1])?)
+}
+
 /// One document is replaced 1,000 times, each time with trigrams that were not there, while another stays.
 #[test]
 fn a_document_is_replaced_often(rt: HostRuntime) -> Result<(), Fail> {
     let alloc = rt.alloc();
     let mut index = index_of(&rt, alloc, b"g 0axy")?;
     for i in 0..1001 {
-        assert!(rt; replaces(&rt, alloc, &mut index, i)?, "{i}");
-        let both = [1, index.version()];
-        let with_axy = if i < 676 { 2 } else { 1 };
-        assert!(rt; has(alloc, &index, *b"axy", &both[..with_axy])?, "{i}");
-        assert!(rt; has(alloc, &index, *b"0ax", &[1])?, "{i}");
+        put_text(&rt, alloc, &mut index, i)?;
+        assert!(rt; leads_to_text(alloc, &index, i)?, "{i}");
+        assert!(rt; leads_to_both(alloc, &index, i)?, "{i}");
     }
     Ok(())
 }
 
 /// The query that every `step`-th text of `many` meets, each by a member of its own.
-fn one_of(alloc: Global, step: u8) -> Result<Query, Fail> {
+fn one_of(alloc: Global, step: u8) -> Result<Query, AllocError> {
     let mut members = Vec::new(alloc);
     for i in 0..=255u8 {
         if i.checked_rem(step) == Some(0) {
@@ -343,44 +402,62 @@ fn one_of(alloc: Global, step: u8) -> Result<Query, Fail> {
     Ok(Query::Or(members))
 }
 
-/// Whether the candidates of the query are every `step`-th of 200 documents, from the first on.
-fn are_every(alloc: Global, index: &Index, query: &Query, step: u32) -> Result<bool, Fail> {
-    let found = index.candidates(alloc, query)?;
-    let numbers: Vec<u32> = found.numbers().collect(alloc)?;
+/// The queries of these steps, and for 0 the one that all meet.
+fn all_of(alloc: Global, steps: &[u8]) -> Result<Vec<Query>, AllocError> {
+    let mut members = Vec::new(alloc);
+    for step in steps {
+        members.push(match *step {
+            0 => Query::Any,
+            step => one_of(alloc, step)?,
+        })?;
+    }
+    Ok(members)
+}
+
+/// The numbers of every `step`-th of 200 documents, from the first on.
+fn every(alloc: Global, step: u32) -> Result<Vec<u32>, AllocError> {
     let mut every = Vec::new(alloc);
     for i in 0..200u32 {
         if i.checked_rem(step) == Some(0) {
             every.push(i + 1)?;
         }
     }
-    Ok(numbers.as_slice() == every.as_slice())
+    Ok(every)
+}
+
+/// Whether the candidates of the query are every `step`-th of 200 documents, from the first on.
+fn are_every(alloc: Global, index: &Index, query: Query, step: u32) -> Result<bool, AllocError> {
+    let numbers = every(alloc, step)?;
+    are_candidates(alloc, index, &query, &numbers)
 }
 
 /// Whether an Or of every `step`-th trigram finds its documents: by itself, with all documents added, and with every
 /// second one asked for too.
-fn finds_every(alloc: Global, index: &Index, step: u8) -> Result<bool, Fail> {
-    let all = Query::Or(vec![in alloc; one_of(alloc, step)?, Query::Any]?);
-    let both = Query::And(vec![in alloc; one_of(alloc, step)?, one_of(alloc, 2)?]?);
+fn finds_every(alloc: Global, index: &Index, step: u8) -> Result<bool, AllocError> {
     let even = if step % 2 == 0 { 1 } else { 2 };
     Ok(
-        are_every(alloc, index, &one_of(alloc, step)?, step as u32)?
-            && are_every(alloc, index, &all, 1)?
-            && are_every(alloc, index, &both, even * step as u32)?,
+        are_every(alloc, index, one_of(alloc, step)?, step as u32)?
+            && are_every(alloc, index, Query::Or(all_of(alloc, &[step, 0])?), 1)?
+            && are_every(
+                alloc,
+                index,
+                Query::And(all_of(alloc, &[step, 2])?),
+                even * step as u32,
+            )?,
     )
 }
 
 #[test]
 fn one_of_many_trigrams(rt: HostRuntime) -> Result<(), Fail> {
-    let alloc = rt.alloc();
-    let index = many(&rt, alloc)?;
+    let index = many(&rt, rt.alloc())?;
     for step in [1, 2, 3, 7, 100, 255] {
-        assert!(rt; finds_every(alloc, &index, step)?, "{step}");
+        assert!(rt; finds_every(rt.alloc(), &index, step)?, "{step}");
     }
     Ok(())
 }
 
 /// Whether the candidates with the trigram bcd have the first numbers, and those with abc the second ones.
-fn have(alloc: Global, index: &Index, bcd: &[u32], abc: &[u32]) -> Result<bool, Fail> {
+fn have(alloc: Global, index: &Index, bcd: &[u32], abc: &[u32]) -> Result<bool, AllocError> {
     Ok(has(alloc, index, *b"bcd", bcd)? && has(alloc, index, *b"abc", abc)?)
 }
 
@@ -467,17 +544,28 @@ fn are_numbers(
 }
 
 /// Whether these are the numbers of the live documents, and the candidates of the query that all satisfy.
-fn is_live(alloc: Global, index: &Index, numbers: &[u32]) -> Result<bool, Fail> {
-    let live: Vec<u32> = index.live().numbers().collect(alloc)?;
-    let found = index.candidates(alloc, &Query::Any)?;
-    let candidates: Vec<u32> = found.numbers().collect(alloc)?;
-    Ok(live.as_slice() == numbers && candidates.as_slice() == numbers)
+fn is_live(alloc: Global, index: &Index, numbers: &[u32]) -> Result<bool, AllocError> {
+    Ok(lists(alloc, index.live(), numbers)? && are_candidates(alloc, index, &Query::Any, numbers)?)
 }
 
 /// Whether the candidates with the trigram have these numbers.
-fn has(alloc: Global, index: &Index, trigram: [u8; 3], numbers: &[u32]) -> Result<bool, Fail> {
+fn has(
+    alloc: Global,
+    index: &Index,
+    trigram: [u8; 3],
+    numbers: &[u32],
+) -> Result<bool, AllocError> {
     let query = Query::Has(Trigram::of(trigram));
-    let found = index.candidates(alloc, &query)?;
-    let candidates: Vec<u32> = found.numbers().collect(alloc)?;
-    Ok(candidates.as_slice() == numbers)
+    are_candidates(alloc, index, &query, numbers)
+}
+
+/// Whether the candidates of the query have these numbers.
+fn are_candidates(
+    alloc: Global,
+    index: &Index,
+    query: &Query,
+    numbers: &[u32],
+) -> Result<bool, AllocError> {
+    let found = index.candidates(alloc, query)?;
+    lists(alloc, &found, numbers)
 }

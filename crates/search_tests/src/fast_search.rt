@@ -2,9 +2,9 @@
 //!
 //! The hits that are wanted are those of `grep -E` under LC_ALL=C, or worked by hand.
 
-use crate::fixtures::{Kept, MANY_STARS, answer_text, built, put};
+use crate::fixtures::{Kept, MANY_STARS, Pieces, answer_text, append_times, built, put};
 use index::Index;
-use std::alloc::Global;
+use std::alloc::{AllocError, Global};
 use std::process::Abort;
 use std::test::Fail;
 
@@ -59,7 +59,7 @@ fn finds_by_the_engine(rt: &impl Abort, alloc: Global, row: &[&[u8]; 3]) -> Resu
 }
 
 /// Many copies of a body, together more bytes than are looked at line by line.
-fn copies_of(alloc: Global, body: &[u8]) -> Result<Vec<u8>, Fail> {
+fn copies_of(alloc: Global, body: &[u8]) -> Result<Vec<u8>, AllocError> {
     let line = built(alloc, &[(body, 1), (b"\n", 1)])?;
     let count = MANY_BYTES / line.len().max(1) + 1;
     built(alloc, &[(line.as_slice(), count)])
@@ -82,14 +82,16 @@ fn finds_behind_many(rt: &impl Abort, alloc: Global, row: &[&[u8]; 3]) -> Result
 /// Fails if a pattern's hits in a body are not the expected ones. A row is a body, a pattern, and the hits.
 fn expect_hits(rt: &impl Abort, alloc: Global, rows: &[[&[u8]; 3]]) -> Result<(), Fail> {
     for row in rows {
-        assert!(rt; finds(rt, alloc, row)?, "{row:?} line by line");
+        assert!(rt; finds(rt, alloc, row)?, "{:?} line by line", row[1]);
         assert!(rt;
             finds_by_the_engine(rt, alloc, row)?,
-            "{row:?} by the engine"
+            "{:?} by the engine",
+            row[1]
         );
         assert!(rt;
             finds_behind_many(rt, alloc, row)?,
-            "{row:?} behind many lines"
+            "{:?} behind many lines",
+            row[1]
         );
     }
     Ok(())
@@ -252,14 +254,18 @@ fn patterns_of_each_kind(rt: HostRuntime) -> Result<(), Fail> {
     expect_hits(&rt, rt.alloc(), KINDS)
 }
 
+const LONG_LINES: Pieces<'static> = &[(b"a", 1000), (b"c\n", 1), (b"a", 1000), (b"b", 1)];
+
+const LONG_LINE_FOUND: Pieces<'static> = &[(b"f:2:", 1), (b"a", 1000), (b"b\n", 1)];
+
 /// Thirty stars, each inside the next one. Line by line, each of them doubles the time, so the test ends only if the
 /// pattern is compiled.
 #[test]
 fn many_stars_inside_stars(rt: HostRuntime) -> Result<(), Fail> {
     let alloc = rt.alloc();
-    let pattern = built(alloc, &MANY_STARS)?;
-    let body = built(alloc, &[(b"a", 1000), (b"c\n", 1), (b"a", 1000), (b"b", 1)])?;
-    let want = built(alloc, &[(b"f:2:", 1), (b"a", 1000), (b"b\n", 1)])?;
+    let pattern = built(alloc, MANY_STARS)?;
+    let body = built(alloc, LONG_LINES)?;
+    let want = built(alloc, LONG_LINE_FOUND)?;
     assert!(rt; finds(&rt, alloc, &[&body, &pattern, &want])?);
     Ok(())
 }
@@ -295,22 +301,33 @@ fn large_counts_inside_stars_over_long_lines(rt: HostRuntime) -> Result<(), Fail
     Ok(())
 }
 
+/// Appends a line of this number of the letter a and then c.
+fn append_line(lines: &mut Vec<u8>, count: usize) -> Result<(), AllocError> {
+    append_times(lines, b"a", count)?;
+    lines.extend_from_slice(b"c\n")
+}
+
 /// Lines of the letter a and then c: for each number from `first` to 649, one line with this number of a.
-fn letters_and_c(alloc: Global, first: usize) -> Result<Vec<u8>, Fail> {
+fn letters_and_c(alloc: Global, first: usize) -> Result<Vec<u8>, AllocError> {
     let mut lines = Vec::new(alloc);
     for count in first..650 {
-        lines.extend_from_slice(&built(alloc, &[(b"a", count), (b"c\n", 1)])?)?;
+        append_line(&mut lines, count)?;
     }
     Ok(lines)
 }
 
+/// Appends the head of a hit in f.
+fn append_head(alloc: Global, hits: &mut Vec<u8>, line: usize) -> Result<(), AllocError> {
+    let head = format!(in alloc; "f:{line}:")?;
+    hits.extend_from_slice(head.as_bytes())
+}
+
 /// The hits in lines from 610 a on, if those with `least` of them or more are found.
-fn hits_from(alloc: Global, least: usize) -> Result<Vec<u8>, Fail> {
+fn hits_from(alloc: Global, least: usize) -> Result<Vec<u8>, AllocError> {
     let mut hits = Vec::new(alloc);
     for count in least..650 {
-        let head = format!(in alloc; "f:{}:", count.saturating_sub(609))?;
-        let line = built(alloc, &[(head.as_bytes(), 1), (b"a", count), (b"c\n", 1)])?;
-        hits.extend_from_slice(&line)?;
+        append_head(alloc, &mut hits, count.saturating_sub(609))?;
+        append_line(&mut hits, count)?;
     }
     Ok(hits)
 }
@@ -356,32 +373,47 @@ fn patterns_about_the_greatest_size(rt: HostRuntime) -> Result<(), Fail> {
     Ok(())
 }
 
+/// Appends the three lines that are found in the document of this number.
+fn append_three(alloc: Global, text: &mut Vec<u8>, number: u32) -> Result<(), AllocError> {
+    let lines = format!(in alloc;
+        "d{number}:1:needle\nd{number}:102:needles\nd{number}:104:in needles\n"
+    )?;
+    text.extend_from_slice(lines.as_bytes())
+}
+
 /// The text of the answer that finds three lines in each of 80 documents.
-fn three_lines_of_each(alloc: Global) -> Result<Vec<u8>, Fail> {
+fn three_lines_of_each(alloc: Global) -> Result<Vec<u8>, AllocError> {
     let mut text = Vec::from_slice(alloc, b"search 1 version 80 lines 240\n")?;
     for number in 10..90u32 {
-        let lines = format!(in alloc;
-            "d{number}:1:needle\nd{number}:102:needles\nd{number}:104:in needles\n"
-        )?;
-        text.extend_from_slice(lines.as_bytes())?;
+        append_three(alloc, &mut text, number)?;
     }
     Ok(text)
 }
 
+/// Puts a document under a d and this number.
+fn put_numbered(
+    rt: &impl Abort,
+    alloc: Global,
+    index: &mut Index,
+    number: u32,
+    body: &[u8],
+) -> Result<(), Fail> {
+    let name = format!(in alloc; "d{number}")?;
+    put(rt, alloc, index, name.as_bytes(), body)
+}
+
+const NEEDLES: Pieces<'static> = &[
+    (b"needle\n", 1),
+    (b"straw\n", 100),
+    (b"needles\n\nin needles", 1),
+];
+
 /// 80 documents of 625 bytes each.
 fn eighty_documents(rt: &impl Abort, alloc: Global) -> Result<Index, Fail> {
     let mut index = Index::new(alloc);
-    let body = built(
-        alloc,
-        &[
-            (b"needle\n", 1),
-            (b"straw\n", 100),
-            (b"needles\n\nin needles", 1),
-        ],
-    )?;
+    let body = built(alloc, NEEDLES)?;
     for number in 10..90u32 {
-        let name = format!(in alloc; "d{number}")?;
-        put(rt, alloc, &mut index, name.as_bytes(), &body)?;
+        put_numbered(rt, alloc, &mut index, number, &body)?;
     }
     Ok(index)
 }
@@ -404,30 +436,42 @@ fn several_hits_in_each_of_many_documents(rt: HostRuntime) -> Result<(), Fail> {
     Ok(())
 }
 
+/// The index of a document of these pieces, f.
+fn index_built_of(rt: &impl Abort, alloc: Global, pieces: Pieces<'_>) -> Result<Index, Fail> {
+    let body = built(alloc, pieces)?;
+    assert!(rt; body.len() == 1_048_576);
+    index_with(rt, alloc, &body)
+}
+
+/// Whether the pattern finds each line of 1 MiB of line feeds.
+fn finds_each_line(alloc: Global, index: &Index, pattern: &[u8]) -> Result<bool, Fail> {
+    let text = text_of(alloc, index, pattern)?;
+    Ok(
+        text.starts_with(b"search 1 version 1 lines 1048576\nf:1:\nf:2:\n")
+            && text.ends_with(b"\nf:1048575:\nf:1048576:\n"),
+    )
+}
+
 /// 1 MiB of line feeds: each line is a hit.
 #[test]
 fn a_megabyte_of_line_feeds(rt: HostRuntime) -> Result<(), Fail> {
-    let alloc = rt.alloc();
-    let index = index_with(&rt, alloc, &built(alloc, &[(b"\n", 1_048_576)])?)?;
-    for pattern in [b"^$".as_slice(), b"x*"] {
-        let text = text_of(alloc, &index, pattern)?;
-        let head = b"search 1 version 1 lines 1048576\nf:1:\nf:2:\n";
-        assert!(rt; text.starts_with(head), "{pattern:?}");
+    let index = index_built_of(&rt, rt.alloc(), &[(b"\n", 1_048_576)])?;
+    for pattern in PATTERNS_OF_EACH_LINE {
         assert!(rt;
-            text.ends_with(b"\nf:1048575:\nf:1048576:\n"),
+            finds_each_line(rt.alloc(), &index, pattern)?,
             "{pattern:?}"
         );
     }
     Ok(())
 }
 
+const PATTERNS_OF_EACH_LINE: &[&[u8]] = &[b"^$", b"x*"];
+
 /// 1 MiB whose first line and last line may be hits. The last one has no line feed.
-fn megabyte(alloc: Global) -> Result<Vec<u8>, Fail> {
-    built(
-        alloc,
-        &[(b"hay\n", 1), (b"straw\n", 174_657), (b"a", 629), (b"c", 1)],
-    )
-}
+const FEW_HITS: Pieces<'static> = &[(b"hay\n", 1), (b"straw\n", 174_657), (b"a", 629), (b"c", 1)];
+
+/// The hit of the last line.
+const LAST_HIT: Pieces<'static> = &[(b"f:174659:", 1), (b"a", 629), (b"c\n", 1)];
 
 /// One of the patterns is too large to be compiled.
 const PATTERNS_OF_THE_LAST_LINE: &[&[u8]] = &[
@@ -439,11 +483,9 @@ const PATTERNS_OF_THE_LAST_LINE: &[&[u8]] = &[
 
 #[test]
 fn a_megabyte_with_few_hits(rt: HostRuntime) -> Result<(), Fail> {
-    let body = megabyte(rt.alloc())?;
-    assert_eq!(rt; body.len(), 1_048_576);
-    let index = index_with(&rt, rt.alloc(), &body)?;
+    let index = index_built_of(&rt, rt.alloc(), FEW_HITS)?;
     assert!(rt; are_hits(rt.alloc(), &index, b"^hay$", b"f:1:hay\n")?);
-    let last = built(rt.alloc(), &[(b"f:174659:", 1), (b"a", 629), (b"c\n", 1)])?;
+    let last = built(rt.alloc(), LAST_HIT)?;
     for pattern in PATTERNS_OF_THE_LAST_LINE {
         assert!(rt;
             are_hits(rt.alloc(), &index, pattern, &last)?,

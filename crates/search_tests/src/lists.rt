@@ -2,6 +2,7 @@
 
 ghost use Rattle.std.specs.Prelude.{◌≡◌};
 
+use crate::fixtures::lists;
 use posting::{List, Postings};
 use query::{Query, Trigram};
 use std::alloc::{AllocError, Global};
@@ -30,20 +31,10 @@ fn set_of(alloc: Global, steps: &[&[u32]; 3]) -> Result<List, AllocError> {
     Ok(set)
 }
 
-/// Whether the set has these numbers.
-fn lists(alloc: Global, set: &List, numbers: &[u32]) -> Result<bool, AllocError> {
-    let listed: Vec<u32> = set.numbers().collect(alloc)?;
-    Ok(
-        set.len() == numbers.len()
-            && set.is_empty() == numbers.is_empty()
-            && listed.as_slice() == numbers,
-    )
-}
-
 const FAR: [u32; 6] = [1, 5, 300, 70000, 70001, 4294967295];
 
 /// Numbers put in, taken out and put in, and those that are there then.
-const KEPT: [([&[u32]; 3], &[u32]); 8] = [
+const KEPT: &[([&[u32]; 3], &[u32])] = &[
     ([&[], &[], &[]], &[]),
     ([&FAR, &[], &[]], &FAR),
     ([&FAR, &[300, 301], &[]], &[1, 5, 70000, 70001, 4294967295]),
@@ -54,20 +45,31 @@ const KEPT: [([&[u32]; 3], &[u32]); 8] = [
     ([&[0, 1, 2, 3, 4, 5], &[5, 4, 3], &[6]], &[0, 1, 2, 6]),
 ];
 
+fn has_all(set: &List, numbers: &[u32]) -> bool {
+    for number in numbers {
+        if !set.has(*number) {
+            return false;
+        }
+    }
+    true
+}
+
+/// Whether the steps leave these numbers, and not 301.
+fn keeps(alloc: Global, steps: &[&[u32]; 3], want: &[u32]) -> Result<bool, AllocError> {
+    let set = set_of(alloc, steps)?;
+    Ok(lists(alloc, &set, want)? && has_all(&set, want) && !set.has(301))
+}
+
 #[test]
 fn sets_keep_their_numbers_rising(rt: HostRuntime) -> Result<(), Fail> {
-    let alloc = rt.alloc();
-    for (steps, want) in KEPT {
-        let set = set_of(alloc, &steps)?;
-        assert!(rt; lists(alloc, &set, want)?, "of {want:?}");
-        assert!(rt; want.iter().all(|number| set.has(*number)), "of {want:?}");
-        assert!(rt; !set.has(301), "of {want:?}");
+    for row in KEPT {
+        assert!(rt; keeps(rt.alloc(), &row.0, row.1)?, "of {:?}", row.1);
     }
     Ok(())
 }
 
 /// The same, and the bytes of the set.
-const STORED: [([&[u32]; 3], &[u8]); 5] = [
+const STORED: &[([&[u32]; 3], &[u8])] = &[
     ([&[], &[], &[]], &[]),
     (
         [&[5, 300, 70000], &[], &[]],
@@ -78,12 +80,16 @@ const STORED: [([&[u32]; 3], &[u8]); 5] = [
     ([&[4294967295], &[], &[]], &[0xff, 0xff, 0xff, 0xff, 0x0f]),
 ];
 
+/// Whether the set that the steps leave has these bytes.
+fn is_stored(alloc: Global, steps: &[&[u32]; 3], want: &[u8]) -> Result<bool, AllocError> {
+    let set = set_of(alloc, steps)?;
+    Ok(set.stored() == want)
+}
+
 #[test]
 fn sets_are_stored_as_gaps(rt: HostRuntime) -> Result<(), Fail> {
-    let alloc = rt.alloc();
-    for (steps, want) in STORED {
-        let set = set_of(alloc, &steps)?;
-        assert!(rt; set.stored() == want, "of {steps:?}");
+    for row in STORED {
+        assert!(rt; is_stored(rt.alloc(), &row.0, row.1)?, "of {:?}", row.1);
     }
     Ok(())
 }
@@ -121,26 +127,26 @@ fn set_of_text(alloc: Global, text: &[u8]) -> Result<List, AllocError> {
 }
 
 /// Whether the set has the numbers of these small letters.
-fn has_letters(alloc: Global, set: &List, letters: &[u8]) -> Result<bool, AllocError> {
+fn has_letters(alloc: Global, set: List, letters: &[u8]) -> Result<bool, AllocError> {
     let mut numbers = Vec::new(alloc);
     for letter in letters {
         numbers.push(*letter as u32)?;
     }
-    lists(alloc, set, &numbers)
+    lists(alloc, &set, &numbers)
 }
 
 /// Whether the sets of two texts together have the third's letters, and share the fourth's.
-fn join_and_meet(alloc: Global, texts: [&[u8]; 4]) -> Result<bool, AllocError> {
-    let [left, right, joined, met] = texts;
-    let left = set_of_text(alloc, left)?;
-    let right = set_of_text(alloc, right)?;
-    let union = left.union(&right)?;
-    let shared = left.intersect(&right)?;
-    Ok(has_letters(alloc, &union, joined)? && has_letters(alloc, &shared, met)?)
+fn join_and_meet(alloc: Global, texts: &[&[u8]; 4]) -> Result<bool, AllocError> {
+    let left = set_of_text(alloc, texts[0])?;
+    let right = set_of_text(alloc, texts[1])?;
+    Ok(
+        has_letters(alloc, left.union(&right)?, texts[2])?
+            && has_letters(alloc, left.intersect(&right)?, texts[3])?,
+    )
 }
 
 /// Two sets, their union, and what they share.
-const JOINED: [[&[u8]; 4]; 5] = [
+const JOINED: &[[&[u8]; 4]] = &[
     [b"cj", b"acdefghik", b"acdefghijk", b"c"],
     [b"acdefghik", b"cj", b"acdefghijk", b"c"],
     [b"", b"acdefghik", b"acdefghik", b""],
@@ -150,19 +156,29 @@ const JOINED: [[&[u8]; 4]; 5] = [
 
 #[test]
 fn sets_join_and_meet(rt: HostRuntime) -> Result<(), Fail> {
-    let alloc = rt.alloc();
     for texts in JOINED {
-        assert!(rt; join_and_meet(alloc, texts)?, "of {texts:?}");
+        assert!(rt; join_and_meet(rt.alloc(), texts)?, "of {:?}", texts[0]);
     }
     Ok(())
 }
 
-fn numbers_below_300(alloc: Global) -> Result<Vec<u32>, AllocError> {
+fn numbers_below(alloc: Global, end: u32) -> Result<Vec<u32>, AllocError> {
     let mut numbers = Vec::new(alloc);
-    for number in 0..300 {
+    for number in 0..end {
         numbers.push(number)?;
     }
     Ok(numbers)
+}
+
+/// The numbers without this one.
+fn without(alloc: Global, numbers: &[u32], gone: u32) -> Result<Vec<u32>, AllocError> {
+    let mut others = Vec::new(alloc);
+    for number in numbers {
+        if *number != gone {
+            others.push(*number)?;
+        }
+    }
+    Ok(others)
 }
 
 /// Takes the number out of the set and of the numbers in it. Returns whether the others stay.
@@ -173,14 +189,14 @@ fn goes(
     number: u32,
 ) -> Result<bool, AllocError> {
     set.remove(number);
-    held.retain(|other| *other != number);
+    *held = without(alloc, held, number)?;
     lists(alloc, set, held)
 }
 
 /// Takes the numbers below 300 out of a set, in the order of the multiples of a factor, from a first one on.
 /// Returns whether the others always stayed.
 fn go_in_order(alloc: Global, factor: u32, first: u32) -> Result<bool, AllocError> {
-    let mut held = numbers_below_300(alloc)?;
+    let mut held = numbers_below(alloc, 300)?;
     let mut set = set_of(alloc, &[&held, &[], &[]])?;
     for i in 0..300u32 {
         let number = factor.wrapping_mul(i).wrapping_add(first) % 300;
@@ -194,9 +210,8 @@ fn go_in_order(alloc: Global, factor: u32, first: u32) -> Result<bool, AllocErro
 
 #[test]
 fn numbers_go_in_any_order(rt: HostRuntime) -> Result<(), Fail> {
-    let alloc = rt.alloc();
     for (factor, first) in [(1, 0), (299, 299), (1, 150), (7, 3)] {
-        assert!(rt; go_in_order(alloc, factor, first)?, "{factor} from {first}");
+        assert!(rt; go_in_order(rt.alloc(), factor, first)?, "from {first}");
     }
     Ok(())
 }
@@ -236,6 +251,15 @@ fn selects(
     lists(alloc, &chosen, numbers)
 }
 
+/// The queries that a set has these trigrams.
+fn members(alloc: Global, trigrams: &[Trigram]) -> Result<Vec<Query>, AllocError> {
+    let mut members = Vec::new(alloc);
+    for trigram in trigrams {
+        members.push(Query::Has(*trigram))?;
+    }
+    Ok(members)
+}
+
 /// The query that has this number in the table of selections.
 fn query_of(alloc: Global, which: u8) -> Result<Query, AllocError> {
     Ok(match which {
@@ -244,29 +268,38 @@ fn query_of(alloc: Global, which: u8) -> Result<Query, AllocError> {
         2 => Query::Has(bcd()),
         3 => Query::And(Vec::new(alloc)),
         4 => Query::Or(Vec::new(alloc)),
-        5 => Query::And(vec![in alloc; Query::Has(abc()), Query::Has(bcd())]?),
-        _ => Query::Or(vec![in alloc; Query::Has(abc()), Query::Has(bcd())]?),
+        5 => Query::And(members(alloc, &[abc(), bcd()])?),
+        _ => Query::Or(members(alloc, &[abc(), bcd()])?),
     })
 }
 
+/// Whether the query of this number selects these documents.
+fn picks(
+    alloc: Global,
+    postings: &Postings,
+    which: u8,
+    numbers: &[u32],
+) -> Result<bool, AllocError> {
+    let query = query_of(alloc, which)?;
+    selects(alloc, postings, &query, &[1, 2], numbers)
+}
+
+/// Numbers of queries, and the documents that they select.
+const SELECTIONS: &[(u8, &[u32])] = &[
+    (0, &[1, 2]),
+    (1, &[]),
+    (2, &[1]),
+    (3, &[1, 2]),
+    (4, &[]),
+    (5, &[1]),
+    (6, &[1, 2]),
+];
+
 #[test]
 fn queries_select_documents(rt: HostRuntime) -> Result<(), Fail> {
-    let alloc = rt.alloc();
-    let postings = two_documents(alloc)?;
-    for (which, numbers) in [
-        (0, [1, 2].as_slice()),
-        (1, [].as_slice()),
-        (2, [1].as_slice()),
-        (3, [1, 2].as_slice()),
-        (4, [].as_slice()),
-        (5, [1].as_slice()),
-        (6, [1, 2].as_slice()),
-    ] {
-        let query = query_of(alloc, which)?;
-        assert!(rt;
-            selects(alloc, &postings, &query, &[1, 2], numbers)?,
-            "of {query:?}"
-        );
+    let postings = two_documents(rt.alloc())?;
+    for row in SELECTIONS {
+        assert!(rt; picks(rt.alloc(), &postings, row.0, row.1)?, "of {}", row.0);
     }
     Ok(())
 }

@@ -7,10 +7,10 @@ ghost use Rattle.ere.specs.declared.case.Case.TheVariants.{Exact};
 ghost use Rattle.search.specs.Pattern.{Pattern, IsPatternOf};
 ghost use Rattle.search.specs.Scan.{IsAnswerOf};
 
-use crate::fixtures::{document, index_of, put};
+use crate::fixtures::{document, index_of, put, remove, text_of_answer};
 use index::{Body, Command, Index, Name};
 use search::{Answer, Prepared, Taken, find, take};
-use std::alloc::Global;
+use std::alloc::{AllocError, Global};
 use std::process::Abort;
 use std::test::Fail;
 
@@ -40,23 +40,33 @@ fn search_left(
 /// Takes a look at a value that may go to another thread.
 fn can_go<T: Send>(_value: &T) {}
 
-fn remove(rt: &impl Abort, alloc: Global, index: &mut Index, name: &[u8]) -> Result<(), Fail> {
-    let command = Command::Remove(Name::new(alloc, name)?);
-    assert!(rt; index.version() < 1000);
-    index.apply(command)?;
-    Ok(())
-}
-
-fn text_of(alloc: Global, answer: &Answer) -> Result<Vec<u8>, Fail> {
-    let mut text = Vec::new(alloc);
-    answer.write_to(1, true, &mut text)?;
-    Ok(text)
+/// Whether the answer has this text.
+fn is_text(alloc: Global, answer: &Answer, want: &[u8]) -> Result<bool, AllocError> {
+    let text = text_of_answer(alloc, answer, 1, true)?;
+    Ok(text.as_slice() == want)
 }
 
 /// Whether the index has this answer to the search. The index is dropped.
-fn finds(alloc: Global, index: Index, prepared: &Prepared, want: &[u8]) -> Result<bool, Fail> {
+fn finds(
+    alloc: Global,
+    index: Index,
+    prepared: &Prepared,
+    want: &[u8],
+) -> Result<bool, AllocError> {
     let answer = find(alloc, &index, prepared)?;
-    Ok(text_of(alloc, &answer)?.as_slice() == want)
+    is_text(alloc, &answer, want)
+}
+
+/// Whether the search that was taken has this answer.
+fn answers(alloc: Global, taken: Taken<'_>, want: &[u8]) -> Result<bool, AllocError> {
+    let answer = taken.answer(alloc)?;
+    is_text(alloc, &answer, want)
+}
+
+/// Changes the documents of the index.
+fn change(rt: &impl Abort, alloc: Global, index: &mut Index) -> Result<(), Fail> {
+    put(rt, alloc, index, b"a", b"x4")?;
+    remove(rt, alloc, index, b"b")
 }
 
 /// A search of four documents, and their index, which has changed since.
@@ -67,8 +77,7 @@ fn taken_before<'p>(
 ) -> Result<(Taken<'p>, Index), Fail> {
     let mut index = index_of(rt, alloc, b"b x1|a x2|c x3|a2 y")?;
     let taken = take(alloc, &index, prepared)?;
-    put(rt, alloc, &mut index, b"a", b"x4")?;
-    remove(rt, alloc, &mut index, b"b")?;
+    change(rt, alloc, &mut index)?;
     Ok((taken, index))
 }
 
@@ -80,20 +89,23 @@ fn an_answer_is_of_the_taking(rt: HostRuntime) -> Result<(), Fail> {
     can_go(&taken);
     let later = b"search 1 version 6 lines 1 candidates 3 of 3\na:1:x4\n";
     assert!(rt; finds(rt.alloc(), index, &prepared, later)?);
-    let text = text_of(rt.alloc(), &taken.answer(rt.alloc())?)?;
     let want = b"search 1 version 4 lines 2 candidates 4 of 4\na:1:x2\nb:1:x1\n";
-    assert_eq!(rt; text.as_slice(), want.as_slice());
+    assert!(rt; answers(rt.alloc(), taken, want)?);
     Ok(())
+}
+
+/// The answer of a search that has left the index.
+fn answer_of_left(alloc: Global) -> Result<Answer, Fail> {
+    let first = document(alloc, b"f", b"abc\ndef")?;
+    let second = document(alloc, b"e", b"abd")?;
+    let removed = Name::new(alloc, b"f")?;
+    search_left(alloc, first, second, &removed, b"ab")
 }
 
 #[test]
 fn a_search_that_has_left_the_index(rt: HostRuntime) -> Result<(), Fail> {
-    let alloc = rt.alloc();
-    let first = document(alloc, b"f", b"abc\ndef")?;
-    let second = document(alloc, b"e", b"abd")?;
-    let removed = Name::new(alloc, b"f")?;
-    let answer = search_left(alloc, first, second, &removed, b"ab")?;
+    let answer = answer_of_left(rt.alloc())?;
     let want = b"search 1 version 2 lines 2 candidates 2 of 2\ne:1:abd\nf:1:abc\n";
-    assert_eq!(rt; text_of(alloc, &answer)?.as_slice(), want.as_slice());
+    assert!(rt; is_text(rt.alloc(), &answer, want)?);
     Ok(())
 }
