@@ -210,7 +210,7 @@ fn demands(rt: HostRuntime) -> Result<(), Fail> {
     Ok(())
 }
 
-/// 31 groups, each of which joins 16 known texts of 55 bytes with 16 others: the hardest known kind of pattern.
+/// 31 groups, each of which joins 16 known texts of 55 bytes with the same 16: the hardest known kind of pattern.
 fn hardest(alloc: Global) -> Result<Vec<u8>, AllocError> {
     let bytes = b"ABCDEFGHIJKLMNOPQRSTUVWXYZabcdefghijklmnopqrstuvwxyz0123456789";
     let mut pattern = Vec::new(alloc);

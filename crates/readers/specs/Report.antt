@@ -20,7 +20,7 @@ pub record IsGiven (searches : List (Option Prepared)) (seen : List Command) (gi
   pub exact : IsAnswerOf (state_of commands) (pattern_of prepared) given.answer
 
 -- The reading is of the same opening as before, and has seen at least what it had seen. Each answer is
--- one of these searches, and of no more than the reading has now seen.
+-- that of one of these searches, for no more commands than the reading has now seen.
 pub record IsReport (searches : List (Option Prepared)) (before : Known) (report : Report) : Type 0 where
   pub opening : report.reading.opening ≡ before.opening
   pub seen : IsPrefix before.commands report.reading.commands

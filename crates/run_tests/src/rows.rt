@@ -1,5 +1,5 @@
-//! Scripts of puts, publishes and searches: their outcome is the same whatever the number of readers is, and
-//! however late they answer.
+//! Scripts without loads: their outcome is the same whatever the number of readers is, and however late they
+//! answer.
 
 use crate::cases::{Case, expect_always};
 use crate::sources::Table;

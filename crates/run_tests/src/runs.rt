@@ -11,7 +11,7 @@ use std::process::Abort;
 use std::test::Fail;
 use tsearch::{Source, Transcript, WriteError, write_transcript};
 
-/// More than a hundred loads that succeed, of bodies over 500,000 bytes. Afterwards the source has not failed.
+/// 121 loads that succeed, the first of a body of 600,000 bytes. Afterwards the source has not failed.
 #[test]
 fn many_loads(rt: HostRuntime) -> Result<(), Fail> {
     let alloc = rt.alloc();
@@ -87,7 +87,7 @@ fn faults_of_loads(rt: HostRuntime) -> Result<(), Fail> {
     Ok(())
 }
 
-/// Writes the transcript to a narrow writer. It takes this many bytes, and writing them ends so.
+/// Writes the transcript to a narrow writer. The writer takes these bytes, and the writing ends so.
 fn expect_written(
     rt: &impl Abort,
     alloc: Global,

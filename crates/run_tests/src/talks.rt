@@ -14,8 +14,8 @@ const OPTIONS: LiveOptions = LiveOptions {
     stats: false,
 };
 
-/// The client sends all of its turns, the text has these bytes, and the status is this one, whatever the size of the
-/// pieces in which its bytes come.
+/// A session with a client of these turns has this text and this status, whatever the size of the pieces in which the
+/// client's bytes come.
 fn expect<R: AllocGlobal + Wait + Abort>(
     rt: &R,
     turns: &[Turn],

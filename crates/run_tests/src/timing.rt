@@ -1,4 +1,5 @@
-//! Runs with readers: threads do the work, a publish does not wait for matching, and no answer shows half of a publish.
+//! Runs and their readers: threads do the work, a publish does not wait for matching, and no answer shows half of a
+//! publish.
 
 use crate::cases::{Case, expect, transcript_of};
 use crate::gates::{Rule, Turns};

@@ -53,7 +53,7 @@ impl Answer {
         self.version
     }
 
-    /// The lines that match, rising by the bytes of their names and then by line.
+    /// The lines that match, rising by the bytes of their documents' names and then by line.
     pub fn hits(&self) -> &[Hit]
         ensures { hits_of result.now ≡ self.now.hits }
     {

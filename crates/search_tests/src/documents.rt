@@ -161,7 +161,7 @@ fn a_put_replaces_and_a_remove_takes_away(rt: HostRuntime) -> Result<(), Fail> {
     Ok(())
 }
 
-/// The bytes of all bodies, after each of four commands.
+/// Commands, and the bytes of all bodies that they leave.
 const HELD_BYTES: [(&[u8], u64); 6] = [
     (b"", 0),
     (b"f abc", 3),
@@ -489,9 +489,9 @@ fn put_bcd(rt: &impl Abort, alloc: Global, index: &mut Index) -> Result<bool, Fa
     }
 }
 
-/// If memory runs out, the command comes back and the index is as it was.
+/// A put is done or, if memory runs out, comes back and leaves the index as it was. With ample memory it is done.
 #[test]
-fn a_refused_command_changes_nothing(rt: HostRuntime) -> Result<(), Fail> {
+fn a_put_is_done_or_comes_back(rt: HostRuntime) -> Result<(), Fail> {
     let mut index = index_of(&rt, rt.alloc(), b"f abc|g abcd")?;
     if put_bcd(&rt, rt.alloc(), &mut index)? {
         assert!(rt; have(rt.alloc(), &index, &[2, 3], &[2])?);

@@ -3,8 +3,8 @@ use Rattle.std.specs.Prelude.{List}
 use Rattle.logbook.specs.Pages.{Book}
 use Rattle.index.specs.declared.command.Command.{Command}
 
--- Commands that were published under an opening, from the first one on. The opening is named by the book that has
--- its history.
+-- The first commands of an opening's history, as many as are known. The opening is named by the book that has the
+-- history.
 pub record Known : Type 0 where
   pub opening : Book
   pub commands : List Command

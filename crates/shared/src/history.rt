@@ -1,4 +1,5 @@
-//! The history of an opening: the commands that were published under it, from the first one on.
+//! The history of an opening: the commands that its publishes add, from the first one on. After a refused publish
+//! it can be ahead of what is published.
 //!
 //! The history itself takes no memory. What is kept of it is how long it is, and evidence for the proofs,
 //! without bytes, of how far it was known to go.

@@ -19,7 +19,7 @@ use search::{Answer, Prepared, Taken, take};
 use std::alloc::{AllocError, Global};
 use std::marker::Model;
 
-/// A place from which searches are made, for one thread at a time.
+/// What one thread at a time searches with. It has one of the opening's places.
 ///
 /// Contracts see it as the opening that it belongs to, and the commands that it has seen: the longest list
 /// that it has learnt of or met in a search.

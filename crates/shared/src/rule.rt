@@ -7,8 +7,8 @@ use crossbeam_utils::rule::{Outcome, Protocol};
 use left_right::reader::Reader;
 use left_right::writer::Writer;
 
-/// The index is the one that the commands of its front leave. What a seat has met is a front that was on
-/// the shelf, and belongs to the shelf's opening.
+/// The index is the one that the commands of its front leave. What a seat has met, if anything, is a front of the
+/// shelf's opening.
 pub struct Kept;
 
 impl Protocol<Shelf, Option<Front>> for Kept {

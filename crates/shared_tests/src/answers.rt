@@ -96,7 +96,7 @@ fn one_reading_two_workers(rt: HostRuntime) {
 
 /// A worker is at the gate three times for each search, and never for a number without a search.
 #[test]
-fn places_in_order(rt: HostRuntime) {
+fn points_in_order(rt: HostRuntime) {
     let alloc = rt.alloc();
     let (desk, reading) = one_reading(&rt, alloc, 1);
     let searches = searches(alloc, b"a-b").expect(&rt, "two patterns");

@@ -1,4 +1,4 @@
-//! One desk and two readings, call by call.
+//! A desk and its readings, call by call.
 
 ghost use Rattle.std.specs.Prelude.{◌≡◌};
 

@@ -23,7 +23,7 @@ pub record LoneState : Type 0 where
 abbrev pub first_state : ℕ → LoneState
 first_state limit = record { limit = limit; accepted = []; told = []; searches = 0; turn = 0 }
 
--- The answers among the rows are of reader 0, in no later turns and of no later versions.
+-- The answers among the rows are in no later turns and of no later versions than these, whichever reader gives them.
 abbrev pub AreAnsweredBy : ℕ → ℕ → List Row → Type 0
 AreAnsweredBy turn version rows =
     (before : List Row) (row : Row) (after : List Row) (number reader turn' : ℕ) (answer : Answer)

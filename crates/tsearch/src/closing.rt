@@ -17,7 +17,7 @@ use std::alloc::Global;
 use std::sync::Wait;
 use std::thread::Threads;
 
-/// An open search, once everything to be answered with it has been read.
+/// An open search, with what is needed to close it.
 #[derive(Clone, Copy)]
 pub struct OpenSearch<'a> {
     pub searches: &'a [Option<Prepared>],

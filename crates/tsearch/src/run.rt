@@ -29,7 +29,7 @@ pub struct Options {
 /// Why a run has no transcript.
 #[derive(Debug, Drop, Error)]
 pub enum RunError {
-    /// The run itself could not go on.
+    /// Memory ran out for the run itself.
     #[error("tsearch: out of memory")]
     OutOfMemory,
     /// A reader got no place.

@@ -82,7 +82,7 @@ impl Session {
         })
     }
 
-    /// Takes the next item: it is carried out, or it is a search, and open unless its pattern is refused. An `Err`
+    /// Takes the next item: it is carried out, or it is a search, and open if it was prepared. An `Err`
     /// means that memory ran out, and ends the run.
     pub fn take<R: Wait, S: Source>(
         &mut self,
