@@ -28,8 +28,8 @@ def files_below(folder):
 
 def make(folder, target):
     """Copies the files that may be documents below `target`/files, and writes the script that stores them as
-    `target`/puts: with their bytes, or with `load` lines where these would make the script too long. Returns what
-    was taken."""
+    `target`/puts: with their bytes or, if these would make the script too long, with `load` lines. Returns what was
+    taken."""
     base = os.fsencode(os.path.abspath(folder))
     copies = os.path.join(os.fsencode(os.path.abspath(target)), b"files")
     taken = {"files": 0, "bytes": 0, "refused": 0, "loaded": False}

@@ -47,8 +47,8 @@ def memory(target, parts):
 
 
 def times_of_changes(target, puts, names, bodies):
-    """Milliseconds to add, to remove and to replace one of the documents, each with its publish. The bodies that come
-    are those of `bodies`, one for each of some names taken at random."""
+    """Milliseconds to add, to remove and to replace one of the documents, each with its publish. The new bodies
+    are those of `bodies`, one for each of as many names taken at random."""
     puts = puts + [put(b"one-more", b"one more\n"), b"publish\n"]
     whole = run(target, puts)["seconds"]
     chosen = random.Random(1).sample(names, len(bodies))
@@ -69,7 +69,7 @@ def row_of(target, count):
 
 
 def memory_after_replacing(target, count):
-    """The resident bytes after one document of 500 bytes was replaced so often, each time with a publish, in a script
+    """The resident bytes after one document of 500 bytes is replaced this many times, each time with a publish, in a script
     that has a comment in the place of each replacement that is left out."""
     texts = [body(i)[:500] for i in range(16)]
     parts = [put(b"one", texts[i % 16]) + b"publish\n" for i in range(MOST_REPLACED)]

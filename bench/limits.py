@@ -1,7 +1,7 @@
 """Where the two ways of finding lines meet: python3 bench/limits.py FOLDER.
 
 Both ways over a body of the folder's lines, from 200 bytes to 100 KB, with the pattern compiled anew each time: the size at
-which they cross tells how many bytes of bodies are worth matching line by line (`FEW_BYTES`). Then what compiling ordinary
+which they cross shows how many bytes of bodies are worth matching line by line (`FEW_BYTES`). Then what compiling ordinary
 patterns takes, and which of them are over the greatest size (`MOST_TABLES`); and the time of hard patterns over 1 MiB both
 ways. It writes a small program over the crates into a temporary folder and has `rt` build it, which takes a few minutes.
 """

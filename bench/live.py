@@ -25,14 +25,14 @@ LENGTHS = {"1 KB": (900, 1_100), "10 KB": (9_000, 11_000), "100 KB": (80_000, 12
 
 
 class Session:
-    """A session, of which each search is awaited."""
+    """A session whose client waits for the answer to each search."""
 
     def __init__(self):
         self.process = subprocess.Popen([PROGRAM, "--live"], stdin=subprocess.PIPE, stdout=subprocess.PIPE, bufsize=0)
         self.searches = 0
 
     def ask(self, items):
-        """Sends items that end with a search, and gives the answer and how many seconds it took."""
+        """Sends items that end with a search, and returns the answer and how many seconds it took."""
         self.searches += 1
         start = time.perf_counter()
         data = memoryview(items)
@@ -74,13 +74,13 @@ def documents_of(folder):
 
 
 def shown(seconds):
-    """The least, the median, the 99th of a hundred and the most of some times, in milliseconds."""
+    """The least, the median, the 99th percentile and the most of some times, in milliseconds."""
     times = sorted(1000 * second for second in seconds)
     return "%.2f / %.2f / %.2f / %.2f" % (times[0], statistics.median(times), times[len(times) * 99 // 100], times[-1])
 
 
 def changes(session, documents, names, rounds, rng):
-    """Changes files, and gives the seconds of each change until the answer with it is read."""
+    """Changes files, and returns the seconds of each change until the answer that shows it is read."""
     seconds = []
     for number in range(rounds):
         name = rng.choice(names)
@@ -98,7 +98,7 @@ def measure(folder):
     size = sum(map(len, documents.values()))
     rng = random.Random(1)
     session = Session()
-    # what is sent is written by the time of the first answer, since nothing is written before it
+    # all of it can be sent before anything is read, since the session writes nothing before its first answer
     _, first = session.ask(b"".join(put(*pair) for pair in documents.items()) + b"publish\nsearch zzqqxxyy\n")
     before = session.resident()
     print("\n%s: %d files, %.1f MB; to the first answer %.0f ms; resident %.1f MB" % (folder, len(documents), size / 1e6, 1000 * first, before / 1e6))

@@ -1,15 +1,17 @@
 """Takes measurements while the machine is quiet.
 
 A virtual machine shares its processors and its memory with others, and is slow while these are busy. So a short loop and
-a copy of memory are timed before and after each measurement, beside the least that was seen of both. If one of them takes
-over a fifth longer, the machine is busy: then the measurement waits, for two minutes at most, or is made again, five times
-at most.
+a copy of memory are timed before and after each measurement, and compared with the least time seen of each. If one of them
+takes over a fifth longer, the machine is busy: then the measurement waits, for two minutes at most, or is made again, up to
+five times in all. Once a script has spent ten minutes on waiting and on such measurements, it waits no more, and makes none
+again.
 """
 import time
 
 ALLOWED = 1.2
 WAIT = 120
 TRIES = 5
+ALL_WAITS = 600
 LOOPS = 1_000_000
 COPIED = 64 << 20
 
@@ -19,6 +21,7 @@ _source = bytearray(COPIED)
 _target = bytearray(COPIED)
 _least = []
 _busy = []
+_waited = [0.0]
 
 
 def _spent(work):
@@ -38,7 +41,7 @@ def _copy():
 
 
 def _look(times):
-    """The least seconds of both, looked at so many times."""
+    """The least seconds of each, out of this many runs."""
     return [min(_spent(work) for _ in range(times)) for work in (_loop, _copy)]
 
 
@@ -49,18 +52,30 @@ def _is_quiet():
 
 
 def _wait():
-    end = time.perf_counter() + WAIT
+    end = time.perf_counter() + min(WAIT, ALL_WAITS - _waited[0])
     while not _is_quiet() and time.perf_counter() < end:
         time.sleep(0.2)
+
+
+def _until_quiet(measure):
+    """Waits, measures, and adds the time to that of all waits if the machine is not quiet afterwards."""
+    start = time.perf_counter()
+    _wait()
+    begun = time.perf_counter()
+    result = measure()
+    is_quiet = _is_quiet()
+    _waited[0] += (begun if is_quiet else time.perf_counter()) - start
+    return result, is_quiet
 
 
 def measured(what, measure):
     """The result of a measurement that was made while the machine was quiet, or of the last try."""
     for _ in range(TRIES):
-        _wait()
-        result = measure()
-        if _is_quiet():
+        result, is_quiet = _until_quiet(measure)
+        if is_quiet:
             return result
+        if _waited[0] >= ALL_WAITS:
+            break
     _busy.append(what)
     return result
 

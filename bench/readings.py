@@ -119,7 +119,7 @@ fn document(alloc: Global, text: &[u8], number: usize, piece: usize) -> io::Resu
     }
 }
 
-// The files that the list names, one in a line. It returns the bytes of one file, which the writer puts again.
+// Puts the files that the list names, one in a line. Returns bytes of the first ones, which the writer puts again.
 fn put_files<R: Files + AllocGlobal>(rt: &R, desk: &mut Desk, list: &str) -> io::Result<Vec<u8>> {
     let list = fs::read_to_string(rt, list)?;
     let mut text = Vec::new(rt.alloc());
@@ -152,7 +152,7 @@ fn search_until(alloc: Global, mut reading: Reading, pattern: &Prepared, done: &
     (reading, answers, lines)
 }
 
-// Prints the median and the longest of the publishes, the median of the puts, and the searches beside them.
+// Prints the median and the longest of the publishes, the median of the puts, and the searches meanwhile.
 fn publish_beside<R: Threads + Wait + Clock + Print + AllocGlobal + Sync>(
     rt: &R,
     desk: &mut Desk,
@@ -222,7 +222,7 @@ fn nanos_from<R: Clock>(rt: &R, start: Instant) -> io::Result<u64> {
     Ok(u64::try_from(start.elapsed(rt)?.as_nanos()).unwrap_or(u64::MAX))
 }
 
-// The readings, their answers together, and the lines of one.
+// The readings, how many answers they had together, and the lines of one answer.
 fn counted(alloc: Global, searched: Vec<(Reading, u64, u64)>) -> io::Result<(Vec<Reading>, u64, u64)> {
     let mut readings = Vec::new(alloc);
     let (mut all, mut lines) = (0u64, 0u64);

@@ -14,7 +14,7 @@ sys.path.insert(0, os.path.dirname(os.path.abspath(__file__)))
 import matching
 
 # The program reads the words PATTERN LENGTH. The line is LENGTH bytes `a`.
-METER = r"""//! Whether a line of so many bytes contains a match.
+METER = r"""//! Whether a line of this many bytes contains a match.
 #![tactic(auto)]
 
 use ere::{Ere, MAX_LINE, parse};

@@ -2,7 +2,7 @@
 
 Prints the time from the script's first byte to the first publish, that of `cindex`, the resident memory, and for each
 pattern the lines found, the candidates, and the time of a search by tsearch and by the other tools, with their output in
-a file: the least and the median of five runs, in milliseconds. All are on one thread but the second `rg`, which takes as
+a file: the least and the median of five runs, in milliseconds. All use one thread except the second `rg`, which uses as
 many as it likes. Nothing is asserted.
 """
 import os
@@ -78,7 +78,7 @@ def words_of(path):
 
 
 def runs_of(target, search, count):
-    """The least and the median seconds of so many copies of a search, and what the first one printed. Each run is next to one
+    """The least and the median seconds of `count` copies of a search, and what the first one printed. Each run is next to one
     without the search, since the machine's speed changes."""
     plain, whole = script_with(target, [], "plain"), script_with(target, [search] * count)
     pairs = [(timed.run(words_of(plain))["seconds"], timed.run(words_of(whole))) for _ in range(RUNS)]
@@ -88,7 +88,7 @@ def runs_of(target, search, count):
 
 
 def search_times(target, search, base):
-    """The least and the median seconds of one search, measured with so many copies of it that they are above the noise."""
+    """The least and the median seconds of one search, measured with enough copies of it to be above the noise."""
     count, most, wanted = 1, 4096, max(0.3, base / 2)
     while True:
         once = timed.run(words_of(script_with(target, [search] * count)))["seconds"] - base
@@ -108,7 +108,7 @@ def shown(seconds):
 
 
 def index_times(files, env):
-    """The seconds of each of some runs of cindex, each from nothing."""
+    """The seconds of each of some runs of cindex, each from scratch."""
     seconds = []
     for _ in range(RUNS):
         if os.path.exists(env["CSEARCHINDEX"]):
@@ -118,7 +118,7 @@ def index_times(files, env):
 
 
 def others(files, env, pattern, name=None, glob=None, ignoring=()):
-    """What the other tools take. csearch takes names as a regular expression, and the others as a glob."""
+    """The times of the other tools. csearch takes names as a regular expression, and the others as a glob."""
     named = {"csearch": ["-f", name] if name else [], "rg": ["-g", glob] if glob else [], "grep": ["--include=" + glob] if glob else []}
     rg = ["-uuu", "-a", "--no-unicode", "-n", "--no-heading", *ignoring] + named["rg"] + ["-e", pattern, files]
     commands = [

@@ -174,7 +174,7 @@ BYTES = "abcdefghijklmnopqrstuvwxyzABCDEFGHIJKLMNOPQRSTUVWXYZ0123456789_"
 
 
 def group(i):
-    """Sixteen texts of 55 bytes, twice: 256 texts, of which each has its trigrams in the condition."""
+    """Sixteen texts of 55 bytes, twice: 256 texts, each of which has its trigrams in the query."""
     return "([a-p](%s){3}){2}" % (BYTES[i:] + BYTES[:i])[:18]
 
 

@@ -1,10 +1,10 @@
 #!/usr/bin/env python3
 """Keeps the text files of a folder in a session of tsearch, and answers the patterns that are typed at its prompt.
 
-Usage: examples/live_folder.py [FOLDER]     TSEARCH is the path of the program, if it is not beside examples/
+Usage: examples/live_folder.py [FOLDER]     TSEARCH is the path of the program, if it is not next to examples/
 
 Before each answer it looks through the folder. It sends a file again when its times or its length change, and removes
-one that is gone. It tells what it leaves out, and why. It skips folders .git and symbolic links. An empty line ends it.
+one that is gone. It shows what it leaves out, and why. It skips .git folders and symbolic links. An empty line ends it.
 """
 
 import contextlib
@@ -32,9 +32,9 @@ class Session:
         threading.Thread(target=lambda: [self.lines.put(line) for line in lines], daemon=True).start()
 
     def send(self, item):
-        """Sends an item, and gives the number of its line. The lines of bodies count too."""
+        """Sends an item, and returns the number of its line. The lines of bodies count too."""
         number, self.next_line = self.next_line, self.next_line + item.count(b"\n")
-        with contextlib.suppress(BrokenPipeError):  # the next answer tells that the session has ended
+        with contextlib.suppress(BrokenPipeError):  # the next answer shows that the session has ended
             self.process.stdin.write(item)
             self.process.stdin.flush()
         return number
@@ -43,7 +43,7 @@ class Session:
         return self.lines.get() or sys.exit(f"the session has ended with status {self.process.wait()}")
 
     def search(self, pattern):
-        """Publishes, searches, and gives the answer's lines and the refusals before it, as line numbers with reasons."""
+        """Publishes, searches, and returns the answer's lines and the refusals before it, as line numbers with reasons."""
         self.send(b"publish\nsearch %s\n" % pattern)
         refused = []
         while (words := (line := self.take_line()).split())[0] == b"line":
@@ -52,7 +52,7 @@ class Session:
 
 
 def files_below(root):
-    """The files with their times and lengths, by names with no `:` and no space, and what is said of folders."""
+    """The files with their times and lengths, by names with no `:` and no space, and messages for the folders left out."""
     files, errors = {}, []
     for folder, folders, names in os.walk(root, onerror=errors.append):
         folders[:] = [name for name in folders if name != b".git"]

@@ -20,7 +20,7 @@ from counted import Counted
 BYTES = b"\0\n\r #09azp.*+?[]({|^$\\-\x7f\x80\xff"
 SECONDS = 10
 
-# The patterns of the examples that are not plain, with what they are to the program.
+# The patterns of the examples that are not plain, each with what the program makes of it.
 TABLE = {
     rb"^[[:space:]]+(if|while|for) .*\{$": rb"^[\t\v\f\r ]+(if|while|for) .*\{$",
     b"[z-a]": "bad range at 2",

@@ -56,7 +56,7 @@ CASES_ANSWERED = [
 # The one file that exists outside a case's own folder.
 ENDLESS = {b"/dev/zero": bytes(transcripts.MAX_BODY + 1)}
 
-# The patterns of tests/cases that are judged and not plain, with what they are to `re`, or the reason of their refusal.
+# The patterns of the judged tests/cases that are not plain, each with its spelling for `re` or the reason of its refusal.
 TABLE = {
     b"[[:upper:]]1": b"[A-Z]1",
     b"^[Mm]AIN": b"^(M|m)AIN",
@@ -118,11 +118,11 @@ WRONG = [
     (CASES, {}, CASES_ANSWERED[0] + b"search 2 version 2 lines 1\na:1:Xy\n" + b"".join(CASES_ANSWERED[2:]), 0),
     (CASES, {}, b"".join(CASES_ANSWERED[:2]) + b"search 3 version 2 lines 2\nA:1:x\na:1:Xy\n" + CASES_ANSWERED[3], 0),
     (CASES, {}, b"".join(CASES_ANSWERED[:3]) + b"search 4 version 2 lines 1\nA:1:x\n", 0),
-    # "out of memory" although there is enough, or for an item that cannot have it
+    # "out of memory" although there is enough, or for an item that is never refused for memory
     (REPLACEMENT, {}, OLD + b"search 2 refused: out of memory\n" + NO_OLD + NEW, 2),
     (REPLACEMENT, {}, OLD + b"line 6 refused: out of memory\n" + OLD_AGAIN + b"search 3 version 1 lines 1\nf:1:old\nsearch 4 version 1 lines 0\n", 2),
     (REPLACEMENT, {"scarce": True}, OLD + b"line 5 refused: out of memory\n" + OLD_AGAIN + NO_OLD + NEW, 2),
-    # what is refused for memory is done nevertheless, or what is done is said to be refused
+    # what is refused for memory is done all the same, or what is done is reported as refused
     (REPLACEMENT, {"scarce": True}, OLD + b"line 6 refused: out of memory\n" + OLD_AGAIN + NO_OLD + NEW, 2),
     (REPLACEMENT, {"scarce": True}, OLD + OLD_AGAIN + b"line 10 refused: out of memory\n" + NO_OLD + NEW, 2),
     # a good line, or a good pattern, is refused

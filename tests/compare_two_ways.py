@@ -3,8 +3,8 @@
 
 Each pattern is searched, with its case or with case ignored, in two documents with the same lines: a small one, which is
 matched line by line, and one that repeats them and is so large that the pattern is compiled and searched from match to
-match. (Patterns that are too large to compile, and those with stars inside stars, go one way in both.) Both ways
-implement one contract, so any difference ends the comparison with status 1.
+match. (Patterns that are too large to compile, and those with stars inside stars, are searched in one way in both.)
+Both ways implement one contract, so any difference ends the comparison with status 1.
 
 Usage: tests/compare_two_ways.py [--patterns N] [--lines N] [--seed N]
 """

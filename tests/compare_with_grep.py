@@ -30,7 +30,7 @@ BYTES_OF_GREP = 2_000_000_000
 SECONDS_OF_A_RUN = 600
 CLASSES = "upper lower alpha digit alnum xdigit punct graph print blank space cntrl".split()
 BYTES = b"aaabbbccAB01 .-]^$_\t\xff"
-# Pieces of which texts are made that need not be patterns.
+# Pieces for texts that need not be patterns.
 PIECES = [b"a", b"b", b"c", b".", b"*", b"+", b"?", b"|", b"(", b")", b"[", b"]", b"^", b"$", b"\\", b"{", b"}"]
 PIECES += [b"-", b",", b"0", b"1", b"2", b"{1}", b"{2,}", b"{,2}", b"{1,2}", b"[a-c]", b"[^a]", b"[[:alpha:]]"]
 PIECES += [b"[:", b":]", b"[.", b".]", b"[=a=]", b"\xff", b" "]
@@ -41,7 +41,7 @@ class TooSlow(Exception):
 
 
 class Patterns:
-    """Random patterns, three in four of which are made to spell a tree. With each comes whether it may have an anchor
+    """Random patterns, three in four of which are made to spell a tree. Each comes with whether it may have an anchor
     in a repeated group."""
 
     def __init__(self, chance):
@@ -187,7 +187,7 @@ def kind_of(pattern, repeated, ours, theirs, ignoring):
     if b"{," in pattern:
         return "other lines, and `{,n}`, which is an interval for GNU alone", True
     if ignoring and is_other_in_capitals(pattern) and re.search(rb"\[[.=]", pattern):
-        return "other lines, and a range with its ends as capitals beside a symbol", True
+        return "other lines, and a range with its ends as capitals next to a symbol", True
     return "OTHER LINES", False
 
 
@@ -195,7 +195,7 @@ def main():
     if not PROGRAM.exists():
         sys.exit("tests/compare_with_grep.py: build the program first: ./tsearch --help")
     options = argparse.ArgumentParser(description="Compares the program with grep -E.")
-    options.add_argument("-i", "--ignore-case", action="store_true", help="isearch beside grep -i")
+    options.add_argument("-i", "--ignore-case", action="store_true", help="compare isearch with grep -i")
     options.add_argument("--patterns", type=int, default=4000)
     options.add_argument("--lines", type=int, default=400)
     options.add_argument("--seed", type=int, default=1)

@@ -27,7 +27,7 @@ def with_those_below(names, lines):
 
 def copy_crates(folder, names, own="", kept=False):
     """Copies these crates and those below them into a folder, as a repository. If `own` names a crate, the repository has
-    that one too, which uses these. With `kept`, what `rt` has of crates that are proved already is copied as well."""
+    that one too, which uses these. With `kept`, what `rt` keeps of crates that are proved already is copied as well."""
     lines = lines_of_crates()
     used = with_those_below(names, lines)
     for name in used:
@@ -40,8 +40,8 @@ def copy_crates(folder, names, own="", kept=False):
 
 
 def build_program(folder, name, uses, wanted):
-    """Builds the program tests/NAME.rt.txt over copies of these crates in a folder, and gives its path. `wanted` is what it
-    writes."""
+    """Builds the program tests/NAME.rt.txt over copies of these crates in a folder, and returns its path. `wanted` is what
+    it writes."""
     copy_crates(folder, uses, name, kept=True)
     own = pathlib.Path(folder, "crates", name)
     (own / "src").mkdir(parents=True)

@@ -1,4 +1,4 @@
-"""The counts of a script of tests/: what has passed and what has failed. The last line that it writes tells them, as ./test reads it."""
+"""The counts of a script of tests/: what has passed and what has failed. The last line that it writes reports them; ./test reads it."""
 
 import sys
 
@@ -10,7 +10,7 @@ class Counted:
         self.passed = self.failed = 0
 
     def passes(self, count=1):
-        """Counts one more that has passed, or so many."""
+        """Counts one more that has passed, or `count` more."""
         self.passed += count
 
     def fails(self, what):

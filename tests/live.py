@@ -67,11 +67,11 @@ TALK_PATTERNS = {b"(": "group not closed at 0"}
 
 
 class Wrong(Exception):
-    """A session did something else than it should."""
+    """A session did something other than it should."""
 
 
 class Session:
-    """A session of the program, whose output is read with a limit of time. It is ended with the block that uses it."""
+    """A session of the program, whose output is read with a limit of time. It ends with the block that uses it."""
 
     def __init__(self, *words, program=None):
         pipe = subprocess.PIPE
@@ -121,7 +121,7 @@ class Session:
         return self.lines.popleft()
 
     def expect(self, wanted):
-        """Reads as many lines as a text has. They have to be the text."""
+        """Reads as many lines as a text has. They must be the text."""
         same("the text", b"".join(self.read_line() for _ in range(wanted.count(b"\n"))), wanted)
 
     def expect_quiet(self):
@@ -146,7 +146,7 @@ class Session:
         same("the status", got, status)
 
     def memory(self, name):
-        """The process's memory in bytes, as the system tells it: VmRSS is what it has, VmHWM the most it ever had."""
+        """The process's memory in bytes, as the system reports it: VmRSS is what it has, VmHWM the most it ever had."""
         words = pathlib.Path(f"/proc/{self.pid}/status").read_text().split(f"{name}:")[1].split()
         return int(words[0]) * 1024
 
@@ -227,7 +227,7 @@ def faults_end_a_session_whose_input_is_open():
 
 
 def check_cut(script, patterns, cut):
-    """A session of the beginning of a script has to write what a run of it does, and that has to be legal."""
+    """A session over the beginning of a script must write what a run of it writes, and that must be legal."""
     begin = script[:cut]
     status, text, messages = run(["--live"], begin)
     same(f"messages, cut at {cut}", messages, b"")
@@ -307,7 +307,7 @@ def session_from_a_fifo():
         path = os.path.join(folder, "fifo")
         os.mkfifo(path)
         with Session(path) as session:
-            # A FIFO that is opened to be written to waits for the one that reads. So this one reads too.
+            # Opening a FIFO for writing alone waits until something reads it. So this opens it for reading too.
             fifo = os.open(path, os.O_RDWR)
             session.process.stdin.close()
             try:
@@ -356,7 +356,7 @@ def input_longer_than_a_script():
 
 
 def send_line(session, begin, end, length):
-    """Sends a line of this length that begins and ends so."""
+    """Sends a line of this length with this beginning and end."""
     session.send(begin)
     left = length - len(begin + end)
     for at in range(0, left, MEBIBYTE):
@@ -365,7 +365,7 @@ def send_line(session, begin, end, length):
 
 
 def line_of_the_greatest_length():
-    """A line of the greatest length is an item like any other, and its memory is let go at the next item."""
+    """A line of the greatest length is an item like any other, and its memory is freed at the next item."""
     with Session() as session:
         session.ask(b"put a 1\nx\npublish\nsearch x\n", b"search 1 version 1 lines 1\na:1:x\n")
         early = session.memory("VmRSS")

@@ -30,12 +30,12 @@ def main():
         crate = pathlib.Path(folder, "crates", "shared")
         text = (crate / "src/reading.rt").read_text(encoding="utf-8")
         if text.count(OLD) != 1:
-            sys.exit("tests/lock_refused.py: reading.rt has another text")
+            sys.exit("tests/lock_refused.py: reading.rt does not have the lines to replace")
         (crate / "src/reading.rt").write_text(text.replace(OLD, NEW), encoding="utf-8")
         done = subprocess.run(["rt", "try", "--test"], cwd=crate, capture_output=True, text=True, check=False)
     errors = [line for line in (done.stdout + done.stderr).splitlines() if ": error" in line]
     refused = done.returncode != 0 and len(errors) == 1 and WANTED in errors[0]
-    what = "a lock round the index: %s" % ("; ".join(errors) or "NOT REFUSED")
+    what = "a lock around the index: %s" % ("; ".join(errors) or "NOT REFUSED")
     counted = Counted()
     if refused:
         print(what)

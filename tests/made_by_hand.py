@@ -337,7 +337,7 @@ def main():
     for place in expected:
         if place.key() in left:
             left.remove(place.key())
-            counted.fails(f"{LIST.relative_to(TOP)}:{place.line}: this place is there no more: {place.path}, {place.function}: {place.made}")
+            counted.fails(f"{LIST.relative_to(TOP)}:{place.line}: this place no longer exists: {place.path}, {place.function}: {place.made}")
     print(f"{len(here)} places make the error of refused memory by hand")
     counted.passes(0 if counted.failed else 1)
     counted.end()

@@ -4,9 +4,9 @@
 The script puts a small document and one of 19 KB, and searches them line by line, by the compiled pattern, with stars inside
 stars, and with a pattern that is too large to be compiled. With the Nth request refused, each search's answer is the same or
 `refused: out of memory`, each other line does its work or is refused with the same words, or the program says that memory ran
-out. Anything else ends the comparison with status 1. A library of a few lines, which the command cc builds and which is loaded
+out. Anything else makes the status 1. A library of a few lines, which the command cc builds and which is loaded
 before the C library, counts the requests. A program that may start threads ends by `_exit`, so the count is printed there too.
-With LEAST in its environment, the library counts the requests of at least so many bytes, and refuses the first of them.
+With LEAST in its environment, the library counts only requests of at least that many bytes, and refuses the first REFUSED of them.
 
 Usage: tests/refused_memory.py
 """

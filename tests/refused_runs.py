@@ -53,7 +53,7 @@ EVERY = 1_000_000
 LONG = b"of no use\n" * 99_999 + b"last line\n"
 MANY = b"x\n" * 50_000 + b"y\n"
 
-# Puts of LONG beside an older document of the name. Its 100,000 line feeds count in the number of the last line.
+# Puts of LONG over an older document of the same name. Its 100,000 line feeds count in the number of the last line.
 LONG_PUT = b"put a %d\n%s\n" % (len(LONG), LONG)
 LONG_PUTS = b"put a 3\nold\npublish\n" + LONG_PUT + b"publish\nsearch old\n" + LONG_PUT + b"publish\nsearch ^last\nwhat\n"
 NO_ROOM, OLD_LEFT = b"line 4 refused: out of memory\n", b"search 1 version 1 lines 1\na:1:old\n"
@@ -75,7 +75,7 @@ SECOND_REFUSED, THIRD_REFUSED = b"search 2 refused: out of memory\n", b"search 3
 
 
 def build(folder):
-    """Builds the library that counts and refuses requests, and gives its path."""
+    """Builds the library that counts and refuses requests, and returns its path."""
     library = os.path.join(folder, "counting.so")
     subprocess.run(["cc", "-O2", "-shared", "-fPIC", "-x", "c", "-", "-o", library], input=COUNTING, text=True, check=True)
     return library
@@ -105,7 +105,7 @@ def outcome(words, status, text, messages):
 
 
 def each_request(library, words):
-    """Refuses each request in turn until a run makes fewer. The outcomes, with what is wrong with them."""
+    """Refuses each request in turn until a run makes fewer. Returns the outcomes, each with what is wrong with it or None."""
     refused, seen = 0, []
     while True:
         status, text, messages, count = run(library, REPLACEMENT, words, refused)
@@ -119,7 +119,7 @@ def each_request(library, words):
 
 
 def each_request_of_a_search(library, search):
-    """Refuses each request of a search of the large body in turn. The outcomes, in order."""
+    """Refuses each request of a search of the large body in turn. Returns the outcomes in order."""
     word, _, pattern = search.partition(b" ")
     flags = re.IGNORECASE if word == b"isearch" else 0
     lines = [b"b:%d:%s\n" % (number, line) for number, line in enumerate(LARGE.split(b"\n"), 1) if re.search(pattern, line, flags)]

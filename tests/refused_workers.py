@@ -1,9 +1,9 @@
 #!/usr/bin/env python3
 """Refuses each request for memory of a run with a gate in turn, and checks that its readers do not call the gate after the run.
 
-The built program's gate is open and tells nothing. So a small program over the library, refused_workers.rt.txt, runs a script with
+The built program's gate is open and reports nothing. So a small program over the library, refused_workers.rt.txt, runs a script with
 no readers and with two. Its gate holds each search for a while at each point. After each run it waits for ten times as long, and
-tells whether the gate was called again. What the runs write is judged as in refused_runs.py.
+reports whether the gate was called again. What the runs write is judged as in refused_runs.py.
 
 `rt` proves and builds the program in a folder of its own, in a few minutes, with what it keeps of crates that are proved already.
 So this is not part of ./test. The library of refused_memory.py, which the command cc builds, counts the requests.

@@ -14,13 +14,13 @@ some of these files:
     NAME.stderr-has   instead, lines each of which must be somewhere in it
     NAME.status       the status; no file: 0
 
-Each case is run in a new folder with each of several numbers of readers, and must give the same. With arguments it is
-also run without such a number. The number comes before the arguments, or is READERS for a bash script. A case whose
-arguments set the readers or ask for the help, or whose bash script does not use READERS, is run once. Each case is
-also run as a session, and must give the same: with --live before its arguments, and a bash script with 0 for READERS and
-a PROGRAM that puts --live before its own. The cases of WHOLE_SCRIPTS are not. An example NAME.script of examples/ is run
-from the top of the repository, as FILE, and must write NAME.stdout and end with NAME.status. As many cases run at once
-as there are processors.
+Each case is run in a new folder with each of several numbers of readers, and must come out the same. Without a bash
+script it is also run without such a number. The number comes before the arguments, or is READERS for a bash script. A
+case whose arguments set the readers or ask for the help, or whose bash script does not use READERS, is run once. Each
+other case, except those of WHOLE_SCRIPTS, is also run as a session, and must come out the same: with --live before its
+arguments, and a bash script with 0 for READERS and a PROGRAM that puts --live before its own. An example NAME.script of
+examples/ is run from the top of the repository, as FILE, and must write NAME.stdout and end with NAME.status. As many
+cases run at once as there are processors.
 
 The case `architecture` runs nothing: it compares docs/ARCHITECTURE.md with the sources. Each line of an example must be in
 the test that the document names, each function of the ways of a put, a search and a session in one of the files that are
@@ -71,7 +71,7 @@ WHOLE_SCRIPTS = {
 
 
 class Wrong(Exception):
-    """A case did not give what it should."""
+    """A case did not come out as it should."""
 
 
 def read_bytes(path):
@@ -79,7 +79,7 @@ def read_bytes(path):
 
 
 def run(command, folder, stdin, env=None):
-    """Runs a command in a folder, and gives its status, standard output and standard error."""
+    """Runs a command in a folder, and returns its status, standard output and standard error."""
     pipe = subprocess.PIPE
     # in a session of its own, so that what a script started can be ended with it
     with subprocess.Popen(
@@ -123,12 +123,12 @@ def words_of(base):
 
 
 def make_live_program(folder):
-    """Makes a program that runs the built one as a session. From its path, docs/ and examples/ are where they are from
-    the built program's."""
+    """Makes a program that runs the built one as a session. Seen from its path, docs/ and examples/ are where they
+    are for the built program."""
     program = folder / PROGRAM.relative_to(TOP)
     program.parent.mkdir(parents=True)
     program.write_text(f'#!/bin/sh\nexec "{PROGRAM}" {LIVE} "$@"\n')
-    # so that a case may run it as another user too
+    # so that a case can run it as another user too
     program.chmod(0o755)
     folder.chmod(0o755)
     for name in ("docs", "examples"):
@@ -201,7 +201,7 @@ def lines_of_function(path, name):
 
 
 def compare_stops(text):
-    """Compares each row of the ways of a put and a search, which names files and functions, with the files."""
+    """Compares each row of the ways of a put, a search and a session, which names files and functions, with the files."""
     rows = re.findall(r"^\| (`[\w/]+\.rt`(?:, `[\w/]+\.rt`)*) \| (`\w+`(?:, `\w+`)*) \|", text, re.MULTILINE)
     if not rows:
         raise Wrong("no row names a file and a function")
@@ -293,7 +293,7 @@ def cases_of_folders():
         str(path.relative_to(CASES)) for path in files if path.suffix not in SUFFIXES or path.parent.parent != CASES
     )
     if strange:
-        sys.exit(f"tests/run.py: no part of a case: {', '.join(strange)}")
+        sys.exit(f"tests/run.py: not part of a case: {', '.join(strange)}")
     cases = sorted({path.with_suffix("") for path in files})
     names = [base.name for base in cases]
     twice = sorted({name for name in names if names.count(name) > 1})

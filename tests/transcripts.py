@@ -1,4 +1,4 @@
-"""Says by plain conditions whether the program may write a text for a script, for some timing of its readers.
+"""Judges by plain conditions whether the program may write a text for a script, for some timing of its readers.
 
 The conditions are those of docs/SCRIPT.md, written by hand and apart from the program's own definitions: every item is accepted,
 or refused with the first reason that fits, in its place; each search has one answer, at a version that was published in the run,
@@ -146,7 +146,7 @@ class Run:
         self.published = []  # pairs of a place among the items and a version
 
     def reasons(self, item):
-        """The reasons, one of which must be given for this item, which is no search; None means that it is accepted."""
+        """The reasons of which this item, which is not a search, must have one; None means that it is accepted."""
         kind, words, now = item.kind, item.words, self.states[-1]
         if kind in ("bad", "sync"):
             return [words.get("reason")]
@@ -236,9 +236,9 @@ def pair(items, text):
 
 
 def check(script, text, readers=2, max_commands=65_536, stats=False, files=None, table=None, scarce=False):
-    """Returns if the text is legal, and gives the status with which the run must then end. `files` are the bytes by
-    their paths, `table` the patterns that are not plain, each with the reason of its refusal or what it is to `re`. Where memory
-    is scarce, it may be refused to each item, and any reader may answer a search."""
+    """Returns the status with which the run must end if the text is legal, and raises Illegal if it is not. `files` are the
+    bytes by their paths, `table` the patterns that are not plain, each with the reason of its refusal or its spelling for `re`.
+    Where memory is scarce, it may be refused to any item, and any reader may answer a search."""
     items, table = items_of(script), table or {}
     entries = pair(items, text)
     run = Run(files or {}, max_commands, scarce)

@@ -4,7 +4,7 @@ use Rattle.ere.specs.Tree.{Tree, empty, set, at_start, at_end, cat, alt, repeat,
 use Rattle.ere.specs.Language.{InLanguage}
 
 unfoldable mutual
-  -- the tree with the empty text for each anchor
+  -- the tree with each anchor replaced by the empty text
   pub without_anchors : Tree → Tree
   without_anchors empty = empty
   without_anchors (set members) = set members
@@ -18,7 +18,7 @@ unfoldable mutual
   all_without_anchors none = none
   all_without_anchors (more tree trees) = more (without_anchors tree) (all_without_anchors trees)
 
--- A word in its surroundings is a word of the tree without its anchors, in any surroundings.
+-- A word of a tree in its surroundings is, in any surroundings, a word of the tree without its anchors.
 abbrev pub ForgetsSurroundings : Type 0
 ForgetsSurroundings =
     (tree : Tree) (before word after before' after' : List ℕ) → InLanguage tree before word after → InLanguage (without_anchors tree) before' word after'

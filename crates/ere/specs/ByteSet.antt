@@ -3,7 +3,7 @@
 use Rattle.std.specs.Prelude.{ℕ, Bool, false, true, not, ◌&&◌, ◌||◌, ◌==◌, nat_lt, nat_le, List, map, slice_index_or, count_by}
 use Rattle.std.specs.List.{range_with_len}
 
--- any byte but 0 and the line feed
+-- whether b is a byte other than 0 and the line feed (10)
 abbrev pub is_line_byte : ℕ → Bool
 is_line_byte b = nat_lt b 256 && (not (b == 0) && not (b == 10))
 
@@ -25,7 +25,7 @@ all_line_bytes = set_of (λ _. true)
 abbrev pub single : ℕ → List Bool
 single byte = set_of (λ b. b == byte)
 
--- the bytes from low to high, both among them
+-- the line bytes from low to high, both included
 abbrev pub bytes_between : ℕ → ℕ → List Bool
 bytes_between low high = set_of (λ b. nat_le low b && nat_le b high)
 

@@ -37,15 +37,15 @@ is_print = between 32 126
 abbrev pub is_blank : ℕ → Bool
 is_blank b = b == 9 || b == 32
 
--- 10, the line feed, is no line byte
+-- 9 to 13 includes the line feed (10), which `set_of` leaves out
 abbrev pub is_space : ℕ → Bool
 is_space b = between 9 13 b || b == 32
 
--- 0 and 10 are no line bytes
+-- 0 to 31 includes 0 and 10, which `set_of` leaves out
 abbrev pub is_cntrl : ℕ → Bool
 is_cntrl b = nat_le b 31 || b == 127
 
--- the set of a class, if this is the name of one
+-- the set of the class with this name, if there is one
 unfoldable pub class_named : List ℕ → Option (List Bool)
 class_named name =
     if bytes_eq name (codes "upper") then Some (set_of is_upper)

@@ -1,4 +1,4 @@
--- The language of a tree (POSIX.1-2017 XBD 9.4, anchors by 9.4.9): the triples of the text before a
+-- The language of a tree (POSIX.1-2017 XBD 9.4, anchors by 9.4.9), as a set of triples: the text before a
 -- word, the word, and the text after it.
 use Rattle.std.specs.Prelude.{◌≡◌, ℕ, zero, suc, ◌≤◌, IsTrue, List, [], ◌∷◌, ◌++◌, ◌⊎◌, IfSome}
 use Rattle.ere.specs.ByteSet.{has}
@@ -36,7 +36,7 @@ unfoldable mutual
   InSome none before word after = ⊥
   InSome (more tree trees) before word after = InLanguage tree before word after ⊎ InSome trees before word after
 
--- The line contains a word of the tree in its place.
+-- Some part of the line is a word of the tree between the text before it and the text after it.
 pub record ContainsMatch (tree : Tree) (line : List ℕ) : Type 0 where
   pub before : List ℕ
   pub word : List ℕ

@@ -32,13 +32,13 @@ unfoldable mutual
   highest none = 0
   highest (more tree trees) = max (height tree) (highest trees)
 
--- how many copies of its body count as leaves of a repeat
+-- how many times a repeat counts the leaves of its body
 abbrev pub copies_counted : ℕ → Option ℕ → ℕ
 copies_counted least (Some greatest) = max greatest 1
 copies_counted least None = max least 1
 
 unfoldable mutual
-  -- the leaves, each as often as the counts of the repeats around it allow
+  -- the number of leaves, with those of a repeat's body counted `copies_counted` times
   pub leaves : Tree → ℕ
   leaves empty = 1
   leaves (set members) = 1
@@ -77,7 +77,7 @@ pub record IsWithinLimits (tree : Tree) : Type 0 where
   pub low : height tree ≤ greatest_height
   pub small : leaves tree ≤ greatest_leaves
 
--- The pattern has this tree, read with the case of letters or without it.
+-- The pattern has this tree if it is read with this case.
 pub record IsTreeOf (case : Case) (pattern : List ℕ) (tree : Tree) : Type 0 where
   pub short : length pattern ≤ greatest_pattern
   pub allowed : AllByRecursion (λ b. (b ≢ 0) × (b ≢ 10)) pattern

@@ -1,5 +1,5 @@
--- The lines of a body. A line ends at a line feed (10); a last part without one is a line if it isn't
--- empty, as in POSIX.1-2017 XBD 3.206 and for a text that ends without a line feed.
+-- The lines of a body, without their line feeds. A line ends at a line feed (10), as in POSIX.1-2017 XBD 3.206.
+-- What comes after the last line feed is a line too, unless it is empty.
 use Rattle.std.specs.Prelude.{ℕ, ◌==◌, if◌then◌else◌, List, [], ◌∷◌}
 
 -- one more byte at the front of the first line

@@ -1,7 +1,6 @@
 -- The grammar of extended regular expressions over tokens (POSIX.1-2017 XBD 9.4 and 9.5.3), by levels, and the tree
--- that each level spells. A relation takes the tokens from its first one on, the tokens after its last
--- one, and the tree. `depth` is the number of groups that are open, of which there are never more than
--- `limit`.
+-- that each level spells. Each relation takes the tokens from where a part begins, the tokens after that part,
+-- and the part's tree or trees. `depth` is the number of open groups, which is never more than `limit`.
 use Rattle.std.specs.Prelude.{◌≡◌, ℕ, zero, suc, ◌<◌, Bool, List, [], ◌∷◌, Option}
 use Rattle.ere.specs.ByteSet.{single}
 use Rattle.ere.specs.Tree.{Tree, empty, set, at_start, at_end, cat, alt, repeat, Trees, none, more}
@@ -9,18 +8,18 @@ use Rattle.ere.specs.declared.case.Case.{Case}
 use Rattle.ere.specs.Tokens.{Token, Tokens}
 use Rattle.ere.specs.Tokens as token
 
--- no tree, one tree, or more: the tree of a branch with these pieces
+-- the tree of a branch with these pieces: none, one, or more
 abbrev pub branch_of : Trees → Tree
 branch_of none = empty
 branch_of (more piece none) = piece
 branch_of (more piece (more next pieces)) = cat (more piece (more next pieces))
 
--- one branch is its own tree, and two or more are alternatives
+-- the tree of alternatives with these branches: one is its own tree, and two or more make an `alt`
 abbrev pub alternatives_of : Trees → Tree
 alternatives_of (more branch none) = branch
 alternatives_of branches = alt branches
 
--- Any number of duplications after an atom, the first innermost.
+-- Any number of duplications after an atom, of which the first is the innermost repeat.
 pub data SpellsDuplications : List Token → List Token → Tree → Tree → Type 0 where
   done : {from : List Token} {piece : Tree} → SpellsDuplications from from piece piece
   again : {from rest : List Token} {piece whole : Tree} {least : ℕ} {greatest : Option ℕ}
@@ -48,7 +47,7 @@ mutual
     atom : {depth : ℕ} {from middle rest : List Token} {tree whole : Tree} → SpellsAtom limit depth from middle tree
         → SpellsDuplications middle rest tree whole → SpellsPiece limit depth from rest whole
 
-  -- A set; a group, whose tree is that of what it holds; or, outside all groups, a `)` for itself.
+  -- A set; a group, whose tree is that of its alternatives; or, outside all groups, a `)` that stands for itself.
   pub data SpellsAtom (limit : ℕ) : ℕ → List Token → List Token → Tree → Type 0 where
     literal : {depth : ℕ} {rest : List Token} {members : List Bool} → SpellsAtom limit depth (token.set members ∷ rest) rest (set members)
     group : {depth : ℕ} {from rest : List Token} {branches : Trees} → depth < limit

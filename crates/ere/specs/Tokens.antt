@@ -1,5 +1,5 @@
--- The tokens of an extended regular expression (POSIX.1-2017 XBD 9.4): a text is the joining of the
--- texts of its tokens, in one way at most.
+-- The tokens of an extended regular expression (POSIX.1-2017 XBD 9.4). A text can be divided into tokens in
+-- at most one way.
 use Rattle.std.specs.Prelude.{◌≡◌, ℕ, ◌+◌, ◌*◌, ◌-◌, ◌≤◌, ◌<◌, Bool, false, not, ◌&&◌, ◌||◌, ◌==◌, IsTrue, List, [], ◌∷◌, ◌++◌, length}
 use Rattle.std.specs.Prelude.{Option, Some, None, if◌then◌else◌, fold}
 use Rattle.std.specs.List.{AllPass}
@@ -31,7 +31,7 @@ abbrev pub digit_ahead : List ℕ → Bool
 digit_ahead [] = false
 digit_ahead (b ∷ text) = is_digit b
 
--- The token of a byte that is one by itself, where `text` comes after it. None: `[`, `\` and a `{`
+-- The token of a byte that is a token by itself, where `text` comes after it. None for `[`, `\` and a `{`
 -- before a digit, which begin a longer token.
 unfoldable pub token_of_byte : Case → ℕ → List ℕ → Option Token
 token_of_byte case b text =
@@ -78,7 +78,7 @@ pub data SpellsToken (case : Case) (from rest : List ℕ) (token : Token) : Type
   interval : (counts : List ℕ) (least : ℕ) (greatest : Option ℕ) → from ≡ 123 ∷ counts → IsTrue (digit_ahead counts)
       → SpellsInterval counts rest least greatest → token ≡ times least greatest → SpellsToken case from rest token
 
--- The text is the joining of the texts of these tokens.
+-- The text is the texts of these tokens, one after another.
 pub data Tokens (case : Case) : List ℕ → List Token → Type 0 where
   none : Tokens case [] []
   more : {from rest : List ℕ} {token : Token} {tokens : List Token} → SpellsToken case from rest token → Tokens case rest tokens

@@ -1,4 +1,4 @@
--- The tree of an extended regular expression as plain data, without its place in memory.
+-- The tree of an extended regular expression as plain data: the value of an `Ere`, without its memory.
 use Rattle.std.specs.Prelude.{ℕ, Bool, List, [], ◌∷◌, Option}
 use Rattle.ere.specs.declared.tree.Ere.{Ere, Ere-F}
 use Rattle.ere.specs.declared.tree.Ere.TheOpen as layer

@@ -19,7 +19,7 @@ pub fn stands_at(text: &[u8], at: usize, byte: u8) -> bool
     at < text.len() && text[at] == byte
 }
 
-/// Whether `[` and this mark are at `at`.
+/// Whether `[` is at `at` and this mark right after it.
 fn opens(text: &[u8], at: usize, mark: u8) -> bool
     ensures { result ≡ opens_with mark (drop at text.now) }
 {
@@ -42,7 +42,7 @@ pub fn bracket_at(case: Case, text: &[u8], opening: usize) -> Result<(ByteSet, u
     Ok((read_in(case, items), after))
 }
 
-/// One or more items and the closing `]`: the union of the items' sets, and the offset after the `]`.
+/// One or more items from `start` on and the closing `]`: the union of the items' sets, and the offset after the `]`.
 fn items_at(text: &[u8], start: usize, opening: usize) -> Result<(ByteSet, usize), EreError>
     requires { start ≤ length text.now }
     ensures ok { IfOk result (λ r. SpellsItems true (drop start text.now) (93 ∷ drop r.1 text.now) r.0) }
@@ -58,7 +58,7 @@ fn items_at(text: &[u8], start: usize, opening: usize) -> Result<(ByteSet, usize
     Ok((members, at + 1))
 }
 
-/// The item at `at`, of a bracket expression that opens at `opening`.
+/// The item at `at` of a bracket expression that opens at `opening`: its set, and the offset after it.
 fn item_at(
     text: &[u8],
     at: usize,
@@ -91,7 +91,7 @@ fn item_at(
     Ok((ByteSet::single(low), after))
 }
 
-/// The item of a `-` that is not the first one: it must be the last.
+/// The item of a `-` that is not the first item and so must be the last.
 fn last_dash_at(text: &[u8], at: usize, opening: usize) -> Result<(ByteSet, usize), EreError>
     requires { IsTrue (begins_with 45 (drop at text.now)) }
     ensures ok { IfOk result (λ r. SpellsItem false (drop at text.now) (drop r.1 text.now) r.0) }
@@ -146,7 +146,7 @@ fn byte_or_symbol_at(text: &[u8], at: usize, opening: usize) -> Result<(u8, usiz
     Ok((text[at], at + 1))
 }
 
-/// The one byte of the collating symbol or equivalence class at `at`; `mark` says which of the two it is.
+/// The one byte of the collating symbol (`mark` is `.`) or equivalence class (`=`) at `at`, and the offset after it.
 fn symbol_at(text: &[u8], at: usize, mark: u8, opening: usize) -> Result<(u8, usize), EreError>
     requires mark { (mark ≢ 0) × (mark ≢ 93) }
     requires opens { IsTrue (opens_with mark (drop at text.now)) }
@@ -161,7 +161,7 @@ fn symbol_at(text: &[u8], at: usize, mark: u8, opening: usize) -> Result<(u8, us
     }
 }
 
-/// The set of the character class at `at`.
+/// The set of the character class at `at`, and the offset after it.
 fn class_at(text: &[u8], at: usize, opening: usize) -> Result<(ByteSet, usize), EreError>
     requires { IsTrue (opens_with 58 (drop at text.now)) }
     ensures ok { IfOk result (λ r. (name : List ℕ) × IsCharacterClass (drop at text.now) name (drop r.1 text.now) × (class_named name ≡ Some r.0)) }
@@ -178,7 +178,7 @@ fn class_at(text: &[u8], at: usize, opening: usize) -> Result<(ByteSet, usize), 
     }
 }
 
-/// The offset of the first `mark` and `]` at or after `start`.
+/// The offset of the first `mark` at or after `start` that is right before a `]`.
 fn symbol_end(text: &[u8], start: usize, mark: u8) -> Option<usize>
     requires { mark ≢ 0 }
     ensures found { IfSome result (λ p. (start ≤ p) × (p + 1 < length text.now) × IsSymbolEnd mark text.now p) }

@@ -63,7 +63,7 @@ impl ByteSet {
         set
     }
 
-    /// The line bytes from `low` to `high`, both included.
+    /// The line bytes from `low` to `high`, both included; none if `low` is above `high`.
     pub fn between(low: u8, high: u8) -> ByteSet
         ensures { result ≡ bytes_between low high }
     {
@@ -111,7 +111,7 @@ impl ByteSet {
         holds(&self.words, byte)
     }
 
-    /// Which of sixteen bytes are in the set: bit i is set if byte i is.
+    /// Which of sixteen bytes are in the set: bit i is set if byte i is, and bits from 16 on are 0.
     #[inline(always)]
     pub fn which_of(&self, bytes: u8x16) -> u64
         ensures small { result < 2 ^ 16 }
@@ -123,7 +123,7 @@ impl ByteSet {
         held(halves(bytes, low, high), bits_of(bytes))
     }
 
-    /// Adds the byte to the set.
+    /// Adds the byte, which is a line byte, to the set.
     pub fn insert(&mut self, byte: u8)
         requires { IsTrue (is_line_byte byte) }
         ensures { self.new ≡ with_byte self.old byte }
@@ -131,7 +131,7 @@ impl ByteSet {
         self.words = with(&self.words, byte);
     }
 
-    /// How many bytes are in the set, at most 254.
+    /// The number of bytes in the set, from 0 to 254.
     pub fn len(&self) -> u16
         ensures { result ≡ size_of self.now }
     {
@@ -150,7 +150,7 @@ impl ByteSet {
     }
 }
 
-/// Whether the byte may be in a line: any byte but 0 and the line feed (10).
+/// Whether the byte can be in a line: any byte but 0 and the line feed (10).
 pub fn is_line_byte(byte: u8) -> bool
     ensures { result ≡ is_line_byte byte }
 {
@@ -164,7 +164,7 @@ fn holds(words: &[u64; WORDS], byte: u8) -> bool
     words[byte as usize / 64] >> byte % 64 & 1 == 1
 }
 
-/// The words with the byte.
+/// The words with the byte added.
 fn with(words: &[u64; WORDS], byte: u8) -> [u64; WORDS]
     ensures whole { length result ≡ WORDS }
     ensures each { (b : ℕ) → has_byte result b ≡ (has_byte words.now b || b == byte) }
@@ -175,7 +175,7 @@ fn with(words: &[u64; WORDS], byte: u8) -> [u64; WORDS]
     more
 }
 
-/// The words without the byte.
+/// The words with the byte removed.
 fn without(words: &[u64; WORDS], byte: u8) -> [u64; WORDS]
     ensures whole { length result ≡ WORDS }
     ensures each { (b : ℕ) → has_byte result b ≡ (has_byte words.now b && not (b == byte)) }

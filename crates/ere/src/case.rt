@@ -6,8 +6,8 @@
 /// what `REG_ICASE` of POSIX.1-2017 XSH `regcomp` means in the C locale.
 #[derive(Clone, Copy, Debug, PartialEq, Eq)]
 pub enum Case {
-    /// Each byte is only itself.
+    /// It does: each byte stands only for itself.
     Exact,
-    /// A letter is also its other case.
+    /// It does not: a letter also stands for its other case.
     Ignore,
 }

@@ -9,7 +9,7 @@ use std::alloc::AllocFailed;
 pub struct EreError {
     /// The kind of fault.
     pub kind: EreErrorKind,
-    /// The offset in the pattern, from 0, at which the fault is reported; 0 for `OutOfMemory`.
+    /// The offset in the pattern, in bytes from 0, at which the fault is reported; 0 for `OutOfMemory`.
     pub at: u32,
 }
 
@@ -20,32 +20,35 @@ pub enum EreErrorKind {
     TooLong,
     /// A byte 0 or 10 (line feed). Reported at the byte.
     BadByte,
-    /// A backslash before a byte that takes none, or at the end. Reported at the backslash.
+    /// A backslash before a byte that cannot be escaped, or at the pattern's end. Reported at the backslash.
     BadEscape,
-    /// A bracket expression has no end. Reported at its `[`.
+    /// A bracket expression, or a `[.`, `[=` or `[:` in it, has no end. Reported at the expression's `[`.
     BadBracket,
-    /// A range that is backwards, that shares its end with another, or that has a class at an end. Reported at the `-`.
+    /// A range that is backwards, that shares an end with another, or that has a character class or an equivalence
+    /// class as an end. Reported at the `-`.
     BadRange,
-    /// An unknown class, or a collating name that is not one byte. Reported at the `[` of the symbol.
+    /// An unknown character class, or a collating symbol or an equivalence class that is not of one byte. Reported at
+    /// the `[` of the class or symbol.
     BadClass,
-    /// `{` and a digit do not begin a valid interval. Reported at the `{`.
+    /// A `{` before a digit does not begin a valid interval: `{m}`, `{m,}` or `{m,n}`, with counts of at most 255 and
+    /// m at most n. Reported at the `{`.
     BadInterval,
     /// A duplication with nothing before it to repeat: at the start of a branch, or after an anchor. Reported at its
     /// first byte.
     NothingToRepeat,
     /// A group has no end. Reported at the innermost open `(`.
     Unclosed,
-    /// Over 64 groups are open, reported at the 65th `(`; or the tree's height is over 64, reported at 0.
+    /// Over 64 groups are open at once, reported at the `(` of the 65th; or the tree's height is over 64, reported at 0.
     TooDeep,
-    /// The tree has over 4,096 leaves. Reported at 0.
+    /// The tree has over 4,096 leaves (counted as in `Ere::within_limits`). Reported at 0.
     TooLarge,
     /// Memory ran out. Reported at 0.
     OutOfMemory,
 }
 
 impl EreError {
-    /// A fault at an offset. An offset above the greatest `u32`, which no pattern within the limits has, is
-    /// reported as the greatest.
+    /// A fault at an offset, in bytes. An offset above `u32::MAX`, which no pattern within the limits has, becomes
+    /// `u32::MAX`.
     pub fn new(kind: EreErrorKind, at: usize) -> EreError
         ensures kind { result.kind ≡ kind }
         ensures at { at < 2 ^ 32 → result.at ≡ at }
@@ -70,7 +73,7 @@ impl<T: Drop> From<AllocFailed<T>> for EreError {
 impl EreErrorKind {
     ghost use Rattle.ere.specs.Faults.{reason_of};
 
-    /// The text with which a pattern is refused, such as `bad escape`.
+    /// The text of the refusal, such as `bad escape`.
     pub fn reason(self) -> &'static str
         ensures { result.now ≡ reason_of self }
     {

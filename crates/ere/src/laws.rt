@@ -12,12 +12,12 @@ ghost use Rattle.ere.specs.Tree.{at_end, at_start, cat, empty, more, none, repea
 use crate::case::Case;
 use crate::tree::MAX_LINE;
 
-/// The greatest length of a line is that of the definitions.
+/// The program and the definitions have the same greatest length of a line.
 pub fn line_limit()
     ensures { MAX_LINE ≡ greatest_line }
 {}
 
-/// A text spells at most one tree in each case, however many groups may be open.
+/// With each `Case`, a text spells at most one tree, whatever the limit on open groups.
 pub fn one_tree()
     ensures { (case : Case) (limit other : ℕ) (text : List ℕ) (left right : Tree) → Spells case limit text left → Spells case other text right → left ≡ right }
 {}
@@ -32,7 +32,7 @@ pub fn only_the_empty_word()
     ensures { (before word after : List ℕ) → InLanguage empty before word after ↔ (word ≡ []) }
 {}
 
-/// Any number of copies is none, or any number with one more after them.
+/// Any number of copies is either none, or any number and then one more.
 pub fn star_unrolls()
     ensures { (body : Tree) (before word after : List ℕ) → InLanguage (repeat body 0 None) before word after
         ↔ ((word ≡ []) ⊎ ((front back : List ℕ) × (word ≡ front ++ back)
@@ -45,8 +45,8 @@ pub fn anchored_set()
         ↔ ((b : ℕ) × (line ≡ b ∷ []) × IsTrue (has members b)) }
 {}
 
-/// A word in its surroundings is a word of the tree with the empty text for each anchor, in any
-/// surroundings.
+/// A word of a tree in its surroundings is, in any surroundings, a word of the tree with each anchor replaced
+/// by the empty text.
 pub fn surroundings_are_forgotten()
     ensures { ForgetsSurroundings }
 {}

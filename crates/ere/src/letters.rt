@@ -1,4 +1,4 @@
-//! Sets of a pattern that is read with the case of letters or without it.
+//! The sets of a pattern in which case counts or is ignored.
 
 ghost use Rattle.std.specs.Prelude.{◌≡◌};
 ghost use Rattle.ere.specs.ByteSet.{single};
@@ -8,7 +8,7 @@ use crate::byte_set::ByteSet;
 use crate::case::Case;
 use crate::classes::{is_lower, is_upper};
 
-/// The set of a byte that stands for itself.
+/// The set of a byte that stands for itself: the byte and, if case is ignored, its other case.
 pub fn single_in(case: Case, byte: u8) -> ByteSet
     ensures { result ≡ read_in case (single byte) }
 {
@@ -25,7 +25,7 @@ fn both_cases(byte: u8) -> ByteSet
     ByteSet::single(byte).union(&ByteSet::single(other_case(byte)))
 }
 
-/// The set of the items of a bracket expression.
+/// The set of a bracket expression's items, with the other case of each letter if case is ignored.
 pub fn read_in(case: Case, items: ByteSet) -> ByteSet
     ensures { result ≡ read_in case items }
 {
@@ -35,14 +35,14 @@ pub fn read_in(case: Case, items: ByteSet) -> ByteSet
     }
 }
 
-/// The set with the other case of each letter in it.
+/// The set, with the other case of each of its letters added.
 fn closed(set: &ByteSet) -> ByteSet
     ensures { result ≡ closed set.now }
 {
     ByteSet::of(|b| set.has(b) || set.has(other_case(b)))
 }
 
-/// The other case of a letter; any other byte is its own.
+/// The other case of a letter; any other byte itself.
 fn other_case(b: u8) -> u8
     ensures { result ≡ other_case b }
 {

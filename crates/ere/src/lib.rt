@@ -1,7 +1,7 @@
 //! Extended regular expressions (EREs) in the POSIX locale: their trees, and the reader of patterns.
 //!
 //! A pattern follows POSIX.1-2017 XBD 9.4, with bracket expressions by 9.3.5 and anchors by 9.4.9. A
-//! character is one byte. What POSIX leaves open is this program's choice, which `docs/PATTERNS.md` gives.
+//! character is one byte. What POSIX leaves open is this program's choice (see `docs/PATTERNS.md`).
 #![tactic(auto)]
 
 mod brackets;

@@ -13,9 +13,10 @@ pub const MAX_HEIGHT: u8 = 64;
 pub const MAX_LEAVES: u32 = 4096;
 
 impl Ere {
-    /// Whether the tree is one that a pattern may have: each `Cat` and `Alt` has at least two members, no
-    /// `Repeat` has a least count above its greatest, the height is at most 64, and there are at most 4,096
-    /// leaves. (The limits are this program's choice.)
+    /// Whether the tree is within the limits, as the tree of every pattern is: each `Cat` and `Alt` has at least two
+    /// members, no `Repeat` has a least count above its greatest, the height is at most 64, and there are at most
+    /// 4,096 leaves. A `Repeat` counts each leaf of its body as often as its greatest count, or its least if it has no
+    /// greatest, but at least once. (The limits are this program's choice.)
     pub fn within_limits(&self) -> bool
         ensures { IsTrue result ↔ IsWithinLimits (form self.now) }
     {
@@ -58,7 +59,7 @@ fn is_ordered(least: u8, greatest: Option<u8>) -> bool
     }
 }
 
-/// The tree's height, or 65 if it is more.
+/// The tree's height, or 65 if it is greater.
 #[cycle(height)]
 pub fn capped_height(tree: &Ere) -> u8
     ensures { result ≡ min (height (form tree.now)) 65 }
@@ -85,7 +86,7 @@ fn capped_highest(members: &[Ere]) -> u8
     most
 }
 
-/// The tree's leaves, or 4,097 if there are more.
+/// The number of the tree's leaves (as in `Ere::within_limits`), or 4,097 if there are more.
 #[cycle(leaves)]
 pub fn capped_leaves(tree: &Ere) -> u32
     ensures { result ≡ min (leaves (form tree.now)) 4097 }

@@ -11,7 +11,7 @@ use crate::limits::MAX_HEIGHT;
 use crate::tree::Ere;
 use std::alloc::Global;
 
-/// A tree with its height.
+/// A tree and its height.
 #[derive(Debug, Drop)]
 pub struct Part {
     /// The tree.
@@ -20,7 +20,7 @@ pub struct Part {
     pub height: u8,
 }
 
-/// Trees with the height of the highest.
+/// Trees and the height of the highest.
 #[derive(Debug, Drop)]
 pub struct Members {
     /// The trees.
@@ -129,7 +129,7 @@ fn only(members: Members) -> Option<Part>
     }
 }
 
-/// A tree that is one higher than its highest member.
+/// A tree that is one higher than its highest member, or `None` if it is higher than the limit.
 fn higher(tree: Ere, highest: u8) -> Option<Part>
     ensures { (plain : Tree) → form tree ≡ plain → height plain ≡ highest + 1 → IsBuilt result plain }
 {

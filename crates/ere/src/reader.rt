@@ -21,10 +21,10 @@ use std::alloc::Global;
 /// The greatest length of a pattern, in bytes.
 pub const MAX_PATTERN: usize = 1024;
 
-/// The greatest number of groups that may be open at once.
+/// The greatest number of groups that can be open at once.
 pub const MAX_OPEN: u8 = 64;
 
-/// Reads a pattern in which each byte is only itself, as `parse_with` does with `Case::Exact`.
+/// Reads a pattern in which case counts, as `parse_with` does with `Case::Exact`.
 pub fn parse(alloc: Global, pattern: &[u8]) -> Result<Ere, EreError>
     ensures tree { IfOk result (λ e. IsTreeOf Case.Exact pattern.now (form e)) }
     ensures limits { IfOk result (λ e. IsWithinLimits (form e)) }
@@ -33,11 +33,12 @@ pub fn parse(alloc: Global, pattern: &[u8]) -> Result<Ere, EreError>
     parse_with(alloc, pattern, Case::Exact)
 }
 
-/// Reads a pattern, with the case of letters or without it.
+/// Reads a pattern in which case counts or is ignored. The tree takes its memory from `alloc`.
 ///
-/// An `Ok` holds the one tree of the pattern in this case, which is within the limits. An `Err` says which
-/// fault a reading from left to right meets first, and where (`EreErrorKind`). Length and bytes are checked
-/// first, and height and leaves last. (POSIX.1-2017 XBD 9.4 and 9.3.5; the limits are this program's.)
+/// An `Ok` holds the pattern's only tree for this `case`, which is within the limits. An `Err` names the fault that
+/// a reading from left to right meets first, and its offset (`EreErrorKind`). The length and the bytes are checked
+/// first, the height and the leaves last. `OutOfMemory` says nothing about the pattern; any other fault means that it
+/// has no tree. (POSIX.1-2017 XBD 9.4 and 9.3.5; the limits are this program's choice.)
 pub fn parse_with(alloc: Global, pattern: &[u8], case: Case) -> Result<Ere, EreError>
     ensures tree { IfOk result (λ e. IsTreeOf case pattern.now (form e)) }
     ensures limits { IfOk result (λ e. IsWithinLimits (form e)) }
@@ -129,7 +130,7 @@ fn is_branch_end(text: &[u8], at: usize, depth: u8) -> bool
     at == text.len() || text[at] == b'|' || (depth > 0 && text[at] == b')')
 }
 
-/// The piece at `at`: an anchor, or an atom with its duplications.
+/// The piece at `at`, which is an anchor or an atom with its duplications, and the offset after it.
 #[cycle(reader)]
 fn piece(
     alloc: Global,
@@ -163,7 +164,7 @@ fn piece(
     }
 }
 
-/// The group whose `(` is at `opening` and whose alternatives begin at `start`.
+/// The group whose `(` is at `opening` and whose alternatives begin at `start`, and the offset after its `)`.
 #[cycle(reader)]
 fn group(
     alloc: Global,
@@ -191,7 +192,7 @@ fn group(
     Ok((part, end + 1))
 }
 
-/// An anchor, which takes no duplication.
+/// The anchor that ends at `after`, which no duplication may follow.
 fn anchor(
     case: Case,
     text: &[u8],
@@ -209,7 +210,7 @@ fn anchor(
     }
 }
 
-/// The duplications from `start` on, which apply to the part before them.
+/// The atom with the duplications from `start` on, and the offset after them.
 fn repeated(
     alloc: Global,
     case: Case,

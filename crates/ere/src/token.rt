@@ -76,7 +76,7 @@ pub fn duplication_at(
     }
 }
 
-/// Whether a byte that may begin a duplication is at `at`.
+/// Whether a byte that can begin a duplication is at `at`.
 fn begins_duplication(text: &[u8], at: usize) -> bool
     requires { at ≤ length text.now }
     ensures may { IsTrue result → at < length text.now }

@@ -49,7 +49,7 @@ pub star_height_more : (body : Tree) (least : ℕ) → is_set body ≡ false →
 unfolding star_height
 star_height_more body least e = rw e refl
 
--- one less is asked of the body
+-- a star's body needs a height of one less
 pub one_less : (least height : ℕ) → (least ≡ 0 → ⊥) → nat_le (least - 1) height ≡ nat_le least (suc height)
 one_less least height some = go (nat_le least (suc height)) refl
   where

@@ -1,4 +1,4 @@
--- Where the lines of a text are in it.
+-- Where in a text its lines are.
 use Rattle.std.proofs.Common.{◌≡◌, ◌≢◌, ℕ, zero, suc, ◌+◌, ◌≤◌, ◌<◌, ◌⊎◌, Bool, true, false, cond, inl, inr, refl, sym, ap, subst, ◌∙◌}
 use Rattle.std.proofs.Common.{arith, List, [], ◌∷◌, ◌++◌, length, Some, None, slice_get, slice_index, append_assoc, length-append, ◌==◌}
 use Rattle.std.proofs.Common.{eq-eqb}
@@ -140,7 +140,7 @@ whole_with_feed : (before part : List ℕ) → IsWholeLines (before ++ (part ++ 
 whole_with_feed before part = inr (before ++ part, sym (append_assoc before part (10 ∷ [])))
 
 module _ (hay : List ℕ) (tail : List ℕ) (most : ℕ) where
-  -- what there is to show of the lines of a whole part of the text
+  -- what is to be shown for the lines of a part of the text
   abbrev pub Shown : List ℕ → List ℕ → Type 0
   Shown before whole =
       hay ≡ before ++ (whole ++ tail) → length before + length whole ≤ most
@@ -228,7 +228,7 @@ nothing_first : (back : List ℕ) → lines_of back ≡ lines_of [] ++ lines_of 
 unfolding lines_of
 nothing_first back = refl
 
--- after whole lines the lines begin anew
+-- the lines after whole lines are those of the rest
 pub lines-append : (back front part : List ℕ) → NoFeed part → IsWholeLines (part ++ front)
     → lines_of ((part ++ front) ++ back) ≡ lines_of (part ++ front) ++ lines_of back
 lines-append back [] [] none whole_lines = nothing_first back

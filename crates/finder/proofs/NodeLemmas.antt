@@ -1,4 +1,4 @@
--- What stands for each kind of tree.
+-- The pattern that stands for each kind of tree.
 use Rattle.std.proofs.Common.{◌≡◌, ◌≢◌, ℕ, zero, suc, ◌+◌, ◌-◌, ◌*◌, ◌≤◌, ◌<◌, ◌⊎◌, Bool, true, false, inl, inr, refl, sym, ap, subst, ◌∙◌}
 use Rattle.std.proofs.Common.{arith, List, [], ◌∷◌, length, Option, Some, None, IfSome, slice_get}
 use Rattle.std.specs.Prelude.{slice_index, ◌==◌, IsTrue}

@@ -1,11 +1,11 @@
--- Relations that agree after a position.
+-- Relations on a line and on a text that agree.
 use Rattle.std.proofs.Common.{◌≡◌, ℕ, zero, suc, ◌+◌, ◌-◌, ◌≤◌, ◌⊎◌, inl, inr, refl, sym, subst, arith}
 use Rattle.matcher.specs.Spans.{Relation, Steps}
 use Rattle.matcher.proofs.Walks.{Then}
 use Rattle.regex_hir.specs.Matches.{Rounds, one_round, next_round}
 use Rattle.finder.specs.Translation.{Agrees}
 
--- a relation that leads from the same positions to the same
+-- the relation on the line, replaced by an equivalent one
 pub agrees_as : (size at : ℕ) (inside other outside : Relation) → ((i k : ℕ) → other i k → inside i k)
     → ((i k : ℕ) → inside i k → other i k) → Agrees size at inside outside → Agrees size at other outside
 agrees_as size at inside other outside to_it from_it h = record {
@@ -13,7 +13,7 @@ agrees_as size at inside other outside to_it from_it h = record {
   back = λ i e low r. let b = h.back i e low r in (b.0, b.1, b.2, from_it i b.0 b.3);
 }
 
--- the same on the other side
+-- the relation on the text, replaced by an equivalent one
 pub agrees_with : (size at : ℕ) (inside outside other : Relation) → ((i k : ℕ) → other i k → outside i k)
     → ((i k : ℕ) → outside i k → other i k) → Agrees size at inside outside → Agrees size at inside other
 agrees_with size at inside outside other to_it from_it h = record {
@@ -176,7 +176,7 @@ steps_split relation first (suc rest) i k s =
     let f = steps_split relation first rest i t.0 t.1 in
     (f.0, f.1, (t.0, f.2, t.2))
 
--- this many steps, and at most that many more
+-- `least` to `most` steps are `least` steps, and then at most the difference
 pub few_apart : (relation : Relation) (least most i k : ℕ) → least ≤ most
     → (count : ℕ) × (least ≤ count) × (count ≤ most) × Steps relation count i k
     → Then (Steps relation least) (Few-steps relation (most - least)) i k

@@ -19,17 +19,17 @@ unfoldable pub line_feeds : List ℕ → ℕ
 line_feeds [] = 0
 line_feeds (b ∷ text) = if b == 10 then suc (line_feeds text) else line_feeds text
 
--- there is no line feed between the two positions
+-- no line feed is at the first position or between it and the second
 abbrev pub HasNoFeed : List ℕ → ℕ → ℕ → Type 0
 HasNoFeed text from to = (k : ℕ) → from ≤ k → k < to → slice_index text k ≢ 10
 
--- the line of a position starts here
+-- the line of the position `from` starts at `start`
 pub record IsLineStart (text : List ℕ) (from start : ℕ) : Type 0 where
   pub low : start ≤ from
   pub whole_lines : IsWholeLines (take start text)
   pub no_feed : HasNoFeed text start from
 
--- the line of a position ends here
+-- the line of the position `from` ends at `end`
 pub record IsLineEnd (text : List ℕ) (from end : ℕ) : Type 0 where
   pub high : from ≤ end
   pub inside : end ≤ length text
@@ -45,7 +45,7 @@ pub record IsInside (text : List ℕ) (line : FirstLine) : Type 0 where
 abbrev pub HasNoMatch : Tree → List ℕ → Type 0
 HasNoMatch tree text = AllByRecursion (λ line. ContainsMatch tree line → ⊥) (lines_of text)
 
--- The text is whole lines with no match, then the line, which contains one, and what is after it.
+-- The text consists of whole lines with no match, then the line, which contains one, and then what is after it.
 pub record IsFirstLine (tree : Tree) (text : List ℕ) (found : FirstLine) : Type 0 where
   pub front : List ℕ
   pub line : List ℕ

@@ -12,7 +12,7 @@ is_set (alt members) = false
 is_set (repeat body least greatest) = false
 
 unfoldable mutual
-  -- the most repeats without a greatest count that are one inside another
+  -- how many repeats without a greatest count are nested at most
   pub star_height : Tree → ℕ
   star_height empty = 0
   star_height (set members) = 0

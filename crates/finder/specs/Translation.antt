@@ -16,8 +16,8 @@ pub record IsLineAt (text : List ℕ) (at : ℕ) (line : List ℕ) : Type 0 wher
   pub begins : holds StartLf text at ≡ true
   pub ends : holds EndLf text (at + length line) ≡ true
 
--- A relation on a line's positions, and one on the text's, lead to the same places from each position of a line
--- of this size, which is at `at` in the text.
+-- From each position of a line of this size, which is at `at` in the text, a relation on the line's positions and
+-- one on the text's lead to the same places.
 pub record Agrees (size at : ℕ) (of_line of_text : Relation) : Type 0 where
   pub there : (from to : ℕ) → from ≤ size → of_line from to → (to ≤ size) × of_text (at + from) (at + to)
   pub back : (from end : ℕ) → from ≤ size → of_text (at + from) end → (to : ℕ) × (end ≡ at + to) × (to ≤ size) × of_line from to

@@ -16,12 +16,12 @@ use std::alloc::{AllocError, Global};
 /// the engine's own tables of states give up.
 const MOST_TABLES: usize = 8192;
 
-/// The same for a tree that the matcher would take too many steps for. It is more than the tables of any tree
-/// within the limits take.
+/// The same limit, for a tree for which the matcher would take too many steps. No tree within the limits has tables
+/// as large as this.
 const MOST_TABLES_WHATEVER: usize = 1 << 30;
 
-/// A tree may be left to the matcher if it takes no more steps than this, each over a whole line. These are the steps
-/// of a star that is not at the front and has eight sets in its body, and of the greatest tree around it.
+/// The most steps, each over a whole line, that the matcher may take for a tree that is not compiled. They are the
+/// steps of a star that is not at the front and has eight sets in its body, plus those of the largest tree around it.
 const MOST_STEPS: u64 = 8 * 16_384 + 4_096;
 
 /// A pattern compiled for the engine.
@@ -41,8 +41,9 @@ impl Compiled {
     ghost use Rattle.ere.specs.Tree.{form};
     ghost use Rattle.finder.specs.Patterns.{IsCompiledFrom};
 
-    /// Compiles the pattern of a tree. `None` if its tables would make a search slow. A tree for which the matcher
-    /// could be slower still is compiled whatever its size. An `Err` means that memory ran out.
+    /// Compiles the pattern of a tree. Returns `None` if its tables are so large that they would make a search slow;
+    /// but a tree for which the matcher could be slower still is compiled whatever the size of its tables, if it is
+    /// within the limits of a pattern. An `Err` means that memory ran out.
     pub fn new(alloc: Global, tree: &Ere) -> Result<Option<Compiled>, AllocError>
         ensures { IfOk result (λ o. IfSome o (IsCompiledFrom (form tree.now))) }
     {

@@ -12,16 +12,16 @@ use std::alloc::{AllocError, Global};
 /// The first line of a text that contains a match.
 #[derive(Clone, Copy, Debug, PartialEq, Eq)]
 pub struct FirstLine {
-    /// How many lines are before it.
+    /// How many lines of the text are before it.
     pub before: usize,
-    /// Where it starts in the text, in bytes.
+    /// Where it starts, as an offset in the text, in bytes from 0.
     pub start: usize,
-    /// Where it ends: at its line feed, or at the text's end.
+    /// The offset at which it ends: that of its line feed, or the text's length if it has none.
     pub end: usize,
 }
 
-/// Looks for the matches of a compiled pattern. It takes memory while it works. If it gets none, it goes on without
-/// it, so `first_line` and `matches` never fail.
+/// Looks for the matches of a compiled pattern. It takes memory while it works. If memory runs out, it goes on
+/// without it, so `first_line` and `matches` never fail.
 pub struct Finder<'p> {
     pub(crate) searcher: Searcher<'p>,
 }
@@ -51,7 +51,7 @@ impl<'p> Finder<'p> {
         })
     }
 
-    /// The first line of the text that contains a match.
+    /// The first line of the text that contains a match, or `None` if no line does.
     pub fn first_line(&mut self, text: &[u8]) -> Option<FirstLine>
         ensures same { (tree : Tree) → IsFinderOf tree self.old → IsFinderOf tree self.new }
         ensures inside { IfSome result (IsInside text.now) }
@@ -62,7 +62,7 @@ impl<'p> Finder<'p> {
             return None;
         };
         let start = line_start(text, from);
-        // No line is after the last line feed.
+        // An empty rest after the last line feed is not a line, and an empty text has none.
         if start == text.len() {
             return None;
         }
@@ -71,7 +71,7 @@ impl<'p> Finder<'p> {
         Some(FirstLine { before, start, end })
     }
 
-    /// Whether the line contains a match. It has no line feed.
+    /// Whether the line contains a match. The line must not have a line feed.
     pub fn matches(&mut self, line: &[u8]) -> bool
         requires { (k : ℕ) → k < length line.now → slice_index line.now k ≢ 10 }
         ensures same { (tree : Tree) → IsFinderOf tree self.old → IsFinderOf tree self.new }

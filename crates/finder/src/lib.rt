@@ -1,9 +1,9 @@
 //! The lines of a text that contain a match of a tree, found from match to match.
 //!
-//! A tree is translated into a pattern of the toolchain's regular expression engine, which goes over a whole
-//! text at once: it looks for a literal if a match has one, and its automaton reads each byte about once.
-//! The line's start and end are the engine's line anchors, and no set holds the line feed, so no match
-//! crosses the end of its line.
+//! A tree is translated into a pattern of the toolchain's regular expression engine, which searches a whole
+//! text at once: it looks for a literal if every match has one, and its automaton reads each byte about once.
+//! The tree's anchors become the engine's line anchors, and no set holds the line feed, so no match crosses
+//! the end of its line.
 #![tactic(auto)]
 
 mod compiled;

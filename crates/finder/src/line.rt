@@ -6,7 +6,7 @@ ghost use Rattle.finder.specs.FirstLine.{IsLineStart, IsLineEnd, IsWholeLines, l
 
 use memchr::{memchr, memrchr};
 
-/// How many bytes are counted together. Their count fits into a byte, so the processor counts many at a time.
+/// How many bytes are counted together. Their count fits in a byte, so the processor can count many at a time.
 const BLOCK: usize = 192;
 
 /// Where the line of the position `from` starts.
@@ -54,7 +54,7 @@ fn line_feeds(text: &[u8]) -> usize
     count + line_feeds_of_block(rest) as usize
 }
 
-// How many line feeds are in at most a block of bytes.
+// How many line feeds are in these bytes, which are at most one block.
 #[tactic(auto, unfolding(crate::specs::FirstLine::line_feeds))]
 fn line_feeds_of_block(block: &[u8]) -> u8
     requires { length block.now ≤ BLOCK }

@@ -1,4 +1,4 @@
-//! How deep the stars of a tree are.
+//! How deep the stars of a tree are nested.
 
 ghost use Rattle.std.specs.Prelude.{◌≡◌, ◌<◌, map, nat_le};
 ghost use Rattle.ere.specs.Tree.{form, trees_of};
@@ -7,7 +7,7 @@ ghost use Rattle.finder.specs.StarHeight.{star_height, greatest_height, is_set};
 use ere::Ere;
 
 /// Whether the tree's star height is at least `least`: whether `least` repeats without a greatest count are
-/// one inside another; a repeat of a single set does not count.
+/// nested one inside another. A repeat of a single set does not count.
 #[cycle(heights)]
 pub fn has_star_height(tree: &Ere, least: u32) -> bool
     ensures { result ≡ nat_le least (star_height (form tree.now)) }

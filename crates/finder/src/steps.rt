@@ -1,23 +1,25 @@
-//! How many steps the matcher may take for a line.
+//! How many steps the matcher can take for a line.
 
 use crate::star_height::is_one_set;
 use ere::Ere;
 
-/// How many rounds a star may take: one for each byte of the longest line.
+/// How many rounds a star can take: one for each byte of the longest line.
 const ROUNDS: u64 = 16_384;
 
-/// What a plain star takes instead. It goes through the line window by window, each of 64 positions: at most 64
-/// rounds within a window, each of which looks at a single word of the set, and one over the whole line. In all
-/// that is measured to be no more than this many rounds over the line.
+/// How many rounds a star with a plain body takes instead. The matcher goes through the line in windows of 64
+/// positions. For each it takes at most 64 rounds within the window, which look at a single word of the set, and then
+/// one round over the whole line. By measurement, all of that takes no longer than this many rounds over the line.
 const PLAIN_ROUNDS: u64 = 32;
 
-/// The most steps that the matcher may take for a line, about: a step takes a set of positions over one set of bytes.
+/// About the most steps that the matcher can take for a line. A step moves a set of positions over one set of bytes.
+/// `leads` says whether the tree is at the front: of the whole tree, or of the body of the star around it.
 ///
-/// A star takes a step for each set in its body in each of its rounds. It takes one round if it is at the front of
-/// the tree (if `leads`) or of the body of the star around it, with nothing before it there but what can be empty. At
-/// the front of the tree it begins with all positions of the line, so there are no others to reach. At the front of
-/// another star's body it goes on only from what is new. Elsewhere a star takes few rounds if its body is plain, and
-/// otherwise a round for each byte. A star of a single set is one step anywhere. No answer depends on this number.
+/// A star (here a repeat without a greatest count) takes the steps of its body in each of its rounds. It takes one
+/// round if it is at the front, with nothing before it there but what can be empty, and its least count is below 2.
+/// At the front of the whole tree it begins with all positions of the line, so there are no others to reach. At the
+/// front of another star's body it goes on only from what is new. Elsewhere a star takes few rounds if its body is
+/// plain, and otherwise a round for each byte. A star of a single set is one step anywhere. A repeat with a greatest
+/// count takes the steps of that many copies of its body. No answer depends on this number.
 #[cycle(steps)]
 pub fn steps_of(tree: &Ere, leads: bool) -> u64 {
     match tree {
@@ -35,7 +37,7 @@ pub fn steps_of(tree: &Ere, leads: bool) -> u64 {
                 steps_of(body, true).saturating_mul(rounds_of(body, leads && *least < 2))
             }
             Some(most) => {
-                // Only the first copy is at the front.
+                // Only the first copy is at the front, so only the body of a `?` counts as being there.
                 let leading = leads && *least == 0 && *most < 2;
                 steps_of(body, leading).saturating_mul(*most as u64)
             }
@@ -103,7 +105,7 @@ fn steps_of_some(members: &[Ere], leads: bool) -> u64 {
     steps
 }
 
-// Whether it is plain that the empty word is a word of the tree.
+// Whether the tree obviously has the empty word. A tree for which this is false can have it too.
 fn can_be_empty(tree: &Ere) -> bool {
     match tree {
         Ere::Empty => true,

@@ -43,8 +43,8 @@ fn patterns_for(alloc: Global, members: &[Ere]) -> Result<Vec<Hir>, AllocError>
     Ok(hirs)
 }
 
-// The pattern for `least` copies of the body or more. A star of a star is one star: each further one would
-// make the pattern larger, and its searches slower.
+// The pattern for `least` copies of the body or more. A star of a star becomes one star, since each further star
+// would make the pattern larger and its searches slower.
 #[cycle(translate)]
 fn starred(alloc: Global, body: &Ere, least: u8) -> Result<Hir, AllocError>
     ensures { IfOk result (λ hir. StandsFor (repeat (form body.now) least None) (meaning hir)) }
@@ -65,7 +65,7 @@ fn bounded(alloc: Global, body: &Ere, least: u8, most: u8) -> Result<Hir, AllocE
     ensures { IfOk result (λ hir. StandsFor (repeat (form body.now) least (Some most)) (meaning hir)) }
 {
     if most < least {
-        // No word is such a number of copies. No pattern's tree asks for it.
+        // No number of copies is in this range, so there are no words. No pattern has such a tree.
         return Ok(Hir::Alternation(Vec::new(alloc)));
     }
     copies(alloc, body, least, Some(most as u32))
@@ -86,7 +86,7 @@ fn copies(alloc: Global, body: &Ere, least: u8, most: Option<u32>) -> Result<Hir
     })
 }
 
-// The bytes of a set.
+// The engine's class for the bytes of a set.
 fn class_of(alloc: Global, set: &ByteSet) -> Result<Class, AllocError>
     ensures { IfOk result (λ class. (b : ℕ) → in_ranges class.ranges.items b ≡ has set.now b) }
 {

@@ -193,7 +193,7 @@ IsState-put version ds name body is_name is_body is =
       names = all_pairs_push (λ d e. d.name ≢ e.name) (without name ds) (document (version + 1) name body) left.names (without_name name ds);
     }
 
--- ---- how many there may be
+-- ---- how many documents there can be
 
 count-above : (ds : List Document) (low version : ℕ) → Numbered ds → All (λ d. d.number ≤ version) ds → All (λ d. low < d.number) ds
     → low ≤ version → length ds + low ≤ version

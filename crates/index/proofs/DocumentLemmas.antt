@@ -16,7 +16,7 @@ same_name x y e = (bytes_decides x y).0 e
 pub bytes_eq-refl : (x : List ℕ) → bytes_eq x x ≡ true
 bytes_eq-refl x = nat_list_eq_equiv.refl x
 
--- a number below all that are given out
+-- a number below those of all commands
 pub document_at-below : (number place : ℕ) (c : List Command) → number < place → document_at number (documents_from place c) ≡ None
 unfolding documents_from document_at
 document_at-below number place [] h = refl
@@ -31,7 +31,7 @@ document_at-below number place (Put name body ∷ later) h = go (names later nam
         let apart : (place == number) ≡ false = grind (arith, nat_tests) in
         rw apart deeper
 
--- the document of the command at a place, with these commands after it
+-- the document that a command leaves if these commands come after it
 abbrev pub left_by : Option Command → List Command → Option (List ℕ × List ℕ)
 left_by None later = None
 left_by (Some (Remove name)) later = None

@@ -50,7 +50,7 @@ IsIndex-unchanged version old new store is same = record {
   few = is.few;
 }
 
--- the number of a name that was noted is taken back
+-- undoing the entry of a name's number
 pub IsIndex-back : (version number : ℕ) (old noted new : BTreeMap (List ℕ) ℕ) (store : Store) (name : List ℕ) (gone : Option ℕ)
     → IsIndex version old store → gone ≡ get (slice_cmp nat_cmp) old name
     → ((q : List ℕ) → get (slice_cmp nat_cmp) noted q ≡ cond (bytes_eq name q) (Some number) (get (slice_cmp nat_cmp) old q))
@@ -134,7 +134,7 @@ IsIndex-remove version old new before after name gone is few was removed documen
       few = few;
     }
 
--- the bytes of one more body are counted in 64 bits
+-- the count of bytes still fits in 64 bits with one more body
 pub room_for_bytes : (version : ℕ) (ds : List Document) (body : List ℕ) → IsState (state version ds) → IsBody body → version < 2 ^ 32
     → body_bytes ds + length body < 2 ^ 64
 room_for_bytes version ds body is is_body few =
@@ -142,7 +142,7 @@ room_for_bytes version ds body is is_body few =
     let short = is_body.short in
     omega arith
 
--- ---- what the map's calls say
+-- ---- what calls of the map ensure
 
 -- `insert` of a copied name
 pub inserted_name : (old new : BTreeMap (List ℕ) ℕ) (name key : List ℕ) (number : ℕ) → key ≡ name

@@ -219,7 +219,7 @@ module _ (ds : List Document) (numbered : Numbered ds) (named : Named ds) {K : T
       → (ordered_documents : List Document) × IsInNameOrder chosen ordered_documents × (items ≡ map (λ d. d.number) ordered_documents)
   chosen_in_order items e = (map (shown name_in ds) numbers.entries, in_order, e ∙ numbers-shown name_in ds numbers.entries)
 
--- the documents of a map by references to their names
+-- the documents of a map whose keys are references to their names
 pub few_in_order : (ds : List Document) → Numbered ds → Named ds → (test : ℕ → Bool) (few : BTreeMap (Bor (List ℕ)) ℕ)
     → ((name : Bor (List ℕ)) → get by_bytes few name ≡ kept_if test (number_of name.now ds)) → IsOrdered by_bytes few → (items : List ℕ)
     → items ≡ values few
@@ -246,7 +246,7 @@ by_name ds numbered named numbers kept ordered items e =
     (chosen_in_order ds numbered named (λ k. k) (λ name. name) (λ name. refl) (λ _. true) numbers
     (λ name. kept name ∙ kept_all (number_of name ds)) ordered items e)
 
--- those of all documents that pass the test, in the same order
+-- the documents that pass the test, chosen from all documents in the order of their names
 pub among_by_name : (ds : List Document) → Numbered ds → Named ds → (test : ℕ → Bool) (numbers : BTreeMap (List ℕ) ℕ)
     → ((name : List ℕ) → get (slice_cmp nat_cmp) numbers name ≡ number_of name ds) → IsOrdered (slice_cmp nat_cmp) numbers
     → (items : List ℕ) → items ≡ filter test (values numbers)
@@ -273,9 +273,9 @@ named_is_shown ds numbered name number found absent =
     clash : (d : List ℕ × List ℕ) → Some d ≡ None → ⊥
     clash d e = cc
 
--- ---- a map of the chosen documents, one more of which goes in
+-- ---- putting one more document into the map of the chosen ones
 
--- a list of which some numbers were passed, and then one more
+-- some numbers of a list are done, and then one more
 pub passed-more : (all done left new : List ℕ) (number : ℕ) → all ≡ done ++ left → left ≡ number ∷ new → all ≡ (done ++ number ∷ []) ++ new
 passed-more all done left new number e h = e ∙ (ap (λ xs. done ++ xs) h ∙ sym (append_assoc done (number ∷ []) new))
 
@@ -312,12 +312,12 @@ kept-other ds numbered named done number q other = go (number_of q ds) refl
         let apart : (number == m) ≡ false = not_named ds numbered named number q m other e (number == m) refl in
         ap (λ t. cond t (Some m) None) (sym (has-more done number m false apart ∙ or_no (has done m)))
 
--- a number of no document
+-- a number that no document has changes nothing
 pub few-skip : (ds : List Document) (numbered : Numbered ds) (named : Named ds) (done : List ℕ) (number : ℕ) → document_at number ds ≡ None
     → (q : List ℕ) → kept_if (has done) (number_of q ds) ≡ kept_if (has (done ++ number ∷ [])) (number_of q ds)
 few-skip ds numbered named done number absent q = kept-other ds numbered named done number q (λ found. named_is_shown ds numbered q number found absent)
 
--- the number of a document, which goes in under its name
+-- the number of a document goes in under the document's name
 pub few-more : (ds : List Document) (numbered : Numbered ds) (named : Named ds) (done : List ℕ) (number : ℕ) (name body : List ℕ)
     → document_at number ds ≡ Some (name, body) → (q : List ℕ)
     → cond (bytes_eq name q) (Some number) (kept_if (has done) (number_of q ds)) ≡ kept_if (has (done ++ number ∷ [])) (number_of q ds)
@@ -348,7 +348,7 @@ few-more ds numbered named done number name body at q = go (bytes_eq name q) ref
         kept-other ds numbered named done number q
         (λ found. false≢true (sym other ∙ subst (λ n. bytes_eq name n ≡ true) (name_at q found) (bytes_eq-refl name)))
 
--- what `insert` of a name says
+-- what `insert` of a name ensures
 pub inserted : (old new : BTreeMap (Bor (List ℕ)) ℕ) (name : List ℕ) (number : ℕ)
     → ((q : Bor (List ℕ)) → get by_bytes new q ≡ cond (is_at (λ k. slice_cmp nat_cmp name k.now) q) (Some number) (get by_bytes old q))
     → (q : Bor (List ℕ)) → get by_bytes new q ≡ cond (bytes_eq name q.now) (Some number) (get by_bytes old q)

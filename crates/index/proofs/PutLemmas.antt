@@ -16,7 +16,7 @@ use Rattle.index.specs.declared.command.Command.TheVariants.{Put, Remove}
 use Rattle.index.specs.Documents.{Document, document, names, documents_from, documents_of, document_at, number_of, IsDocument}
 use Rattle.index.proofs.DocumentLemmas.{document_at-place, number_of-place, left_by, same_name}
 
--- the document is the Put at some place of the list, whose first place is given
+-- the document is a Put of the list, whose first command has the given place
 pub record IsPutAt (place : ℕ) (c : List Command) (d : Document) : Type 0 where
   pub i : ℕ
   pub put : slice_get c i ≡ Some (Put d.name d.body)

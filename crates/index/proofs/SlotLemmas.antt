@@ -160,7 +160,7 @@ documents_in-emptied number (s ∷ slots) (suc place) slot rises at same =
     ap (λ ds. documents_of_slot s.number s.entry ++ ds) (documents_in-emptied number slots place slot rises.1 at same)
     ∙ sym (without-skip number s.number s.entry (documents_in slots) (λ e. omega arith))
 
--- ---- empty slots left out
+-- ---- empty slots dropped
 
 abbrev pub is_full : Slot → Bool
 is_full slot = is_some slot.entry

@@ -23,7 +23,7 @@ abbrev pub name_of : Command → List ℕ
 name_of (Put name body) = name
 name_of (Remove name) = name
 
--- whether one of the commands names it
+-- whether one of the commands names this name
 unfoldable pub names : List Command → List ℕ → Bool
 names [] name = false
 names (command ∷ later) name = bytes_eq (name_of command) name || names later name
@@ -39,7 +39,7 @@ documents_from number (Remove name ∷ later) = documents_from (suc number) late
 abbrev pub documents_of : List Command → List Document
 documents_of commands = documents_from 1 commands
 
--- name and body of the document with this number
+-- the name and the body of the document with this number
 unfoldable pub document_at : ℕ → List Document → Option (List ℕ × List ℕ)
 document_at number [] = None
 document_at number (first ∷ others) =
@@ -63,7 +63,7 @@ pub record IsInNameOrder (documents ordered : List Document) : Type 0 where
   pub rises : RisesByName ordered
   pub same : (d : Document) → Contains ordered d ↔ Contains documents d
 
--- In other words: a Put that no later command names.
+-- In other words, the document is a Put whose name no later command names.
 pub record IsDocument (commands : List Command) (d : Document) : Type 0 where
   pub before : List Command
   pub later : List Command

@@ -1,4 +1,4 @@
--- What only private items cite. A clause can cite only `pub` modules.
+-- What only private items cite. The modules are `pub` because a clause can cite no others.
 pub mod Analysis
 pub mod Slots
 pub mod Sets

@@ -18,7 +18,7 @@ state version documents = record { version = version; documents = documents }
 abbrev pub state_of : List Command → State
 state_of commands = state (length commands) (documents_of commands)
 
--- the documents of other names
+-- the documents with other names
 abbrev pub without : List ℕ → List Document → List Document
 without name documents = filter (λ d. not (bytes_eq d.name name)) documents
 
@@ -31,7 +31,7 @@ documents_after place (Remove name) documents = without name documents
 abbrev pub applied : Command → State → State
 applied command s = state (s.version + 1) (documents_after (s.version + 1) command s.documents)
 
--- the bytes of all bodies
+-- the total length of all bodies, in bytes
 abbrev pub body_bytes : List Document → ℕ
 body_bytes documents = sum (map (λ d. length d.body) documents)
 

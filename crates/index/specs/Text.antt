@@ -23,7 +23,7 @@ pub record IsName (bytes : List ℕ) : Type 0 where
   pub short : length bytes ≤ greatest_name
   pub printable : has_bad_byte bytes ≡ false
 
--- The first cause for which bytes are not a name. Memory runs out only for what is a name.
+-- The first cause for which bytes were not made into a name. Memory runs out only if they are a name.
 unfoldable pub IsNameFault : NameError → List ℕ → Type 0
 IsNameFault name_error.Empty bytes = length bytes ≡ 0
 IsNameFault name_error.TooLong bytes = greatest_name < length bytes
@@ -38,7 +38,7 @@ greatest_body = 1048576
 abbrev pub has_byte_0 : List ℕ → Bool
 has_byte_0 bytes = list_any (λ b. b == 0) bytes
 
--- some line is longer than a line may be
+-- some line is longer than the greatest line
 abbrev pub has_long_line : List ℕ → Bool
 has_long_line bytes = list_any (λ line. nat_lt greatest_line (length line)) (lines_of bytes)
 

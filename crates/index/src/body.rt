@@ -34,8 +34,8 @@ impl Model for Body {
 }
 
 impl Body {
-    /// The body of these bytes. It takes no memory. A refusal gives the first cause, in the order of
-    /// `BodyErrorKind`, and hands the bytes back.
+    /// Makes a body of these bytes, without taking memory. An `Err` holds the first cause for which they are not a
+    /// body, in the order of `BodyErrorKind`, and hands the bytes back.
     pub fn new(bytes: Vec<u8>) -> Result<Body, BodyError>
         ensures body { IfOk result (λ body. (body ≡ bytes.items) × IsBody bytes.items) }
         ensures fault { IfErr result (λ e. IsBodyFault e.kind bytes.items) }
@@ -55,7 +55,7 @@ impl Body {
         self.bytes.as_slice()
     }
 
-    /// The allocator of its bytes.
+    /// The allocator of the bytes.
     pub(crate) fn allocator(&self) -> Global {
         *self.bytes.allocator()
     }

@@ -6,8 +6,8 @@ use crate::name::Name;
 /// A command on the documents.
 #[derive(Debug, Drop)]
 pub enum Command {
-    /// The document of this name gets this body. A document that already has the name is replaced.
+    /// Puts in a document with this name and body. It replaces the one that already has the name, if there is one.
     Put(Name, Body),
-    /// The document of this name is removed. If there is none, no document changes.
+    /// Removes the document with this name. If there is none, no document changes.
     Remove(Name),
 }

@@ -4,27 +4,27 @@ use crate::body::Body;
 use crate::command::Command;
 use std::alloc::AllocError;
 
-/// Why bytes are not a name. The causes are checked in this order.
+/// Why bytes were not made into a name. The causes are checked in this order.
 #[derive(Clone, Copy, Debug, PartialEq, Eq)]
 pub enum NameError {
-    /// It has no bytes.
+    /// There are no bytes.
     Empty,
-    /// It has over 255 bytes.
+    /// There are over 255 bytes.
     TooLong,
-    /// It has a byte of 0 to 32, or 127.
+    /// A byte is 0 to 32, or 127.
     BadByte,
-    /// It is a name, and memory ran out.
+    /// The bytes are a name, but memory ran out.
     OutOfMemory,
 }
 
 /// Why bytes are not a body. The causes are checked in this order.
 #[derive(Clone, Copy, Debug, PartialEq, Eq)]
 pub enum BodyErrorKind {
-    /// It has over 1,048,576 bytes.
+    /// There are over 1,048,576 bytes.
     TooLong,
-    /// It has a byte 0.
+    /// A byte is 0.
     NotText,
-    /// It has a line of over `ere::MAX_LINE` bytes.
+    /// A line has over `ere::MAX_LINE` bytes, not counting its line feed.
     LineTooLong,
 }
 
@@ -37,12 +37,12 @@ pub struct BodyError {
     pub bytes: Vec<u8>,
 }
 
-/// A command that was refused because memory ran out, handed back.
+/// A command that could not be applied, handed back.
 #[derive(Debug, Drop)]
 pub struct ApplyError {
     /// The command that was handed in.
     pub command: Command,
-    /// Memory ran out.
+    /// Memory ran out, or the name has too many handles.
     pub error: AllocError,
 }
 

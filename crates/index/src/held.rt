@@ -19,7 +19,7 @@ struct Analysed {
     trigrams: Trigrams,
 }
 
-/// A body with what an index needs of it, shared by all that hold it. The trigrams of its lines are found only once.
+/// A handle to a body and its trigrams, which all handles to it share. The trigrams are found only once.
 ///
 /// Contracts see it as the bytes of the body.
 #[derive(Drop)]
@@ -40,7 +40,8 @@ impl Model for Held {
 }
 
 impl Held {
-    /// The body, with its trigrams. An `Err` means that memory ran out, and hands the body back.
+    /// Finds the trigrams of the body's lines, and keeps them with it. An `Err` means that memory ran out, and hands
+    /// the body back.
     pub fn new(body: Body) -> Result<Held, HeldError>
         ensures held { IfOk result (λ held. held ≡ body) }
         ensures returned { IfErr result (λ e. e.body ≡ body) }
@@ -51,7 +52,8 @@ impl Held {
         }
     }
 
-    /// The body with these trigrams, which are its own. An `Err` means that memory ran out, and hands the body back.
+    /// Keeps the body with these trigrams, which are those of its lines. An `Err` means that memory ran out, and
+    /// hands the body back.
     pub(crate) fn with(body: Body, trigrams: Trigrams) -> Result<Held, HeldError>
         requires { ListsTrigrams body trigrams }
         ensures held { IfOk result (λ held. held ≡ body) }

@@ -25,15 +25,15 @@ use std::alloc::{AllocError, Global};
 use std::collections::BTreeMap;
 use std::marker::Model;
 
-/// If a list has fewer numbers than there are documents divided by this, its numbers are sorted by name. For a longer
-/// list the names of all documents are gone through.
+/// A list that is shorter than the number of documents divided by this is sorted by name. For a longer list, all
+/// documents are gone through in the order of their names.
 const FEW: usize = 8;
 
 /// The documents that commands leave.
 ///
-/// A document is there if some `Put` named it and no later command names it. Its number is the place of that
-/// `Put` among the commands, counted from 1. Contracts see an index as its state: how many commands were
-/// applied, and the documents.
+/// Each document comes from a `Put` whose name no later command names. Its number is the place of that `Put` among
+/// the commands, counted from 1. Contracts see an index as its state: how many commands were applied, and the
+/// documents.
 #[derive(Drop)]
 pub struct Index {
     // the number of commands
@@ -66,7 +66,8 @@ impl Index {
         }
     }
 
-    /// Applies a command. An `Err` means that memory ran out; it hands the command back, and the index is as it was.
+    /// Applies a command. At most 4,294,967,295 (2^32 - 1) commands can be applied to an index. An `Err` means that
+    /// memory ran out, or that the name has too many handles; it hands the command back, and the index is as it was.
     pub fn apply(&mut self, command: Command) -> Result<(), ApplyError>
         requires { self.old.version + 1 < 2 ^ 32 }
         ensures ok { OnOk result (self.new ≡ applied command self.old) }
@@ -85,7 +86,7 @@ impl Index {
         }
     }
 
-    // Applies the `Put` of this name and body. If memory runs out they come back.
+    // Applies the `Put` of this name and body. An `Err` hands them back.
     fn put(&mut self, name: Name, body: Body) -> Result<(), ApplyError>
         requires { self.old.version + 1 < 2 ^ 32 }
         ensures ok { OnOk result (self.new ≡ applied (put_command name body) self.old) }
@@ -121,8 +122,9 @@ impl Index {
         }
     }
 
-    /// Applies the `Put` of this name and body, which are shared. An `Err` means that memory ran out, and
-    /// the index is as it was.
+    /// Applies the `Put` of this name and body, which the index then shares with the caller. The limit on commands is
+    /// that of `apply`. An `Err` means that memory ran out, or that the name or the body has too many handles; the
+    /// index is then as it was.
     pub fn apply_put(&mut self, name: &Name, held: &Held) -> Result<(), AllocError>
         requires { self.old.version + 1 < 2 ^ 32 }
         ensures ok { OnOk result (self.new ≡ applied (put_command name.now held.now) self.old) }
@@ -140,8 +142,8 @@ impl Index {
         Ok(())
     }
 
-    /// Applies the `Remove` of this name. It takes no memory, and never gives an `Err`. The type leaves room for
-    /// one, after which the index would be as it was.
+    /// Applies the `Remove` of this name. The limit on commands is that of `apply`. It takes no memory, and never
+    /// returns an `Err`. The type allows for one, after which the index would be as it was.
     pub fn remove(&mut self, name: &Name) -> Result<(), AllocError>
         requires { self.old.version + 1 < 2 ^ 32 }
         ensures ok { OnOk result (self.new ≡ applied (remove_command name.now) self.old) }
@@ -154,7 +156,7 @@ impl Index {
         Ok(())
     }
 
-    /// The number of commands.
+    /// The version: the number of commands that were applied.
     pub fn version(&self) -> u32
         ensures version { result ≡ self.now.version }
         ensures state { IsState self.now }
@@ -169,14 +171,14 @@ impl Index {
         self.store.sets.live.len() as u32
     }
 
-    /// The bytes of all bodies that the index holds, which are those of its documents.
+    /// The total length of the documents' bodies, in bytes. The index holds no other bodies.
     pub fn held_bytes(&self) -> u64
         ensures { result ≡ body_bytes self.now.documents }
     {
         self.store.held_bytes
     }
 
-    /// Name and body of the document with this number, if there is one.
+    /// The name and the body of the document with this number, if there is one.
     pub fn document(&self, number: u32) -> Option<(&Name, &Body)>
         ensures { option_map (λ d. (d.0.now, d.1.now)) result ≡ document_at number self.now.documents }
     {
@@ -219,8 +221,9 @@ impl Index {
         sets.postings.select(alloc, query, &sets.live)
     }
 
-    /// The numbers of the documents that are in the list, in the order of the documents' names. For a list of few
-    /// numbers the cost grows with them, and not with the number of documents. An `Err` means that memory ran out.
+    /// Those numbers of the list that some document has, in the order of the documents' names. For a list shorter than
+    /// an eighth of the number of documents, the cost depends mainly on the length of the list. An `Err` means that
+    /// memory ran out.
     pub fn chosen_by_name(
         &self,
         alloc: Global,
@@ -238,7 +241,7 @@ impl Index {
         }
     }
 
-    // The numbers of the documents that are in the list, by their names.
+    // Those numbers of the list that some document has, by the documents' names.
     fn few(&self, alloc: Global, chosen: &posting::List) -> Result<BTreeMap<&Name, u32>, AllocError>
         ensures { IfOk result (λ few. AreFew chosen.now.members self.now.documents few) }
     {
@@ -252,7 +255,7 @@ impl Index {
     }
 }
 
-// The command that is refused because memory ran out.
+// The refusal of the `Put` of this name and body.
 fn refused(name: Name, body: Body, error: AllocError) -> ApplyError
     ensures { result.command ≡ put_command name body }
 {
@@ -262,7 +265,7 @@ fn refused(name: Name, body: Body, error: AllocError) -> ApplyError
     }
 }
 
-// A copy of the name. If `numbers` has the name, its memory is shared.
+// Another handle to the name. If `numbers` has an equal name, the handle is to that one, so its memory is shared.
 fn shared_name(numbers: &BTreeMap<Name, u32>, name: &Name) -> Result<Name, AllocError>
     ensures { IfOk result (λ shared. shared ≡ name.now) }
 {
@@ -272,7 +275,7 @@ fn shared_name(numbers: &BTreeMap<Name, u32>, name: &Name) -> Result<Name, Alloc
     }
 }
 
-// Enters the number of a name. Returns the number that it had.
+// Enters the number of a name. Returns the number that the name had before, if any.
 fn enter(
     numbers: &mut BTreeMap<Name, u32>,
     name: &Name,
@@ -315,7 +318,7 @@ fn numbers_of(few: &BTreeMap<&Name, u32>, alloc: Global) -> Result<Vec<u32>, All
     few.values().copied().collect(alloc)
 }
 
-// The numbers that are also in the list.
+// The numbers of the names that are also in the list, in the order of the names.
 fn numbers_among(
     numbers: &BTreeMap<Name, u32>,
     alloc: Global,

@@ -18,7 +18,7 @@ pub const MAX_NAME: usize = 255;
 /// Contracts see it as its bytes. Names are compared byte by byte, as unsigned numbers.
 #[derive(Debug, Drop)]
 pub struct Name {
-    // shared, so a name is in memory only once, wherever it is needed
+    // shared by all handles to the name, so that its bytes are in memory only once
     bytes: ArcSlice<u8>,
 }
 
@@ -87,7 +87,7 @@ impl Ord for Name {
 }
 
 impl Name {
-    /// The name of these bytes, copied. A refusal gives the first cause, in the order of `NameError`.
+    /// Makes a name of a copy of these bytes. An `Err` is the first cause, in the order of `NameError`.
     #[tactic(auto, unfolding(crate::specs::Text::IsNameFault))]
     pub fn new(alloc: Global, bytes: &[u8]) -> Result<Name, NameError>
         ensures name { IfOk result (λ name. (name ≡ bytes.now) × IsName bytes.now) }

@@ -27,8 +27,8 @@ impl Sets {
         }
     }
 
-    /// Makes room for a document with this number and these trigrams. `put_in` then takes no memory. The numbers
-    /// in the sets stay the same.
+    /// Makes room for a document with this number and these trigrams, so that `put_in` takes no memory. An `Err`
+    /// means that memory ran out. The numbers in the sets stay the same in either case.
     pub(crate) fn make_room(&mut self, number: u32, trigrams: &Trigrams) -> Result<(), AllocError>
         ensures live { self.new.live.members ≡ self.old.live.members }
         ensures postings { SameSets self.old.postings self.new.postings }
@@ -48,7 +48,7 @@ impl Sets {
         self.postings.withdraw_kept(number, trigrams);
     }
 
-    /// Puts in a document with this number and these trigrams, for which there is room.
+    /// Puts in a document with these trigrams, for which there is room. The number is above all others.
     pub(crate) fn put_in(&mut self, number: u32, trigrams: &Trigrams)
         requires room { HasRoomFor self.old trigrams.now }
         requires above { IsNew self.old number trigrams.now }

@@ -16,7 +16,7 @@ pub(crate) struct Entry {
     pub(crate) held: Held,
 }
 
-/// A document, or the empty slot of a removed one. So a removal need not move the others.
+/// The slot of a document. It stays, empty, when the document is removed, so that a removal need not move the others.
 #[derive(Drop)]
 pub(crate) struct Slot {
     pub(crate) number: u32,
@@ -34,7 +34,7 @@ pub(crate) fn entry_at(slots: &[Slot], number: u32) -> Option<&Entry>
     }
 }
 
-/// Takes the document with this number out of its slot, which stays, but empty.
+/// Takes the document with this number, if there is one, out of its slot. The slot stays, empty.
 pub(crate) fn take(slots: &mut Vec<Slot>, number: u32) -> Option<Entry>
     requires { (last : ℕ) × RiseTo last slots.old.items }
     ensures entry { option_map texts_of result ≡ document_at number (documents_in slots.old.items) }
@@ -52,8 +52,8 @@ pub(crate) fn take(slots: &mut Vec<Slot>, number: u32) -> Option<Entry>
     }
 }
 
-/// Drops the empty slots if half the number of slots is more than `documents`. If that is the number of documents in
-/// the slots, few of the slots are empty afterwards.
+/// Drops the empty slots if half the number of slots is more than `documents`. If `documents` is the number of
+/// documents in the slots, at most half of the slots (rounded up) are empty afterwards.
 pub(crate) fn compact(slots: &mut Vec<Slot>, documents: usize)
     ensures documents { documents_in slots.new.items ≡ documents_in slots.old.items }
     ensures numbers { (last : ℕ) → RiseTo last slots.old.items → RiseTo last slots.new.items }

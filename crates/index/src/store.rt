@@ -18,7 +18,7 @@ pub(crate) struct Store {
     // rising by their numbers
     pub(crate) slots: Vec<Slot>,
     pub(crate) sets: Sets,
-    // the bytes of all bodies
+    // the total length of all bodies, in bytes
     pub(crate) held_bytes: u64,
 }
 
@@ -35,7 +35,8 @@ impl Store {
         }
     }
 
-    /// Makes room for a document with this number and these trigrams. The documents stay as they are.
+    /// Makes room for a document with this number and these trigrams. An `Err` means that memory ran out. The
+    /// documents stay as they are in either case.
     pub(crate) fn make_room(&mut self, number: u32, trigrams: &Trigrams) -> Result<(), AllocError>
         ensures documents { stored self.new ≡ stored self.old }
         ensures store { (last : ℕ) → IsStore last self.old → IsStore last self.new }
@@ -45,7 +46,7 @@ impl Store {
         self.sets.make_room(number, trigrams)
     }
 
-    /// Takes out the document with this number, and drops it. It takes no memory.
+    /// Takes out the document with this number, if there is one, and drops it. This takes no memory.
     pub(crate) fn take_out(&mut self, number: u32)
         requires { (last : ℕ) × IsStore last self.old }
         ensures documents { stored self.new ≡ without_number number (stored self.old) }
@@ -83,10 +84,10 @@ impl Store {
             ≡ left_after gone (stored self.old) ++ document number entry.name entry.held ∷ [] }
         ensures store { IsStore number self.new }
     {
-        // the new document goes in first: taking the old one out may give room back
+        // the new document goes in first, since taking the old one out can give up the room that was made
         self.put_in(number, entry);
         if let Some(old) = gone {
-            // no document that was there has the new number
+            // always so: no document that was there has the new number
             if old != number {
                 self.take_out(old);
             }

@@ -24,7 +24,7 @@ pub struct LiveOptions {
 /// input ends or a fault ends the reading. Returns the status of the session, which is that of a run.
 ///
 /// All text that an item causes is written and flushed before a byte after the item is waited for, and no byte is
-/// waited for that the item does not need. Reader 0 answers each search in its place; no threads are started. Neither
+/// waited for that the item does not need. Reader 0 answers each search at once; no threads are started. Neither
 /// the script nor the entries are kept.
 ///
 /// What is written is the text of a transcript that is legal for the bytes that were read, with no readers

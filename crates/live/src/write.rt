@@ -10,7 +10,7 @@ use std::alloc::Global;
 use std::io::Write;
 use tsearch::{Entry, append_entry, write_whole};
 
-/// A buffer of more bytes than this is let go once its text is written.
+/// A buffer of more bytes than this is freed once its text is written.
 const LARGE: usize = 1_048_576;
 
 /// Writes the text of an entry and flushes it. An entry without text writes nothing, and flushes nothing. `text` is a

@@ -140,7 +140,7 @@ fn simplified(rt: HostRuntime) -> Result<(), Fail> {
     Ok(())
 }
 
-/// Every set of trigrams meets the query of these.
+/// Patterns whose query every set of trigrams meets.
 const NO_DEMANDS: [&[u8]; 7] = [
     b"ab",
     b"ab?c",
@@ -184,7 +184,7 @@ one|two|ten|six~one|two|ten|six~net|
 abc{2}d{1,2}e~abc bcc ccd cde|abc bcc ccd cdd dde~abc bcc ccd|
 [a-p]bc~abc|pbc~qbc|";
 
-/// Whether each of the sets, which bars separate, meets the query, or none does.
+/// Whether each of the sets, which bars separate, meets the query; or, if that is not wanted, whether none does.
 fn all_meet(query: &Query, sets: &[u8], wanted: bool) -> bool {
     for set in sets.split(|b| *b == b'|') {
         if meets(query, set) != wanted {
@@ -194,7 +194,7 @@ fn all_meet(query: &Query, sets: &[u8], wanted: bool) -> bool {
     true
 }
 
-/// Whether the query of the pattern is met by the sets of the one text and by none of the other.
+/// Whether the query of a row's pattern is met by each set of the first list, and by none of the second.
 fn demands_agree(rt: &impl Abort, alloc: Global, row: &[u8]) -> Result<bool, Fail> {
     let (pattern, rest) = halves(row);
     let (wanted, others) = halves(rest);
@@ -224,8 +224,8 @@ fn hardest(alloc: Global) -> Result<Vec<u8>, AllocError> {
     Ok(pattern)
 }
 
-/// The parts of a join of known texts are at most the 108 trigrams of 256 texts, if it meets them in the words, in
-/// their fronts and in their backs.
+/// The most parts that the query of a join of known texts has: 108 trigrams and an And for each of 256 texts, and an
+/// Or. What comes up in the words, in their fronts and in their backs counts once.
 const MOST_OF_A_JOIN: usize = 256 * 109 + 1;
 
 /// Patterns, and the greatest sizes of their queries.

@@ -20,7 +20,7 @@ pub(crate) fn built(alloc: Global, pieces: &[u8]) -> Result<Vec<u8>, AllocError>
     Ok(text)
 }
 
-/// The number that digits write.
+/// The number that these digits spell.
 pub(crate) fn number_of(digits: &[u8]) -> u32 {
     let mut number: u32 = 0;
     for digit in digits {
@@ -40,7 +40,7 @@ pub(crate) fn halves(row: &[u8]) -> (&[u8], &[u8]) {
     (row, b"")
 }
 
-/// The sign at the front of a text, which is true for a plus, and what is after it.
+/// The sign at the front of a text, as true for a plus, and what is after it.
 pub(crate) fn signed(text: &[u8]) -> (bool, &[u8]) {
     match text.split_first() {
         Some((sign, rest)) => (*sign == b'+', rest),

@@ -99,7 +99,7 @@ fn is_abc(text: &[u8; 3]) -> bool {
 /// Bytes of which trigrams are made.
 const BYTES_OF_TRIGRAMS: [u8; 10] = *b"abcABC12@[";
 
-/// How many trigrams of these bytes meet the query by themselves. `None` if these are not exactly the spellings of
+/// How many trigrams of these bytes meet the query by themselves. `None` if they are not exactly the spellings of
 /// `abc`.
 fn met_alone(query: &Query) -> Option<u32> {
     let mut count: u32 = 0;

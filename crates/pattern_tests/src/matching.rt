@@ -7,7 +7,7 @@ use std::alloc::{AllocError, Global};
 use std::process::Abort;
 use std::test::Fail;
 
-/// Whether the line contains a match of the tree exactly if one is wanted.
+/// Whether the line contains a match of the tree if one is wanted, and none otherwise.
 pub(crate) fn agrees(tree: &Ere, line: &[u8], wanted: bool) -> bool {
     tree.within_limits() && line.len() <= MAX_LINE && matches(tree, line) == wanted
 }
@@ -29,7 +29,7 @@ one|two|three|four~+xonex|+twot|+three|+four|-on|-tow|-thre|-fou
 \xff{2}~+a\xff\xff|-\xffa\xff
 [^\x01-\xff]~-a|-";
 
-/// Whether each line of a row of short lines contains a match, or none.
+/// Whether each line of a row of short lines contains a match, or none, as its sign says.
 fn short_row_agrees(alloc: Global, row: &[u8]) -> Result<bool, EreError> {
     let (pattern, lines) = halves(row);
     let tree = parse(alloc, pattern)?;
@@ -69,7 +69,7 @@ fn pattern_agrees(
     Ok(line_agrees(alloc, &tree, pieces, wanted)?)
 }
 
-/// Whether the line of a row of pieces contains a match of its pattern, or none.
+/// Whether the line of a row of pieces contains a match of its pattern, or none, as the row's sign says.
 fn long_row_agrees(alloc: Global, row: &[u8]) -> Result<bool, Fail> {
     let (wanted, row) = signed(row);
     let (pattern, line) = halves(row);
@@ -85,8 +85,8 @@ fn expect_long_rows(rt: &impl Abort, alloc: Global, table: &[u8]) -> Result<(), 
 }
 
 /// The rows are `+PATTERN~LINE` if the line contains a match, and `-PATTERN~LINE` if it contains none.
-/// Patterns and lines consist of pieces. Each star doubles the work of the star inside it, unless a star of a
-/// star takes one round.
+/// Patterns and lines consist of pieces. With many stars, each would double the work of the star inside it if a
+/// star of a star took more than one round.
 const LONG_LINES: &[u8] = b"+^a*b$;1~a;63;b;1
 +^a*b$;1~a;64;b;1
 +^a*b$;1~a;4095;b;1
@@ -132,7 +132,7 @@ fn long_lines(rt: HostRuntime) -> Result<(), Fail> {
     expect_long_rows(&rt, rt.alloc(), LONG_LINES)
 }
 
-/// Stars that are not at the front, on lines where their words lead from one window of 64 positions into others.
+/// Stars that are not at the front, on lines where what they repeat leads from one window of 64 positions to others.
 const STARS_OVER_WINDOWS: &[u8] = b"+x(ab|c)*e;1~x;1;ab;31;e;1
 +x(ab|c)*e;1~x;1;ab;31;c;1;e;1
 +x(ab|c)*e;1~x;1;ab;32;e;1

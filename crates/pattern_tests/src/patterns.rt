@@ -8,8 +8,8 @@ use std::process::Abort;
 use std::simd::prelude::*;
 use std::test::Fail;
 
-/// What is left of a wanted text, as a tree is compared with it in one line: a set as its bytes in brackets, and the
-/// rest as in `(cat [a] (repeat 2 - [01]))`.
+/// What is left of a wanted text while a tree, written in one line, is compared with it. A set is written as its
+/// bytes in brackets, and the rest as in `(cat [a] (repeat 2 - [01]))`.
 struct Wanted<'t> {
     rest: &'t [u8],
     agrees: bool,
@@ -130,7 +130,7 @@ fn reads_as(alloc: Global, case: Case, pattern: &[u8], text: &[u8]) -> bool {
     }
 }
 
-/// Each pattern of a table has its reading in this case. The rows are `PATTERN~READING`.
+/// Each pattern of a table has its reading, with its case or with case ignored. The rows are `PATTERN~READING`.
 pub(crate) fn expect_readings(rt: &impl Abort, alloc: Global, case: Case, table: &[u8]) {
     for row in table.split(|b| *b == b'\n') {
         let (pattern, want) = halves(row);
@@ -246,7 +246,7 @@ fn readings(rt: HostRuntime) {
     }
 }
 
-/// Bytes that no line has are looked for before anything except the length.
+/// Bytes that no line has are refused before anything except the length.
 const BYTES_OF_NO_LINE: [(&[u8], &[u8]); 6] = [
     (b"a\0", b"bad byte at 1"),
     (b"a\nb", b"bad byte at 1"),
@@ -266,7 +266,7 @@ fn bytes_of_no_line(rt: HostRuntime) {
     }
 }
 
-/// The set that a pattern of one set is; with no byte for another pattern.
+/// The set of a pattern that is a single set; the empty set for any other pattern.
 pub(crate) fn set_of(alloc: Global, case: Case, pattern: &[u8]) -> Result<ByteSet, EreError> {
     match parse_with(alloc, pattern, case)? {
         Ere::Set(set) => Ok(set),
@@ -274,7 +274,7 @@ pub(crate) fn set_of(alloc: Global, case: Case, pattern: &[u8]) -> Result<ByteSe
     }
 }
 
-/// Whether these are the bytes that the pattern's set leaves out, but for 0 and the line feed.
+/// Whether these are the bytes that the pattern's set leaves out, apart from 0 and the line feed.
 pub(crate) fn leaves_out(
     alloc: Global,
     case: Case,
@@ -384,11 +384,11 @@ fn classes(rt: HostRuntime) -> Result<(), Fail> {
     Ok(())
 }
 
-/// The bytes that may be after a backslash: ASCII punctuation except for `<`, `>`, the grave accent and the
+/// The bytes that can follow a backslash: ASCII punctuation except for `<`, `>`, the grave accent and the
 /// apostrophe.
 const ESCAPABLE: [u8; 28] = *b"!\"#$%&()*+,-./:;=?@[\\]^_{|}~";
 
-/// Whether a byte is read after a backslash, or refused, as it has to be.
+/// Whether a byte after a backslash is read or refused, as it should be.
 fn reads_escaped(alloc: Global, byte: u8) -> bool {
     let set = [b'[', byte, b']'];
     let want = if byte == 0 || byte == b'\n' {
@@ -417,7 +417,7 @@ fn has_fault(alloc: Global, pattern: &[u8], fault: &[u8]) -> bool {
     }
 }
 
-/// The fault of the first bytes of a pattern, by their number; empty if they are read.
+/// The fault of the first `end` bytes of a pattern; empty if they are read.
 fn fault_of_beginning(end: usize) -> &'static [u8] {
     match end {
         1..=11 => b"bracket not closed at 0",
@@ -516,7 +516,7 @@ fn repeated(alloc: Global, body: Ere, least: u8, most: u8) -> Result<Ere, AllocE
     Ok(Ere::Repeat(Box::new(alloc, body)?, least, Some(most)))
 }
 
-/// The limits of trees that no pattern has.
+/// Trees outside the limits, which no pattern has, and one within them.
 #[test]
 fn trees_within_limits(rt: HostRuntime) -> Result<(), Fail> {
     let alloc = rt.alloc();
@@ -533,7 +533,7 @@ fn memory_refused_in_words(rt: HostRuntime) {
     assert!(rt; EreErrorKind::OutOfMemory.reason() == "out of memory");
 }
 
-/// Whether a set that takes in `x` twice and 255 once has these two bytes.
+/// Whether a set that takes in `x` twice and 255 once has exactly these two bytes.
 fn takes_in_two_bytes() -> bool {
     let mut set = ByteSet::empty();
     let none = set.len();
@@ -548,12 +548,12 @@ fn operations_of_byte_sets(rt: HostRuntime) {
     assert!(rt; takes_in_two_bytes());
 }
 
-/// Whether a byte is on one side of a place where two words of a set meet. 0 is not a line byte.
+/// Whether a byte is the first or the last of a word of a set. 0 is left out, since it is not a line byte.
 fn is_at_an_end(byte: u8) -> bool {
     byte % 64 == 63 || (byte % 64 == 0 && byte != 0)
 }
 
-/// A set is four words: bytes on both sides of the places where they meet.
+/// A set is four words. These are the first and the last byte of each.
 #[test]
 fn byte_sets_where_words_meet(rt: HostRuntime) {
     let lasts = ByteSet::of(|b| b % 64 == 63);
@@ -572,7 +572,7 @@ fn byte_sets_where_words_meet(rt: HostRuntime) {
     }
 }
 
-/// Ends of ranges of bytes, and how many line bytes are between them.
+/// The first and the last byte of ranges, and how many line bytes each range has.
 const BETWEEN: [(u8, u8, u16); 3] = [(60, 70, 11), (0, 255, 254), (70, 60, 0)];
 
 fn are_sizes_between() -> bool {

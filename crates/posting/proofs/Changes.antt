@@ -20,11 +20,11 @@ or_false : (a : Bool) → (a || false) ≡ a
 or_false true = refl
 or_false false = refl
 
--- what each number in a list has
+-- what holds for each number in a list holds for all
 pub All-from_has : (P : ℕ → Type 0) (xs : List ℕ) → ((m : ℕ) → has xs m ≡ true → P m) → All P xs
 All-from_has P xs each = All-from_get_or P xs 0 (λ i inside. each (get_or xs i 0) (has_at xs i (get_or xs i 0) inside refl))
 
--- a list gone through, with what is left of it
+-- a list that is gone through: the numbers past, and those left
 pub passed-next : (all past left new : List ℕ) (m : ℕ) → all ≡ past ++ left → left ≡ m ∷ new → all ≡ past ++ m ∷ new
 passed-next all past left new m e h = e ∙ ap (λ xs. past ++ xs) h
 
@@ -79,7 +79,7 @@ added_more old now new past m number h fresh at others = record {
         let ne : t ≢ m = grind (arith, nat_tests) in
         others t ne ∙ h.left t (sym (or_false (has past t)) ∙ rw e at absent)
 
--- the next set has the room, and the number is above all in it
+-- the next set has room, and the number is above all numbers in it
 pub next_has_room : (old now : List ListValue) (past : List ℕ) (m : ℕ) (left : List ℕ) (number : ℕ) → Added old now past number
     → AllDiffer (past ++ m ∷ left) → IsPrepared old (past ++ m ∷ left) → HasRoom (set_of now m)
 next_has_room old now past m left number h differ prepared =
@@ -117,7 +117,7 @@ once : (held named is : Bool) → (held && not (named && is)) ≡ (held && not (
 once held true is = refl
 once held false is = refl
 
--- The number went out of the sets of some trigrams, and those without a number gave their room back.
+-- The number was taken out of the sets of some trigrams, and those that are empty have no room.
 pub record Withdrawn (old new : List ListValue) (trigrams : List ℕ) (number : ℕ) : Type 0 where
   pub sets : WithdrawsNumber old new trigrams number
   pub empty : GivesBack new trigrams

@@ -147,7 +147,7 @@ cut_more bytes number front at front' at' h g = record {
     at_is : at ≡ last_of at' g.left
     at_is = h.ends ∙ ap (last_of 0) g.numbers ∙ last_of-append 0 (numbers_after 0 front') g.left ∙ ap (λ l. last_of l g.left) (sym g.ends)
 
--- what is asked of them may be less
+-- a cut at a number is also a cut at each lower one
 pub cut_weaker : (bytes : List ℕ) (number number' : ℕ) (front : List ℕ) (at : ℕ) → IsCut bytes number front at → number' ≤ number → IsCut bytes number' front at
 cut_weaker bytes number number' front at h low = record {
   left = h.left;
@@ -172,7 +172,7 @@ ending_of : (numbers : List ℕ) → 0 < length numbers → Ending numbers
 ending_of [] some = absurd (omega (arith, some))
 ending_of (x ∷ xs) some = ending x xs
 
--- what `first_gap` says of bytes
+-- what `first_gap` reads from bytes
 abbrev pub ReadsGap : List ℕ → ℕ → Type 0
 ReadsGap bytes gap = (more g : ℕ) (rest : List ℕ) → g < limit more → g < 2 ^ 32 → bytes ≡ groups more g ++ rest → gap ≡ g
 
@@ -362,7 +362,7 @@ module _ (bytes : List ℕ) (last total : ℕ) (h : IsSpelled 0 bytes) (is : las
       at (cut_tail (drop (from + 1) bytes) (take (from + 1) bytes) last (last - sum (drop (from + 1) bytes)) (rw joined h)
       (rw joined is) front_ends (All-tail (λ b. b < 128) (get_or bytes from 0) (drop (from + 1) bytes) lows) (omega arith)))
 
--- ---- what is left out is what is left
+-- ---- a cut from the end passes the numbers before it
 
 module _ (bytes : List ℕ) (number : ℕ) (front : List ℕ) (at : ℕ) (h : IsSpelled 0 bytes) (c : IsCut bytes number front at) where
   left_rise : Rise at c.left

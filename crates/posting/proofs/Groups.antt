@@ -21,7 +21,7 @@ unfolding groups
 groups-low zero g low = refl
 groups-low (suc more) g low = let e : nat_lt g 128 ≡ true = grind (arith, nat_tests) in rw e refl
 
--- another one's first group, and those of the rest of it
+-- the first group of a number from 128 on, and the groups of the rest of it
 pub groups-high : (more g : ℕ) → 128 ≤ g → groups (suc more) g ≡ (g % 128 + 128) ∷ groups more (g / 128)
 unfolding groups
 groups-high more g high = let e : nat_lt g 128 ≡ false = grind (arith, nat_tests) in rw e refl
@@ -107,7 +107,7 @@ numbers_after-cons before n rest order small =
     is : before ≤ n → before + (n - before) ≡ n
     is order = omega arith
 
--- The numbers rise, from one on, and fit.
+-- The numbers rise, none is below `before`, and each fits in 32 bits.
 pub record Rise (before : ℕ) (numbers : List ℕ) : Type 0 where
   pub rising : IsStrictlyIncreasing numbers
   pub from : All (λ n. before ≤ n) numbers
@@ -161,7 +161,7 @@ pub groups-one : (g : ℕ) → groups zero g ≡ g ∷ []
 unfolding groups
 groups-one g = refl
 
--- Each number takes a byte at least.
+-- Each number takes at least one byte.
 pub length-groups : (more g : ℕ) → 0 < length (groups more g)
 length-groups zero g = rw (groups-one g) (omega arith)
 length-groups (suc more) g = cases (nat_lt g 128) refl
@@ -359,7 +359,7 @@ moved old mid new from to end gap mid_is end_is before within len new_is =
     ∙ ap (λ xs. xs ++ drop to mid) front ∙ ap (λ xs. (take from old ++ bytes_of gap) ++ xs) rest
     ∙ append_assoc (take from old) (bytes_of gap) (drop to old)
 
--- the first groups of bytes
+-- reading the first number: no bytes, or a number of one group
 one_head : (x y : ℕ) (xs ys : List ℕ) → x ∷ xs ≡ y ∷ ys → (x ≡ y) × (xs ≡ ys)
 one_head x y xs ys e = (cc, cc)
 
@@ -380,7 +380,7 @@ first_low b bytes others is low more gap rest small spelled = cases more (nat_lt
         let heads = one_head b (gap % 128 + 128) others (groups m (gap / 128) ++ rest) (sym is ∙ s ∙ ap (λ xs. xs ++ rest) (groups-high m gap above)) in
         absurd (omega (arith, heads.0))
 
--- the groups after a first one
+-- reading the first number: more than one group
 pub first_high : (b : ℕ) (bytes others : List ℕ) → bytes ≡ b ∷ others → 128 ≤ b → (more gap : ℕ) (rest : List ℕ) → gap < limit more
     → gap < 2 ^ 32 → bytes ≡ groups more gap ++ rest → (high : ℕ) (left : List ℕ)
     → ((m g : ℕ) (r : List ℕ) → g < limit m → g < 2 ^ 32 → others ≡ groups m g ++ r → (high ≡ g) × (left ≡ r))

@@ -26,7 +26,7 @@ lacks_below xs n h = lacks_from_all xs n (All-weaker (λ m. n < m) (λ m. m ≢ 
 pub lacks_above : (xs : List ℕ) (n : ℕ) → All (λ m. m < n) xs → has xs n ≡ false
 lacks_above xs n h = lacks_from_all xs n (All-weaker (λ m. m < n) (λ m. m ≢ n) (λ m lt e. omega arith) xs h)
 
--- a number that a place among rising numbers has to hold is not there
+-- a number is not among rising numbers if those before a place are below it and the one there is above it
 pub lacks_at : (xs : List ℕ) (i n : ℕ) → IsStrictlyIncreasing xs → ((k : ℕ) → k < i → k < length xs → get_or xs k 0 < n)
     → (i < length xs → n < get_or xs i 0) → has xs n ≡ false
 lacks_at xs i n rises below at = lacks_from_all xs n (All-from_get_or (λ m. m ≢ n) xs 0 differs)
@@ -38,7 +38,7 @@ lacks_at xs i n rises below at = lacks_from_all xs n (All-from_get_or (λ m. m �
         by_place (inl lt) = omega (arith, below k lt inside)
         by_place (inr ge) = let there : i < length xs = omega arith in omega (arith, at there, rises_at xs rises i k ge inside)
 
--- what holds of all holds of each number that is there
+-- what holds for all holds for each number that is there
 pub All-has : (P : ℕ → Type 0) (xs : List ℕ) (n : ℕ) → All P xs → has xs n ≡ true → P n
 All-has P [] n all there = absurd (false≢true there)
 All-has P (x ∷ xs) n all there = cases (x == n) refl (All-has P xs n (All-tail P x xs all))
@@ -102,7 +102,7 @@ same_rising (x ∷ xs) (y ∷ ys) up up' same =
             let e' : (y == n) ≡ false = rw heads at e in
             rw e' at (rw e at (same n))
 
--- what `binary_search` says of rising numbers
+-- what `binary_search` says about rising numbers
 abbrev pub SearchedFor : List ℕ → ℕ → Result ℕ ℕ → Type 0
 SearchedFor xs n r =
     MatchResult r (λ i. (i < length xs) × (get_or xs i 0 ≡ n))

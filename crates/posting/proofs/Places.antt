@@ -1,4 +1,4 @@
--- How lists come and go, with their slots.
+-- How lists are made and dropped, with their slots.
 use Rattle.std.proofs.Common.{◌≡◌, ◌≢◌, ℕ, zero, suc, ◌+◌, ◌-◌, ◌<◌, ◌≤◌, false, true, cond, ◌==◌, eqb, List, [], ◌∷◌, ◌++◌, ◌⊎◌, inl, inr}
 use Rattle.std.proofs.Common.{length, get_or, map, refl, sym, ap, ◌∙◌, subst, arith}
 use Rattle.std.specs.List.{list_any}
@@ -134,7 +134,7 @@ module _ (pages pages' : List (Vec ℕ Global)) (lists : List Owned) (trigram : 
       cases (inl e) = absurd (omega (arith, rw listed.had_none at (rw e at had)))
       cases (inr ne) = rw (after-kept t ne) had
 
--- ---- a list that goes, as the last one comes to its place
+-- ---- a list that is dropped, as the last one moves to its place
 
 -- what `swap_remove` does at a place where there is a list
 pub record SwappedOut (lists lists' : List Owned) (place : ℕ) : Type 0 where
@@ -170,7 +170,7 @@ slot-unset old new trigram slot h t ne = let e : (t == trigram) ≡ false = grin
 
 module _ (pages emptied : List (Vec ℕ Global)) (lists lists' : List Owned) (trigram place : ℕ) (sound : IsSound pages lists)
     (slot : slot_of pages trigram ≡ place + 1) (swapped : SwappedOut lists lists' place) (gone : IsSlotSet pages emptied trigram 0) where
-  -- the last list went
+  -- the list that was dropped was the last one
   pub dropped_last : length lists' ≤ place → Dropped pages emptied lists lists' trigram place
   dropped_last end = record {
     slot = slot;
@@ -180,7 +180,7 @@ module _ (pages emptied : List (Vec ℕ Global)) (lists lists' : List Owned) (tr
     slots = λ t other _. slot-unset pages emptied trigram 0 gone t other;
   }
 
-  -- the last list has moved
+  -- the last list moved to the place of the dropped one
   moved_owner : place < length lists' → owner_at lists' place ≡ owner_at lists (length lists')
   moved_owner before = ap (λ o. o.trigram) (swapped.moved before)
 
@@ -211,7 +211,7 @@ module _ (pages emptied : List (Vec ℕ Global)) (lists lists' : List Owned) (tr
 
 module _ (pages pages' : List (Vec ℕ Global)) (lists lists' : List Owned) (trigram place : ℕ) (sound : IsSound pages lists)
     (h : Dropped pages pages' lists lists' trigram place) where
-  -- the trigram, that of the list that moved, or another one
+  -- a trigram is the one of the dropped list, the one of the list that moved, or another one
   record Moves (t : ℕ) : Type 0 where
     other : t ≢ trigram
     owns : owner_at lists (length lists') ≡ t
@@ -240,7 +240,7 @@ module _ (pages pages' : List (Vec ℕ Global)) (lists lists' : List Owned) (tri
   moved_slot : (t : ℕ) → Moves t → slot_of pages' t ≡ place + 1
   moved_slot t m = sym (ap (slot_of pages') m.owns) ∙ h.slot_moved m.before
 
-  -- where the slot of another one leads
+  -- where the slot of another trigram leads
   stays_within : (t : ℕ) → Stays t → slot_of pages t ≤ length lists'
   stays_within t s = cases (cases_eq (slot_of pages t) (length lists' + 1))
     where

@@ -37,7 +37,7 @@ pub met-Has : (t : ℕ) (set : TrigramSet) → is_met (formula_of (query.Has t))
 unfolding is_met
 met-Has t set = rw (formula_of-Has t) refl
 
--- by each query
+-- the numbers that `Any` and `Has` choose
 pub chosen-Any : (table : List ListValue) (xs : List ℕ) → filter (λ n. is_met (formula_of query.Any) (trigrams_with table n)) xs ≡ xs
 chosen-Any table xs = filter_all (λ n. is_met (formula_of query.Any) (trigrams_with table n)) xs (λ k d inside. met-Any (trigrams_with table (get_or xs k d)))
 
@@ -84,7 +84,7 @@ filter_agree_in p q (x ∷ xs) agree = cases (p x) (q x) refl refl (filter_agree
     cases true false e f later = absurd (false≢true (sym f ∙ sym (agree x here) ∙ e))
     cases false true e f later = absurd (false≢true (sym e ∙ agree x here ∙ f))
 
--- the numbers of a list that others have, which were found for a formula
+-- the numbers of a list that are among those found for a formula
 pub narrowed_by_found : (table : List ListValue) (formula : Formula) (numbers found : List ℕ) → Finds table formula numbers found
     → filter (has found) numbers ≡ selected table formula numbers
 narrowed_by_found table formula numbers found h = filter_agree_in (has found) (λ n. is_met formula (trigrams_with table n)) numbers h
@@ -118,11 +118,11 @@ abbrev pub first_meets : TrigramSet → Option Query → Bool
 first_meets set None = true
 first_meets set (Some q) = meets set q
 
--- the first member and those up to a place
+-- the first member and those before place i
 abbrev pub some_meet : TrigramSet → List Query → ℕ → ℕ → Bool
 some_meet set members first i = first_meets set (slice_get members first) && list_all (meets set) (take i members)
 
--- The given numbers that meet the first member and those up to a place were found.
+-- Of the given numbers, exactly those that meet the first member and the members before place i were found.
 abbrev pub Narrowed : List ListValue → List Query → ℕ → ℕ → List ℕ → List ℕ → Type 0
 Narrowed table members first i given found = (n : ℕ) → has given n ≡ true → has found n ≡ some_meet (trigrams_with table n) members first i
 
@@ -164,7 +164,7 @@ absorbed true true = refl
 absorbed true false = refl
 absorbed false b = refl
 
--- the first member is passed over in its place
+-- the first member is skipped at its own place
 some_meet-first : (set : TrigramSet) (members : List Query) (i : ℕ) (member : Query) → i < length members
     → some_meet set members i i ≡ some_meet set members i (i + 1)
 some_meet-first set members i member inside =
@@ -184,13 +184,13 @@ and_false : (a : Bool) → (a && false) ≡ false
 and_false true = refl
 and_false false = refl
 
--- the first member is one of all
+-- if the first member isn't met, not all are
 first_of_all : (members : List Query) (first : ℕ) (set : TrigramSet) → first_meets set (slice_get members first) ≡ false → list_all (meets set) members ≡ false
 first_of_all [] first set fails = absurd (false≢true (sym fails))
 first_of_all (q ∷ members) zero set fails = rw fails refl
 first_of_all (q ∷ members) (suc first) set fails = rw (first_of_all members first set fails) (and_false (meets set q))
 
--- so are those up to a place
+-- nor if those before place i aren't all met
 some_of_all : (members : List Query) (i : ℕ) (set : TrigramSet) → list_all (meets set) (take i members) ≡ false → list_all (meets set) members ≡ false
 some_of_all [] zero set fails = fails
 some_of_all [] (suc i) set fails = fails
@@ -211,7 +211,7 @@ narrowed_ends table members first i given found end h n there =
     (first_of_all members first (trigrams_with table n))
     ∙ sym (all_met-list members (trigrams_with table n))
 
--- where nothing is left the other members take nothing away
+-- once no numbers are left, the other members can take none away
 pub narrowed_to_none : (table : List ListValue) (members : List Query) (first i : ℕ) (given found : List ℕ) → found ≡ []
     → Narrowed table members first i given found → Finds table (all_of (formulas_of (map formula_of members))) given found
 narrowed_to_none table members first i given found none h n there =
@@ -228,7 +228,7 @@ narrowed_to_none table members first i given found none h n there =
 
 -- ---- one member
 
--- what a number is in is what it meets
+-- Of the given numbers, exactly those that meet a member before place i are in a list.
 abbrev pub Joined : List ListValue → List Query → ℕ → List ℕ → List ListValue → Type 0
 Joined table members i given lists =
     (n : ℕ) → has given n ≡ true → list_any (λ list. has list.members n) lists ≡ list_any (meets (trigrams_with table n)) (take i members)

@@ -1,4 +1,4 @@
--- The slots of trigrams, as pages come and slots are written.
+-- The slots of trigrams, as pages are made and slots are written.
 use Rattle.std.proofs.Common.{◌≡◌, ◌≢◌, ℕ, zero, suc, ◌-◌, ◌/◌, ◌%◌, ◌<◌, ◌≤◌, Bool, true, false, cond, ◌==◌, List, [], ◌∷◌, ◌++◌, ◌⊎◌, inl}
 use Rattle.std.proofs.Common.{inr, length, get_or, set, take, replicate, refl, sym, ap, arith}
 use Rattle.std.specs.declared.alloc.Global.{Global}
@@ -55,7 +55,7 @@ get_or-zeros_after [] n i = get_or-zeros n i
 get_or-zeros_after (s ∷ slots) n zero = refl
 get_or-zeros_after (s ∷ slots) n (suc i) = get_or-zeros_after slots n i
 
--- a trigram is told by its page and its place there
+-- a trigram is determined by its page and its place there
 same_place : (s t : ℕ) → s / page_size ≡ t / page_size → s % page_size ≡ t % page_size → s ≡ t
 same_place s t page place = omega arith
 

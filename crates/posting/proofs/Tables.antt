@@ -25,7 +25,7 @@ unfolding table_of
 set_of-past pages lists t past =
     get_or_past _ t no_numbers (omega (arith, length-map-range_with_len (λ s. set_in_slot lists (slot_of pages s)) 0 trigram_count))
 
--- what holds of the sets of the slots of two tables holds of their sets
+-- a relation between the sets in the slots of two tables holds between the sets of the tables
 pub tables_relate : (R : ListValue → ListValue → Type 0) (pages pages' : List (Vec ℕ Global)) (lists lists' : List Owned)
     → R no_numbers no_numbers → ((t : ℕ) → R (set_in_slot lists (slot_of pages t)) (set_in_slot lists' (slot_of pages' t))) → (t : ℕ)
     → R (set_of (table_of pages lists) t) (set_of (table_of pages' lists') t)
@@ -39,7 +39,7 @@ tables_relate R pages pages' lists lists' none after t = cases (cases_lt t trigr
         subst (λ s. R s (set_of (table_of pages' lists') t)) (sym (set_of-past pages lists t past))
         (subst (λ s. R no_numbers s) (sym (set_of-past pages' lists' t past)) none)
 
--- a trigram whose slots have the same set
+-- a trigram whose two slots lead to the same set
 pub set_of-same : (pages pages' : List (Vec ℕ Global)) (lists lists' : List Owned) (t : ℕ)
     → set_in_slot lists' (slot_of pages' t) ≡ set_in_slot lists (slot_of pages t)
     → set_of (table_of pages' lists') t ≡ set_of (table_of pages lists) t
@@ -89,7 +89,7 @@ set_of-kept pages lists trigram place x h t other =
     set_of-same pages pages lists (set lists place x) t
     (set_in_slot-set_other lists place (slot_of pages t) x (λ e. other (sym (h.sound.owner t place e) ∙ h.sound.owner trigram place h.slot)))
 
--- what holds of each set and itself, and of the one that was there and the one that is written, holds of all
+-- a relation between each set and itself, and between the old set and the written one, holds between all sets before and after
 pub written_relate : (R : ListValue → ListValue → Type 0) → ((s : ListValue) → R s s)
     → (pages : List (Vec ℕ Global)) (lists : List Owned) (trigram place : ℕ) (x y : Owned) → Stands pages lists trigram place
     → x ≡ get_or lists place x → R x.list y.list → (t : ℕ)

@@ -24,7 +24,7 @@ use Rattle.posting.proofs.Groups.{first_low, below_limit, Rise, rise-tail, rise_
 use Rattle.posting.proofs.Groups.{bytes_after-nil, last_of-cons, last_of-nil, numbers_after-nil, length-groups, groups-joined}
 use Rattle.posting.proofs.Groups.{bytes_after-append, last_of-append}
 
--- bytes that follow a number have no number where they are none
+-- empty bytes are those of no numbers, whatever number they follow
 pub spelled-nil : (before : ℕ) → IsSpelled before []
 spelled-nil before =
     spelled_bytes before [] [] (sym (bytes_after-nil before))
@@ -85,7 +85,7 @@ first_found before bytes gap rest h some read =
     let is = read 4 (s.number - before) (bytes_after s.number s.others) (below_limit (s.number - before) small) small s.stored in
     (omega (arith, is.0, order, bound), first_is before bytes s gap rest is.0 is.1)
 
--- numbers are passed
+-- no number is passed, or one more
 pub passed_none : (before : ℕ) (bytes : List ℕ) (number : ℕ) → IsSpelled before bytes → IsPassed before bytes number before bytes
 passed_none before bytes number h = record {
   passed = [];
@@ -126,7 +126,7 @@ next_some number at rest next after h first high =
     (All-cons (λ n. number ≤ n) next (numbers_after next after) high
     (All-weaker (λ n. next ≤ n) (λ n. number ≤ n) (λ n le. omega arith) (numbers_after next after) first.spelled.from))
 
--- the numbers from one on
+-- all numbers below one are passed, so those from it on are left
 module _ (before : ℕ) (bytes : List ℕ) (number at : ℕ) (rest : List ℕ) (h : IsPassed before bytes number at rest)
     (next : All (λ n. number ≤ n) (numbers_after at rest)) where
   pub passed-not_below : numbers_after at rest ≡ not_below number (numbers_after before bytes)
@@ -143,7 +143,7 @@ module _ (before : ℕ) (bytes : List ℕ) (number at : ℕ) (rest : List ℕ) (
       ap (λ ns. has ns number) h.numbers ∙ has-append h.passed (numbers_after at rest) number
       ∙ ap (λ b. b || has (numbers_after at rest) number) (lacks_above h.passed number h.below)
 
--- the least of what is left, and a number that none is below
+-- if no number is below this one, it is there exactly if it is the least one
 pub least_is : (number least : ℕ) (numbers : List ℕ) → All (λ n. number ≤ n) numbers → IsLeast least numbers → has numbers number ≡ (least == number)
 least_is number least numbers from h = cases (least == number) refl
   where
@@ -216,7 +216,7 @@ module _ (bytes : List ℕ) (number at : ℕ) (rest after : List ℕ) (stored : 
         length-append h.passed (numbers_after number after),
       )
 
-  -- so far as the bytes before it go
+  -- `from` is the length of the bytes before the number
   pub from_is : (from : ℕ) → from ≡ length bytes - length rest → from ≡ length (bytes_after 0 h.passed)
   from_is from is = omega (arith, is, ap length h.stored, length-append (bytes_after 0 h.passed) rest)
 
@@ -225,7 +225,7 @@ module _ (bytes : List ℕ) (number at : ℕ) (rest after : List ℕ) (stored : 
       ap (take from) h.stored ∙ ap (λ n. take n (bytes_after 0 h.passed ++ rest)) (from_is from is)
       ∙ take-append_seam (bytes_after 0 h.passed) rest
 
-  -- it is the last one
+  -- the number is the last one
   last_bytes : (from : ℕ) → from ≡ length bytes - length rest → after ≡ [] → take from bytes ≡ bytes_after 0 (h.passed ++ numbers_after number after)
   last_bytes from is none =
       front_is from is ∙ ap (bytes_after 0) (sym (append-nil h.passed))
@@ -248,7 +248,7 @@ module _ (bytes : List ℕ) (number at : ℕ) (rest after : List ℕ) (stored : 
   last_cut-numbers from left is none left_is =
       spelled_numbers 0 left (h.passed ++ numbers_after number after) (left_is ∙ last_bytes from is none) rise_left ∙ sym without_is
 
-  -- it has a next one, and the two gaps are joined
+  -- there is a number after it, and the two gaps are joined
   module _ (next : ℕ) (left : List ℕ) (second : IsFirstNumber number after next left) where
     whole : bytes ≡ (bytes_after 0 h.passed ++ (bytes_of (number - at) ++ bytes_of (next - number))) ++ left
     whole =
@@ -373,7 +373,7 @@ module _ (bytes : List ℕ) (others last number : ℕ) (h : IsStored bytes other
             ∙ last_of-cons (last_of 0 (numbers_after 0 bytes)) number [] ∙ last_of-nil number);
       }
 
--- how many numbers there are, where there are bytes
+-- there are numbers exactly where there are bytes
 pub some_numbers : (bytes : List ℕ) → IsSpelled 0 bytes → 0 < length bytes → 0 < length (numbers_after 0 bytes)
 some_numbers bytes h some = by (numbers_after 0 bytes) refl
   where
@@ -409,7 +409,7 @@ empty_if_none (b ∷ bytes) h = (
   λ e. absurd (omega (arith, some_numbers (b ∷ bytes) h (omega arith), ap length e)),
 )
 
--- the next number, where none is below this one
+-- going past this number, where none is below it: it is the next one, or it isn't there
 pub left_out : (before : ℕ) (rest : List ℕ) (number next : ℕ) (after : List ℕ) → IsFirstNumber before rest next after
     → IsSpelled before rest → next ≡ number → numbers_after next after ≡ without number (numbers_after before rest)
 left_out before rest number next after first h is =
@@ -428,7 +428,7 @@ left_as_is before rest number next after first from differs =
     least_is number next (numbers_after before rest) from (least_first before rest next after first) ∙ grind (arith, nat_tests) in
     sym (without-lacking (numbers_after before rest) number absent)
 
--- how far `held.len() - rest.len()` is, where nothing is left
+-- no bytes are left
 pub empty_is : (rest : List ℕ) → length rest ≡ 0 → rest ≡ []
 empty_is [] none = refl
 empty_is (b ∷ rest) none = absurd (omega (arith, none))
@@ -436,7 +436,7 @@ empty_is (b ∷ rest) none = absurd (omega (arith, none))
 pub next_end : (number at : ℕ) (rest : List ℕ) → length rest ≡ 0 → All (λ n. number ≤ n) (numbers_after at rest)
 next_end number at rest none = next_none number at rest (empty_is rest none)
 
--- what is reached, of what was there
+-- whether a number is reached is whether it was there
 pub reached : (before : ℕ) (bytes : List ℕ) (number at : ℕ) (rest : List ℕ) (least : ℕ) → IsPassed before bytes number at rest
     → All (λ n. number ≤ n) (numbers_after at rest) → IsLeast least (numbers_after at rest)
     → (least == number) ≡ has (numbers_after before bytes) number
@@ -446,7 +446,7 @@ pub not_reached : (before : ℕ) (bytes : List ℕ) (number at : ℕ) (rest : Li
     → All (λ n. number ≤ n) (numbers_after at rest) → numbers_after at rest ≡ [] → false ≡ has (numbers_after before bytes) number
 not_reached before bytes number at rest h next none = sym (passed-has before bytes number at rest h next ∙ ap (λ ns. has ns number) none)
 
--- a set that a number was taken out of
+-- a set without the number stays as it is when the number is taken out
 pub removed_none : (bytes : List ℕ) (number : ℕ) → has (numbers_after 0 bytes) number ≡ false → numbers_after 0 bytes ≡ without number (numbers_after 0 bytes)
 removed_none bytes number absent = sym (without-lacking (numbers_after 0 bytes) number absent)
 
@@ -513,7 +513,7 @@ block_is bytes total most long total_is below low = record {
   total_is = total_is;
 }
 
--- the greatest so far
+-- the greatest byte so far
 pub most_more : (bytes : List ℕ) (i most most' : ℕ) → ((k : ℕ) → k < i → get_or bytes k 0 ≤ most) → most ≤ most' → get_or bytes i 0 ≤ most'
     → (k : ℕ) → k < i + 1 → get_or bytes k 0 ≤ most'
 most_more bytes i most most' below up here k before = cases (cases_eq k i)

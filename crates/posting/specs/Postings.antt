@@ -25,7 +25,7 @@ trigrams_with table number = λ trigram. holds table trigram number
 abbrev pub IsPrepared : List ListValue → List ℕ → Type 0
 IsPrepared table trigrams = All (λ trigram. HasRoom (set_of table trigram)) trigrams
 
--- The number is above all that the sets of these trigrams have.
+-- The number is above all numbers in the sets of these trigrams.
 abbrev pub IsAbove : List ListValue → List ℕ → ℕ → Type 0
 IsAbove table trigrams number = (trigram n : ℕ) → IsTrue (has trigrams trigram) → IsTrue (holds table trigram n) → n < number
 
@@ -41,11 +41,11 @@ SameSets old new = (trigram n : ℕ) → holds new trigram n ≡ holds old trigr
 abbrev pub KeepsRoom : List ListValue → List ListValue → Type 0
 KeepsRoom old new = (trigram : ℕ) → HasRoom (set_of old trigram) → HasRoom (set_of new trigram)
 
--- The number came into the sets of these trigrams, and nothing else changed.
+-- The number was added to the sets of these trigrams, and nothing else changed.
 abbrev pub AddsNumber : List ListValue → List ListValue → List ℕ → ℕ → Type 0
 AddsNumber old new trigrams number = (trigram n : ℕ) → holds new trigram n ≡ (holds old trigram n || (has trigrams trigram && number == n))
 
--- The number went out of the sets of these trigrams, and nothing else changed.
+-- The number was taken out of the sets of these trigrams, and nothing else changed.
 abbrev pub WithdrawsNumber : List ListValue → List ListValue → List ℕ → ℕ → Type 0
 WithdrawsNumber old new trigrams number = (trigram n : ℕ) → holds new trigram n ≡ (holds old trigram n && not (has trigrams trigram && n == number))
 

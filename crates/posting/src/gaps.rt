@@ -7,13 +7,13 @@ ghost use Rattle.posting.specs.Private.Gaps.{IsSpelled, IsFirstNumber, IsPassed,
 
 use smallvec::SmallVec;
 
-/// How many bytes are looked at together.
+/// How many bytes are examined together: a block.
 const BLOCK: usize = 32;
 
 /// How many numbers are gone through one by one before a block is tried again.
 const FEW: usize = 16;
 
-/// The first number of bytes that follow the number `before`, and the bytes after it.
+/// The first number stored in bytes that follow the number `before`, and the bytes after it.
 pub(crate) fn first_number(bytes: &[u8], before: u32) -> (u32, &[u8])
     requires spelled { IsSpelled before bytes.now }
     requires some { 0 < length bytes.now }
@@ -41,8 +41,8 @@ fn first_gap(bytes: &[u8]) -> (u32, &[u8])
     }
 }
 
-/// The bytes that start at the first number not below this one, and the number before it. It is often near, so the
-/// first few are gone through one by one.
+/// The bytes that start at the first number not below this one, and the number before them. This place is often near,
+/// so the first few numbers are gone through one by one.
 pub(crate) fn pass(bytes: &[u8], before: u32, number: u32) -> (&[u8], u32)
     requires { IsSpelled before bytes.now }
     ensures passed { IsPassed before bytes.now number result.1 result.0.now }
@@ -102,8 +102,8 @@ fn pass_few(bytes: &[u8], before: u32, number: u32) -> (&[u8], u32)
     (rest, at)
 }
 
-/// The bytes that start at the first number not below this one, and the number before it, given the last number of
-/// all. They are looked for from the end that seems nearer.
+/// The bytes that start at the first number not below this one, and the number before them, given the last number of
+/// all. This place is looked for from the end that seems nearer.
 pub(crate) fn seek(bytes: &[u8], last: u32, number: u32) -> (&[u8], u32)
     requires spelled { IsSpelled 0 bytes.now }
     requires last { last ≡ last_of 0 (numbers_after 0 bytes.now) }
@@ -195,7 +195,8 @@ fn cut_number(bytes: &[u8], last: u32) -> (&[u8], u32)
     (&bytes[..place], last - gap)
 }
 
-// Leaves out the last bytes if each of them is a whole number. The byte before them then ends a number.
+// Leaves out all but the first byte of the last block, if each byte of the block ends a number. Each byte that is
+// left out is then a whole number.
 fn cut_block(bytes: &[u8], last: u32) -> Option<(&[u8], u32)>
     requires spelled { IsSpelled 0 bytes.now }
     requires last { last ≡ last_of 0 (numbers_after 0 bytes.now) }
@@ -210,7 +211,7 @@ fn cut_block(bytes: &[u8], last: u32) -> Option<(&[u8], u32)>
     Some((&bytes[..bytes.len() - BLOCK + 1], before))
 }
 
-// Where the last number begins: after the second-to-last byte that ends a number.
+// Where the last number begins: after the second-to-last byte that ends a number, or at 0 if there is none.
 fn last_place(bytes: &[u8]) -> usize
     requires { 0 < length bytes.now }
     ensures { IsLastPlace bytes.now result }
@@ -225,7 +226,7 @@ fn last_place(bytes: &[u8]) -> usize
     0
 }
 
-// The sum of the first bytes, if each of them ends a number.
+// The sum of the bytes of the first block, if each of them ends a number.
 fn sum_of_block(bytes: &[u8]) -> Option<u32>
     ensures { IfSome result (λ total. IsBlock bytes.now total) }
 {
@@ -256,7 +257,7 @@ pub(crate) fn push_gap(bytes: &mut SmallVec<u8, 16>, gap: u32)
     bytes.push_reserved(rest as u8);
 }
 
-/// Puts a number's groups in place of these bytes, which are at least as many.
+/// Writes a number's groups in place of the bytes from `from` up to `to`, which are at least as many.
 pub(crate) fn replace(bytes: &mut SmallVec<u8, 16>, from: usize, to: usize, gap: u32)
     requires fits { from + length (bytes_of gap) ≤ to }
     requires within { to ≤ length bytes.old.items }
@@ -266,7 +267,7 @@ pub(crate) fn replace(bytes: &mut SmallVec<u8, 16>, from: usize, to: usize, gap:
     ensures capacity { bytes.new.capacity ≡ bytes.old.capacity }
 {
     let end = write_gap(bytes.as_mut_slice(), from, gap);
-    // one by one, since `remove` moves all bytes after it at once, and there is mostly only one
+    // one at a time: each `remove` moves all later bytes together, and there is rarely more than one to remove
     for _place in end..to {
         bytes.remove(end);
     }

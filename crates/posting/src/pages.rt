@@ -90,7 +90,7 @@ pub(crate) fn make_list(
     Ok(place)
 }
 
-/// Takes the trigram's list away. The last list takes its place, so no other list moves.
+/// Drops the trigram's list. The last list moves to its place, and no other list moves.
 pub(crate) fn drop_list(pages: &mut Vec<Vec<u32>>, lists: &mut Vec<Owned>, trigram: Trigram)
     requires sound { IsSound pages.old.items lists.old.items }
     requires listed { 0 < slot_of pages.old.items trigram }

@@ -21,7 +21,7 @@ use std::marker::Model;
 /// where their sets are. A page stays once it is made; all pages together take at most 64 MiB.
 ///
 /// Contracts see it as a table of sets by the trigrams' numbers. A set has its numbers, and room for some more:
-/// `prepare` makes the room, and `add` takes it.
+/// `prepare` makes the room, and `add` uses it.
 #[derive(Drop)]
 pub struct Postings {
     pages: Vec<Vec<u32>>,
@@ -41,7 +41,7 @@ impl Model for Postings {
 }
 
 impl Postings {
-    /// All sets without a number.
+    /// Postings whose sets are all empty. This takes no memory yet.
     pub fn new(alloc: Global) -> Postings
         ensures { (trigram n : ℕ) → holds result trigram n ≡ false }
     {
@@ -51,11 +51,11 @@ impl Postings {
         }
     }
 
-    /// Makes room for the number in the sets of these trigrams. `add` of it then takes no memory. The
-    /// sets stay as they are.
+    /// Makes room for one more number in the set of each of these trigrams, so that `add` needs no more memory. The
+    /// sets keep their numbers.
     ///
-    /// An `Err` means that memory ran out. Some empty lists and some room may then have been made, which stay
-    /// until a `withdraw` from these sets.
+    /// An `Err` means that memory ran out. Some sets may then have room already. A `withdraw` from these sets frees
+    /// the room of those that are empty; the others keep it.
     pub fn prepare(&mut self, number: u32, trigrams: &[Trigram]) -> Result<(), AllocError>
         ensures sets { SameSets self.old self.new }
         ensures room { KeepsRoom self.old self.new }
@@ -67,7 +67,8 @@ impl Postings {
         Ok(())
     }
 
-    /// Puts the number into the sets of these trigrams, which were prepared for it. It takes no memory.
+    /// Puts the number into the sets of these trigrams, which were prepared for it. The number is above all numbers
+    /// of these sets, and the trigrams all differ. This needs no more memory.
     pub fn add(&mut self, number: u32, trigrams: &[Trigram])
         requires prepared { IsPrepared self.old trigrams.now }
         requires above { IsAbove self.old trigrams.now number }
@@ -79,8 +80,8 @@ impl Postings {
         }
     }
 
-    /// Takes the number out of the sets of these trigrams. A set that does not have it keeps its numbers. A set
-    /// that is then without a number gives back its memory and its room. It takes no memory.
+    /// Takes the number out of the sets of these trigrams. A set that does not have it keeps its numbers. The memory
+    /// and the room of a set that is empty afterwards are freed. This needs no more memory.
     pub fn withdraw(&mut self, number: u32, trigrams: &[Trigram])
         ensures sets { WithdrawsNumber self.old self.new trigrams.now number }
         ensures empty { GivesBack self.new trigrams.now }
@@ -90,7 +91,7 @@ impl Postings {
         }
     }
 
-    /// `prepare` for trigrams that are kept as gaps.
+    /// `prepare` for trigrams that are kept as gaps. An `Err` means the same.
     pub fn prepare_kept(&mut self, number: u32, kept: &Trigrams) -> Result<(), AllocError>
         ensures sets { SameSets self.old self.new }
         ensures room { KeepsRoom self.old self.new }
@@ -200,8 +201,8 @@ impl Postings {
         }
     }
 
-    // The numbers of `within` that meet the query, and perhaps others. So the result for many members is
-    // intersected with `within` only once.
+    // The numbers of `within` that meet the query, and perhaps numbers outside `within`. So the result for many
+    // members is intersected with `within` only once.
     #[cycle(narrow)]
     fn collect(&self, alloc: Global, query: &Query, within: &List) -> Result<List, AllocError>
         ensures { IfOk result (λ found. Finds self.now (formula_of query.now) within.now.members found.members) }
@@ -218,7 +219,7 @@ impl Postings {
         }
     }
 
-    // The member with the fewest numbers comes first. So the longer lists are looked at in few places.
+    // The member that the fewest numbers can meet comes first, so the longer lists are examined in few places.
     #[cycle(narrow)]
     fn collect_all(
         &self,
@@ -280,7 +281,7 @@ impl Postings {
         }
     }
 
-    // The first of the members that the fewest numbers meet, and at most how many meet it.
+    // The place of the member that the fewest numbers can meet (the first such), and how many can meet it at most.
     #[cycle(most)]
     fn fewest(&self, members: &[Query]) -> (usize, usize) {
         let mut first = 0;

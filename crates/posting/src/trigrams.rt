@@ -29,7 +29,7 @@ impl Model for Trigrams {
 }
 
 impl Trigrams {
-    /// These trigrams, in no more bytes than they need.
+    /// Keeps these trigrams, which are rising by their numbers, each once, in no more bytes than they need.
     ///
     /// An `Err` means that memory ran out.
     pub fn new(alloc: Global, rising: &[Trigram]) -> Result<Trigrams, AllocError>
@@ -42,7 +42,7 @@ impl Trigrams {
             numbers.room_for(number)?;
             numbers.push(number);
         }
-        // what was pushed may have room to spare, and its copy has none
+        // the list may have room to spare after the pushes; its copy has none
         let numbers = numbers.copy()?;
         Ok(Trigrams { numbers })
     }

@@ -1,4 +1,4 @@
--- What the formula of each variant is: the equations of `formula_of`.
+-- The formula of each variant: the equations of `formula_of`.
 use Rattle.std.specs.Prelude.{◌≡◌, ℕ, map}
 use Rattle.std.proofs.Common.{sym, ap, ◌∙◌}
 use Rattle.std.specs.declared.alloc.Global.{Global}

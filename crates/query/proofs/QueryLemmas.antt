@@ -163,7 +163,7 @@ pub not_of_has : (k : Connective) (g : ℕ) → is_of k (has g) ≡ true → ⊥
 not_of_has And g of = true≢false (sym of)
 not_of_has Or g of = true≢false (sym of)
 
--- The invariant of a loop that takes in further members: the members so far, with those that are left, are the old and the further ones.
+-- The invariant of a loop that takes in further members: the members so far and those left over mean the same as the old and the further ones.
 pub record IsTakingIn (k : Connective) (old further new rest : List Formula) : Type 0 where
   pub parts : AreReducedParts (is_of k) (formulas_of new)
   pub rest_parts : AreReducedParts (is_of k) (formulas_of rest)
@@ -270,7 +270,7 @@ join_settled_right k left right b e other plain = record {
   met = λ set. met_constant right b set e ∙ sym (ap (joined k (is_met left set)) (met_constant right b set e) ∙ settled_right k b (is_met left set) other);
 }
 
--- The invariant of a loop that joins simplified members: the query so far, with the members that are left, is the whole.
+-- The invariant of a loop that joins simplified members: the query so far and the members left over mean the same as all members.
 pub record IsJoinedSoFar (k : Connective) (members rest : List Formula) (so_far : Formula) : Type 0 where
   pub plain : IsPlain so_far
   pub met : (set : TrigramSet) → joined k (is_met so_far set) (are_met k (formulas_of rest) set) ≡ are_met k (formulas_of members) set

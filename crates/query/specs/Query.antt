@@ -88,12 +88,12 @@ IsPlain (has trigram) = Unit {0}
 IsPlain (all_of members) = IsReduced (all_of members)
 IsPlain (one_of members) = IsReduced (one_of members)
 
--- the truth of "and" or "or" of two
+-- the truth of two joined by "and" or by "or"
 abbrev pub joined : Connective → Bool → Bool → Bool
 joined And left right = left && right
 joined Or left right = left || right
 
--- It is plain, and a set meets it exactly if it meets the two as the connective says.
+-- It is plain, and a set meets it exactly if it meets both, or at least one, as the connective says.
 pub record IsJoin (connective : Connective) (left right whole : Formula) : Type 0 where
   pub plain : IsPlain whole
   pub met : (set : TrigramSet) → is_met whole set ≡ joined connective (is_met left set) (is_met right set)

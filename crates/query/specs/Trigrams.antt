@@ -1,4 +1,4 @@
--- Trigrams, three consecutive bytes of a text (Russ Cox, "Regular Expression Matching with a Trigram
+-- Trigrams: three consecutive bytes of a text (Russ Cox, "Regular Expression Matching with a Trigram
 -- Index", 2012). A trigram is a number, and a set of trigrams is a test of numbers.
 use Rattle.std.specs.Prelude.{ℕ, ◌+◌, ◌*◌, Bool, true, false, ◌&&◌, ◌||◌, ◌==◌, IsTrue, ◌↔◌, List, [], ◌∷◌, Contains}
 use Rattle.std.specs.List.{list_any}
@@ -18,7 +18,7 @@ abbrev pub front_trigram : List ℕ → TrigramSet
 front_trigram (a ∷ b ∷ c ∷ text) trigram = trigram == trigram_of a b c
 front_trigram _ trigram = false
 
--- all three consecutive bytes of the text
+-- the trigrams of the text: every three consecutive bytes
 unfoldable pub trigrams_of_text : List ℕ → TrigramSet
 trigrams_of_text [] trigram = false
 trigrams_of_text (b ∷ text) trigram = front_trigram (b ∷ text) trigram || trigrams_of_text text trigram

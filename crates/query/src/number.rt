@@ -26,7 +26,7 @@ impl Model for Trigram {
 }
 
 impl Trigram {
-    /// The trigram of three bytes in their order.
+    /// The trigram of three bytes, in this order.
     pub fn of(bytes: [u8; 3]) -> Trigram
         ensures { result ≡ trigram_of (slice_index bytes 0) (slice_index bytes 1) (slice_index bytes 2) }
     {

@@ -18,7 +18,7 @@ pub enum Query {
     Has(Trigram),
     /// The set meets each of these; with no members it is met by every set.
     And(Vec<Query>),
-    /// The set meets one of these; with no members it is met by no set.
+    /// The set meets at least one of these; with no members it is met by no set.
     Or(Vec<Query>),
 }
 
@@ -27,14 +27,14 @@ pub enum Query {
 pub enum Connective {
     /// A set meets all of them.
     And,
-    /// A set meets one of them.
+    /// A set meets at least one of them.
     Or,
 }
 
-/// How many earlier members a new conjunct is compared with.
+/// A new conjunct is compared with at most this many members: the last ones before it.
 const NEIGHBOURS: usize = 64;
 
-/// An equal query.
+/// A copy of the query, equal to it.
 ///
 /// An `Err` means that memory ran out.
 #[cycle(copied)]
@@ -90,11 +90,11 @@ fn are_same(ones: &[Query], others: &[Query]) -> bool
     true
 }
 
-/// A plain query with the same truth at every set of trigrams. A query is plain if it is `Any` or `None`, or
-/// if it has neither in it, each `And` and `Or` in it has at least two members, and no `And` is directly in an
-/// `And`, no `Or` directly in an `Or`.
+/// A plain query that exactly the same sets of trigrams meet. A query is plain if it is `Any` or `None`, or if it
+/// contains neither, each `And` and `Or` in it has at least two members, no `And` is directly in an `And`, and no
+/// `Or` is directly in an `Or`.
 ///
-/// An `Err` means that memory ran out; the query is then dropped.
+/// An `Err` means that memory ran out. The query that was passed in is dropped in either case.
 pub fn simplify(alloc: Global, query: Query) -> Result<Query, AllocError>
     ensures { IfOk result (λ plain. IsSimplification (formula_of query) (formula_of plain)) }
 {
@@ -129,10 +129,11 @@ fn all_simplified(
     Ok(whole)
 }
 
-/// Two plain queries (see `simplify`) joined to a plain one. A conjunct that repeats one of the `NEIGHBOURS`
-/// before it is left out.
+/// Joins two plain queries (see `simplify`) into a plain one. A set of trigrams meets the result exactly if it meets
+/// both of them (`And`), or at least one of them (`Or`). With `And`, a member that comes from `right` is left out if
+/// it equals one of the 64 members before it.
 ///
-/// An `Err` means that memory ran out; the queries are then dropped.
+/// An `Err` means that memory ran out; both queries are then dropped.
 pub fn join(
     alloc: Global,
     connective: Connective,

@@ -20,7 +20,7 @@ pub(crate) struct Case<'a> {
     pub(crate) status: u8,
 }
 
-/// A search that was answered, the reader, and its turn.
+/// The number of an answered search, that of its reader, and the reader's turn.
 pub(crate) type Turn = (u32, u32, u32);
 
 /// The script's transcript with `readers` readers.

@@ -12,7 +12,7 @@ const INPUT: &[u8] = b"publish\nput a 3\nx\ny\nsync\n";
 
 const WANT: &[u8] = b"1:publish;2:put|a|x\ny;5:sync;";
 
-/// The reader gives these items before what ends the reading.
+/// The reader returns these items before what ends the reading.
 fn expect_end(
     rt: &impl Abort,
     alloc: Global,

@@ -38,7 +38,7 @@ fn are_first_texts(bytes: &[u8], count: usize) -> bool {
     rest.is_empty()
 }
 
-/// A session over the script writes the first `count` texts, and ends so.
+/// A session over the script writes the first `count` texts, and ends like this.
 fn expect_texts<R: AllocGlobal + Wait + Abort>(
     rt: &R,
     input: Input<'_>,
@@ -64,7 +64,7 @@ enum Stop {
     FlushFails,
 }
 
-/// A writer that stops so at its kth write or flush.
+/// A writer that stops like this at its write or flush number `at`.
 fn stops_at(stop: Stop, at: u32) -> Stops {
     let mut stops = Stops::NEVER;
     match stop {
@@ -105,7 +105,7 @@ fn texts_before(read: usize) -> usize {
     count
 }
 
-/// A reader of one byte at a time that fails at its kth read: the items whose bytes were all there have their texts.
+/// A reader of one byte at a time that fails at its kth read: the items whose bytes were all read have their texts.
 #[test]
 fn readers(rt: HostRuntime) -> Result<(), Fail> {
     assert_eq!(rt; SCRIPT.len(), 60);

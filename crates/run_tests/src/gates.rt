@@ -6,7 +6,7 @@ use tsearch::{Gate, Point};
 /// How often a flag is looked at before a wait for it is given up.
 const LOOKS: u64 = 2_000_000_000;
 
-/// How often a late reader looks before it goes on.
+/// How often a late reader looks at a flag before it goes on.
 const LATE_LOOKS: u64 = 100_000;
 
 /// A flag that one thread raises and another waits for.
@@ -61,7 +61,7 @@ pub(crate) enum Rule {
     Late,
     /// Three searches at their beginning, so each is done before the next one of this order begins.
     InOrder(u32, u32, u32),
-    /// Search 1 at this point, until it is released. The first flag tells when it is there, and the second releases
+    /// Search 1 at this point, until it is released. The first flag shows that it is there, and the second releases
     /// it.
     Held(Point),
 }

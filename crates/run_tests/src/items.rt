@@ -30,7 +30,7 @@ fn expect_in_pieces(rt: &impl Abort, alloc: Global, input: &[u8], want: &[u8]) -
     Ok(())
 }
 
-/// Each kind of item, and lines that are skipped. The numbers are those of the lines, of which bodies have some.
+/// Each kind of item, and lines that are skipped. The numbers are those of the lines; the lines of bodies count too.
 const CASES: &[(&[u8], &[u8])] = &[
     (b"", b""),
     (b"\n", b""),
@@ -82,7 +82,7 @@ fn items(rt: HostRuntime) -> Result<(), Fail> {
     Ok(())
 }
 
-/// The input that is cut at any byte has the items of the script that it is cut to.
+/// The input, cut after any number of its bytes, has the items of a script of the same bytes.
 fn expect_cuts(rt: &impl Abort, alloc: Global, input: &[u8]) -> Result<(), Fail> {
     for cut in 0..input.len() {
         let want = items_of_script(rt, alloc, &input[..cut])?;
@@ -99,20 +99,20 @@ fn cuts(rt: HostRuntime) -> Result<(), Fail> {
     Ok(())
 }
 
-/// A put whose body has lines of one byte, and what it gives.
+/// A put whose body has lines of one byte, and the items that come of it.
 #[derive(Clone, Copy)]
 struct LongPut {
     header: &'static [u8],
     /// The body is `x` and a line feed, this many times, and the beginning of `end`.
     lines: usize,
     end: &'static [u8],
-    /// What is given before the body's lines, how many of them are kept, and what is given after them.
+    /// The text of the items before the body's lines, how many of these are kept, and the text after them.
     before: &'static [u8],
     kept: usize,
     after: &'static [u8],
 }
 
-/// A body of the greatest length is kept, and has 524,288 line feeds. One of one byte more is passed over.
+/// A body of the greatest length is kept, and has 524,288 line feeds. One that is a byte longer is skipped.
 const LONG_PUTS: &[LongPut] = &[
     LongPut {
         header: b"put a 1048576\n",

@@ -6,8 +6,8 @@ use std::alloc::Global;
 use std::process::Abort;
 use std::test::Fail;
 
-/// What a stream gives, the item if it is one, and the number of reads until then. A reader that gives one byte for
-/// each read has been asked as often as there are bytes up to the item's last one.
+/// What a stream returns, the item if it is one, and the number of reads until then. Each read returns one byte, so
+/// there are as many reads as bytes up to the item's last one.
 type Step = (Given, &'static [u8], usize);
 
 const INPUT: &[u8] = b"publish\nput a 3\nx\ny\nsearch x\n# c\nput b 0\n\nsync\n";
@@ -22,7 +22,7 @@ const STEPS: &[Step] = &[
     (Given::Nothing, b"", 48),
 ];
 
-/// The stream goes on in this step.
+/// The stream takes this step.
 fn expect_step(
     rt: &impl Abort,
     reading: &mut Reading<'_>,
@@ -38,7 +38,7 @@ fn expect_step(
     Ok(())
 }
 
-/// The stream over these bytes goes on in these steps.
+/// The stream over these bytes takes these steps.
 fn expect_steps(rt: &impl Abort, alloc: Global, bytes: &[u8], steps: &[Step]) -> Result<(), Fail> {
     let mut reading = Reading::new(alloc, Input::new(bytes, 1))?;
     for (given, item, reads) in steps {
@@ -52,8 +52,8 @@ fn nothing_is_read_after_an_item(rt: HostRuntime) -> Result<(), Fail> {
     expect_steps(&rt, rt.alloc(), INPUT, STEPS)
 }
 
-/// Inputs whose first item ends the reading, the item, and the number of reads up to its end: the byte that shows
-/// a fault is the last, or the read that gives none.
+/// Inputs whose first item ends the reading, the item, and the number of reads. The last read returns the byte that
+/// shows a fault, or returns no byte.
 const LAST: &[(&[u8], &[u8], usize)] = &[
     (b"put a\npublish\n", b"1:bad put;", 6),
     (b"put a 1\nxy\npublish\n", b"1:body not closed;", 10),

@@ -11,7 +11,7 @@ use std::process::Abort;
 use std::test::Fail;
 use tsearch::{Source, Transcript, WriteError, write_transcript};
 
-/// 121 loads that succeed, the first of a body of 600,000 bytes. Afterwards the source has not failed.
+/// 121 loads, the first of a body of 600,000 bytes. All succeed, and the source counts no failure.
 #[test]
 fn many_loads(rt: HostRuntime) -> Result<(), Fail> {
     let alloc = rt.alloc();
@@ -42,7 +42,7 @@ fn many_loads(rt: HostRuntime) -> Result<(), Fail> {
     Ok(())
 }
 
-/// The read that fails, or the path for whose bytes there is no memory, and what is written of it.
+/// The read that fails, or the path for whose bytes there is no memory, and the text of the run.
 const FAULTS: &[(u32, &[u8], &[u8])] = &[
     (
         1,
@@ -87,7 +87,7 @@ fn faults_of_loads(rt: HostRuntime) -> Result<(), Fail> {
     Ok(())
 }
 
-/// Writes the transcript to a narrow writer. The writer takes these bytes, and the writing ends so.
+/// Writes the transcript to a narrow writer. The writer takes these bytes, and the writing ends like this.
 fn expect_written(
     rt: &impl Abort,
     alloc: Global,
@@ -132,7 +132,7 @@ const WRITERS: &[(ErrorKind, End)] = &[
 
 const TEXT: &[u8] = b"search 1 version 1 lines 1\na.txt:1:hello world\n";
 
-/// The writer stops in no call, or in any of them: what it takes in the 16 calls is 47 bytes.
+/// The writer stops at no call, or at any one of the 16 calls in which it takes the 47 bytes.
 fn expect_stops(
     rt: &impl Abort,
     alloc: Global,

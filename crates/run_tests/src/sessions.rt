@@ -1,4 +1,4 @@
-//! A session gives the bytes and the status of a run.
+//! A session has the bytes and the status of a run.
 
 ghost use Rattle.std.specs.Prelude.{◌<◌, ◌≤◌};
 
@@ -18,7 +18,7 @@ const FILES: &[File<'static>] = &[File {
     bytes: b"loaded",
 }];
 
-/// Serves what a reader gives, with a source of one file.
+/// Serves the script that a reader returns, with a source of one file.
 pub(crate) fn served<R: Wait>(
     rt: &R,
     alloc: Global,
@@ -50,7 +50,7 @@ pub(crate) fn expect_session<R: AllocGlobal + Wait + Abort>(
     Ok(())
 }
 
-/// The row has its text and its status as a session, whatever the length of the pieces in which its bytes come.
+/// The row has its text and its status as a session, whatever the length of the pieces in which its bytes arrive.
 fn expect_row<R: AllocGlobal + Wait + Abort>(rt: &R, case: &Case<'_>) -> Result<(), Fail> {
     let options = LiveOptions {
         max_commands: case.max_commands,

@@ -11,8 +11,8 @@ pub(crate) struct File<'a> {
     pub(crate) bytes: &'a [u8],
 }
 
-/// A table of files. It fails for each path that is not in it, and at one more read. If it has a gate, it gives `q`
-/// only once a search is held there, and releases the search when it is asked for `p`.
+/// A table of files. A read fails if its path is not in the table, or if it is the one that is chosen to fail. With a
+/// gate, the table returns `q` only once a search is held there, and releases the search when it is asked for `p`.
 #[derive(Drop)]
 pub(crate) struct Table<'a> {
     files: &'a [File<'a>],

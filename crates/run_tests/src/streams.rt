@@ -6,15 +6,15 @@ use std::alloc::Global;
 use std::io::{self, ErrorKind, Read, Write};
 use std::sync::atomic::{AtomicUsize, Ordering};
 
-/// What a client sends at once, and the length of all text that it has been shown before it sends it.
+/// What a client sends at once, and the length of all the text that it must have been shown before.
 #[derive(Clone, Copy)]
 pub(crate) struct Turn {
     pub(crate) shown: usize,
     pub(crate) sent: &'static [u8],
 }
 
-/// A reader of bytes, or of what a client sends, which looks at what it has been shown before it sends more. If that
-/// is not what it waits for, it goes away: the read fails.
+/// A reader of bytes, or of what a client sends. Before it sends more, the client looks at how much it has been
+/// shown. If that is not what it waits for, it goes away: the read fails.
 #[derive(Drop)]
 pub(crate) struct Input<'a> {
     /// What is left of the bytes, or of a turn.
@@ -24,7 +24,7 @@ pub(crate) struct Input<'a> {
     turn: usize,
     /// The length of what was flushed.
     pub(crate) flushed: Option<&'a AtomicUsize>,
-    /// At most this many bytes are given to a read.
+    /// A read returns at most this many bytes.
     most: usize,
     pub(crate) reads: usize,
     /// The read that fails, counted from 1.
@@ -33,12 +33,12 @@ pub(crate) struct Input<'a> {
 }
 
 impl<'a> Input<'a> {
-    /// A reader of these bytes, of which no read fails.
+    /// A reader of these bytes, none of whose reads fails.
     pub(crate) fn new(bytes: &'a [u8], most: usize) -> Input<'a> {
         Input::failing(bytes, most, 0, ErrorKind::BrokenPipe)
     }
 
-    /// A reader of these bytes, of which one read fails.
+    /// A reader of these bytes, one of whose reads fails.
     pub(crate) fn failing(
         bytes: &'a [u8],
         most: usize,
@@ -71,7 +71,7 @@ impl<'a> Input<'a> {
         }
     }
 
-    /// Goes on with the next turn if nothing is left. Whether the client was shown what it waits for.
+    /// Goes on with the next turn if nothing is left. Returns whether the client was shown what it waits for.
     fn take_turn(&mut self) -> bool {
         if !self.rest.is_empty() {
             return true;
@@ -107,7 +107,7 @@ pub(crate) struct Stops {
     pub(crate) failing: u32,
     pub(crate) taking_nothing: u32,
     pub(crate) flush: u32,
-    /// How it fails.
+    /// The error of the write or flush that fails.
     pub(crate) kind: ErrorKind,
 }
 
@@ -121,12 +121,12 @@ impl Stops {
     };
 }
 
-/// A writer that tells how much of its bytes was flushed.
+/// A writer that records how many of its bytes are flushed.
 #[derive(Drop)]
 pub(crate) struct Output<'a> {
     pub(crate) bytes: Vec<u8>,
     flushed: Option<&'a AtomicUsize>,
-    /// At most this many bytes are taken by a write.
+    /// A write takes at most this many bytes.
     most: usize,
     stops: Stops,
     writes: u32,
@@ -146,7 +146,7 @@ impl<'a> Output<'a> {
         }
     }
 
-    /// A writer that takes at most three bytes of a write.
+    /// A writer that takes at most three bytes at a time.
     pub(crate) fn narrow(alloc: Global, stops: Stops) -> Output<'a> {
         Output {
             bytes: Vec::new(alloc),

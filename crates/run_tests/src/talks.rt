@@ -15,7 +15,7 @@ const OPTIONS: LiveOptions = LiveOptions {
 };
 
 /// A session with a client of these turns has this text and this status, whatever the size of the pieces in which the
-/// client's bytes come.
+/// client's bytes arrive.
 fn expect<R: AllocGlobal + Wait + Abort>(
     rt: &R,
     turns: &[Turn],
@@ -29,7 +29,7 @@ fn expect<R: AllocGlobal + Wait + Abort>(
     Ok(())
 }
 
-/// The same for pieces of at most this many bytes. Nothing is flushed yet.
+/// The same for pieces of at most `most` bytes. `flushed` is 0 at first.
 fn expect_in_pieces<'a, R: AllocGlobal + Wait + Abort>(
     rt: &R,
     turns: &'a [Turn],
@@ -75,7 +75,7 @@ const ANSWERED: &[Turn] = &[
     },
 ];
 
-/// No byte after a search's line is waited for, nor after the line feed of a put's body.
+/// The session waits for no byte after a search's line, nor after the line feed that follows a put's body.
 #[test]
 fn each_answer_comes_before_the_next_command(rt: HostRuntime) -> Result<(), Fail> {
     assert_eq!(rt; FIRST.len(), 27);
@@ -109,7 +109,7 @@ const OPEN_BODY: &[Turn] = &[
     },
 ];
 
-/// What ends the reading is refused at once, and the session ends without a look at what follows.
+/// An item that ends the reading is refused at once, and the session ends without reading what follows.
 #[test]
 fn a_fault_ends_the_session(rt: HostRuntime) -> Result<(), Fail> {
     expect(
@@ -121,7 +121,7 @@ fn a_fault_ends_the_session(rt: HostRuntime) -> Result<(), Fail> {
     expect(&rt, OPEN_BODY, b"line 1 refused: body not closed\n", 2)
 }
 
-/// 20,000 replacements of a document leave the last one.
+/// After 20,000 puts of a document, only the last text is found.
 #[test]
 fn replacements(rt: HostRuntime) -> Result<(), Fail> {
     let round: &[u8] = b"put f 3\nold\npublish\nput f 3\nnew\npublish\n";

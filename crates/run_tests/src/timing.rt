@@ -132,8 +132,8 @@ fn expect_held<R: Threads + Wait + Abort + Sync>(
     Ok(())
 }
 
-/// Two documents at a time are put and published, for 200 bytes, with a search after each publish. No answer shows
-/// half of a publish, and the versions are as promised.
+/// Two documents are put with the same byte and published together, for 200 bytes in turn, with a search after each
+/// publish. No answer shows half of a publish, and the versions are as promised.
 #[test]
 fn torn(rt: HostRuntime) -> Result<(), Fail> {
     let mut script = Vec::new(rt.alloc());
@@ -151,7 +151,7 @@ fn torn(rt: HostRuntime) -> Result<(), Fail> {
     Ok(())
 }
 
-/// What both documents have after this many publishes, from 1 to 200.
+/// The byte that both documents have after this many publishes, from 1 to 200.
 fn byte_of(publishes: u8) -> u8 {
     publishes.saturating_add(55)
 }
@@ -203,7 +203,7 @@ impl Course {
         }
     }
 
-    /// Takes the next entry. Returns whether it may be next.
+    /// Takes the next entry. Returns whether it is allowed to come next.
     fn goes_on(&mut self, entry: &Entry) -> bool {
         match entry {
             Entry::Accepted { .. } => true,

@@ -101,7 +101,7 @@ fn append_word(out: &mut Vec<u8>, word: Option<&[u8]>) -> Result<(), AllocError>
     }
 }
 
-/// The items of a whole script, as the reader of scripts gives them. There are fewer than 1,000.
+/// The items of a whole script, as the reader of scripts returns them. There are fewer than 1,000.
 pub(crate) fn items_of_script(
     rt: &impl Abort,
     alloc: Global,
@@ -119,7 +119,7 @@ pub(crate) fn items_of_script(
     Err(Fail::from("over a thousand items"))
 }
 
-/// What a stream gives next.
+/// What a stream returns next.
 #[derive(Clone, Copy, PartialEq, Eq)]
 pub(crate) enum Given {
     Item,
@@ -129,7 +129,7 @@ pub(crate) enum Given {
     Error(StreamError),
 }
 
-/// A stream of items, and the items that it gave.
+/// A stream of items, and the items that it has returned.
 #[derive(Drop)]
 pub(crate) struct Reading<'a> {
     pub(crate) input: BufReader<Input<'a>>,
@@ -148,7 +148,7 @@ impl<'a> Reading<'a> {
         })
     }
 
-    /// Takes what the stream gives next, and appends it if it is an item.
+    /// Takes what the stream returns next, and appends it if it is an item.
     pub(crate) fn go_on(&mut self) -> Result<Given, AllocError> {
         match self.stream.next_item(&mut self.input, &mut self.text) {
             Ok(Some(taken)) => {

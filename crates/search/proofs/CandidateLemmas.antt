@@ -23,7 +23,7 @@ use Rattle.index.proofs.StoredLemmas.{Numbered}
 use Rattle.index.proofs.OrderLemmas.{document_at-Contains, chosen_are, filter-Contains}
 use Rattle.search.proofs.SelectsLemmas.{Kept, Selects-map, rises-Selects, Contains-kept, kept-Contains}
 
--- the formula is met where the condition is
+-- the formula is met exactly where the condition is
 abbrev IsMetAs : Tree → Formula → Type 0
 IsMetAs tree formula = (set : TrigramSet) → is_met formula set ≡ condition tree set
 
@@ -46,7 +46,7 @@ number_of_name : (documents : List Document) (d : Document) → Numbered documen
     → ContainsMatch tree d.name → IsNamed documents tree d.number
 number_of_name documents d rise there tree hit = record { document = (d.name, d.body); there = document_at-Contains documents rise d there; name_hit = hit }
 
--- the documents that the numbers are of
+-- the documents that have the numbers
 shown_at-numbers : (documents wanted : List Document)
     → ((d : Document) → Contains wanted d → document_at d.number documents ≡ Some (d.name, d.body))
     → flat_map (shown_at documents) (map (λ d. d.number) wanted) ≡ wanted
@@ -55,7 +55,7 @@ shown_at-numbers documents (d ∷ wanted) each =
     let here : shown_at documents d.number ≡ d ∷ [] = ap (numbered_document d.number) (each d (Contains-head d wanted)) in
     rw (here, shown_at-numbers documents wanted (λ x h. each x (Contains-tail d wanted x h))) refl
 
--- Of the candidates in the order of their names, those whose names match are wanted.
+-- The wanted documents are the candidates whose names match, in the order of their names.
 pub wanted_are : (s : State) (pattern : Pattern) (formula : Formula) → Numbered s.documents → IsMetAs pattern.tree formula
     → (members : List ℕ) → members ≡ map (λ d. d.number) (filter (meets formula) s.documents) → (ordered : List Document)
     → IsInNameOrder (filter (λ d. has members d.number) s.documents) ordered → (numbers kept : List ℕ)

@@ -11,7 +11,7 @@ use Rattle.search.specs.Scan.{Hit}
 use Rattle.search.specs.Private.Selects.{found, numbered, lines_of_document, Adds, Selects, done}
 use Rattle.search.proofs.SelectsLemmas.{Selects-after}
 
--- a line feed first stands at a place
+-- the first line feed is at this place
 abbrev pub EndsAt : List ℕ → ℕ → Type 0
 EndsAt text place = NoneBefore (Passes (is_byte 10) text) 0 (length text) place × Passes (is_byte 10) text place
 
@@ -57,7 +57,7 @@ unfolding numbered lines_of
 numbered-empty name line [] e = refl
 numbered-empty name line (b ∷ text) e = absurd (omega arith)
 
--- each line takes a byte at least
+-- each line takes at least one byte
 pub room-rest : (line most : ℕ) (text : List ℕ) (place : ℕ) → EndsAt text place → line + length text ≤ most
     → line + 1 + length (take (length text - (place + 1)) (drop (place + 1) text)) ≤ most
 room-rest line most text place first room =
@@ -67,7 +67,7 @@ room-rest line most text place first room =
 module _ (Has : Hit → Type 0) (name body : List ℕ) (line : ℕ) (text : List ℕ) (old now : List Hit)
     (so_far : (more : List Hit) → Selects Has (numbered name line (lines_of text)) more
     → Adds Has (lines_of_document name body) old (now ++ more)) where
-  -- one line more
+  -- one more line
   pub step : (place : ℕ) (new : List Hit) → EndsAt text place → Adds Has (found name line (take place text) ∷ []) now new
       → (more : List Hit)
       → Selects Has (numbered name (line + 1) (lines_of (take (length text - (place + 1)) (drop (place + 1) text)))) more

@@ -46,7 +46,7 @@ named_nowhere documents tree number at = (λ h. absurd (false≢true h), λ n. a
 
 -- ---- numbers that are kept
 
--- with what is kept of the numbers that are left, what is kept so far is all
+-- what is kept so far, followed by what is kept of the numbers that are left, is all that is kept
 abbrev pub KeepsSoFar : (ℕ → Type 0) → List ℕ → List ℕ → ℕ → Type 0
 KeepsSoFar Has numbers kept i = (more : List ℕ) → Selects Has (drop i numbers) more → Selects Has numbers (kept ++ more)
 

@@ -156,7 +156,7 @@ unfolding numbered IsStrictlySortedBy
 numbered-sorted name line [] = tt
 numbered-sorted name line (text ∷ texts) = (numbered-above name line (suc line) text texts (omega arith), numbered-sorted name (suc line) texts)
 
--- a name below another, at any lines
+-- a hit with a lower name is lower, whatever the line numbers are
 lower_name : (f g : Hit) → slice_cmp nat_cmp f.name g.name ≡ Less → hit_cmp f g ≡ Less
 lower_name f g e = rw e refl
 
@@ -184,7 +184,7 @@ all_lines-sorted (d ∷ documents) rises =
     (numbered-named d.name 1 (lines_of d.body) (λ x. AllByRecursion (λ y. hit_cmp x y ≡ Less) (all_lines documents))
     (λ line text. all-lines-above d.name (found d.name line text) refl documents rises.0))
 
--- ---- from one of a list to the next
+-- ---- from one member of a list to the next
 
 pub lines-next : {X : Type 0} (lines : X → List Hit) (xs : List X) (i : ℕ) (x : X) → i < length xs → x ≡ get_or xs i x
     → flat_map lines (drop i xs) ≡ lines x ++ flat_map lines (drop (i + 1) xs)
@@ -207,7 +207,7 @@ lines-end Has lines xs i whole old now h before =
     let none : drop i xs ≡ [] = drop_of_length-le xs h in
     subst (λ ys. Adds Has whole old ys) (append-nil now) (before [] (subst (λ ys. Selects Has (flat_map lines ys) []) (sym none) done))
 
--- the first ones of a list, and the others
+-- the first few members of a list, and then the others
 pub two-parts : {X : Type 0} (Has : Hit → Type 0) (lines : X → List Hit) (xs : List X) (few : ℕ) (one two : List Hit)
     → Adds Has (flat_map lines (take few xs)) [] one → Adds Has (flat_map lines (take (length xs - few) (drop few xs))) one two
     → Selects Has (flat_map lines xs) two
@@ -234,7 +234,7 @@ candidate s pattern d i text there at hit =
     (matching_line pattern.tree d.body text
     (i, slice_get_within (lines_of d.body) i text at, get_or_from_slice_get (lines_of d.body) i text text at) hit)
 
--- Those of the lines of the wanted documents that contain a match are the scan.
+-- The scan is those lines of the wanted documents that contain a match.
 pub IsScanOf-wanted : (s : State) (pattern : Pattern) (wanted : List Document) (hits : List Hit) → AreWanted s pattern wanted
     → Selects (HasMatch pattern.tree) (all_lines wanted) hits → IsScanOf s pattern hits
 IsScanOf-wanted s pattern wanted hits are kept = record {

@@ -28,7 +28,7 @@ Adds-skip Has f old h = Adds-none Has (f ∷ []) old (skip h done)
 pub Adds-keep : (Has : Hit → Type 0) (f : Hit) (old new : List Hit) → Has f → new ≡ old ++ f ∷ [] → Adds Has (f ∷ []) old new
 Adds-keep Has f old new h e = record { added = f ∷ []; appended = e; selected = keep h done }
 
--- what was added, and then what is kept of the rest
+-- what is added first, followed by what is kept of the rest
 pub Selects-after : (Has : Hit → Type 0) (first rest whole now : List Hit) (old new : List Hit) → Adds Has first now new
     → ((more : List Hit) → Selects Has (first ++ rest) more → Adds Has whole old (now ++ more)) → (more : List Hit) → Selects Has rest more
     → Adds Has whole old (new ++ more)
@@ -37,12 +37,12 @@ Selects-after Has first rest whole now old new step before more s =
     let same : now ++ (step.added ++ more) ≡ new ++ more = sym (append_assoc now step.added more) ∙ ap (λ xs. xs ++ more) (sym step.appended) in
     subst (λ xs. Adds Has whole old xs) same joined
 
--- where each has the property
+-- all are kept if each has the property
 pub Selects-all : {X : Type 0} (Has : X → Type 0) (xs : List X) → ((x : X) → Has x) → Selects Has xs xs
 Selects-all Has [] each = done
 Selects-all Has (x ∷ xs) each = keep (each x) (Selects-all Has xs each)
 
--- what is kept of a list of numbers, or of other values, is the values of those that are kept
+-- what is kept of the values `f x` of a list: they are the values of some members, which are what is kept of the list itself
 pub record Kept {X Y : Type 0} (f : X → Y) (Has : Y → Type 0) (xs : List X) (kept : List Y) : Type 0 where
   pub from : List X
   pub are : kept ≡ map f from
@@ -56,7 +56,7 @@ Selects-map f Has (x ∷ xs) _ (keep {all = _} {kept} h r) =
 Selects-map f Has (x ∷ xs) kept (skip h r) =
     let rest = Selects-map f Has xs kept r in record { from = rest.from; are = rest.are; selected = skip h rest.selected }
 
--- what holds of each holds of each that is kept
+-- what holds for each member holds for each that is kept
 pub All-Selects : {X : Type 0} {Has : X → Type 0} {all kept : List X} (P : X → Type 0) → Selects Has all kept → AllByRecursion P all → AllByRecursion P kept
 All-Selects P done each = tt
 All-Selects P (keep h r) each = (each.0, All-Selects P r each.1)

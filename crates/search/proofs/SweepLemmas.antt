@@ -42,7 +42,7 @@ empty_numbered tree name line (b ∷ text) e = absurd (omega (arith, ap length e
 module _ (tree : Tree) (name body : List ℕ) (line : ℕ) (text : List ℕ) (old now : List Hit)
     (so_far : (more : List Hit) → Selects (HasMatch tree) (numbered name line (lines_of text)) more
     → Adds (HasMatch tree) (lines_of_document name body) old (now ++ more)) where
-  -- one hit more
+  -- one more hit
   with_hit : (first : FirstLine) → IsFirstLine tree text first → (new : List Hit)
       → new ≡ now ++ found name (line + first.before) (take (first.end - first.start) (drop first.start text)) ∷ [] → (more : List Hit)
       → Selects (HasMatch tree) (numbered name (line + first.before + 1) (lines_of (drop (first.end + 1) text))) more

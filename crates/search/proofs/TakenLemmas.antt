@@ -8,7 +8,7 @@ use Rattle.search.specs.Taken.{shown}
 use Rattle.search.specs.Private.Documents.{shown_at, lines_of_taken}
 use Rattle.search.proofs.ScanLemmas.{all_lines}
 
--- the documents of the first so many numbers were taken
+-- the documents with the first `i` numbers are taken
 abbrev pub AreTakenUpTo : List Document → List ℕ → ℕ → List TakenDocument → Type 0
 AreTakenUpTo documents numbers i taken = map shown taken ≡ flat_map (shown_at documents) (take i numbers)
 

@@ -1,4 +1,4 @@
--- What the pattern asks for, of a list of commands.
+-- What a pattern asks for in the documents that commands leave.
 use Rattle.std.specs.Prelude.{◌≡◌, ◌-◌, ◌<◌, List, Some, slice_get, IfSome}
 use Rattle.ere.specs.Language.{ContainsMatch}
 use Rattle.ere.specs.Lines.{lines_of}
@@ -7,7 +7,7 @@ use Rattle.index.specs.Documents.{Document, IsDocument}
 use Rattle.search.specs.Pattern.{Pattern}
 use Rattle.search.specs.Scan.{Hit}
 
--- The pattern asks for this line of some Put that no later command names.
+-- The pattern asks for this line of some Put whose name no later command names.
 pub record IsHitOfPut (commands : List Command) (pattern : Pattern) (found : Hit) : Type 0 where
   pub document : Document
   pub put : IsDocument commands document

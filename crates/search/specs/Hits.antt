@@ -1,4 +1,4 @@
--- What a hit shows.
+-- Hits as contracts see them.
 use Rattle.std.specs.Prelude.{List, map}
 use Rattle.search.specs.declared.answer.Hit.{Hit as StoredHit}
 use Rattle.search.specs.Scan.{Hit}

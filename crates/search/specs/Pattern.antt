@@ -1,4 +1,4 @@
--- What a search looks for: the tree of its pattern, and that of its name pattern where it has one.
+-- What a search looks for: the tree of its pattern, and that of its name pattern, if it has one.
 use Rattle.std.specs.Prelude.{◌≡◌, List, ℕ, Option, None, IsSomeAnd}
 use Rattle.ere.specs.declared.case.Case.{Case}
 use Rattle.ere.specs.declared.case.Case.TheVariants.{Exact}
@@ -9,17 +9,17 @@ pub record Pattern : Type 0 where
   pub tree : Tree
   pub name_tree : Option Tree
 
--- the pattern that a text spells, for documents of every name
+-- the pattern that a text spells, for documents with any name
 pub record IsPatternOf (case : Case) (text : List ℕ) (pattern : Pattern) : Type 0 where
   pub tree : IsTreeOf case text pattern.tree
   pub every_name : pattern.name_tree ≡ None
 
--- the pattern that a text spells, for documents whose name matches the one that a second text spells; the
--- case of names always counts
+-- the pattern that a text spells, for documents whose names match the pattern that `name_text` spells, in which
+-- the case of letters always counts
 pub record IsPatternWithin (case : Case) (name_text text : List ℕ) (pattern : Pattern) : Type 0 where
   pub tree : IsTreeOf case text pattern.tree
   pub name_tree : IsSomeAnd pattern.name_tree (IsTreeOf Exact name_text)
 
--- some tree is that of the text
+-- the text has a tree
 abbrev pub HasTree : Case → List ℕ → Type 0
 HasTree case text = (tree : Tree) × IsTreeOf case text tree

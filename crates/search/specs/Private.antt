@@ -1,4 +1,4 @@
--- What only the contracts of private functions cite. A clause can cite only `pub` modules.
+-- What only the contracts of private functions cite. The modules are `pub` because a clause can cite no others.
 pub mod Selects
 pub mod Ways
 pub mod Documents

@@ -42,8 +42,8 @@ pub record IsScanOf (state : State) (pattern : Pattern) (scan : List Hit) : Type
 abbrev pub candidates_of : State → Tree → List Document
 candidates_of state tree = filter (λ d. condition tree (trigrams_of_body d.body)) state.documents
 
--- an answer: the number of commands that it is of, the lines found, and how many documents there are,
--- and how many of them are candidates
+-- an answer: its version, which is the number of commands; the lines found; how many documents there are; and how
+-- many of them are candidates
 pub record Answer : Type 0 where
   pub version : ℕ
   pub hits : List Hit

@@ -14,7 +14,7 @@ use std::marker::Model;
 pub struct Hit {
     /// The name of the line's document.
     pub name: Name,
-    /// The number of the line in its document, from 1.
+    /// The number of the line in its document, counted from 1.
     pub line: u32,
     /// The bytes of the line, without its line feed.
     pub text: Vec<u8>,
@@ -22,7 +22,7 @@ pub struct Hit {
 
 /// The answer of a search.
 ///
-/// Contracts see it as its version, its hits, the number of documents, and that of the candidates.
+/// Contracts see it as its version, its hits, the number of documents, and the number of candidates.
 #[derive(Debug, Drop)]
 pub struct Answer {
     pub(crate) version: u32,
@@ -46,38 +46,38 @@ impl Answer {
     ghost use Rattle.search.specs.Hits.{hits_of};
     ghost use Rattle.search.specs.Text.{text_of_answer, text_of_head, text_of_stats, Begins};
 
-    /// The number of commands whose documents were searched.
+    /// The version that was searched: the number of commands that were applied to the index.
     pub fn version(&self) -> u32
         ensures { result ≡ self.now.version }
     {
         self.version
     }
 
-    /// The lines that match, rising by the bytes of their documents' names and then by line.
+    /// The lines that contain a match, rising by the bytes of their documents' names and then by line number.
     pub fn hits(&self) -> &[Hit]
         ensures { hits_of result.now ≡ self.now.hits }
     {
         self.hits.as_slice()
     }
 
-    /// The number of documents that were there.
+    /// The number of documents that the index had.
     pub fn documents(&self) -> u32
         ensures { result ≡ self.now.documents }
     {
         self.documents
     }
 
-    /// The number of documents that the trigrams of the pattern left to look at. A name pattern
-    /// has no effect on it.
+    /// The number of candidates: the documents whose trigrams satisfy the condition of the pattern (Russ Cox, "Regular
+    /// Expression Matching with a Trigram Index", 2012). A name pattern has no effect on it.
     pub fn candidates(&self) -> u32
         ensures { result ≡ self.now.candidates }
     {
         self.candidates
     }
 
-    /// Appends the text of the answer to the search with this number: a line `search K version V lines L`, which
-    /// goes on with ` candidates C of D` if `stats`, and then a line `NAME:LINE:TEXT` for each hit. An `Err` means
-    /// that memory ran out, and `out` stays as it was.
+    /// Appends the text of this answer to `out`. It is a line `search K version V lines L`, where K is `search`, with
+    /// ` candidates C of D` at its end if `stats`, and then a line `NAME:LINE:TEXT` for each hit. An `Err` means that
+    /// memory ran out; `out` is then as it was.
     pub fn write_to(&self, search: u32, stats: bool, out: &mut Vec<u8>) -> Result<(), AllocError>
         ensures ok { OnOk result (out.new.items ≡ out.old.items ++ text_of_answer search stats self.now) }
         ensures err { OnErr result (out.new.items ≡ out.old.items) }
@@ -92,7 +92,7 @@ impl Answer {
         }
     }
 
-    // Appends the text, or a beginning of it.
+    // Appends the text of the answer. An `Err` can leave a beginning of it in `out`.
     fn append_to(&self, search: u32, stats: bool, out: &mut Vec<u8>) -> Result<(), AllocError>
         ensures ok { OnOk result (out.new.items ≡ out.old.items ++ text_of_answer search stats self.now) }
         ensures err { OnErr result (Begins out.old.items out.new.items) }
@@ -101,7 +101,7 @@ impl Answer {
         append_hits(out, self.hits.as_slice())
     }
 
-    // Appends the line of the search, or a beginning of it.
+    // Appends the line of the search. An `Err` can leave a beginning of it in `out`.
     fn append_head(&self, search: u32, stats: bool, out: &mut Vec<u8>) -> Result<(), AllocError>
         ensures ok { OnOk result (out.new.items ≡ out.old.items ++ text_of_head search stats self.now) }
         ensures err { OnErr result (Begins out.old.items out.new.items) }
@@ -145,7 +145,7 @@ impl Answer {
     }
 }
 
-// Appends a line for each hit, or a beginning of them.
+// Appends a line for each hit. An `Err` can leave some of them in `out`.
 fn append_hits(out: &mut Vec<u8>, hits: &[Hit]) -> Result<(), AllocError>
     ensures ok { OnOk result (out.new.items ≡ out.old.items ++ flat_map text_of_hit (hits_of hits.now)) }
     ensures err { OnErr result (Begins out.old.items out.new.items) }
@@ -175,7 +175,7 @@ fn append_hit(out: &mut Vec<u8>, hit: &Hit) -> Result<(), AllocError>
     )
 }
 
-/// Appends the parts, one after another. An `Err` means that memory ran out, and `out` stays as it was.
+/// Appends the parts, one after another. An `Err` means that memory ran out; `out` is then as it was.
 pub fn append_all(out: &mut Vec<u8>, parts: &[&[u8]]) -> Result<(), AllocError>
     ensures ok { OnOk result (out.new.items ≡ out.old.items ++ flat_map (λ part. part.now) parts.now) }
     ensures err { OnErr result (out.new.items ≡ out.old.items) }

@@ -7,7 +7,7 @@ ghost use Rattle.search.specs.Private.Documents.{shown_some, shown_at};
 use index::{Held, Index, Name};
 use std::alloc::{AllocError, Global};
 
-/// A document whose lines are to be matched. Name and body are shared with the index.
+/// A document whose lines are to be matched. Its name and body are shared with the index.
 #[derive(Drop)]
 pub struct TakenDocument {
     pub number: u32,
@@ -15,7 +15,8 @@ pub struct TakenDocument {
     pub held: Held,
 }
 
-/// The documents with these numbers, in their order. An `Err` means that memory ran out.
+/// The documents with these numbers, in the order of `numbers`. A number that no document has is left out. An `Err`
+/// means that memory ran out, or that a name or a body has too many handles.
 pub fn documents_with(
     alloc: Global,
     index: &Index,

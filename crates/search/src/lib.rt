@@ -1,4 +1,4 @@
-//! Searches of an index: prepared patterns, answers, and the text of an answer.
+//! Searches of an index: prepared patterns, answers, and the text of answers.
 #![tactic(auto)]
 
 pub mod answer;

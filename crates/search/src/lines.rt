@@ -26,7 +26,7 @@ use std::alloc::{AllocError, Global};
 /// with most other patterns, and between 20 and 50 KB with `[0-9]+`.
 const FEW_BYTES: usize = 8192;
 
-/// The lines with a match in these documents, document after document. The watch is told of each document. An
+/// The lines with a match in these documents, document after document. `watch` gets the number of each document. An
 /// `Err` means that memory ran out.
 pub fn scan_documents<W: Watch>(
     alloc: Global,
@@ -43,8 +43,8 @@ pub fn scan_documents<W: Watch>(
     Ok(hits)
 }
 
-// Adds the lines with a match in the first documents, each line looked at by itself, if they are small. Returns how
-// many documents these are.
+// Adds the lines with a match in the first few documents (see `few_documents`), looking at each line by itself.
+// Returns how many documents these are.
 fn scan_few<W: Watch>(
     tree: &Ere,
     documents: &[TakenDocument],
@@ -62,8 +62,8 @@ fn scan_few<W: Watch>(
     Ok(few)
 }
 
-// How many documents, from the first on, are so small together that their lines are looked at one by one. No
-// answer depends on it.
+// How many documents, from the first on, are so small together that their lines are looked at one by one: 0 if the
+// tree has stars inside stars. No answer depends on it.
 fn few_documents(tree: &Ere, documents: &[TakenDocument]) -> usize
     ensures { AreFew (form tree.now) documents.now result }
 {
@@ -81,15 +81,15 @@ fn few_documents(tree: &Ere, documents: &[TakenDocument]) -> usize
     documents.len()
 }
 
-// The bytes of the document's body.
+// The length of the document's body, in bytes.
 fn body_size(document: &TakenDocument) -> usize
     ensures { result ≡ length document.now.held }
 {
     document.held.body().as_bytes().len()
 }
 
-// Adds the lines with a match in these documents, by the compiled pattern. With no documents, no
-// pattern is compiled.
+// Adds the lines with a match in these documents, by the compiled pattern if there is one. If there are no documents,
+// the pattern is not compiled.
 fn scan_compiled<W: Watch>(
     tree: &Ere,
     documents: &[TakenDocument],
@@ -150,7 +150,7 @@ fn scan_body(
     }
 }
 
-// Adds the lines with a match, each found in what is left after the one before.
+// Adds the lines with a match, looking for each in what is left after the one before.
 fn sweep_lines(
     alloc: Global,
     finder: &mut Finder<'_>,
@@ -181,7 +181,7 @@ fn sweep_lines(
     Ok(())
 }
 
-// Adds the lines with a match, each looked at by itself.
+// Adds the lines with a match, looking at each line by itself.
 fn scan_lines(
     alloc: Global,
     tree: &Ere,

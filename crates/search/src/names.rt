@@ -15,8 +15,8 @@ use index::{Index, Name};
 use matcher::matches;
 use std::alloc::{AllocError, Global};
 
-/// The numbers whose documents' names, taken as lines, contain a match of the name pattern, in their order;
-/// all of the numbers if there is no name pattern. An `Err` means that memory ran out.
+/// Those of the numbers whose documents' names, each taken as a line, contain a match of the name pattern, in the
+/// same order. If there is no name pattern, these are all of the numbers. An `Err` means that memory ran out.
 pub fn named(
     alloc: Global,
     index: &Index,
@@ -31,7 +31,7 @@ pub fn named(
     }
 }
 
-// Those whose documents' names match the tree.
+// Those of the numbers whose documents' names contain a match of the tree.
 fn with_names(
     alloc: Global,
     index: &Index,
@@ -42,7 +42,7 @@ fn with_names(
     ensures { IfOk result (λ kept. Selects (IsNamed index.now.documents (form tree.now)) numbers.now kept.items) }
 {
     if numbers.is_empty() || !nests_stars(tree) {
-        // Names are short, so a compiled pattern does not pay.
+        // Names are short, so compiling the pattern does not pay.
         let mut way = Way::LineByLine;
         return with_names_by(alloc, index, tree, &mut way, numbers);
     }
@@ -71,7 +71,7 @@ fn with_names_by(
     Ok(kept)
 }
 
-// Whether the number has a document, and its name matches.
+// Whether there is a document with this number, and its name matches.
 fn is_named(index: &Index, tree: &Ere, way: &mut Way<'_>, number: u32) -> bool
     requires limits { IsWithinLimits (form tree.now) }
     requires way { Finds (form tree.now) way.old }

@@ -16,12 +16,12 @@ use trigram::{Query, analyse};
 
 /// A pattern, and a pattern for names if there is one, read and ready to search.
 ///
-/// A search never changes it, so one value serves many searches at a time.
+/// A search never changes it, so one value can serve many searches at a time.
 #[derive(Debug, Drop)]
 pub struct Prepared {
     pub(crate) tree: Ere,
     pub(crate) name_tree: Option<Ere>,
-    // What the trigrams of a document with a hit satisfy.
+    // The trigrams of every document with a hit satisfy it.
     pub(crate) query: Query,
     pub ghost limits: { IsWithinLimits (form tree) } by { IsWithinLimits-prop (form tree) },
     pub ghost name_limits: { ForSome name_tree (λ e. IsWithinLimits (form e)) } by { ForSome-prop name_tree },
@@ -31,9 +31,9 @@ pub struct Prepared {
 /// Why a search with a name pattern is refused.
 #[derive(Clone, Copy, Debug, PartialEq, Eq)]
 pub struct WithinError {
-    /// Whether the fault is in the name pattern, which is read first.
+    /// Whether the fault is in the name pattern, which is read first, and not in the pattern.
     pub in_name: bool,
-    /// The fault.
+    /// What is wrong with that pattern, or that memory ran out while it was read.
     pub error: EreError,
 }
 
@@ -43,7 +43,9 @@ impl Prepared {
     ghost use Rattle.search.specs.Pattern.{IsPatternOf, IsPatternWithin, HasTree};
     ghost use Rattle.search.specs.Prepared.{pattern_of};
 
-    /// Reads the pattern of a search. An `Err` gives its fault, or says that memory ran out.
+    /// Reads the pattern of a search, an extended regular expression (POSIX.1-2017 XBD 9.4; the limits are this
+    /// program's) in which the case of letters counts. An `Err` holds the first fault of the pattern and its offset,
+    /// or says that memory ran out.
     pub fn new(alloc: Global, pattern: &[u8]) -> Result<Prepared, EreError>
         ensures pattern { IfOk result (λ p. IsPatternOf Case.Exact pattern.now (pattern_of p)) }
         ensures refused { IfErr result (λ e. e.kind ≢ EreErrorKind.OutOfMemory → HasNoTree Case.Exact pattern.now) }
@@ -51,8 +53,7 @@ impl Prepared {
         Prepared::with_case(alloc, pattern, Case::Exact)
     }
 
-    /// Reads the pattern of a search, with the case of letters or without it. An `Err` gives its fault, or
-    /// says that memory ran out.
+    /// Reads the pattern of a search as `new` does, but `case` says whether the case of letters counts.
     pub fn with_case(alloc: Global, pattern: &[u8], case: Case) -> Result<Prepared, EreError>
         ensures pattern { IfOk result (λ p. IsPatternOf case pattern.now (pattern_of p)) }
         ensures refused { IfErr result (λ e. e.kind ≢ EreErrorKind.OutOfMemory → HasNoTree case pattern.now) }
@@ -65,8 +66,9 @@ impl Prepared {
         })
     }
 
-    /// Reads the patterns of a search in the documents whose names, each taken as a line, match the name
-    /// pattern. An `Err` gives the fault of the first pattern that has one, or says that memory ran out.
+    /// Reads the patterns of a search in the documents whose names, each taken as a line, contain a match of the name
+    /// pattern. Both are read as `new` reads one, the name pattern first. An `Err` holds the first fault that is met,
+    /// or says that memory ran out.
     pub fn within(
         alloc: Global,
         name_pattern: &[u8],
@@ -79,7 +81,8 @@ impl Prepared {
         Prepared::within_with_case(alloc, name_pattern, pattern, Case::Exact)
     }
 
-    /// The same with the case of letters or without it in the pattern. In the name pattern it always counts.
+    /// Reads the patterns of a search as `within` does, but `case` says whether the case of letters counts in the
+    /// pattern. In the name pattern it always counts.
     pub fn within_with_case(
         alloc: Global,
         name_pattern: &[u8],

@@ -11,15 +11,16 @@ use crate::watch::Watch;
 use index::Index;
 use std::alloc::{AllocError, Global};
 
-/// The lines of the index's documents in which the pattern matches. It changes nothing, and looks only
-/// at documents whose trigrams satisfy the condition of the pattern. An `Err` means that memory ran out.
+/// Finds the lines that contain a match of the pattern, in the index's documents whose names match the name pattern,
+/// if there is one. It changes nothing, and matches only the lines of documents whose trigrams satisfy the condition
+/// of the pattern. An `Err` means that memory ran out, or that a name or a body has too many handles.
 pub fn find(alloc: Global, index: &Index, prepared: &Prepared) -> Result<Answer, AllocError>
     ensures { IfOk result (λ answer. IsAnswerOf index.now (pattern_of prepared.now) answer) }
 {
     take(alloc, index, prepared)?.answer(alloc)
 }
 
-/// The same as `find`. The watch is told of each document whose lines are matched.
+/// The same as `find`, but `watch` gets the number of each document whose lines are matched.
 pub fn find_watched<W: Watch>(
     alloc: Global,
     index: &Index,

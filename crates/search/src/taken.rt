@@ -1,4 +1,4 @@
-//! What a search takes out of an index, to be matched after the index has been left.
+//! What a search takes out of an index, so that the lines can be matched without the index.
 
 ghost use Rattle.std.specs.Prelude.{IfOk};
 ghost use Rattle.search.specs.Prepared.{pattern_of};
@@ -14,10 +14,10 @@ use index::Index;
 use std::alloc::{AllocError, Global};
 
 /// What a search has taken out of an index: the version, the counts, and the documents whose lines are to be
-/// matched. It keeps nothing of the index itself, which may change or go while the lines are matched. Names and
-/// bodies are shared, so it takes a few words for each document.
+/// matched. It does not borrow the index, which can change or be dropped while the lines are matched. Names and
+/// bodies are shared, so it takes only a few words of memory for each document.
 ///
-/// `IsTakenOf` says of which state of the index, and for which pattern, it was taken.
+/// `IsTakenOf` says from which state of the index, and for which pattern, it was taken.
 #[derive(Drop)]
 pub struct Taken<'p> {
     pub(crate) prepared: &'p Prepared,
@@ -29,8 +29,8 @@ pub struct Taken<'p> {
 }
 
 /// Takes out of the index what a search needs: the documents whose trigrams satisfy the condition of the
-/// pattern, and whose names match the name pattern, if there is one. No line is looked at. An `Err` means
-/// that memory ran out.
+/// pattern, and whose names match the name pattern, if there is one. No line is looked at. An `Err` means that
+/// memory ran out, or that a name or a body has too many handles.
 pub fn take<'p>(
     alloc: Global,
     index: &Index,
@@ -58,15 +58,16 @@ impl Taken<'_> {
     ghost use Rattle.search.specs.Scan.{IsAnswerOf};
     ghost use Rattle.search.specs.Taken.{IsTakenOf};
 
-    /// Matches the lines. The answer is that of the pattern, and of the state of the index when the documents
-    /// were taken. An `Err` means that memory ran out, and what was taken is dropped.
+    /// Matches the lines, and returns the answer for the pattern in the state that the index had when the documents
+    /// were taken. An `Err` means that memory ran out, or that a name has too many handles. What was taken is dropped
+    /// in either case.
     pub fn answer(self, alloc: Global) -> Result<Answer, AllocError>
         ensures { IfOk result (λ answer. (state : State) (pattern : Pattern) → IsTakenOf state pattern self.entry → IsAnswerOf state pattern answer) }
     {
         self.answer_watched(alloc, &mut NoWatch)
     }
 
-    /// The same as `answer`. The watch is told of each document whose lines are matched.
+    /// The same as `answer`, but `watch` gets the number of each document whose lines are matched.
     pub(crate) fn answer_watched<W: Watch>(
         self,
         alloc: Global,

@@ -1,8 +1,8 @@
-//! Watches are told which documents a search looks at.
+//! Watches of searches.
 
-/// A watch is told of the documents that a search looks at.
+/// Learns which documents a search looks at.
 pub trait Watch {
-    /// The lines of the document with this number are now matched.
+    /// Called just before the lines of the document with this number are matched.
     fn reads(&mut self, number: u32);
 }
 

@@ -19,17 +19,18 @@ pub enum Way<'p> {
     LineByLine,
 }
 
-/// Whether the tree has stars inside stars. Such a tree is compiled before the first byte is searched, since the
-/// matcher's time for a line can grow with a further power of the line's length for each star. It goes line by line
-/// only if its tables are large and the matcher takes few steps for it.
+/// Whether the tree has stars inside stars. Such a tree is compiled before the first byte is searched, since each
+/// nested star can multiply the matcher's time for a line by the line's length. It is searched for line by line only
+/// if its tables are large and the matcher takes few steps for it.
 pub fn nests_stars(tree: &Ere) -> bool
     ensures { result ≡ nat_le 2 (star_height (form tree.now)) }
 {
     has_star_height(tree, 2)
 }
 
-/// The pattern of the tree, compiled. `None` if it would be too large, or if memory ran out: the tree is then
-/// searched for line by line. For a tree with stars inside stars, an `Err` means that memory ran out.
+/// The pattern of the tree, compiled. `None` means that its tables would be too large, or that memory ran out; the
+/// tree is then searched for line by line. If memory runs out for a tree with stars inside stars, that is an `Err`
+/// instead. There is no other `Err`.
 pub fn compile(alloc: Global, tree: &Ere) -> Result<Option<Compiled>, AllocError>
     ensures { IfOk result (λ o. IfSome o (IsCompiledFrom (form tree.now))) }
 {
@@ -44,8 +45,8 @@ pub fn compile(alloc: Global, tree: &Ere) -> Result<Option<Compiled>, AllocError
     }
 }
 
-/// The way by the compiled pattern of the tree, if there is one, and otherwise line by line. An
-/// `Err` is as for `compile`.
+/// The way by the compiled pattern of the tree, or line by line if there is none or memory ran out. An `Err` is as
+/// for `compile`.
 pub fn way_by<'p>(
     alloc: Global,
     tree: &Ere,

@@ -241,8 +241,8 @@ const LONG_NAME_FOUND: Pieces<'static> = &[
     (b"b:1:x\n", 1),
 ];
 
-/// Thirty stars, each inside the next one and after a letter. Name by name, each of them doubles the time, so the test
-/// ends only if the pattern is compiled.
+/// Thirty stars, each inside the next one and after a letter. Name by name, each of them doubles the time, so the
+/// test ends only if the pattern is compiled.
 #[test]
 fn names_in_many_stars(rt: HostRuntime) -> Result<(), Fail> {
     let index = index_built(&rt, rt.alloc(), LONG_NAMES)?;
@@ -252,7 +252,7 @@ fn names_in_many_stars(rt: HostRuntime) -> Result<(), Fail> {
     Ok(())
 }
 
-/// Whether the pattern is refused since it has nothing to repeat.
+/// Whether the pattern is refused because there is nothing to repeat.
 fn is_refused(alloc: Global, pattern: &[u8]) -> bool {
     match Prepared::new(alloc, pattern) {
         Ok(_) => false,
@@ -260,7 +260,7 @@ fn is_refused(alloc: Global, pattern: &[u8]) -> bool {
     }
 }
 
-/// Whether the name pattern or the pattern is refused since it has nothing to repeat. `in_name` says which of them.
+/// Whether the name pattern or the pattern is refused because there is nothing to repeat. `in_name` says which one.
 fn is_refused_within(alloc: Global, name_pattern: &[u8], pattern: &[u8], in_name: bool) -> bool {
     match Prepared::within(alloc, name_pattern, pattern) {
         Ok(_) => false,

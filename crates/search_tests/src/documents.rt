@@ -7,7 +7,7 @@ use std::alloc::{AllocError, Global};
 use std::process::Abort;
 use std::test::Fail;
 
-/// The pieces of a text, and why it is no name. Too long comes before a bad byte.
+/// The pieces of a text, and why it is not a name. Its length is judged before its bytes.
 const NO_NAMES: &[(Pieces<'static>, NameError)] = &[
     (&[], NameError::Empty),
     (&[(b"a", 256)], NameError::TooLong),
@@ -34,14 +34,14 @@ fn names_are_refused(rt: HostRuntime) -> Result<(), Fail> {
     Ok(())
 }
 
-/// Whether there is a name of this length, and has its bytes.
+/// Whether a name of this length keeps the bytes that it is made of.
 fn is_name_of(alloc: Global, length: usize) -> Result<bool, Fail> {
     let bytes = built(alloc, &[(b"\xff", length)])?;
     let name = Name::new(alloc, &bytes)?;
     Ok(name.as_bytes() == bytes.as_slice())
 }
 
-/// A name may have 1 to 255 bytes.
+/// A name has 1 to 255 bytes.
 #[test]
 fn names_of_each_length(rt: HostRuntime) -> Result<(), Fail> {
     for length in 1..=255usize {
@@ -50,7 +50,7 @@ fn names_of_each_length(rt: HostRuntime) -> Result<(), Fail> {
     Ok(())
 }
 
-/// The bytes of a name are 33 to 126 and from 128 on.
+/// The bytes of a name are 33 to 126, and 128 and above.
 #[test]
 fn names_of_each_byte(rt: HostRuntime) {
     for byte in 0..=255u8 {
@@ -213,7 +213,7 @@ fn index_of_one(
     Ok(index)
 }
 
-/// Whether the document 1 has the name and a body of these bytes, and is the only one.
+/// Whether document 1 has the name and a body of these bytes, and is the only one.
 fn holds_one(index: &Index, name: &Name, bytes: &[u8]) -> bool {
     match index.held(1) {
         Some(held) => {
@@ -225,7 +225,7 @@ fn holds_one(index: &Index, name: &Name, bytes: &[u8]) -> bool {
     }
 }
 
-/// Whether nothing of the document 1 is left once its name is removed.
+/// Whether nothing is left of document 1 once its name is removed.
 fn holds_none(rt: &impl Abort, index: &mut Index, name: &Name) -> Result<bool, AllocError> {
     leave(rt, index, name)?;
     Ok(index.number(name).is_none() && index.held(1).is_none() && index.held_bytes() == 0)
@@ -257,7 +257,7 @@ fn a_body_is_shared(rt: HostRuntime) -> Result<(), Fail> {
     Ok(())
 }
 
-/// A type whose values may be given to other threads and lent to several.
+/// Compiles only for a type whose values can be given to other threads, and shared by several.
 fn is_for_threads<T: Send + Sync>() {}
 
 #[test]
@@ -305,7 +305,7 @@ fn is_found(alloc: Global, index: &Index, i: u8, there: bool) -> Result<bool, Fa
     Ok(index.document(number).is_some() == there && found == there.then_some(number))
 }
 
-/// Whether those documents are found that go after the one of this order, and no others.
+/// Whether exactly those documents are found that are removed after the one with place `i` in the order.
 fn are_found(alloc: Global, index: &Index, i: u8) -> Result<bool, Fail> {
     for j in 0..200u8 {
         let order = if j % 2 == 0 { j / 2 } else { 100 + j / 2 };
@@ -316,8 +316,8 @@ fn are_found(alloc: Global, index: &Index, i: u8) -> Result<bool, Fail> {
     Ok(true)
 }
 
-/// Each of many documents is found by its number and its name while others are removed, first every second
-/// one and then the rest.
+/// Each of many documents is found by its number and its name while others are removed: first every second
+/// one, then the rest.
 #[test]
 fn many_documents_go(rt: HostRuntime) -> Result<(), Fail> {
     let mut index = many(&rt, rt.alloc())?;
@@ -371,14 +371,15 @@ fn leads_to_text(alloc: Global, index: &Index, i: u32) -> Result<bool, AllocErro
     )
 }
 
-/// Whether the text of the document that stays leads to it, and to the text of this number where they share a trigram.
+/// Whether the trigrams of the document that stays lead to it, and one that the text of this number shares leads to
+/// both.
 fn leads_to_both(alloc: Global, index: &Index, i: u32) -> Result<bool, AllocError> {
     let both = [1, index.version()];
     let with_axy = if i < 676 { 2 } else { 1 };
     Ok(has(alloc, index, *b"axy", &both[..with_axy])? && has(alloc, index, *b"0ax", &[1])?)
 }
 
-/// One document is replaced 1,000 times, each time with trigrams that were not there, while another stays.
+/// One document is replaced 1,000 times, each time by a text whose first trigram is new, while another stays.
 #[test]
 fn a_document_is_replaced_often(rt: HostRuntime) -> Result<(), Fail> {
     let alloc = rt.alloc();
@@ -402,7 +403,7 @@ fn one_of(alloc: Global, step: u8) -> Result<Query, AllocError> {
     Ok(Query::Or(members))
 }
 
-/// The queries of these steps, and for 0 the one that all meet.
+/// The queries of these steps; for 0 the query that every document meets.
 fn all_of(alloc: Global, steps: &[u8]) -> Result<Vec<Query>, AllocError> {
     let mut members = Vec::new(alloc);
     for step in steps {
@@ -431,8 +432,8 @@ fn are_every(alloc: Global, index: &Index, query: Query, step: u32) -> Result<bo
     are_candidates(alloc, index, &query, &numbers)
 }
 
-/// Whether an Or of every `step`-th trigram finds its documents: by itself, with all documents added, and with every
-/// second one asked for too.
+/// Whether an Or of every `step`-th trigram finds its documents: by itself, in an Or with all documents, and in an
+/// And with every second one.
 fn finds_every(alloc: Global, index: &Index, step: u8) -> Result<bool, AllocError> {
     let even = if step % 2 == 0 { 1 } else { 2 };
     Ok(
@@ -456,7 +457,7 @@ fn one_of_many_trigrams(rt: HostRuntime) -> Result<(), Fail> {
     Ok(())
 }
 
-/// Whether the candidates with the trigram bcd have the first numbers, and those with abc the second ones.
+/// Whether the candidates with the trigram bcd have the numbers `bcd`, and those with abc the numbers `abc`.
 fn have(alloc: Global, index: &Index, bcd: &[u32], abc: &[u32]) -> Result<bool, AllocError> {
     Ok(has(alloc, index, *b"bcd", bcd)? && has(alloc, index, *b"abc", abc)?)
 }
@@ -476,7 +477,7 @@ fn is_as_before(index: &Index) -> bool {
     index.version() == 2 && index.held_bytes() == 7 && text_at(index, 1) == Some(b"abc".as_slice())
 }
 
-/// Puts the text bcd under f. Returns whether that is done. If it is refused, the command comes back.
+/// Puts the text bcd under f. Returns whether the put is done. If it is refused, the command must come back.
 fn put_bcd(rt: &impl Abort, alloc: Global, index: &mut Index) -> Result<bool, Fail> {
     let (name, body) = document(alloc, b"f", b"bcd")?;
     assert!(rt; index.version() < 1000);
@@ -543,7 +544,7 @@ fn are_numbers(
     )
 }
 
-/// Whether these are the numbers of the live documents, and the candidates of the query that all satisfy.
+/// Whether these are the numbers of the live documents, and of the candidates of the query that all meet.
 fn is_live(alloc: Global, index: &Index, numbers: &[u32]) -> Result<bool, AllocError> {
     Ok(lists(alloc, index.live(), numbers)? && are_candidates(alloc, index, &Query::Any, numbers)?)
 }

@@ -1,6 +1,6 @@
 //! Lines are found in two ways: one by one, and by the engine over a whole body. Each row is searched by both.
 //!
-//! The hits that are wanted are those of `grep -E` under LC_ALL=C, or worked by hand.
+//! The expected hits are those of `grep -E` under LC_ALL=C, or are worked out by hand.
 
 use crate::fixtures::{Kept, MANY_STARS, Pieces, answer_text, append_times, built, put};
 use index::Index;
@@ -46,7 +46,7 @@ fn are_hits(alloc: Global, index: &Index, pattern: &[u8], want: &[u8]) -> Result
     Ok(hits_in_f(alloc, index, pattern)?.as_slice() == want)
 }
 
-/// Whether the hits of the second text, a pattern, in the first are those of the third.
+/// Whether a row's pattern has the expected hits in its body. A row is a body, a pattern, and the hits.
 fn finds(rt: &impl Abort, alloc: Global, row: &[&[u8]; 3]) -> Result<bool, Fail> {
     let index = index_with(rt, alloc, row[0])?;
     are_hits(alloc, &index, row[1], row[2])
@@ -65,8 +65,8 @@ fn copies_of(alloc: Global, body: &[u8]) -> Result<Vec<u8>, AllocError> {
     built(alloc, &[(line.as_slice(), count)])
 }
 
-/// The index of the document f and of one with many copies of its body, which is before it by name.
-fn index_behind_many(rt: &impl Abort, alloc: Global, body: &[u8]) -> Result<Index, Fail> {
+/// The index of the document f and of one with many copies of its body, whose name comes first.
+fn index_after_many(rt: &impl Abort, alloc: Global, body: &[u8]) -> Result<Index, Fail> {
     let copies = copies_of(alloc, body)?;
     let mut index = index_with(rt, alloc, body)?;
     put(rt, alloc, &mut index, b"a", &copies)?;
@@ -74,8 +74,8 @@ fn index_behind_many(rt: &impl Abort, alloc: Global, body: &[u8]) -> Result<Inde
 }
 
 /// The same by the engine, after a document with many copies of the body.
-fn finds_behind_many(rt: &impl Abort, alloc: Global, row: &[&[u8]; 3]) -> Result<bool, Fail> {
-    let index = index_behind_many(rt, alloc, row[0])?;
+fn finds_after_many(rt: &impl Abort, alloc: Global, row: &[&[u8]; 3]) -> Result<bool, Fail> {
+    let index = index_after_many(rt, alloc, row[0])?;
     are_hits(alloc, &index, row[1], row[2])
 }
 
@@ -89,8 +89,8 @@ fn expect_hits(rt: &impl Abort, alloc: Global, rows: &[[&[u8]; 3]]) -> Result<()
             row[1]
         );
         assert!(rt;
-            finds_behind_many(rt, alloc, row)?,
-            "{:?} behind many lines",
+            finds_after_many(rt, alloc, row)?,
+            "{:?} after many lines",
             row[1]
         );
     }
@@ -270,7 +270,8 @@ fn many_stars_inside_stars(rt: HostRuntime) -> Result<(), Fail> {
     Ok(())
 }
 
-/// Large counts inside stars. At the front the search goes line by line, and after an anchor by the engine.
+/// Large counts inside stars. At the front of a pattern they make the search go line by line; after an anchor it
+/// goes by the engine.
 const COUNTS_INSIDE_STARS: &[[&[u8]; 3]] = &[
     [
         b"abcde\ncde\nade\nccdcde\nabce\ne\nxcdey\ncdde",
@@ -301,13 +302,13 @@ fn large_counts_inside_stars_over_long_lines(rt: HostRuntime) -> Result<(), Fail
     Ok(())
 }
 
-/// Appends a line of this number of the letter a and then c.
+/// Appends a line of this many letters a, and then c.
 fn append_line(lines: &mut Vec<u8>, count: usize) -> Result<(), AllocError> {
     append_times(lines, b"a", count)?;
     lines.extend_from_slice(b"c\n")
 }
 
-/// Lines of the letter a and then c: for each number from `first` to 649, one line with this number of a.
+/// Lines of letters a, and then c: for each number from `first` to 649, one line with this many a.
 fn letters_and_c(alloc: Global, first: usize) -> Result<Vec<u8>, AllocError> {
     let mut lines = Vec::new(alloc);
     for count in first..650 {
@@ -322,7 +323,7 @@ fn append_head(alloc: Global, hits: &mut Vec<u8>, line: usize) -> Result<(), All
     hits.extend_from_slice(head.as_bytes())
 }
 
-/// The hits in lines from 610 a on, if those with `least` of them or more are found.
+/// The hits in the lines of 610 to 649 letters a, if the lines with at least `least` of them are found.
 fn hits_from(alloc: Global, least: usize) -> Result<Vec<u8>, AllocError> {
     let mut hits = Vec::new(alloc);
     for count in least..650 {
@@ -332,7 +333,7 @@ fn hits_from(alloc: Global, least: usize) -> Result<Vec<u8>, AllocError> {
     Ok(hits)
 }
 
-/// Whether the pattern finds the lines of the body with `least` letters or more.
+/// Whether the pattern finds the lines of the body with at least `least` letters a.
 fn finds_from(
     rt: &impl Abort,
     alloc: Global,
@@ -352,8 +353,8 @@ const GREATEST: [(&[u8], usize); 4] = [
     (b"[ab]{255}[ab]{255}[ab]{119}c", 629),
 ];
 
-/// The largest pattern of its kind that is compiled has 627 sets and its c. One with a set less, one with a set more
-/// and one with two more find their lines too, with a last line feed and without.
+/// The largest pattern of its kind that is compiled has 627 sets and its c. Patterns with one set less, one more and
+/// two more find their lines too, with and without a last line feed.
 #[test]
 fn patterns_about_the_greatest_size(rt: HostRuntime) -> Result<(), Fail> {
     let body = letters_and_c(rt.alloc(), 610)?;
@@ -467,7 +468,7 @@ fn a_megabyte_of_line_feeds(rt: HostRuntime) -> Result<(), Fail> {
 
 const PATTERNS_OF_EACH_LINE: &[&[u8]] = &[b"^$", b"x*"];
 
-/// 1 MiB whose first line and last line may be hits. The last one has no line feed.
+/// 1 MiB in which only the first and the last line can be hits. The last one has no line feed.
 const FEW_HITS: Pieces<'static> = &[(b"hay\n", 1), (b"straw\n", 174_657), (b"a", 629), (b"c", 1)];
 
 /// The hit of the last line.

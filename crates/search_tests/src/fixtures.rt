@@ -123,7 +123,7 @@ pub(crate) fn lists(alloc: Global, set: &List, numbers: &[u32]) -> Result<bool, 
     )
 }
 
-/// Which documents a search looked at, by their numbers below 512, and whether it looked at one of them again.
+/// Which documents a search looked at, by their numbers below 512, and whether it looked at one of them twice.
 #[derive(Clone, Copy)]
 pub(crate) struct Kept {
     seen: [u64; 8],

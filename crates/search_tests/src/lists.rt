@@ -1,4 +1,4 @@
-//! Sets and selections, worked by hand.
+//! Sets and selections, compared with results that are worked out by hand.
 
 ghost use Rattle.std.specs.Prelude.{◌≡◌};
 
@@ -8,7 +8,7 @@ use query::{Query, Trigram};
 use std::alloc::{AllocError, Global};
 use std::test::Fail;
 
-/// Puts into the set those of the numbers that are above all that are in it.
+/// Puts each of the numbers into the set, unless one that is as great or greater is in it.
 fn put_all(set: &mut List, numbers: &[u32]) -> Result<(), AllocError> {
     for number in numbers {
         if set.numbers().all(|held| held < *number) {
@@ -19,7 +19,7 @@ fn put_all(set: &mut List, numbers: &[u32]) -> Result<(), AllocError> {
     Ok(())
 }
 
-/// The set of the first numbers, from which the second are taken out before the third are put in.
+/// The set after three steps: the first numbers are put in, the second taken out, and the third put in.
 fn set_of(alloc: Global, steps: &[&[u32]; 3]) -> Result<List, AllocError> {
     let [first, gone, later] = steps;
     let mut set = List::new(alloc);
@@ -33,7 +33,7 @@ fn set_of(alloc: Global, steps: &[&[u32]; 3]) -> Result<List, AllocError> {
 
 const FAR: [u32; 6] = [1, 5, 300, 70000, 70001, 4294967295];
 
-/// Numbers put in, taken out and put in, and those that are there then.
+/// Numbers to put in, to take out and to put in, and the numbers that are then there.
 const KEPT: &[([&[u32]; 3], &[u32])] = &[
     ([&[], &[], &[]], &[]),
     ([&FAR, &[], &[]], &FAR),
@@ -68,7 +68,7 @@ fn sets_keep_their_numbers_rising(rt: HostRuntime) -> Result<(), Fail> {
     Ok(())
 }
 
-/// The same, and the bytes of the set.
+/// The same steps, and the bytes of the set that they leave.
 const STORED: &[([&[u32]; 3], &[u8])] = &[
     ([&[], &[], &[]], &[]),
     (
@@ -135,7 +135,7 @@ fn has_letters(alloc: Global, set: List, letters: &[u8]) -> Result<bool, AllocEr
     lists(alloc, &set, &numbers)
 }
 
-/// Whether the sets of two texts together have the third's letters, and share the fourth's.
+/// Whether the union of two texts' sets has the third text's letters, and their intersection the fourth's.
 fn join_and_meet(alloc: Global, texts: &[&[u8]; 4]) -> Result<bool, AllocError> {
     let left = set_of_text(alloc, texts[0])?;
     let right = set_of_text(alloc, texts[1])?;
@@ -145,7 +145,7 @@ fn join_and_meet(alloc: Global, texts: &[&[u8]; 4]) -> Result<bool, AllocError> 
     )
 }
 
-/// Two sets, their union, and what they share.
+/// Two sets, their union, and their intersection.
 const JOINED: &[[&[u8]; 4]] = &[
     [b"cj", b"acdefghik", b"acdefghijk", b"c"],
     [b"acdefghik", b"cj", b"acdefghijk", b"c"],
@@ -181,7 +181,7 @@ fn without(alloc: Global, numbers: &[u32], gone: u32) -> Result<Vec<u32>, AllocE
     Ok(others)
 }
 
-/// Takes the number out of the set and of the numbers in it. Returns whether the others stay.
+/// Takes the number out of the set, and out of the list `held` of its numbers. Returns whether the others stay.
 fn goes(
     alloc: Global,
     set: &mut List,
@@ -193,8 +193,8 @@ fn goes(
     lists(alloc, set, held)
 }
 
-/// Takes the numbers below 300 out of a set, in the order of the multiples of a factor, from a first one on.
-/// Returns whether the others always stayed.
+/// Takes the numbers below 300 out of a set, from `first` on in steps of `factor`, modulo 300. Returns whether the
+/// others stay each time.
 fn go_in_order(alloc: Global, factor: u32, first: u32) -> Result<bool, AllocError> {
     let mut held = numbers_below(alloc, 300)?;
     let mut set = set_of(alloc, &[&held, &[], &[]])?;
@@ -251,7 +251,7 @@ fn selects(
     lists(alloc, &chosen, numbers)
 }
 
-/// The queries that a set has these trigrams.
+/// A query for each of these trigrams.
 fn members(alloc: Global, trigrams: &[Trigram]) -> Result<Vec<Query>, AllocError> {
     let mut members = Vec::new(alloc);
     for trigram in trigrams {

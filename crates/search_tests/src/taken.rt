@@ -37,7 +37,7 @@ fn search_left(
     Ok(taken.answer(alloc)?)
 }
 
-/// Takes a look at a value that may go to another thread.
+/// Compiles only for a value that can go to another thread.
 fn can_go<T: Send>(_value: &T) {}
 
 /// Whether the answer has this text.
@@ -81,7 +81,7 @@ fn taken_before<'p>(
     Ok((taken, index))
 }
 
-/// The answer is that of the documents at the taking, whatever happens to the index afterwards.
+/// The answer is that of the documents when the search was taken, whatever happens to the index afterwards.
 #[test]
 fn an_answer_is_of_the_taking(rt: HostRuntime) -> Result<(), Fail> {
     let prepared = Prepared::within(rt.alloc(), b"^[ab]", b"x")?;

@@ -49,7 +49,7 @@ fn three_commands<R: Abort + Wait>(
     assert!(rt; finds(alloc, reading, pattern, 3));
 }
 
-// A publish, at this version.
+// Publishes, which must be at this version.
 fn published<R: Abort + Wait>(rt: &R, desk: &mut Desk, version: u32) -> Told
     ensures desk { desk.new.opening ≡ desk.old.opening }
     ensures told { result.opening ≡ desk.old.opening }
@@ -59,7 +59,7 @@ fn published<R: Abort + Wait>(rt: &R, desk: &mut Desk, version: u32) -> Told
     told
 }
 
-// Learns of a publish, and has then seen this many commands.
+// The reading learns of a publish, and has then seen this many commands.
 fn learns(rt: &impl Abort, reading: &mut Reading, told: &Told, seen: u32)
     requires { told.now.opening ≡ reading.old.opening }
     ensures { reading.new.opening ≡ reading.old.opening }
@@ -91,7 +91,7 @@ fn comes_back(refused: &PutError) -> bool {
     is_same_body && refused.kind == PutErrorKind::Full && matches!(refused.name.as_bytes(), [b'c'])
 }
 
-/// Every number of readings gets its places.
+/// Any number of readings up to `MAX_READINGS` gets its places.
 #[test]
 fn places_for_all_readings(rt: HostRuntime) {
     for readers in 1..=MAX_READINGS {
@@ -102,7 +102,7 @@ fn places_for_all_readings(rt: HostRuntime) {
     }
 }
 
-/// A reading gets no place if each is in use.
+/// An opening is refused if there are fewer places than readings.
 #[test]
 fn fewer_places_than_readings(rt: HostRuntime) {
     let alloc = rt.alloc();
@@ -120,7 +120,7 @@ fn refusal_with_two_places<R: Wait>(rt: &R, alloc: Global, readers: usize) -> Op
     }
 }
 
-/// There is no entry once the desk is closed, and not before. What was seen stays.
+/// A reading cannot enter once the desk is closed, but can before. What it has seen stays.
 #[test]
 fn a_closed_desk_is_not_entered(rt: HostRuntime) {
     let alloc = rt.alloc();
@@ -148,7 +148,7 @@ fn refusal_of_take(
     reading.take(alloc, pattern).err()
 }
 
-// Whether a search answers at this version, of one document, with one line of the document `a`.
+// Whether a search is answered at this version, over one document, with one line of the document `a`.
 fn finds(alloc: Global, reading: &mut Reading, pattern: &Prepared, version: u32) -> bool
     ensures { reading.new.opening ≡ reading.old.opening }
 {

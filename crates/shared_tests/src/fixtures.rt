@@ -64,7 +64,7 @@ pub(crate) fn publish<R: Wait>(
     put(alloc, desk, name, body).is_some() && desk.publish(rt).is_ok()
 }
 
-/// What the pattern asks for.
+/// The pattern, prepared for searches.
 pub(crate) fn prepared(alloc: Global, pattern: &[u8]) -> Option<Prepared> {
     Prepared::new(alloc, pattern).ok()
 }

@@ -41,7 +41,7 @@ impl Flag {
     }
 }
 
-/// Holds no one.
+/// Holds no worker.
 #[derive(Drop)]
 pub(crate) struct Open;
 
@@ -66,7 +66,7 @@ impl Gate for SecondFirst {
     }
 }
 
-/// Tells when search 1 is about to match, and holds it there until it is released.
+/// Signals that search 1 is about to match, and holds it there until it is released.
 #[derive(Drop)]
 pub(crate) struct HeldMatching {
     pub(crate) matching: Flag,

@@ -1,4 +1,4 @@
-//! A publish waits for no reading that matches lines.
+//! A publish does not wait for a reading that is matching lines.
 
 use crate::fixtures::{are_given, one_reading, publish, searches};
 use crate::gates::HeldMatching;
@@ -28,7 +28,7 @@ fn publish_during_matching(rt: HostRuntime) {
     assert!(rt; are_given(&report.given, &[(1, 1, 1, 1)]));
 }
 
-// Publishes three times, once the worker is about to match.
+// Publishes three times, while the worker is held before it matches.
 fn report_beside<R: Threads + Wait + Sync>(
     rt: &R,
     alloc: Global,

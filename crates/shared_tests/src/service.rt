@@ -26,7 +26,7 @@ fn search_beside_a_put<R: Threads + Wait + Sync>(
 ) -> Option<(Answer, Answer)>
     requires one { readings.0.opening ≡ desk.old.opening }
     requires two { readings.1.opening ≡ desk.old.opening }
-    // Each answer is that of commands that begin with all that were accepted, and then the put.
+    // Each answer is that of commands that begin with all that were accepted before, followed by the put.
     ensures first { IfSome result (λ answers. (commands : List CommandValue)
         × IsPrefix (desk.old.accepted ++ Put document.0 document.1 ∷ []) commands
         × IsAnswerOf (state_of commands) (pattern_of pattern.now) answers.0) }
@@ -58,7 +58,7 @@ fn publish<R: Wait>(rt: &R, desk: &mut Desk, document: (Name, Body)) -> Option<T
     desk.publish(rt).ok()
 }
 
-// Searches, and passes the answer over.
+// Searches, and drops the answer.
 fn search(alloc: Global, mut reading: Reading, pattern: &Prepared) -> Reading
     ensures { result.opening ≡ reading.opening }
 {
@@ -66,7 +66,7 @@ fn search(alloc: Global, mut reading: Reading, pattern: &Prepared) -> Reading
     reading
 }
 
-// Searches what was told, or something newer.
+// Searches the documents of the publish that `told` reports, or of a newer one.
 fn search_after(
     alloc: Global,
     mut reading: Reading,

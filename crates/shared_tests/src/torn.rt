@@ -20,7 +20,7 @@ fn torn(rt: HostRuntime) {
     assert!(rt; watched.0 && watched.1, "an answer is torn");
 }
 
-// What both readings saw, and whether all was written.
+// Whether each reading saw only whole answers, and whether everything was written.
 fn watched<R: Threads + Wait + Sync>(
     rt: &R,
     alloc: Global,
@@ -66,7 +66,8 @@ fn write_both<R: Wait>(rt: &R, alloc: Global, desk: &mut Desk, number: u32) -> b
         && desk.publish(rt).is_ok()
 }
 
-// Searches until the desk is done, and once again. Returns whether each answer is whole and none goes back.
+// Searches until the desk is done, and once more. Returns whether each answer is whole, none goes back, and the last
+// one is at version 400.
 fn watch(alloc: Global, mut reading: Reading, pattern: &Prepared, done: &AtomicU64) -> bool {
     let mut least = 0;
     for _ in 0..u64::MAX {

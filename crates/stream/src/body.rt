@@ -94,7 +94,7 @@ fn fill<I: BufRead>(input: &mut I, size: usize, body: &mut Vec<u8>) -> Result<()
     Err(StreamError::CannotRead)
 }
 
-/// A piece that was passed over.
+/// A piece that was skipped.
 #[derive(Clone, Copy, Debug)]
 struct Piece {
     passed: Passed,

@@ -8,10 +8,10 @@ pub enum StreamItem<'a> {
     /// A put whose bytes were all read, and were followed by a line feed or by the input's end. The name
     /// and the body are not checked yet.
     Put { name: &'a [u8], body: Vec<u8> },
-    /// A put of more than `index::MAX_BODY` bytes. They were all passed over, and were followed by a line
+    /// A put of more than `index::MAX_BODY` bytes. They were all skipped, and were followed by a line
     /// feed or by the input's end.
     LongPut { name: &'a [u8] },
-    /// A put for whose bytes there was no memory. They were all passed over, and were followed by a line
+    /// A put for whose bytes there was no memory. They were all skipped, and were followed by a line
     /// feed or by the input's end.
     LostPut { name: &'a [u8] },
     /// Any other item. It is never `Item::Put`.

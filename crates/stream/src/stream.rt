@@ -17,7 +17,7 @@ use std::alloc::Global;
 use std::io::BufRead;
 use std::marker::Model;
 
-/// A text of more bytes than this is let go before the next item is read.
+/// A text of more bytes than this is freed before the next item is read.
 const KEPT_TEXT: usize = 65_536;
 
 /// Where the reading of an input stands.
@@ -111,7 +111,7 @@ impl ItemStream {
     }
 }
 
-/// Lets the memory of a long text go.
+/// Frees the memory of a long text.
 fn renew(alloc: Global, text: &mut Vec<u8>) {
     if text.capacity() > KEPT_TEXT {
         *text = Vec::new(alloc);

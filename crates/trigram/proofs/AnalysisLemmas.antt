@@ -36,7 +36,7 @@ pub copies_of-more : (one : Analysis) (n : ℕ) → copies_of one (n + 1) ≡ bo
 unfolding copies_of
 copies_of-more one n = rw add-one refl
 
--- The invariant of a loop that joins neighbours or alternatives: what is known so far, with those that are left, is the whole.
+-- The invariant of a loop that joins neighbours or alternatives: what is known so far, joined with those left over, is the whole.
 pub record IsAnalysedSoFar (all : Analysis → Trees → Analysis) (rest : Trees) (whole : Analysis) (analysis : program.Analysis) : Type 0 where
   pub plain : ArePlain analysis
   pub is : all (shown_analysis analysis) rest ≡ whole

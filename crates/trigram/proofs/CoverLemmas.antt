@@ -1,4 +1,4 @@
--- What the analysis says of words: each operation, over arbitrary sets of words.
+-- What the analysis says about words: each operation, over arbitrary sets of words.
 use Rattle.std.proofs.Common.{◌≡◌, ℕ, zero, suc, ◌+◌, ◌-◌, ◌<◌, ◌≤◌, Bool, true, false, cond, ◌&&◌, ◌||◌, ◌==◌, IsTrue, List, [], ◌∷◌, ◌++◌}
 use Rattle.std.proofs.Common.{take, refl, sym, ap, subst, ◌∙◌, arith, ◌⊎◌, inl, inr, ⊎_elim, Option, Some, None, IfSome, if◌then◌else◌}
 use Rattle.std.proofs.lemmas.Bool.{or_left, or_right, and_parts, and_from}
@@ -18,7 +18,7 @@ front_held a [] v set h = refl
 front_held a (b ∷ []) v set h = refl
 front_held a (b ∷ c ∷ u) v set h = h
 
--- a set with all trigrams of a text has all of its front's, and all of its back's
+-- a set with all trigrams of a text has all trigrams of each front of it, and of each back
 pub held_by_front : (u v : List ℕ) (set : TrigramSet) → IsTrue (has_all_trigrams (u ++ v) set) → IsTrue (has_all_trigrams u set)
 unfolding has_all_trigrams
 held_by_front [] v set h = refl
@@ -40,14 +40,14 @@ held_back p w set f h = held_by_back f.0 p set (subst (λ t. IsTrue (has_all_tri
 pub some_held : (texts : Texts) (p : List ℕ) (set : TrigramSet) → IsIn p texts → IsTrue (has_all_trigrams p set) → IsTrue (has_all_of_one texts set)
 some_held texts p set i h = list_any-IsIn (λ text. has_all_trigrams text set) texts p i h
 
--- What is known of a word by its ends and a condition.
+-- What is known about a word: its ends and a condition.
 pub record IsCovered (nullable : Bool) (fronts backs : Texts) (condition : SetTest) (word : List ℕ) : Type 0 where
   pub empty : word ≡ [] → IsTrue nullable
   pub front : (p : List ℕ) × IsIn p fronts × IsFront p word
   pub back : (p : List ℕ) × IsIn p backs × IsBack p word
   pub held : (set : TrigramSet) → IsTrue (has_all_trigrams word set) → IsTrue (condition set)
 
--- What the analysis says is true of each word of a set.
+-- What the analysis says is true for each word of a set.
 abbrev pub Covers : Analysis → WordSet → Type 0
 Covers (known texts) words = (word : List ℕ) → words word → IsIn word texts
 Covers (loose nullable fronts backs condition) words = (word : List ℕ) → words word → IsCovered nullable fronts backs condition word
@@ -83,7 +83,7 @@ cover_settle n p s c w h =
           (some_held s b.0 set b.1 (held_back b.0 w set b.2 all)));
     }
 
--- known texts as ends, with their own condition or none
+-- the words of an analysis by their ends; known texts then have no condition of their own
 covered : (a : Analysis) (words : WordSet) → Covers a words → (w : List ℕ) → words w
     → IsCovered (is_nullable a) (fronts_of a) (backs_of a) (condition_beside a) w
 covered (known texts) words h w i = record {

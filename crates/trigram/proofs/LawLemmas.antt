@@ -118,7 +118,7 @@ exact_repeat : (a : Analysis) (words : WordSet) → IsExact a words → (least :
 exact_repeat a words h least None below = exact_at_least a words least
 exact_repeat a words h least (Some most) below = exact_between a words h least most below
 
--- Each block takes a set of words that it does not look at, so that its functions are of one universe.
+-- Each `mutual` block takes a set of words that it does not use, so that all its functions are in one universe.
 mutual
   unfolding analysis_of IsWord
 

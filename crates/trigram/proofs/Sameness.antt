@@ -1,4 +1,4 @@
--- That two tests of sets of trigrams are the same at every set has at most one proof.
+-- There is at most one proof that two tests of sets of trigrams are the same at every set.
 use Rattle.std.specs.Prelude.{◌≡◌, Bool}
 use mathlib.Core.Bool.{Bool-set}
 use Rattle.query.specs.Trigrams.{TrigramSet}

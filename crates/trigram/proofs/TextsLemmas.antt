@@ -33,7 +33,7 @@ unfolding with_texts
 with_texts-append texts [] right = refl
 with_texts-append texts (text ∷ left) right = with_texts-append (with_text texts text) left right
 
--- The invariant of a loop that makes a query: the query so far, with what is left, is the whole test.
+-- The invariant of a loop that makes a query: the query so far, joined with what is left over, is the whole test.
 pub record IsQuerySoFar (k : Connective) (rest whole : TrigramSet → Bool) (query : Formula) : Type 0 where
   pub plain : IsPlain query
   pub met : (set : TrigramSet) → joined k (is_met query set) (rest set) ≡ whole set
@@ -115,13 +115,13 @@ with_text-longer texts text = go (has_text texts text)
     go true = omega arith
     go false = rw (length-append texts (text ∷ [])) (omega arith)
 
--- more texts take none away
+-- adding texts makes a set no shorter
 pub with_texts-longer : (texts others : Texts) → length texts ≤ length (with_texts texts others)
 unfolding with_texts
 with_texts-longer texts [] = omega arith
 with_texts-longer texts (text ∷ others) = le_trans (with_text-longer texts text) (with_texts-longer (with_text texts text) others)
 
--- if the ends are more than n with one text of a list, they are more than n with all of them
+-- if there are more than n ends after one text of a list, there are more than n after all of them
 pub many_ends : (end : List ℕ → List ℕ) (texts : List (Vec ℕ Global)) (i : ℕ) (x : Vec ℕ Global) (before now whole : Texts) (n : ℕ)
     → i < length texts → x ≡ get_or texts i x → with_texts before (map end (texts_of (drop i texts))) ≡ whole
     → now ≡ with_text before (end x.items) → n < length now → n < length whole

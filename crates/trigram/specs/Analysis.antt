@@ -15,12 +15,12 @@ use Rattle.trigram.specs.Texts.{Texts, has_text, union, joins, has_all_of_one, e
 abbrev pub SetTest : Type 0
 SetTest = TrigramSet → Bool
 
--- What is known of the words of a tree, taken without their surroundings.
+-- What is known about the words of a tree, if each anchor counts as the empty text.
 pub data Analysis : Type 0 where
   -- they are these texts
   known : Texts → Analysis
-  -- whether one can be empty, texts of which each word has one at its front, texts of which each word has
-  -- one at its back, and what every set with all trigrams of a word meets
+  -- whether a word can be empty; texts, one of which begins each word; texts, one of which ends each word;
+  -- and a condition that every set with all trigrams of a word meets
   loose : Bool → Texts → Texts → SetTest → Analysis
 
 abbrev pub just_empty : Texts
@@ -30,7 +30,7 @@ just_empty = [] ∷ []
 abbrev pub anything : Analysis
 anything = loose true just_empty just_empty (λ _. true)
 
--- The old ends go into the condition, and are then cut.
+-- The trigrams of the ends go into the condition, and then the ends are cut.
 abbrev pub settle_loose : Bool → Texts → Texts → SetTest → Analysis
 settle_loose nullable fronts backs condition =
     loose nullable (kept_ends take fronts) (kept_ends ending backs) (λ set. condition set && (has_all_of_one fronts set && has_all_of_one backs set))
@@ -43,7 +43,7 @@ loosen (loose nullable fronts backs condition) = loose nullable fronts backs con
 abbrev pub longest_text : ℕ
 longest_text = 64
 
--- they are few and short enough to be kept whole
+-- whether the texts are few and short enough to be kept whole
 abbrev pub are_kept : Texts → Bool
 are_kept texts = nat_le (length texts) most_texts && list_all (λ text. nat_le (length text) longest_text) texts
 
@@ -62,6 +62,7 @@ abbrev pub backs_of : Analysis → Texts
 backs_of (known texts) = texts
 backs_of (loose nullable fronts backs condition) = backs
 
+-- the condition without the trigrams of known texts, which are in the fronts and the backs
 abbrev pub condition_beside : Analysis → SetTest
 condition_beside (known texts) = λ _. true
 condition_beside (loose nullable fronts backs condition) = condition
@@ -89,7 +90,7 @@ abbrev pub joined_backs : Analysis → Analysis → Texts
 joined_backs left (known texts) = joins (backs_of left) texts
 joined_backs left (loose nullable fronts backs condition) = if nullable then union backs (backs_of left) else backs
 
--- what is across the border of two loose neighbours
+-- the condition on the trigrams that cross the border of two loose neighbours
 abbrev pub across : Analysis → Analysis → SetTest
 across (loose nullable fronts backs condition) (loose nullable' fronts' backs' condition') = has_all_of_one (joins backs fronts')
 across _ _ = λ _. true
@@ -106,7 +107,7 @@ unfoldable pub copies_of : Analysis → ℕ → Analysis
 copies_of one zero = one
 copies_of one (suc others) = both (copies_of one others) one
 
--- none, or up to this many copies
+-- between none and this many copies
 abbrev pub optional : Analysis → ℕ → Analysis
 optional one most =
     if most == 0 then known just_empty

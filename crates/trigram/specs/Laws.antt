@@ -1,4 +1,4 @@
--- The laws of the analysis: what a known set of texts is, and why a document may be passed over.
+-- The laws of the analysis: what a known set of texts is, and why a document can be skipped.
 use Rattle.std.specs.Prelude.{◌≡◌, ℕ, List, [], ◌∷◌, IsTrue, IsFalse, ◌↔◌, Contains}
 use Rattle.ere.specs.Tree.{Tree}
 use Rattle.ere.specs.Limits.{IsProper}
@@ -9,7 +9,7 @@ use Rattle.query.specs.Trigrams.{TrigramSet, trigrams_of_text, trigrams_of_body,
 use Rattle.trigram.specs.Texts.{Texts, has_text, distinct}
 use Rattle.trigram.specs.Analysis.{known, analysis_of, Condition}
 
--- A known set is exactly the words of the tree with the empty text for each anchor.
+-- A known set is exactly the words of the tree when each anchor is replaced by the empty text.
 abbrev pub KnownTextsAreTheWords : Type 0
 KnownTextsAreTheWords =
     (tree : Tree) (texts : Texts) → IsProper tree → analysis_of tree ≡ known texts → (before word after : List ℕ)
@@ -20,7 +20,7 @@ abbrev pub MatchingLineMeetsCondition : Type 0
 MatchingLineMeetsCondition =
     (tree : Tree) (body line : List ℕ) → Contains (lines_of body) line → ContainsMatch tree line → Condition tree (trigrams_of_body body)
 
--- A set has all trigrams of a text exactly if it has each of them.
+-- `has_all_trigrams` is true of a set and a text exactly if each trigram of the text is in the set.
 abbrev pub TrigramsAreHeld : Type 0
 TrigramsAreHeld =
     (text : List ℕ) (set : TrigramSet) → IsTrue (has_all_trigrams text set) ↔ ((trigram : ℕ) → IsTrue (trigrams_of_text text trigram) → IsTrue (set trigram))
@@ -29,8 +29,8 @@ abbrev pub HasEachOnce : Texts → Type 0
 HasEachOnce [] = Unit {0}
 HasEachOnce (text ∷ texts) = IsFalse (has_text texts text) × HasEachOnce texts
 
--- A set made from a list has the texts of the list and no others, each once. So its length is their number,
--- whatever their order and however often the list has them.
+-- A set made from a list has the texts of the list and no others, each once. So its length is the number of
+-- different texts, whatever their order and however often each is in the list.
 abbrev pub SetsHaveEachTextOnce : Type 0
 SetsHaveEachTextOnce =
     (texts : Texts)

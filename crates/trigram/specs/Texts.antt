@@ -26,7 +26,7 @@ distinct texts = with_texts [] texts
 abbrev pub union : Texts → Texts → Texts
 union left right = distinct (left ++ right)
 
--- every text of the first with every text of the second after it
+-- every text of the first, followed by every text of the second
 abbrev pub joins : Texts → Texts → Texts
 joins left right = distinct (flat_map (λ front. map (λ back. front ++ back) right) left)
 
@@ -38,7 +38,7 @@ has_all_of_one texts set = list_any (λ text. has_all_trigrams text set) texts
 abbrev pub ending : ℕ → List ℕ → List ℕ
 ending count text = drop (length text - count) text
 
--- how to cut so many bytes off one end of a text and keep them: `take` for the front, `ending` for the back
+-- how to cut a text to so many bytes at one end: `take` for the front, `ending` for the back
 abbrev pub Cut : Type 0
 Cut = ℕ → List ℕ → List ℕ
 
@@ -49,7 +49,7 @@ cuts cut count texts = distinct (map (cut count) texts)
 abbrev pub most_texts : ℕ
 most_texts = 16
 
--- how many bytes are kept: the most of 2, 1 and 0 that leave at most 16 texts
+-- how many bytes are kept: the greatest of 2, 1 and 0 that leaves at most 16 texts
 abbrev pub kept_bytes : Cut → Texts → ℕ
 kept_bytes cut texts =
     if nat_le (length (cuts cut 2 texts)) most_texts then 2

@@ -20,12 +20,12 @@ use std::alloc::{AllocError, Global};
 /// The length of the longest text that is kept whole, in bytes.
 const LONGEST_TEXT: usize = 64;
 
-/// What is known of the words of a pattern.
+/// What is known about the words of a pattern: the texts that it matches if each anchor counts as the empty text.
 #[derive(Drop)]
 pub(crate) enum Analysis {
-    /// They are these texts.
+    /// They are exactly these texts.
     Known(Vec<Vec<u8>>),
-    /// Only their ends are known, and a condition.
+    /// Only their ends and a condition are known.
     Loose(Ends),
 }
 
@@ -34,17 +34,19 @@ pub(crate) enum Analysis {
 pub(crate) struct Ends {
     /// Whether a word can be empty.
     nullable: bool,
-    /// Texts; each word has one of them at its front.
+    /// Texts. Each word begins with one of them.
     fronts: Vec<Vec<u8>>,
-    /// Texts; each word has one of them at its back.
+    /// Texts. Each word ends with one of them.
     backs: Vec<Vec<u8>>,
     /// A condition that every set with all trigrams of a word meets.
     condition: Query,
 }
 
-/// The query that holds at exactly those sets of trigrams that meet the condition of the pattern, and is
-/// plain (see `simplify`). Every document with a line that contains a match meets it. (Russ Cox, "Regular
-/// Expression Matching with a Trigram Index", 2012; `docs/DEFINITIONS.md` has the table.)
+/// The condition of a pattern, as a plain query (see `simplify`). If a line of a document contains a match, the
+/// trigrams of the document meet the query. (Russ Cox, "Regular Expression Matching with a Trigram Index", 2012,
+/// "Indexed Regular Expression Search"; `docs/DEFINITIONS.md` has the table.)
+///
+/// The tree is within the limits of `ere`, as every tree that its reader returns is.
 ///
 /// An `Err` means that memory ran out.
 pub fn analyse(alloc: Global, tree: &Ere) -> Result<Query, AllocError>
@@ -340,7 +342,7 @@ fn anything(alloc: Global) -> Result<Analysis, AllocError>
     }))
 }
 
-/// No copy, or up to `most` copies.
+/// Between none and `most` copies.
 fn optional(alloc: Global, one: Analysis, most: u8) -> Result<Analysis, AllocError>
     requires { ArePlain one }
     ensures { IfOk result (StandFor (optional (shown_analysis one) most)) }

@@ -2,22 +2,22 @@
 
 ghost use Rattle.trigram.specs.Laws.{KnownTextsAreTheWords, MatchingLineMeetsCondition, SetsHaveEachTextOnce, TrigramsAreHeld};
 
-/// If the texts of a tree are known, they are exactly the words of the tree with the empty text for each anchor.
+/// If the texts of a proper tree are known, they are exactly its words with each anchor replaced by the empty text.
 pub fn known_texts_are_the_words()
     ensures { KnownTextsAreTheWords }
 {}
 
-/// A line that contains a match makes its document satisfy the condition of the pattern.
+/// If a line of a body contains a match, the trigrams of the body meet the condition of the pattern.
 pub fn matching_line_meets_condition()
     ensures { MatchingLineMeetsCondition }
 {}
 
-/// A set has all trigrams of a text exactly when it has each of them.
+/// `has_all_trigrams` is true of a set and a text exactly if each trigram of the text is in the set.
 pub fn trigrams_are_held()
     ensures { TrigramsAreHeld }
 {}
 
-/// A set that is made of a list of texts has its texts and no others, each once.
+/// A set made from a list of texts has the texts of the list and no others, each once.
 pub fn sets_have_each_text_once()
     ensures { SetsHaveEachTextOnce }
 {}

@@ -32,7 +32,8 @@ pub(crate) fn has_text(texts: &[Vec<u8>], text: &[u8]) -> bool
     false
 }
 
-/// Whether the texts are equal. Most of those that are not differ in their length or in their last byte.
+/// Whether the texts are equal. Most texts that differ do so in their length or their last byte, so these are
+/// compared first.
 fn is_same(one: &[u8], other: &[u8]) -> bool
     ensures { result ≡ bytes_eq one.now other.now }
 {
@@ -105,7 +106,7 @@ pub(crate) fn copied_texts(alloc: Global, texts: &[Vec<u8>]) -> Result<Vec<Vec<u
     Ok(copies)
 }
 
-/// Every text of the first set with every text of the second after it.
+/// Every text of the first set, followed by every text of the second.
 #[tactic(auto, unfolding(crate::specs::Texts::with_texts))]
 pub(crate) fn joins(
     alloc: Global,
@@ -124,8 +125,8 @@ pub(crate) fn joins(
     Ok(whole)
 }
 
-/// Whether it is plain that no two joins are equal: the texts of each set differ and have one length. It may
-/// answer `false` although none are equal.
+/// Whether it is clear that no two joins are equal, because neither set is empty, and the texts of each set all
+/// differ and have the same length. After a `false`, the joins may still all differ.
 #[tactic(auto, using(crate::proofs::DistinctLemmas::joins_of_distinct))]
 fn are_all_different(left: &[Vec<u8>], right: &[Vec<u8>]) -> bool
     ensures { IsTrue result → joins (texts_of left.now) (texts_of right.now)
@@ -153,7 +154,7 @@ fn are_distinct(texts: &[Vec<u8>], size: usize) -> bool
     }
 }
 
-/// The joins, each added without a look at the others.
+/// The joins, each added without comparing it with the others.
 fn all_joins(alloc: Global, left: &[Vec<u8>], right: &[Vec<u8>]) -> Result<Vec<Vec<u8>>, AllocError>
     ensures { IfOk result (λ whole. texts_of whole.items ≡ flat_map (λ front. map (λ back. front ++ back) (texts_of right.now)) (texts_of left.now)) }
 {
@@ -202,8 +203,9 @@ fn joined(alloc: Global, front: &[u8], back: &[u8]) -> Result<Vec<u8>, AllocErro
     Ok(text)
 }
 
-/// The ends that are kept of the texts at one side: as many bytes of each, up to two, as leave at most 16
-/// texts, and of these only the texts that have no shorter one as their own end.
+/// The ends of the texts that are kept at one side. Each text is cut to 2, 1 or 0 bytes, the greatest of these that
+/// leaves at most 16 different ends; a shorter text stays whole. An end that has a shorter one as its own end is
+/// left out.
 pub(crate) fn kept_ends(
     alloc: Global,
     side: Side,
@@ -221,7 +223,7 @@ pub(crate) fn kept_ends(
     shortest(alloc, side, none.as_slice())
 }
 
-/// The ends of `count` bytes, if there are at most 16 of them.
+/// The ends of `count` bytes, if at most 16 of them are different.
 #[tactic(auto, unfolding(crate::specs::Texts::with_texts))]
 fn few_cuts(
     alloc: Global,
@@ -293,7 +295,7 @@ fn has_shorter_end(side: Side, text: &[u8], texts: &[Vec<u8>]) -> bool
     false
 }
 
-/// The query that a set of trigrams meets if it has all trigrams of one of the texts.
+/// A plain query that a set of trigrams meets exactly if it has all trigrams of at least one of the texts.
 pub(crate) fn query_of_texts(alloc: Global, texts: &[Vec<u8>]) -> Result<Query, AllocError>
     ensures { IfOk result (λ query. IsPlainFor (has_all_of_one (texts_of texts.now)) (formula_of query)) }
 {

@@ -26,7 +26,7 @@ use std::alloc::{AllocError, Global};
 use std::marker::Model;
 use std::sync::Wait;
 
-/// A run without readers, which is given its items one after the other. Reader 0 answers each search in its place.
+/// A run without readers, which is given its items one after the other. Reader 0 answers each search at once.
 ///
 /// Contracts see it as the commands that were accepted and published, and its counts. End it by `close`.
 pub struct LoneRun {

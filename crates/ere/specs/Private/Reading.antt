@@ -1,4 +1,4 @@
--- What the parts of the reader of patterns tell one another.
+-- What the functions of the pattern reader ensure for one another.
 use Rattle.std.specs.Prelude.{◌≡◌, ℕ, suc, ◌+◌, ◌<◌, ◌≤◌, Bool, true, false, ◌&&◌, ◌||◌, ◌==◌, nat_lt, IsTrue, IsFalse, List, [], ◌∷◌, ◌++◌}
 use Rattle.std.specs.Prelude.{map, Option, Some, None, MatchOption, slice_index}
 use Rattle.std.specs.List.{AllPass}
@@ -33,7 +33,7 @@ pub data IsByteOrSymbol (from : List ℕ) (x : ℕ) (rest : List ℕ) : Type 0 w
   byte : from ≡ x ∷ rest → (x ≡ 91 → IsFalse (begins_with 46 rest)) → IsByteOrSymbol from x rest
   symbol : IsCollatingSymbol from x rest → IsByteOrSymbol from x rest
 
--- the token that a program's token is
+-- the token of the definitions that a token of the program stands for
 abbrev pub meaning : Token → tokens.Token
 meaning (Set members) = tokens.set members
 meaning Opens = tokens.opens
@@ -51,7 +51,7 @@ begins_longer b text = b == 91 || (b == 92 || (b == 123 && digit_ahead text))
 abbrev pub NoDuplication : Case → List ℕ → Type 0
 NoDuplication case from = (rest : List ℕ) (least : ℕ) (greatest : Option ℕ) → SpellsToken case from rest (tokens.times least greatest) → ⊥
 
--- All decimal digits at the front, and the count that they spell, if they spell one.
+-- All the decimal digits at the front, and the count that they spell, if they spell one.
 pub record ReadsCount (from rest : List ℕ) (count : Option ℕ) : Type 0 where
   pub digits : List ℕ
   pub is_front : from ≡ digits ++ rest
@@ -64,7 +64,7 @@ abbrev pub join : Trees → Trees → Trees
 join none trees = trees
 join (more tree others) trees = more tree (join others trees)
 
--- Alternatives end in front of these tokens, inside `depth` groups: at the end, or where a group closes.
+-- Alternatives inside `depth` groups end in front of these tokens: at the end, or where a group closes.
 abbrev pub Ends : List tokens.Token → ℕ → Type 0
 Ends [] depth = Unit {0}
 Ends (tokens.closes ∷ rest) (suc depth) = Unit {0}
@@ -87,8 +87,8 @@ abbrev pub ends_branch : ℕ → List ℕ → Bool
 ends_branch depth [] = true
 ends_branch depth (b ∷ text) = b == 124 || (nat_lt 0 depth && b == 41)
 
--- What is read from `from` up to `to`: any tokens of the rest follow it in tokens of the whole, and any
--- tokens of the whole begin with it.
+-- What is read between `from` and `to` is what `spells` says: any tokens of `to` can be preceded by it to make tokens
+-- of `from`, and any tokens of `from` begin with it and leave tokens of `to`.
 pub record Reads (case : Case) (from to : List ℕ) (spells : List tokens.Token → List tokens.Token → Type 0) : Type 0 where
   pub forward : (rest : List tokens.Token) → tokens.Tokens case to rest → (all : List tokens.Token) × tokens.Tokens case from all × spells all rest
   pub backward : (all : List tokens.Token) → tokens.Tokens case from all → (rest : List tokens.Token) × tokens.Tokens case to rest × spells all rest
@@ -98,7 +98,7 @@ abbrev pub IsBuilt : Option Part → Tree → Type 0
 IsBuilt (Some part) tree = (form part.tree ≡ tree) × (height tree ≡ part.height) × (part.height ≤ greatest_height)
 IsBuilt None tree = greatest_height < height tree
 
--- the same of the members of a cat or an alt
+-- the same for the members of a cat or an alt
 abbrev pub AreBuilt : Option Members → Trees → Type 0
 AreBuilt (Some members) trees = (trees_of (map form members.trees.items) ≡ trees) × (highest trees ≡ members.highest) × (members.highest ≤ greatest_height)
 AreBuilt None trees = greatest_height < highest trees
@@ -137,7 +137,7 @@ pub record ReadsAlternatives (case : Case) (depth : ℕ) (from to : List ℕ) (p
 abbrev pub HasNoTokens : Case → List ℕ → Type 0
 HasNoTokens case from = (all : List tokens.Token) → tokens.Tokens case from all → ⊥
 
--- Nothing of the kind is spelled from here on.
+-- No atom is spelled from here on (and below, no piece, branch or alternatives, followed by what may follow one).
 abbrev pub NoAtom : Case → ℕ → List ℕ → Type 0
 NoAtom case depth from = (all rest : List tokens.Token) (tree : Tree) → tokens.Tokens case from all → SpellsAtom greatest_open depth all rest tree → ⊥
 

@@ -1,4 +1,4 @@
--- The words of a set can be read off its truth values. This is proved here, and not among the proofs, since the set's `Model` cites it.
+-- A set's words can be computed from its truth values. The proof is here, and not among the proofs, because the set's `Model` cites it.
 use Rattle.std.proofs.Common.{◌≡◌, ℕ, zero, suc, ◌+◌, ◌*◌, ◌/◌, ◌%◌, ◌^◌, ◌<◌, Bool, false, cond, ◌==◌, List, map, length, get_or, refl}
 use Rattle.std.proofs.Common.{sym, ap, subst, ◌∙◌, arith}
 use Rattle.std.specs.List.{range_with_len}

@@ -13,15 +13,15 @@ has_byte words b = has_bit (slice_index words (b / 64)) (b % 64)
 unfoldable pub values_of : List ℕ → List Bool
 values_of words = map (has_byte words) (range_with_len 0 256)
 
--- the word whose bits are 64 of the truth values, from one on
+-- the word whose bits are the 64 truth values from `first` on
 abbrev pub word_of : List Bool → ℕ → ℕ
 word_of values first = mask_l (map (λ b. slice_index_or values b false) (range_with_len first 64))
 
--- the four words of truth values
+-- the four words whose bits are the truth values
 unfoldable pub words_of : List Bool → List ℕ
 words_of values = map (λ i. word_of values (i * 64)) (range_with_len 0 4)
 
--- four words that have line bytes alone
+-- four words that have only line bytes
 pub record AreLineBytes (words : List ℕ) : Type 0 where
   pub whole : length words ≡ 4
   pub small : (i : ℕ) → slice_index words i < 2 ^ 64

@@ -1,4 +1,4 @@
--- A body and its trigrams, as they are shared.
+-- A shared body and its trigrams.
 use Rattle.std.specs.Prelude.{ℕ, List}
 use Rattle.std.specs.Arc.{arc_value}
 use Rattle.std.specs.declared.sync.Arc.{Arc}

@@ -1,4 +1,4 @@
--- A few documents of an index, by references to their names.
+-- A few documents of an index, in a map by references to their names.
 use Rattle.std.specs.Prelude.{◌≡◌, ℕ, Bool, if◌then◌else◌, List, Option, Some, None}
 use Rattle.std.specs.Ordering.{nat_cmp}
 use Rattle.std.specs.declared.cmp.Ordering.{Ordering}
@@ -8,7 +8,7 @@ use denote.Bor.{Bor}
 use Rattle.posting.specs.ListValue.{has}
 use Rattle.index.specs.Documents.{Document, number_of}
 
--- names by reference, in the order of their bytes
+-- references to names, in the order of the names' bytes
 abbrev pub by_bytes : Bor (List ℕ) → Bor (List ℕ) → Ordering
 by_bytes x y = slice_cmp nat_cmp x.now y.now
 

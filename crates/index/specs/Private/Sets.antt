@@ -1,4 +1,4 @@
--- How the sets of an index and its documents belong together.
+-- How the sets of an index follow its documents.
 use Rattle.std.specs.Prelude.{◌≡◌, ℕ, ◌<◌, false, IsTrue, List, All, Option, Some, None, map}
 use Rattle.query.specs.Trigrams.{TrigramSet, trigrams_of_body}
 use Rattle.posting.specs.ListValue.{HasRoom}
@@ -17,7 +17,7 @@ pub record IsNew (sets : Sets) (number : ℕ) (trigrams : List ℕ) : Type 0 whe
   pub postings : (trigram n : ℕ) → IsTrue (holds sets.postings trigram n) → n < number
   pub once : AllDiffer trigrams
 
--- the trigrams of the document with a number
+-- the trigrams of the document with a number; none if there is no such document
 abbrev pub trigrams_shown : Option (List ℕ × List ℕ) → TrigramSet
 trigrams_shown None trigram = false
 trigrams_shown (Some d) trigram = trigrams_of_body d.1 trigram

@@ -5,7 +5,7 @@ use Rattle.index.specs.declared.slots.Slot.{Slot}
 use Rattle.index.specs.declared.slots.Entry.{Entry}
 use Rattle.index.specs.Documents.{Document, document}
 
--- the document of a number and an entry, if there is one
+-- the document with this number and entry, if there is an entry
 abbrev pub documents_of_slot : ℕ → Option Entry → List Document
 documents_of_slot number None = []
 documents_of_slot number (Some entry) = document number entry.name entry.held ∷ []
@@ -18,7 +18,7 @@ documents_in (slot ∷ slots) = documents_of_slot slot.number slot.entry ++ docu
 abbrev pub numbers_in : List Slot → List ℕ
 numbers_in slots = map (λ s. s.number) slots
 
--- the numbers of the slots rise, and none is above the last
+-- the numbers of the slots rise, and none is above `last`
 pub record RiseTo (last : ℕ) (slots : List Slot) : Type 0 where
   pub rise : IsStrictlyIncreasing (numbers_in slots)
   pub below : All (λ n. n ≤ last) (numbers_in slots)
@@ -27,7 +27,7 @@ pub record RiseTo (last : ℕ) (slots : List Slot) : Type 0 where
 abbrev pub FewAreEmpty : List Slot → Type 0
 FewAreEmpty slots = length slots ≤ 2 * length (documents_in slots) + 1
 
--- name and body of an entry
+-- the name and the body of an entry
 abbrev pub texts_of : Entry → List ℕ × List ℕ
 texts_of entry = (entry.name, entry.held)
 

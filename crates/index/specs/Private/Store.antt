@@ -17,7 +17,7 @@ use Rattle.index.specs.Private.Sets.{AreSetsOf}
 abbrev pub stored : Store → List Document
 stored store = documents_in store.slots.items
 
--- The slots rise to the last number, and few of them are empty; the sets and the count of bytes are those of the documents.
+-- The slots' numbers rise, none is above `last`, and few slots are empty. The sets and the count of bytes are those of the documents.
 pub record IsStore (last : ℕ) (store : Store) : Type 0 where
   pub slots : RiseTo last store.slots.items
   pub few : FewAreEmpty store.slots.items
@@ -30,7 +30,7 @@ pub record HasPlaceFor (store : Store) (body : List ℕ) : Type 0 where
   pub live : HasRoom store.sets.live
   pub postings : (trigram : ℕ) → IsTrue (trigrams_of_body body trigram) → HasRoom (set_of store.sets.postings trigram)
 
--- the documents except the one with the number, if there is a number
+-- the documents except the one with the given number, if one is given
 abbrev pub left_after : Option ℕ → List Document → List Document
 left_after None documents = documents
 left_after (Some number) documents = without_number number documents

@@ -5,7 +5,7 @@ use Rattle.std.specs.List.Sorted.{IsStrictlyIncreasing}
 use Rattle.posting.specs.ListValue.{has, without}
 use Rattle.posting.specs.Stored.{bytes_of, bytes_after}
 
--- the numbers of these bytes, of which the first is known by its distance
+-- the numbers in these bytes; the function turns the first distance into the first number
 unfoldable pub numbers_in : (ℕ → ℕ) → List ℕ → List ℕ
 numbers_in number [] = []
 numbers_in number (b ∷ bytes) =
@@ -16,12 +16,12 @@ numbers_in number (b ∷ bytes) =
 abbrev pub numbers_after : ℕ → List ℕ → List ℕ
 numbers_after before bytes = numbers_in (λ gap. before + gap) bytes
 
--- the last of the numbers that follow one, or that one
+-- the last of the numbers that follow `before`, or `before` if there are none
 unfoldable pub last_of : ℕ → List ℕ → ℕ
 last_of before [] = before
 last_of before (n ∷ numbers) = last_of n numbers
 
--- The bytes are those of some rising numbers that follow one.
+-- The bytes are those of some rising numbers that follow `before`.
 pub record IsSpelled (before : ℕ) (bytes : List ℕ) : Type 0 where
   pub spelled : bytes ≡ bytes_after before (numbers_after before bytes)
   pub rising : IsStrictlyIncreasing (numbers_after before bytes)
@@ -47,7 +47,7 @@ unfoldable pub limit : ℕ → ℕ
 limit zero = 128
 limit (suc more) = 128 * limit more
 
--- The numbers below one were passed.
+-- Some numbers, each below `number`, were passed: `at` is the last of them, or `before`, and `rest` has the bytes after them.
 pub record IsPassed (before : ℕ) (bytes : List ℕ) (number at : ℕ) (rest : List ℕ) : Type 0 where
   pub passed : List ℕ
   pub numbers : numbers_after before bytes ≡ passed ++ numbers_after at rest
@@ -56,7 +56,7 @@ pub record IsPassed (before : ℕ) (bytes : List ℕ) (number at : ℕ) (rest : 
   pub below : All (λ n. n < number) passed
   pub spelled : IsSpelled at rest
 
--- Each of the first bytes is the whole of a number, and this is their sum.
+-- Each of the first 32 bytes ends a number, and this is their sum.
 pub record IsBlock (bytes : List ℕ) (total : ℕ) : Type 0 where
   pub long : 32 ≤ length bytes
   pub low : All (λ b. b < 128) (take 32 bytes)
@@ -86,7 +86,7 @@ pub record IsLastPlace (bytes : List ℕ) (place : ℕ) : Type 0 where
   pub high : (k : ℕ) → place ≤ k → k + 1 < length bytes → 128 ≤ slice_index bytes k
   pub low : 0 < place → slice_index bytes (place - 1) < 128
 
--- Numbers at the end, none below one, were left out.
+-- Some numbers at the end, none below `number`, were left out: `front` has the bytes before them, and `last` is its last number, or 0.
 pub record IsCut (bytes : List ℕ) (number : ℕ) (front : List ℕ) (last : ℕ) : Type 0 where
   pub left : List ℕ
   pub numbers : numbers_after 0 bytes ≡ numbers_after 0 front ++ left

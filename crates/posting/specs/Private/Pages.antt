@@ -8,7 +8,7 @@ use Rattle.posting.specs.ListValue.{ListValue}
 use Rattle.posting.specs.Postings.{no_numbers}
 use Rattle.posting.specs.declared.pages.Owned.{Owned}
 
--- three bytes have 2^24 trigrams
+-- there are 2^24 trigrams, since each is three bytes
 unfoldable pub trigram_count : ℕ
 trigram_count = 16777216
 

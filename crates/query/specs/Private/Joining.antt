@@ -25,7 +25,7 @@ constant_of always = Some true
 constant_of never = Some false
 constant_of _ = None
 
--- These are the members of a reduced formula, or the formula itself if it is not of this kind.
+-- These are the members of a reduced formula of this connective; of another formula, they are the formula itself.
 pub record AreMembersOf (connective : Connective) (formula : Formula) (members : List Formula) : Type 0 where
   pub parts : AreReducedParts (is_of connective) (formulas_of members)
   pub some : 0 < length members
@@ -39,7 +39,7 @@ pub record HasTakenIn (connective : Connective) (old further new : List Formula)
       → are_met connective (formulas_of new) set
       ≡ joined connective (are_met connective (formulas_of old) set) (are_met connective (formulas_of further) set)
 
--- It is plain, and a set meets it exactly if it meets the members as the connective says.
+-- It is plain, and a set meets it exactly if it meets all members, or at least one, as the connective says.
 pub record IsCompound (connective : Connective) (members : List Formula) (whole : Formula) : Type 0 where
   pub plain : IsPlain whole
   pub met : (set : TrigramSet) → is_met whole set ≡ are_met connective (formulas_of members) set

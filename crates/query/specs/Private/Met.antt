@@ -1,4 +1,4 @@
--- Three consecutive bytes of a body, and the trigram that they are if none of them ends a line.
+-- Three consecutive bytes of a body, and their trigram if none of them is a line feed.
 use Rattle.std.specs.Prelude.{ℕ, Bool, not, ◌&&◌, ◌==◌, if◌then◌else◌, Option, Some, None}
 use Rattle.query.specs.Trigrams.{trigram_of}
 

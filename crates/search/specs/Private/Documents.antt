@@ -13,7 +13,7 @@ abbrev pub shown_some : Option TakenDocument → List Document
 shown_some None = []
 shown_some (Some taken) = shown taken ∷ []
 
--- the document with a number, where there is one
+-- the document with a number, if there is one
 abbrev pub numbered_document : ℕ → Option (List ℕ × List ℕ) → List Document
 numbered_document number None = []
 numbered_document number (Some d) = document number d.0 d.1 ∷ []

@@ -10,7 +10,7 @@ use Rattle.search.specs.Scan.{Hit}
 abbrev pub found : List ℕ → ℕ → List ℕ → Hit
 found name line text = record { name = name; line = line; text = text }
 
--- lines of the document with a name, where the first has a number
+-- the lines of the document with this name, of which the first has the number `line`
 unfoldable pub numbered : List ℕ → ℕ → List (List ℕ) → List Hit
 numbered name line [] = []
 numbered name line (text ∷ texts) = found name line text ∷ numbered name (suc line) texts
@@ -19,7 +19,7 @@ numbered name line (text ∷ texts) = found name line text ∷ numbered name (su
 abbrev pub lines_of_document : List ℕ → List ℕ → List Hit
 lines_of_document name body = numbered name 1 (lines_of body)
 
--- The kept ones are those of all that have a property, in their order.
+-- The second list has those members of the first that have the property, in the same order.
 pub data Selects {X : Type 0} (Has : X → Type 0) : List X → List X → Type 0 where
   done : Selects Has [] []
   keep : {x : X} {all kept : List X} → Has x → Selects Has all kept → Selects Has (x ∷ all) (x ∷ kept)
@@ -35,12 +35,12 @@ pub record Adds (Has : Hit → Type 0) (all old new : List Hit) : Type 0 where
 abbrev pub HasMatch : Tree → Hit → Type 0
 HasMatch tree f = ContainsMatch tree f.text
 
--- The number has a document, whose name, taken as a line, contains a match of the tree.
+-- There is a document with this number, and its name, taken as a line, contains a match of the tree.
 pub record IsNamed (documents : List Document) (tree : Tree) (number : ℕ) : Type 0 where
   pub document : List ℕ × List ℕ
   pub there : document_at number documents ≡ Some document
   pub name_hit : ContainsMatch tree document.0
 
--- where the pattern has a name tree
+-- the same for the name tree of a pattern, if it has one
 abbrev pub IsNamedFor : List Document → Pattern → ℕ → Type 0
 IsNamedFor documents pattern number = IfSome pattern.name_tree (λ tree. IsNamed documents tree number)

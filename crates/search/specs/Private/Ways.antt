@@ -1,4 +1,4 @@
--- The ways by which the lines of a tree are found, and which of them is taken.
+-- The ways in which lines that contain a match of a tree are found, and which of them is taken.
 use Rattle.std.specs.Prelude.{◌≡◌, ℕ, ◌+◌, ◌<◌, ◌≤◌, List, Option, Some, None, length, map, sum, take}
 use Rattle.ere.specs.Tree.{Tree}
 use Rattle.finder.specs.Patterns.{IsFinderOf}
@@ -12,7 +12,7 @@ unfoldable pub Finds : Tree → Way → Type 0
 Finds tree (FromMatchToMatch finder) = IsFinderOf tree finder
 Finds tree LineByLine = Unit {0}
 
--- A compiled tree with stars inside stars goes by the engine. A tree that is not compiled goes line by line.
+-- A compiled tree with stars inside stars is left to the engine. A tree that is not compiled goes line by line.
 unfoldable pub IsDecided : Tree → Option Compiled → Way → Type 0
 IsDecided tree (Some compiled) (FromMatchToMatch finder) = Unit {0}
 IsDecided tree (Some compiled) LineByLine = star_height tree < 2
@@ -27,8 +27,8 @@ byte_limit = 8192
 abbrev pub bytes_in : List TakenDocument → ℕ
 bytes_in documents = sum (map (λ d. length d.held) documents)
 
--- So many documents, from the first on, go line by line: none for a tree with stars inside stars, and for any other
--- tree the most that have no more bytes together than the limit.
+-- How many documents, from the first on, go line by line: none for a tree with stars inside stars, and for any other
+-- tree as many as fit in the limit on bytes together.
 pub record AreFew (tree : Tree) (documents : List TakenDocument) (few : ℕ) : Type 0 where
   pub some : few ≤ length documents
   pub nested : 2 ≤ star_height tree → few ≡ 0

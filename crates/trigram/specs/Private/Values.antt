@@ -1,4 +1,4 @@
--- What the values of the program's analysis mean: sets of texts, and what is known of words.
+-- What the values of the program's analysis mean: sets of texts, and what is known about words.
 use Rattle.std.specs.Prelude.{◌≡◌, ℕ, false, List, [], ◌∷◌, length, map, take}
 use Rattle.std.specs.declared.alloc.Global.{Global}
 use Rattle.std.specs.declared.vec.Vec.{Vec}

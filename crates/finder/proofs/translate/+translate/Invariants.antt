@@ -6,7 +6,7 @@ use Rattle.ere.specs.Tree.{form, trees_of}
 use Rattle.finder.specs.Translation.{StandForEach}
 use Rattle.finder.proofs.translate.+translate.Given as goal
 
--- What there is, followed by what stands for the members that are left, stands for all.
+-- The patterns so far, followed by patterns that stand for the members that are left, stand for all members.
 abbrev pub invariant-patterns_for-loop-member : goal.invariant-patterns_for-loop-member
 invariant-patterns_for-loop-member l =
     (more : List Re) → StandForEach (trees_of (map form (drop l.member-index l.members))) more
