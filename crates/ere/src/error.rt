@@ -38,7 +38,8 @@ pub enum EreErrorKind {
     NothingToRepeat,
     /// A group has no end. Reported at the innermost open `(`.
     Unclosed,
-    /// Over 64 groups are open at once, reported at the `(` of the 65th; or the tree's height is over 64, reported at 0.
+    /// Over 64 groups are open at once, reported at the `(` of the 65th. Or the tree's height is over 64, reported
+    /// at 0.
     TooDeep,
     /// The tree has over 4,096 leaves (counted as in `Ere::within_limits`). Reported at 0.
     TooLarge,

@@ -1,7 +1,8 @@
 //! Whether a line contains a match of an extended regular expression.
 //!
-//! The set of all positions of the line moves through the tree, as POSIX.1-2017 XBD 9.4 gives each form
-//! of tree its words, with anchors by 9.4.9. A search takes no memory.
+//! The matcher moves the set of all positions of the line through the tree: a position moves to wherever a word
+//! of the tree that begins there ends. POSIX.1-2017 XBD 9.4 says what the words of each form of tree are, and
+//! 9.4.9 those of anchors. Nothing is allocated.
 #![tactic(auto)]
 
 mod one_word;
@@ -24,29 +25,30 @@ use crate::words::BITS;
 pub use crate::words::{WORDS, step};
 use ere::{Ere, MAX_LINE};
 
-/// How many words the positions of a line take if it is neither short nor long. Each set of them is filled with
-/// zeros when it is made.
+/// The number of words in a set of positions of a line that is neither short nor long. Each set is filled with
+/// zeros when it is made, which takes less time for fewer words.
 const FEWER: usize = 65;
 
 /// Whether some part of the line is a match of the tree.
 ///
-/// The tree is within the limits, and the line has at most `MAX_LINE` bytes. No memory is taken.
+/// The tree is within the limits, and the line has at most `MAX_LINE` bytes. Nothing is allocated, and there are no
+/// errors.
 ///
 /// The time is mostly proportional to the length of the line times the leaves of the tree. Nested repeats without
 /// a greatest count add little if each is at the front of the next one's body, as in `((a*a)*a)*` and
 /// `((a*|b)*|c)*`: the time was measured to grow with the square of their number. After a part that cannot be
 /// empty, as in `(a(aa*)*)*`, or under a count other than `?`, each level can still double the time.
 ///
-/// The stack is bounded: calls nest as deep as the tree is high, which is at most 64, and each level keeps at
-/// most five sets of positions, of 536 bytes for a line of 64 bytes or more, and of 2,072 for one of 4,160 or
-/// more. The most that was measured is 8.5 KiB for a level and 516 KiB in all, for 62 stars inside one another
-/// and a line of `MAX_LINE` bytes; 912 KiB if Rattle's own compiler makes the program in place of LLVM.
+/// The stack is bounded: calls nest as deep as the tree is high, which is at most 64 levels, and each level keeps at
+/// most five sets of positions, of 536 bytes each for a line of 64 bytes or more, and of 2,072 for one of 4,160 or
+/// more. The most that was measured is 8.5 KiB for a level and 516 KiB in all, for 62 nested stars and a line of
+/// `MAX_LINE` bytes, and 912 KiB in all if Rattle's own compiler is used instead of LLVM.
 pub fn matches(tree: &Ere, line: &[u8]) -> bool
     requires within_limits { IsWithinLimits (form tree.now) }
     requires line { length line.now ≤ MAX_LINE }
     ensures { IsTrue result ↔ ContainsMatch (form tree.now) line.now }
 {
-    // The positions of a short line are one word, which has no bounds to keep.
+    // The positions of a short line fit in one word, which needs no bounds.
     if line.len() < BITS {
         is_led_on::<OneWord>(tree, line)
     } else if line.len() < FEWER * BITS {
@@ -56,7 +58,7 @@ pub fn matches(tree: &Ere, line: &[u8]) -> bool
     }
 }
 
-/// Whether a word of the tree leads from a position of the line to that position or to a later one.
+/// Whether a word of the tree leads from some position of the line to that position or a later one.
 fn is_led_on<S: PositionSet>(tree: &Ere, line: &[u8]) -> bool
     requires { length line.now < S.room }
     ensures { IsTrue result ↔ ContainsMatch (form tree.now) line.now }

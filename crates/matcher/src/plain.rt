@@ -1,4 +1,4 @@
-//! Which bodies of a star are gone through window by window.
+//! Which bodies of stars the walk goes through window by window.
 
 ghost use Rattle.std.specs.Prelude.{IsTrue, All};
 ghost use Rattle.ere.specs.Tree.{form};
@@ -6,8 +6,8 @@ ghost use Rattle.matcher.specs.Private.Longer.{HoldsInLonger};
 
 use ere::Ere;
 
-/// Whether a tree has no `$`, and no star except of a single set. Without a `$`, wherever a word leads in a beginning
-/// of a line, it leads there in the whole line too.
+/// Whether a tree has no `$`, and no star (a repeat without a greatest count) except of a single set. Without a `$`,
+/// wherever a word leads in a prefix of a line, it leads in the whole line too.
 #[cycle(plain)]
 pub fn is_plain(tree: &Ere) -> bool
     ensures { IsTrue result → HoldsInLonger (form tree.now) }

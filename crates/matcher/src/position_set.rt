@@ -10,11 +10,11 @@ use ere::ByteSet;
 
 /// A set of positions of a line. Position i is before byte i; the last position is after the last byte.
 ///
-/// There are two types: one for short lines, which most lines are, and one with as many words as its caller says.
+/// Two types implement it: `OneWord`, for short lines, which most lines are, and `Positions<N>`, which has `N` words.
 pub trait PositionSet: Drop {
     ghost words: { Self → List ℕ };
 
-    // How many positions the set has room for: a line has one more position than bytes.
+    // How many positions the set has room for. A line has one more position than it has bytes.
     ghost room: { ℕ };
 
     /// The set with no position.
@@ -22,7 +22,7 @@ pub trait PositionSet: Drop {
         requires { 0 < room }
         ensures { HasNone (words result) };
 
-    /// The positions from 0 to `last`.
+    /// The positions from 0 to `last`, both included.
     fn through(last: usize) -> Self
         requires { last < room }
         ensures { (k : ℕ) → has_position (words result) k ≡ nat_le k last };
@@ -36,13 +36,13 @@ pub trait PositionSet: Drop {
         ensures none { HasNone (words self.new) }
         ensures empty { (i : ℕ) → slice_index (words self.new) i ≡ 0 };
 
-    /// `true` only if the set is the same as another. It may be `false` for sets that are the same, which changes no
-    /// answer.
+    /// `true` only if the two sets are equal. `false` is allowed for equal sets too: it costs time but changes no
+    /// answer of the walk.
     fn is_same(&self, other: &Self) -> bool
         ensures { IsTrue result → words self.now ≡ words other.now };
 
-    /// Moves the positions of a window, the first word that has any, into `here`, which then has no others.
-    /// Returns the last position of the window.
+    /// Moves the positions of a window, which is the first 64-bit word that has any, into `here`, which then has no
+    /// others. Returns the last position of the window, or any number if the set is empty.
     fn take_window(&mut self, here: &mut Self) -> usize
         ensures { IsEither (words here.new) (words self.new) (words self.old) };
 
@@ -63,7 +63,7 @@ pub trait PositionSet: Drop {
         ensures grown { MatchBool result (absent (words self.new) < absent (words self.old)) (HasNone (words fresh.new)) };
 
     /// Moves each position over the byte after it if that byte is in `members`. Otherwise, and at the end of the
-    /// line, the position is lost.
+    /// line, the position is dropped.
     fn step(&mut self, members: &ByteSet, line: &[u8])
         requires { length line.now < room }
         ensures { Moves (Spans line.now (set members.now)) (words self.old) (words self.new) };

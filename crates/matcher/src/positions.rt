@@ -11,7 +11,7 @@ use std::marker::Model;
 #[derive(Drop)]
 pub struct Positions<const N: usize> {
     words: [u64; N],
-    // All members are in the words from `first` up to but not at `end`. So no other word is looked at.
+    // All positions are in the words from `first` up to but not including `end`, so no other word is looked at.
     first: usize,
     end: usize,
 }
@@ -119,7 +119,7 @@ impl<const N: usize> PositionSet for Positions<N> {
         }
         self.first = first;
         self.end = end;
-        // What is left is often far up the line, and the words before it need not be looked at again.
+        // What is left is often far along the line, and the empty words before it need not be looked at again.
         fresh.first = first_held(&fresh.words, fresh.first, fresh.end);
         !fresh.is_empty()
     }

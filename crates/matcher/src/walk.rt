@@ -94,7 +94,8 @@ fn advance_counted<S: PositionSet>(
             advance_at_most(body, most - least, line, at);
         }
         None => {
-            // If any two words of the body together are one word of it, a single further round finds everything.
+            // If any two words of the body together are one word of it, so are any number of them. Then no count above
+            // `least`, or above 1 if `least` is 0, finds more.
             if joins_words(body) {
                 advance_exactly(body, least, line, at);
                 if least == 0 {
@@ -194,10 +195,11 @@ fn advance_more<S: PositionSet>(body: &Ere, line: &[u8], at: &mut S)
     more_past(body, line, at, &done);
 }
 
-/// Over a word of the tree. Positions that a word of it reaches from a position of `done` need not be found.
+/// Over a word of the tree. Positions that a word of it reaches from a position of `done` can be missing, since the
+/// caller has them already.
 ///
-/// A repeat has been through its body from all positions at which its earlier rounds began. So a repeat at
-/// the front of its body need not go on from these.
+/// For a repeat, `done` has the positions at which its earlier rounds began: a repeat at the front of its body need
+/// not go on from these.
 #[cycle(walk)]
 fn advance_past<S: PositionSet>(tree: &Ere, line: &[u8], at: &mut S, done: &S)
     requires { length line.now < S.room }
@@ -362,7 +364,8 @@ fn rounds_past<S: PositionSet>(
     if at.is_empty() {
         return;
     }
-    // Everything that a word reaches from `over` is found; each position of `known` is in `over` or is next.
+    // What a word reaches from `over` is found, or need not be. So is what a word reaches from a position of `known`
+    // that is not in `at`.
     let mut over = S::none();
     over.copy(done);
     loop {

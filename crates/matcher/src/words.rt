@@ -10,22 +10,22 @@ ghost use Rattle.matcher.specs.Private.Moving.{passes, arrives, flood, IsPassing
 use ere::{ByteSet, MAX_LINE};
 use std::simd::prelude::*;
 
-/// How many positions a word has.
+/// How many positions a word holds.
 pub(crate) const BITS: usize = 64;
 
-/// A word with at least this many positions is looked at as a whole.
+/// In a word with at least this many positions, all are looked at together.
 const FEW: u32 = 9;
 
 /// How many bytes are looked at together.
 const SIXTEEN: usize = 16;
 
-/// How many words the positions of a line of the greatest length need.
+/// How many 64-bit words the positions of a line of `MAX_LINE` bytes need.
 pub const WORDS: usize = MAX_LINE / BITS + 1;
 
-/// The positions to which one byte of the set leads from the positions given.
+/// The positions to which one byte in `members` leads from the positions in `from`.
 ///
 /// Position k is before the line's byte k, counted from 0, and is bit k mod 64 of word k / 64. It is in the
-/// answer exactly when position k - 1 is among those given and the byte between the two is in the set. The line
+/// result exactly when position k - 1 is in `from` and the byte between the two is in `members`. The line
 /// has at most `MAX_LINE` bytes.
 pub fn step(members: &ByteSet, line: &[u8], from: &[u64; WORDS]) -> [u64; WORDS]
     requires { length line.now ≤ MAX_LINE }
@@ -37,8 +37,8 @@ pub fn step(members: &ByteSet, line: &[u8], from: &[u64; WORDS]) -> [u64; WORDS]
     to
 }
 
-/// Moves each position over the byte after it if that byte is in the set, and loses the others. All positions are
-/// in the words from `first` up to but not at `end`; the answer is that end afterwards.
+/// Moves each position over the byte after it if that byte is in `members`, and drops the others. All positions are
+/// in the words from `first` up to but not including `end`. Returns the new `end`.
 pub(crate) fn shift<const N: usize>(
     members: &ByteSet,
     line: &[u8],
@@ -64,7 +64,7 @@ pub(crate) fn shift<const N: usize>(
     end
 }
 
-/// The first word of a range that is not empty, or the range's end.
+/// The index of the first nonzero word from `first` up to but not including `end`, or `end` if there is none.
 pub(crate) fn first_held<const N: usize>(words: &[u64; N], first: usize, end: usize) -> usize
     requires ordered { first ≤ end }
     requires inside { end ≤ N }
@@ -79,8 +79,8 @@ pub(crate) fn first_held<const N: usize>(words: &[u64; N], first: usize, end: us
     end
 }
 
-/// Adds each position to which bytes in `members` lead from the positions of the words. All of these are in the words
-/// from `first` up to but not at `end`; the answer is that end afterwards.
+/// Adds each position to which any number of bytes in `members` lead from the positions of the words. These are in
+/// the words from `first` up to but not including `end`. Returns the new `end`.
 pub(crate) fn sweep<const N: usize>(
     members: &ByteSet,
     line: &[u8],
@@ -106,7 +106,7 @@ pub(crate) fn sweep<const N: usize>(
     N
 }
 
-/// The positions of a word that have a byte of the set after them. `base` is the word's first position.
+/// The positions of a word that are followed by a byte of the set. `base` is the position of the word's bit 0.
 pub(crate) fn followed(word: u64, base: usize, members: &ByteSet, line: &[u8]) -> u64
     requires { base ≤ MAX_LINE }
     ensures { (bit : ℕ) → bit < 64 → has_bit result bit ≡ (has_bit word bit && passes members.now line.now (base + bit)) }
@@ -118,7 +118,7 @@ pub(crate) fn followed(word: u64, base: usize, members: &ByteSet, line: &[u8]) -
     }
 }
 
-/// The same, position by position, which is faster for few positions.
+/// The same as `followed`, position by position, which is faster for few positions.
 fn followed_each(word: u64, base: usize, members: &ByteSet, line: &[u8]) -> u64
     requires { base ≤ MAX_LINE }
     ensures { (bit : ℕ) → bit < 64 → has_bit result bit ≡ (has_bit word bit && passes members.now line.now (base + bit)) }
@@ -134,7 +134,7 @@ fn followed_each(word: u64, base: usize, members: &ByteSet, line: &[u8]) -> u64
     found
 }
 
-/// The positions of a word to which its positions lead over bytes of the set.
+/// The positions of a word, and those of the same 64 to which they lead over bytes of the set.
 pub(crate) fn reached(word: u64, base: usize, members: &ByteSet, line: &[u8]) -> u64
     requires { base ≤ MAX_LINE }
     ensures { (bit : ℕ) → bit < 64 → has_bit result bit ≡ flood (has_bit word) (λ b. passes members.now line.now (base + b)) bit }
@@ -145,8 +145,8 @@ pub(crate) fn reached(word: u64, base: usize, members: &ByteSet, line: &[u8]) ->
     flooded(word, passing(base, members, line))
 }
 
-/// All positions of a word that have a byte of the set after them. They are found from the last one down,
-/// sixteen at a time.
+/// Those of the 64 positions from `base` on that are followed by a byte of the set. They are found from the last
+/// one down, sixteen at a time.
 fn passing(base: usize, members: &ByteSet, line: &[u8]) -> u64
     requires { base ≤ MAX_LINE }
     ensures { (bit : ℕ) → bit < 64 → has_bit result bit ≡ passes members.now line.now (base + bit) }
@@ -158,7 +158,7 @@ fn passing(base: usize, members: &ByteSet, line: &[u8]) -> u64
     let mut passing = 0;
     let mut from = end;
     while from > 0 {
-        // The first sixteen may include some that were looked at already.
+        // The lowest sixteen can include some that were looked at already.
         let at = from.saturating_sub(SIXTEEN);
         passing = sixteen_passing(passing, at, base, members, line);
         from = at;
@@ -166,7 +166,7 @@ fn passing(base: usize, members: &ByteSet, line: &[u8]) -> u64
     passing
 }
 
-/// The same, if none passes from `end` on.
+/// The same as `passing`, if no position passes from `end` on, counted from `base`.
 fn few_passing(base: usize, end: usize, members: &ByteSet, line: &[u8]) -> u64
     requires inside { end ≤ 64 }
     requires in_line { 0 < end → base + end ≤ length line.now }
@@ -180,7 +180,7 @@ fn few_passing(base: usize, end: usize, members: &ByteSet, line: &[u8]) -> u64
     passing
 }
 
-/// The passing positions of a word that were found so far, with those among the sixteen from `at` on added.
+/// The passing positions of a word that were found so far, and those among the sixteen from bit `at` on.
 #[inline(always)]
 fn sixteen_passing(found: u64, at: usize, base: usize, members: &ByteSet, line: &[u8]) -> u64
     requires inside { at + 16 ≤ 64 }
@@ -191,7 +191,7 @@ fn sixteen_passing(found: u64, at: usize, base: usize, members: &ByteSet, line: 
     either(found, moved_to(held, at))
 }
 
-/// Sixteen bytes of the line.
+/// The sixteen bytes of the line from `at` on.
 #[inline(always)]
 fn sixteen_at(line: &[u8], at: usize) -> u8x16
     requires { at + 16 ≤ length line.now }
@@ -200,7 +200,7 @@ fn sixteen_at(line: &[u8], at: usize) -> u8x16
     u8x16::from_slice(&line[at..])
 }
 
-/// Whether the word has the position and a byte of the set is after it.
+/// Whether the word has the bit and its position is followed by a byte of the set.
 fn leads_on(word: u64, bit: usize, base: usize, members: &ByteSet, line: &[u8]) -> bool
     requires base { base ≤ MAX_LINE }
     requires bit { bit < 64 }
@@ -209,7 +209,7 @@ fn leads_on(word: u64, bit: usize, base: usize, members: &ByteSet, line: &[u8]) 
     has_at(word, bit) && is_followed(base + bit, members, line)
 }
 
-/// Whether a byte of the set is after the position.
+/// Whether the position is followed by a byte of the set.
 fn is_followed(at: usize, members: &ByteSet, line: &[u8]) -> bool
     ensures { result ≡ passes members.now line.now at }
 {
@@ -224,7 +224,7 @@ fn has_at(word: u64, bit: usize) -> bool
     word >> bit & 1 == 1
 }
 
-/// The lowest bit of a word that is not 0.
+/// The index of the lowest bit that is set in a word, which is not 0.
 fn lowest(word: u64) -> usize
     requires { 0 < word }
     ensures inside { result < 64 }
@@ -234,7 +234,7 @@ fn lowest(word: u64) -> usize
     word.trailing_zeros() as usize
 }
 
-/// The word, with the bit set if `comes`.
+/// The word, with the bit set if `comes` and as it was otherwise.
 fn with_bit_if(word: u64, bit: usize, comes: bool) -> u64
     requires { bit < 64 }
     ensures { (b : ℕ) → has_bit result b ≡ (has_bit word b || (comes && b == bit)) }
@@ -251,7 +251,7 @@ fn without_bit(word: u64, bit: usize) -> u64
     word & !(1u64 << bit)
 }
 
-/// The word with no bit but this one, if it has this one.
+/// The word with all bits but this one cleared.
 pub(crate) fn only_bit(word: u64, bit: usize) -> u64
     requires { bit < 64 }
     ensures { (b : ℕ) → has_bit result b ≡ (b == bit && has_bit word b) }
@@ -259,7 +259,7 @@ pub(crate) fn only_bit(word: u64, bit: usize) -> u64
     word & 1u64 << bit
 }
 
-/// The bits from 0 to the last one given.
+/// The bits from 0 to `last`, both included.
 pub(crate) fn through_bit(last: usize) -> u64
     requires { last < 64 }
     ensures { (b : ℕ) → has_bit result b ≡ nat_le b last }
@@ -290,8 +290,8 @@ pub(crate) fn either(left: u64, right: u64) -> u64
 
 /// The bits of a word, and those to which they lead over bits that pass: each that passes leads to the next.
 ///
-/// The sum of the bits that pass and of those among them that the word has carries a bit into exactly those
-/// places to which the word's bits lead.
+/// The sum of `passing` and of those of its bits that the word has carries into exactly the places to which the
+/// word's bits lead.
 fn flooded(word: u64, passing: u64) -> u64
     ensures { (b : ℕ) → b < 64 → has_bit result b ≡ flood (has_bit word) (has_bit passing) b }
 {
@@ -306,7 +306,7 @@ fn moved_to(word: u64, at: usize) -> u64
     word << at
 }
 
-/// Each bit of the word moved up by one, and the bit carried in as the lowest.
+/// Each bit of the word moved up by one, with `carried` as the lowest bit.
 pub(crate) fn moved_up(word: u64, carried: u64) -> u64
     requires { carried < 2 }
     ensures lowest { has_bit result 0 ≡ has_bit carried 0 }
@@ -323,7 +323,7 @@ fn highest(word: u64) -> u64
     word >> 63
 }
 
-/// 1 or 0.
+/// 1 if `comes`, and 0 otherwise.
 fn bit_if(comes: bool) -> u64
     ensures is_bit { result < 2 }
     ensures same { has_bit result 0 ≡ comes }
@@ -331,7 +331,7 @@ fn bit_if(comes: bool) -> u64
     if comes { 1 } else { 0 }
 }
 
-/// All words the same.
+/// `N` copies of the word.
 pub(crate) fn every<const N: usize>(word: u64) -> [u64; N]
     ensures whole { length result ≡ N }
     ensures same { (i : ℕ) → i < N → slice_index result i ≡ word }

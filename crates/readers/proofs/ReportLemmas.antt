@@ -14,7 +14,7 @@ use Rattle.readers.specs.declared.report.Report.{Report}
 use Rattle.readers.specs.Report.{IsGiven, IsReport}
 use Rattle.readers.specs.Private.Giving.{given, Gives}
 
--- a beginning of a beginning
+-- a beginning of a beginning is a beginning
 prefix_further : {A : Type 0} (xs ys zs : List A) → IsPrefix xs ys → IsPrefix ys zs → IsPrefix xs zs
 prefix_further xs ys zs p q = (p.0 ++ q.0, sym (append_assoc xs p.0 q.0) ∙ ap (λ l. l ++ q.0) p.1 ∙ q.1)
 
@@ -44,7 +44,7 @@ sees_more searches before old new opening seen same is =
       given = subst (All (IsGiven searches new.reading.commands)) (sym same) all;
     }
 
--- and then an answer of all that it has seen is added, or none
+-- an answer for all that the reading has seen is added, or none is
 pub gives_more : (searches : List (Option Prepared)) (before : Known) (search : ℕ) (prepared : Prepared) (answer : Answer) (old new : Report)
     → 0 < search → slice_get searches (search - 1) ≡ Some (Some prepared)
     → IsAnswerOf (state_of old.reading.commands) (pattern_of prepared) answer → Gives search answer old new

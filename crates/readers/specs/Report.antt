@@ -1,4 +1,4 @@
--- What a worker gives back.
+-- What a worker returns.
 use Rattle.std.specs.Prelude.{◌≡◌, ◌-◌, ◌<◌, List, Option, Some, All, slice_get}
 use mathlib.Core.List.{IsPrefix}
 use Rattle.index.specs.declared.command.Command.{Command}
@@ -10,7 +10,7 @@ use Rattle.shared.specs.History.{Known}
 use Rattle.readers.specs.declared.report.Given.{Given}
 use Rattle.readers.specs.declared.report.Report.{Report}
 
--- The answer is that of the search with its number, for commands that begin those seen.
+-- The answer is that of the search with its number, for a beginning of the commands seen.
 pub record IsGiven (searches : List (Option Prepared)) (seen : List Command) (given : Given) : Type 0 where
   pub prepared : Prepared
   pub numbered : 0 < given.search

@@ -3,7 +3,7 @@
 /// A point in a worker's search.
 #[derive(Clone, Copy, Debug, PartialEq, Eq)]
 pub enum Point {
-    /// The search begins: nothing is looked at yet.
+    /// The search begins: nothing has been looked at yet.
     Begin,
     /// The documents are taken, and their lines are matched next. What is published can change meanwhile.
     Matching,
@@ -11,9 +11,9 @@ pub enum Point {
     Done,
 }
 
-/// What workers call at each point of a search. A call returns before the worker goes on, so it can hold the
-/// worker there. Several workers may call at once.
+/// What workers call at each point that a search reaches. A call returns before the worker goes on, so it can
+/// hold the worker there. Several workers may call at once.
 pub trait Gate: Sync {
-    /// The search of this number is at this point.
+    /// The search with this number, from 1, is at this point.
     fn turn(&self, search: u32, point: Point);
 }

@@ -15,8 +15,8 @@ use shared::{Reading, SearchError};
 use std::alloc::Global;
 use std::sync::Wait;
 
-/// Answers the searches whose numbers come from the channel, until it is closed. A number that is not in the
-/// list, or has no search there, is skipped.
+/// Answers the searches whose numbers come from the channel, until it is closed. The first search of the list
+/// has the number 1. A number that is not in the list, or has no search there, is skipped.
 pub fn work<R: Wait, G: Gate>(
     rt: &R,
     alloc: Global,
@@ -47,7 +47,7 @@ impl Report {
     ghost use Rattle.readers.specs.Report.{IsReport};
     ghost use Rattle.readers.specs.Private.Giving.{Gives};
 
-    // Answers one more search. A refused search gives nothing.
+    // Answers one more search. A refused search adds no answer.
     fn add<G: Gate>(&mut self, alloc: Global, searches: &[Option<Prepared>], gate: &G, search: u32)
         ensures { (before : Known) → IsReport searches.now before self.old → IsReport searches.now before self.new }
     {
@@ -62,7 +62,7 @@ impl Report {
         }
     }
 
-    // Adds an answer, if there is memory and a number for its turn.
+    // Adds an answer. It is dropped if there is no memory for it, or if its turn would not fit in 32 bits.
     fn give(&mut self, search: u32, answer: Answer)
         ensures { Gives search answer self.old self.new }
     {
@@ -88,7 +88,7 @@ fn search_at(searches: &[Option<Prepared>], search: u32) -> Option<&Prepared>
     searches.get(at as usize)?.as_ref()
 }
 
-// Takes, calls the gate, and matches. While lines are matched, both copies of the index may change.
+// Takes, calls the gate, and matches. While lines are matched, both copies of the index can change.
 fn answer<G: Gate>(
     alloc: Global,
     reading: &mut Reading,

@@ -32,7 +32,7 @@ impl<'a> Promise<Report> for Kept<'a> {
 /// A thread that answers searches, with the sending end of its channel.
 ///
 /// Contracts see it as the searches that it was lent, and what its reading knew before. A worker that is dropped
-/// answers what it was sent, and its report is lost.
+/// still answers what it was sent, but its report is lost.
 #[derive(Drop)]
 pub struct Worker<'a> {
     numbers: Sender<u32>,
@@ -53,9 +53,9 @@ impl<'a> Model for Worker<'a> {
 }
 
 impl<'a> Worker<'a> {
-    /// Starts a thread that answers searches of this list with this reading. Its first answer is the turn after
-    /// `turns`. An `Err` means that there is no thread, or no memory for its channel: the reading comes back in a
-    /// report with no answers.
+    /// Starts a thread that answers searches of this list with this reading. The first search of the list has the
+    /// number 1. The first answer has the turn after `turns`. An `Err` means that the thread could not be started,
+    /// or that there was no memory for its channel: the reading is handed back in a report with no answers.
     pub fn start<'s, E, R: Wait + Sync, G: Gate>(
         scope: &Scope<'s, E>,
         rt: &'a R,

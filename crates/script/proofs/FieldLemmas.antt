@@ -30,7 +30,7 @@ power_grows : (i j : ℕ) → 10 ^ i ≤ 10 ^ (i + j)
 power_grows i zero = rw add-zero (le_refl (10 ^ i))
 power_grows i (suc j) = rw (add-suc, pow-succ') (omega (arith, power_grows i j))
 
--- a number of at most eight digits has room for one more
+-- a number of at most eight digits, to which one more digit can be added
 pub room_for_digit : (size i : ℕ) → size < 10 ^ i → i < 9 → size < 10 ^ 8
 room_for_digit size i h below =
     let grows : 10 ^ i ≤ 10 ^ (i + (8 - i)) = power_grows i (8 - i) in
@@ -40,7 +40,7 @@ room_for_digit size i h below =
 pub one_more_digit : (size digit i : ℕ) → size < 10 ^ i → digit < 10 → size * 10 + digit < 10 ^ (i + 1)
 one_more_digit size digit i h below = rw pow_more (omega arith)
 
--- the digit's byte, less the byte of 0
+-- one more digit is worth its byte less the byte of `0`, which is 48
 pub decimal_more : (digits : List ℕ) (i : ℕ) → i < length digits
     → decimal_value (take (i + 1) digits) ≡ 10 * decimal_value (take i digits) + (get_or digits i 0 - 48)
 decimal_more digits i h = fold_more (λ value digit. 10 * value + (digit - 48)) 0 digits i 0 h

@@ -106,7 +106,7 @@ one_header true line (Some header) (Some header') h h' =
     let same = one_put_line line header.0 header'.0 header.1 header'.1 h h' in
     ap Some (pairs header header' same.0 same.1)
 
--- A text leads to one thing.
+-- A text leads to one thing only.
 leads_once : (n : ℕ) (text : List ℕ) (next next' : Next) → Leads n text next → Leads n text next' → next ≡ next'
 leads_once n text next next' (nothing none is) (nothing none' is') = is ∙ sym is'
 leads_once n text next next' (nothing none is) (something line left header some first head is') = absurd (omega (arith, ap length none))
@@ -116,7 +116,7 @@ leads_once n text next next' (something line left header some first head is) (so
     let same = one_header (is_put line) line header header' head (subst (λ l. IsHeader (is_put l) l header') (sym lines.0) head') in
     is ∙ ap (λ l. after_line n l left header) lines.0 ∙ ap (λ f. after_line n line' f header) lines.1 ∙ ap (after_line n line' left') same ∙ sym is'
 
--- A blank line is no put.
+-- A blank line is not a put.
 comment_is_no_put : (b : ℕ) (line : List ℕ) → b ≡ 35 → is_put (b ∷ line) ≡ false
 unfolding fields_of
 comment_is_no_put b line is = subst (λ c. is_put (c ∷ line) ≡ false) (sym is) refl
@@ -225,7 +225,7 @@ leads n text items (open_body line name body rest b whole is other) =
     let test : (b == 10) ≡ false = grind (arith, nat_tests) in
     leads_body n text line name body (b ∷ rest) whole is _ (rw test refl)
 
--- What the items are, after what the text leads to.
+-- What the items are, given what the text leads to.
 abbrev IsRest : Next → List Numbered → Type 0
 IsRest end items = items ≡ []
 IsRest (skip n rest) items = ItemsFrom n rest items

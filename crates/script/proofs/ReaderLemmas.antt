@@ -93,7 +93,7 @@ is_put_first : (fields : List ℕ) → fields_of (codes "put " ++ fields) ≡ sh
 unfolding fields_of
 is_put_first fields = refl
 
--- A line whose keyword is `put` and which has no header is no put's line.
+-- A line with the keyword `put` and no header is not the line of a put.
 pub no_put_line : (line : List ℕ) (others : Option (List ℕ)) → fields_of line ≡ shown_fields (codes "put") others → LacksHeader others
     → (name : List ℕ) (size : ℕ) → IsPutLine line name size → ⊥
 no_put_line line others fields none name size is =
@@ -125,7 +125,7 @@ front_of_fields : (line first fields : List ℕ) → (fields_of line).first ≡ 
 front_of_fields [] first fields e o = absurd (no_fields fields o)
 front_of_fields (b ∷ line) first fields e o = front_step (b == 32) b line first fields refl e o (front_of_fields line (fields_of line).first fields refl)
 
--- The line of a put, by its fields.
+-- The line of a put, from its fields.
 pub put_line_by_fields : (line fields name : List ℕ) (size : ℕ) → IsLine line → fields_of line ≡ shown_fields (codes "put") (Some fields)
     → IsPutHeader fields name size → IsPutLine line name size
 put_line_by_fields line fields name size is split header =
@@ -158,7 +158,7 @@ in_back byte [] back whole e l = (subst (Lacks byte) e l).0 refl
 in_back byte (c ∷ front) back [] e l = cc
 in_back byte (c ∷ front) back (d ∷ whole) e l = in_back byte front back whole (cc) l.1
 
--- A text is cut at its last such byte in one way.
+-- There is only one way to cut a text at the last such byte.
 pub last_cut_once : (byte : ℕ) (front front' back back' : List ℕ) → front ++ byte ∷ back ≡ front' ++ byte ∷ back' → Lacks byte back
     → Lacks byte back' → back ≡ back'
 last_cut_once byte [] [] back back' e l l' = cc
@@ -177,7 +177,7 @@ no_header_without_size fields front digits cut none name size is =
     (lacks_byte 32 is.0 (omega arith) (recursion_from_All (λ d. is_digit d ≡ true) is.0 is.2.decimal)) in
     none size (subst (λ d. SpellsSize d size) (sym same) is.2)
 
--- The line of a put, by a header after its keyword.
+-- The line of a put, from the header after its keyword.
 pub put_line_by_header : (line : List ℕ) (others : Option (List ℕ)) (name : List ℕ) (size : ℕ) → IsLine line
     → fields_of line ≡ shown_fields (codes "put") others → HasHeader others name size → IsPutLine line name size
 put_line_by_header line None name size is fields header = absurd header
@@ -203,7 +203,7 @@ takes_line n text line next rest item keyword others follows not_blank fields ot
   shorter = follows.shorter;
 }
 
--- A text without items is empty lines and comments.
+-- A text without items has only empty lines and comments.
 pub blank_without_items : (n : ℕ) (text : List ℕ) (items : List Numbered) → items ≡ [] → ItemsFrom n text items → IsBlankText text
 blank_without_items n text items e done = empty
 blank_without_items n text items e (blank_line line rest begins blank more) = one_more line rest begins blank (blank_without_items (n + 1) rest items e more)

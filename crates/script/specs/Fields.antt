@@ -4,7 +4,7 @@ use Rattle.std.specs.List.{AllPass}
 use Rattle.ere.specs.Classes.{is_digit}
 use Rattle.ere.specs.Tokens.{decimal_value}
 
--- the first field, and what follows the space after it, where there is one
+-- the first field, and what follows the space after it, if there is one
 pub record Fields : Type 0 where
   pub first : List ℕ
   pub others : Option (List ℕ)

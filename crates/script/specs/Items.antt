@@ -18,12 +18,13 @@ pub data Item : Type 0 where
   sync : Item
   -- any other line
   bad_line : Item
-  -- The faults that end the reading: a put without its form; without its bytes; with a byte other than a line feed after them.
+  -- The faults that end the reading: a put's line without a name and a size; a put cut short by the script's end;
+  -- a put with a byte other than a line feed after its bytes.
   bad_put : Item
   truncated : Item
   body_not_closed : Item
 
--- An item and the number of its line: one more than the line feeds before it.
+-- An item and the number of its line: one more than the number of line feeds before it.
 pub record Numbered : Type 0 where
   pub line : ℕ
   pub item : Item
@@ -111,7 +112,7 @@ pub data ItemsFrom : ℕ → List ℕ → List Numbered → Type 0 where
   other_line : {n : ℕ} {text : List ℕ} {items : List Numbered} (line rest : List ℕ) → BeginsWithLine text line rest
       → IsFalse (is_blank line) → IsFalse (is_put line) → ItemsFrom (n + 1) rest items
       → ItemsFrom n text (numbered n (item_of_line line) ∷ items)
-  -- a put whose body ends at a line feed, and one whose body ends with the script
+  -- a put with a line feed after its body, and one whose body ends the script
   closed_put : {n : ℕ} {text name body : List ℕ} {items : List Numbered} (line rest : List ℕ) → text ≡ line ++ 10 ∷ (body ++ 10 ∷ rest)
       → IsPutLine line name (length body) → ItemsFrom (n + 2 + line_feeds body) rest items
       → ItemsFrom n text (numbered n (put name body) ∷ items)

@@ -5,7 +5,7 @@ use Rattle.script.specs.Reading.{shown_item}
 use Rattle.script.specs.declared.line.Line as program
 use Rattle.script.specs.declared.line.Line.TheVariants as variants
 
--- the line, which is given without its line feed, says this
+-- a line, given without its line feed, says this
 abbrev pub Says : List ℕ → program.Line → Type 0
 Says line variants.Blank = IsTrue (is_blank line)
 Says line (variants.Put name size) = IsPutLine line name.now size

@@ -5,7 +5,7 @@ use Rattle.script.specs.Position.{Position}
 use Rattle.script.specs.declared.item.Item as program
 use Rattle.script.specs.declared.item.Item.TheVariants as variants
 
--- the item is at the front of what was left, and what is left then follows it
+-- the item is at the front of what was left, and what is left now follows it
 pub record Takes (old : Position) (item : Numbered) (new : Position) : Type 0 where
   pub whole : (items : List Numbered) → ItemsFrom new.line new.rest items → ItemsFrom old.line old.rest (item ∷ items)
 

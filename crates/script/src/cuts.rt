@@ -6,7 +6,7 @@ ghost use Rattle.script.specs.Private.Cuts.{Cuts, CutsLast, Lacks, CutsLine, sho
 
 use memchr::{memchr, memrchr};
 
-/// What is before the first such byte, and what is after it.
+/// What is before the first such byte, and what is after it. `None` if the text has no such byte.
 pub fn cut_at(byte: u8, text: &[u8]) -> Option<(&[u8], &[u8])>
     ensures { MatchOption result (Lacks byte text.now) (λ parts. Cuts byte text.now parts.0.now parts.1.now) }
 {
@@ -14,7 +14,7 @@ pub fn cut_at(byte: u8, text: &[u8]) -> Option<(&[u8], &[u8])>
     Some((&text[..at], &text[at + 1..]))
 }
 
-/// What is before the last such byte, and what is after it.
+/// What is before the last such byte, and what is after it. `None` if the text has no such byte.
 pub fn cut_at_last(byte: u8, text: &[u8]) -> Option<(&[u8], &[u8])>
     ensures { MatchOption result (Lacks byte text.now) (λ parts. CutsLast byte text.now parts.0.now parts.1.now) }
 {
@@ -22,7 +22,7 @@ pub fn cut_at_last(byte: u8, text: &[u8]) -> Option<(&[u8], &[u8])>
     Some((&text[..at], &text[at + 1..]))
 }
 
-/// The first line of a text that is not empty.
+/// The first line of a text, and what follows it.
 #[derive(Clone, Copy, Debug)]
 pub struct CutLine<'a> {
     /// The line, without its line feed.
@@ -31,7 +31,7 @@ pub struct CutLine<'a> {
     pub rest: Option<&'a [u8]>,
 }
 
-/// The first line, without its line feed, and what follows that.
+/// Cuts a text after its first line.
 pub fn cut_line(text: &[u8]) -> CutLine<'_>
     ensures { CutsLine text.now result.line.now (option_map (λ rest. rest.now) result.rest) }
 {
@@ -57,7 +57,7 @@ pub fn cut_at_space(line: &[u8]) -> (&[u8], Option<&[u8]>)
     }
 }
 
-/// The number that 1 to 9 decimal digits spell.
+/// The number that 1 to 9 decimal digits spell. `None` for any other text.
 pub fn size_of(digits: &[u8]) -> Option<u32>
     ensures size { MatchOption result ((size : ℕ) → SpellsSize digits.now size → ⊥) (SpellsSize digits.now) }
 {

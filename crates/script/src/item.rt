@@ -50,7 +50,7 @@ pub enum Item<'a> {
 /// An item and the number of its line.
 #[derive(Clone, Copy, Debug)]
 pub struct Numbered<'a> {
-    /// From 1. The lines of bodies count too.
+    /// The number of the item's line, from 1. The lines of bodies count too.
     pub line: u32,
     /// What the line says.
     pub item: Item<'a>,

@@ -21,7 +21,7 @@ pub enum Line<'a> {
     Other(Item<'a>),
 }
 
-/// Reads a line, which is given without its line feed. It takes no memory and never fails.
+/// Reads a line, given without its line feed. It takes no memory and never fails.
 pub fn read_line(line: &[u8]) -> Line<'_>
     requires { IsLine line.now }
     ensures { Says line.now result }

@@ -50,10 +50,10 @@ impl<'a> ScriptReader<'a> {
         }
     }
 
-    /// Takes the next item, with the number of its line. `None` means that only empty lines and comments
-    /// were left, and that nothing is left after it. Empty lines and comments are skipped, and a fault that
-    /// ends the reading leaves nothing. It takes no memory and never fails: a line of no known form is an
-    /// item too, such as `Item::BadLine`.
+    /// Takes the next item, with the number of its line. Empty lines and comments are skipped. `None` means
+    /// that nothing but those was left. After `None`, and after a fault that ends the reading (`Item::BadPut`,
+    /// `Item::Truncated` or `Item::BodyNotClosed`), nothing is left. It takes no memory and never fails: a line
+    /// of no known form is an item too, `Item::BadLine` or `Item::BadPut`.
     pub fn next_item(&mut self) -> Option<Numbered<'a>>
         ensures item { MatchOption result
             (ItemsFrom self.old.line self.old.rest [])
@@ -132,7 +132,7 @@ fn after_line<'a>(start: Start<'a>, first: CutLine<'a>) -> Start<'a>
     }
 }
 
-/// Takes the item at the front of a text that begins with no blank line.
+/// Takes the item at the front of a text whose first line is not blank.
 fn take_item(start: Start<'_>) -> Taken<'_>
     requires room { start.line + length start.text.now ≤ 67108865 }
     requires some { 0 < length start.text.now }
@@ -151,7 +151,7 @@ fn take_item(start: Start<'_>) -> Taken<'_>
     }
 }
 
-/// The item of a line that is not a put, by its keyword and what follows the space after it.
+/// The item of a line that is not a put, from its keyword and what follows the space after it.
 pub fn item_of<'a>(keyword: &'a [u8], others: Option<&'a [u8]>) -> Item<'a>
     ensures { shown_item result ≡ item_of keyword.now (option_map (λ rest. rest.now) others.entry) }
 {
@@ -262,7 +262,7 @@ pub fn header_in(others: Option<&[u8]>) -> Option<Header<'_>>
     }
 }
 
-/// Takes a put, whose line's keyword is `put`.
+/// Takes a put: the keyword of the first line is `put`.
 fn take_put<'a>(start: Start<'a>, first: CutLine<'a>, others: Option<&'a [u8]>) -> Taken<'a>
     requires room { start.line + length start.text.now ≤ 67108865 }
     requires some { 0 < length start.text.now }

@@ -11,7 +11,7 @@ pub prefix_self : {A : Type 0} (xs : List A) → IsPrefix xs xs
 prefix_self [] = ([], refl)
 prefix_self (x ∷ xs) = (let r = prefix_self xs in r.0, ap (λ ys. x ∷ ys) (prefix_self xs).1)
 
--- of two beginnings of one list the shorter begins the longer
+-- of two beginnings of one list, the shorter begins the longer
 pub prefix_shorter : {A : Type 0} (xs ys zs : List A) → IsPrefix xs zs → IsPrefix ys zs → length xs ≤ length ys → IsPrefix xs ys
 prefix_shorter [] ys zs p q le = (ys, refl)
 prefix_shorter (x ∷ xs) [] zs p q le = absurd (omega arith)
@@ -32,11 +32,11 @@ prefix_whole (x ∷ xs) (y ∷ ys) p le = let rest = prefix_whole xs ys (p.0, cc
 joined_prefix : (xs ys : List (List Command)) → IsPrefix xs ys → IsPrefix (joined xs) (joined ys)
 joined_prefix xs ys p = (joined p.0, sym (flat_map-append (λ (b : List Command). b) xs p.0) ∙ ap joined p.1)
 
--- of two beginnings of one history the one with fewer commands begins the other
+-- of two beginnings of one history, the one with fewer commands begins the other
 pub begins : (xs ys zs : List (List Command)) → IsPrefix xs zs → IsPrefix ys zs → length (joined xs) ≤ length (joined ys) → IsPrefix (joined xs) (joined ys)
 begins xs ys zs p q le = prefix_shorter (joined xs) (joined ys) (joined zs) (joined_prefix xs zs p) (joined_prefix ys zs q) le
 
--- the same, by a test
+-- the same, from the result of a test
 pub begins_by : (xs ys zs : List (List Command)) (v w : ℕ) → IsPrefix xs zs → IsPrefix ys zs → v ≡ length (joined xs) → w ≡ length (joined ys)
     → (b : Bool) → nat_le v w ≡ b → MatchBool b (IsPrefix (joined xs) (joined ys)) (IsPrefix (joined ys) (joined xs))
 begins_by xs ys zs v w p q first second true is = let le : v ≤ w = grind (arith, nat_tests) in begins xs ys zs p q (omega arith)

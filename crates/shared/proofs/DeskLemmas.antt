@@ -116,7 +116,7 @@ desk_with front limit shown shown' pending pending' edit command desk seen same 
     (ap (accepted_of shown) more ∙ (accepted_of-change shown pending edit ∙ ap (λ c. accepted_of shown pending ++ c ∷ []) is))
     ∙ ap (with_command command) seen)
 
--- a front that has all that is accepted is stamped on what is pending
+-- the stamp of a front with all accepted commands is added to what is pending
 pub record IsStamped (shown old : Shelf) (pending pending' : List Operation) (before front : Known) : Type 0 where
   pub same : old ≡ shown
   pub more : pending' ≡ pending ++ Stamp front ∷ []

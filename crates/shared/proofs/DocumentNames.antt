@@ -14,7 +14,7 @@ and_false : (a : Bool) → false ≡ (a && false)
 and_false true = refl
 and_false false = refl
 
--- a name other than another is found where it was found
+-- after one name is taken out, any other name is found if it was found before
 without_same : (n : List ℕ) (name : List ℕ) (docs : List Document)
     → is_some (number_of name (without n docs)) ≡ (not (bytes_eq n name) && is_some (number_of name docs))
 unfolding number_of

@@ -30,7 +30,7 @@ state_of-more commands (command ∷ more) =
     ap state_of (sym (append_assoc commands (command ∷ []) more))
     ∙ (state_of-more (commands ++ command ∷ []) more ∙ ap (λ s. after s more) (state_of-push commands command))
 
--- the commands of the operations, and of one more
+-- the commands of operations, and of more operations after them
 pub commands_in-append : (xs ys : List Operation) → commands_in (xs ++ ys) ≡ commands_in xs ++ commands_in ys
 commands_in-append [] ys = refl
 commands_in-append (Change edit ∷ xs) ys = ap (λ c. command_of edit ∷ c) (commands_in-append xs ys)
@@ -45,7 +45,7 @@ accepted_of-change shown pending edit =
 pub accepted_of-stamp : (shown : Shelf) (pending : List Operation) (front : Known) → accepted_of shown (pending ++ Stamp front ∷ []) ≡ accepted_of shown pending
 accepted_of-stamp shown pending front = ap (λ c. shown.front.commands ++ c) (commands_in-append pending (Stamp front ∷ []) ∙ append-nil (commands_in pending))
 
--- what is published if the front has all that is accepted
+-- the shelf after the pending operations and the stamp of a front
 module _ (shown next : Shelf) (pending : List Operation) (front : Known) (is : next ≡ fold operated shown (pending ++ Stamp front ∷ [])) where
   stamped : next ≡ operated (fold operated shown pending) (Stamp front)
   stamped = is ∙ fold-append operated shown pending (Stamp front ∷ [])
@@ -70,7 +70,7 @@ nothing_turns seat met shown next pending none is =
     let same = nothing_done shown next pending none is in
     turns_at seat met shown next (ap (λ s. s.front.opening) same) (subst IsExact (sym same))
 
--- what the writer has met when nothing is on the shelf
+-- what the writer has met after a step of no operations
 pub met_front : (met met' : Option Known) (shown next : Shelf) (pending : List Operation) (front : Known) → pending ≡ []
     → next ≡ fold operated shown pending → shown.front ≡ front → Meets met shown next met' → met' ≡ Some front
 met_front met met' shown next pending front none is kept meets = meets.met ∙ (ap (λ s. Some s.front) (nothing_done shown next pending none is) ∙ ap Some kept)

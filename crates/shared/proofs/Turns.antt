@@ -9,7 +9,7 @@ use Rattle.shared.specs.History.{Known}
 use Rattle.shared.specs.declared.shelf.Shelf.{Shelf}
 use Rattle.shared.specs.Private.Rule.{IsExact, IsOf, IsKept, Meets}
 
--- all that was met is of the opening
+-- all that was met is of this opening
 abbrev AreOf : Book → List (Option Known) → Type 0
 AreOf opening seats = (seat : ℕ) (met : Option Known) → get_elem? seats seat ≡ some met → IsOf opening met
 

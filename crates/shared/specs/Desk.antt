@@ -10,7 +10,7 @@ use Rattle.shared.specs.declared.error.RemoveError.TheVariants as remove_error
 use Rattle.shared.specs.declared.error.Returned.{Returned}
 use Rattle.shared.specs.declared.error.Returned.TheVariants.{Plain, Shared}
 
--- the opening, how many commands there may be, and the lists of the published and the accepted commands
+-- the opening, the greatest number of commands, and the lists of the published and the accepted commands
 pub record DeskState : Type 0 where
   pub opening : Book
   pub limit : ℕ
@@ -28,7 +28,7 @@ with_command command desk = record desk { accepted = desk.accepted ++ command �
 abbrev pub all_published : DeskState → DeskState
 all_published desk = record desk { published = desk.accepted }
 
--- the greatest number of commands is accepted
+-- the greatest number of commands has been accepted
 abbrev pub IsFull : DeskState → Type 0
 IsFull desk = length desk.accepted ≡ desk.limit
 
@@ -40,7 +40,7 @@ HasRoom desk = length desk.accepted < desk.limit
 abbrev pub has_document : List Command → List ℕ → Bool
 has_document commands name = is_some (number_of name (documents_of commands))
 
--- the bytes of a body that comes back
+-- the bytes of a body that is handed back
 abbrev pub returned_bytes : Returned → List ℕ
 returned_bytes (Plain body) = body
 returned_bytes (Shared held) = held

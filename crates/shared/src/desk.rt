@@ -25,7 +25,7 @@ use std::sync::Wait;
 /// The one writer. It accepts commands, which no one sees until it publishes them.
 ///
 /// Contracts see it as its opening, the greatest number of commands, and the lists of the published and of
-/// the accepted commands. End it by `close`.
+/// the accepted commands. End it with `close`.
 pub struct Desk {
     writer: ShelfWriter,
     head: Head,
@@ -108,15 +108,16 @@ impl Desk {
         }
     }
 
-    // Whether the greatest number of commands is accepted already.
+    // Whether the greatest number of commands has been accepted already.
     fn is_full(&self) -> bool
         ensures { MatchBool result (IsFull self.now) (HasRoom self.now) }
     {
         self.accepted == self.limit
     }
 
-    /// Accepts the put of this name and body, and returns the number of accepted commands. A refusal gives
-    /// the first cause, in the order of `PutErrorKind`, hands name and body back, and changes nothing.
+    /// Accepts the put of this name and body, and returns the number of accepted commands, with this one. A
+    /// refusal returns the first cause, in the order of `PutErrorKind`, hands the name and the body back, and
+    /// changes nothing.
     pub fn put(&mut self, name: Name, body: Body) -> Result<u32, PutError>
         ensures ok { OnOk result ((self.new ≡ with_command (put_command name body) self.old) × HasRoom self.old) }
         ensures count { IfOk result (λ n. n ≡ length self.new.accepted) }
@@ -170,8 +171,8 @@ impl Desk {
         }
     }
 
-    /// Accepts the remove of this name, and returns the number of accepted commands. A refusal gives the
-    /// first cause, in the order of `RemoveError`, and changes nothing.
+    /// Accepts the remove of this name, and returns the number of accepted commands, with this one. A refusal
+    /// returns the first cause, in the order of `RemoveError`, and changes nothing.
     pub fn remove(&mut self, name: &Name) -> Result<u32, RemoveError>
         ensures ok { OnOk result ((self.new ≡ with_command (remove_command name.now) self.old) × HasRoom self.old) }
         ensures there { OnOk result (has_document self.old.accepted name.now ≡ true) }
@@ -201,8 +202,9 @@ impl Desk {
         Ok(())
     }
 
-    /// Publishes all accepted commands; with nothing new it publishes the same again. It may wait for readings that
-    /// are taking what a search needs. An `Err` means that memory ran out, and that nothing has changed.
+    /// Publishes all accepted commands, and returns the receipt; with nothing new it publishes the same again. It
+    /// may wait for readings that are taking what a search needs. An `Err` means that memory ran out, and that
+    /// nothing has changed.
     pub fn publish<R: Wait>(&mut self, rt: &R) -> Result<Told, AllocError>
         ensures ok { IfOk result (λ told. (self.new ≡ all_published self.old) × (told ≡ known self.old.opening self.old.accepted)) }
         ensures err { OnErr result (self.new ≡ self.old) }
@@ -226,7 +228,7 @@ impl Desk {
     }
 
     // The front after all accepted commands are added to the history. `None` if the history continues after
-    // the desk's front; only the desk can cause that.
+    // the desk's front, which never happens: only the desk adds to it.
     fn written(&self) -> Option<Front>
         ensures { IfSome result (λ front. front ≡ known self.now.opening self.now.accepted) }
     {
@@ -283,7 +285,7 @@ impl Desk {
         }
     }
 
-    /// Gives the desk up. It waits for readings that are taking what a search needs; afterwards every search is refused
+    /// Ends the desk. It waits for readings that are taking what a search needs; afterwards every search is refused
     /// with `NoEntry`. Commands that are not published are dropped.
     pub fn close<R: Wait>(self, rt: &R) {
         let Desk {

@@ -3,12 +3,12 @@
 use index::{Body, Held, Name};
 use std::alloc::{AllocError, AllocFailed};
 
-/// Why there is no opening.
+/// Why an opening is refused.
 #[derive(Clone, Copy, Debug, PartialEq, Eq)]
 pub enum OpenError {
     /// Memory ran out.
     OutOfMemory,
-    /// A reading got no place.
+    /// A reading got no place: there are fewer places than readings.
     NoPlace,
 }
 
@@ -37,7 +37,7 @@ impl<T: Drop> From<AllocFailed<T>> for OpenError {
 /// Why a put is refused. The causes are checked in this order.
 #[derive(Clone, Copy, Debug, PartialEq, Eq)]
 pub enum PutErrorKind {
-    /// The greatest number of commands is accepted already.
+    /// The greatest number of commands has been accepted already.
     Full,
     /// Memory ran out.
     OutOfMemory,
@@ -48,7 +48,7 @@ pub enum PutErrorKind {
 pub enum Returned {
     /// As it was handed in.
     Plain(Body),
-    /// A shared body of the same bytes had been made of it.
+    /// As a shared body of the same bytes, which had been made of it before the refusal.
     Shared(Held),
 }
 
@@ -68,7 +68,7 @@ pub struct PutError {
 pub enum RemoveError {
     /// There is no document of this name after all accepted commands.
     NoSuchFile,
-    /// The greatest number of commands is accepted already.
+    /// The greatest number of commands has been accepted already.
     Full,
     /// Memory ran out.
     OutOfMemory,
@@ -90,7 +90,7 @@ impl From<AllocError> for RemoveError {
 pub enum SearchError {
     /// Memory ran out.
     OutOfMemory,
-    /// There is no entry to the published documents, since the desk was closed.
+    /// The published documents cannot be entered any more: the desk was closed.
     NoEntry,
 }
 

@@ -1,8 +1,8 @@
 //! The history of an opening: the commands that its publishes add, from the first one on. After a refused publish
 //! it can be ahead of what is published.
 //!
-//! The history itself takes no memory. What is kept of it is how long it is, and evidence for the proofs,
-//! without bytes, of how far it was known to go.
+//! The history itself takes no memory. What is kept of it is its length, and evidence for the proofs, which
+//! has no bytes, of how far it is known to go.
 
 ghost use Rattle.std.specs.Prelude.{◌≡◌, ◌⊎◌, List, [], ◌++◌, length, IfSome, MatchBool};
 ghost use mathlib.Core.List.{IsPrefix};
@@ -13,8 +13,8 @@ use index::Command;
 use logbook::{Gain, Offer, Plain, Play, Rule, Seen, Start, Word};
 use std::marker::Model;
 
-/// The commands that one publish adds. Contracts read an array as a list, of any length. No value of it is
-/// made.
+/// The commands that one publish adds. Contracts read an array as a list, of any length. No value of this type
+/// is made.
 pub type Batch = [Command; 0];
 
 /// The rule of a history: its first word is the number of batches. It has two words; the second one stays 0.
@@ -83,7 +83,7 @@ impl Model for Front {
 }
 
 impl Front {
-    /// A new opening: the word of its history, and the front at which there are no commands.
+    /// A new opening: the word of its history, and the front with no commands.
     pub(crate) fn open() -> (Head, Front)
         ensures head { result.0 ≡ head_of result.1.opening }
         ensures empty { result.1.commands ≡ [] }
@@ -118,7 +118,8 @@ impl Front {
         }
     }
 
-    /// Of two fronts of one opening, one is a beginning of the other. Returns whether it is this one.
+    /// Whether this front is a beginning of the other. Of two fronts of one opening, if it is not, the other is
+    /// a beginning of this one.
     pub(crate) fn begins(&self, other: &Front) -> bool
         requires { other.now.opening ≡ self.now.opening }
         ensures { MatchBool result (IsPrefix self.now.commands other.now.commands) (IsPrefix other.now.commands self.now.commands) }
@@ -142,8 +143,9 @@ impl Front {
         }
     }
 
-    /// The front after one more batch, the one that `about` asks for. `None` if the history continues
-    /// after this front. The writer never finds that, since only it has the head.
+    /// The front after one more batch, the one that `about` asks for. `version` is its number of commands. `None`
+    /// if the history continues after this front, or the batches would not fit in 64 bits. The writer meets
+    /// neither: only it has the head.
     pub(crate) fn with<X, M: Plain<X, Batch, u64>>(
         &self,
         head: &Head,

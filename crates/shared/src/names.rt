@@ -28,7 +28,7 @@ impl Names {
         self.names.contains(name)
     }
 
-    /// Adds the name, and says whether it is new.
+    /// Adds the name, and returns whether it is new. An `Err` means that memory ran out, and changes nothing.
     pub(crate) fn add(&mut self, name: &Name) -> Result<bool, AllocError>
         ensures added { IfOk result (λ added. added ≡ not (has_name self.old name.now)) }
         ensures ok { IfOk result (λ added. (other : List ℕ) → has_name self.new other ≡ (bytes_eq name.now other || has_name self.old other)) }

@@ -23,9 +23,9 @@ pub const MAX_COMMANDS: u32 = 1000000;
 /// The greatest number of readings that can be opened.
 pub const MAX_READINGS: usize = 17;
 
-/// Opens a desk for at most `max_commands` commands, and `readers` readings. Nothing is accepted or
-/// published, and no reading has seen anything. The desk and the readings belong to one opening. It never
-/// waits if it succeeds.
+/// Opens a desk for at most `max_commands` commands (1 to `MAX_COMMANDS`), and `readers` readings (1 to
+/// `MAX_READINGS`). Nothing has been accepted or published, and no reading has seen anything. The desk and the
+/// readings belong to one opening. It never waits if it succeeds.
 ///
 /// `OutOfMemory` means that memory ran out, and `NoPlace` that a reading got no place.
 pub fn open<R: Wait>(
@@ -43,8 +43,9 @@ pub fn open<R: Wait>(
     open_with_places(rt, alloc, max_commands, readers, readers)
 }
 
-/// Opens as `open` does, with this number of places for readings. With fewer places than readings, one
-/// reading gets no place, and nothing is opened.
+/// Opens as `open` does, with `places` places for readings (1 to `MAX_READINGS`). With fewer places than
+/// readings, the first reading without a place is refused with `NoPlace`, and nothing is opened. Here
+/// `max_commands` and `readers` can be 0.
 pub fn open_with_places<R: Wait>(
     rt: &R,
     alloc: Global,

@@ -42,7 +42,7 @@ impl Model for Reading {
 }
 
 impl Reading {
-    /// A reading that has seen as much as the writer has met.
+    /// A reading that has seen as much as the writer has met. `NoPlace` if no place is left for it.
     pub(crate) fn of(writer: &mut ShelfWriter, front: &Front) -> Result<Reading, OpenError>
         requires { view writer.old.desk.place ≡ Some front.now }
         ensures reading { IfOk result (λ reading. reading ≡ front.now) }
@@ -60,7 +60,8 @@ impl Reading {
         })
     }
 
-    /// Takes note of a publish. It takes no memory and never waits.
+    /// Takes note of a publish of the same opening: from then on the reading has seen at least what it published.
+    /// It takes no memory and never waits.
     pub fn learn(&mut self, told: &Told)
         requires { told.now.opening ≡ self.old.opening }
         ensures opening { self.new.opening ≡ self.old.opening }
@@ -121,7 +122,7 @@ struct Asked<'p> {
     prepared: &'p Prepared,
 }
 
-// Enters, takes and leaves. `None` if there was no entry; otherwise the front that was met and what was taken.
+// Enters, takes and leaves. `None` if it cannot enter; otherwise the front that it met and what it took.
 fn look<'p>(
     reader: ShelfReader,
     asked: Asked<'p>,

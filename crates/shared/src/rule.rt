@@ -7,7 +7,7 @@ use crossbeam_utils::rule::{Outcome, Protocol};
 use left_right::reader::Reader;
 use left_right::writer::Writer;
 
-/// The index is the one that the commands of its front leave. What a seat has met, if anything, is a front of the
+/// The index is the result of the commands of the shelf's front. What a seat has met, if anything, is a front of the
 /// shelf's opening.
 pub struct Kept;
 
@@ -29,7 +29,7 @@ impl Outcome<Shelf, Option<Front>> for Meet {
     ghost then = { Meets };
 }
 
-/// What the writer has met, told to a reader.
+/// What the writer has met, passed on to a reader.
 pub(crate) struct Note;
 
 impl Split<Option<Front>> for Note {

@@ -51,8 +51,8 @@ impl Absorb<Operation> for Shelf {
     }
 }
 
-// Carries out the command. It is refused if memory ran out, or if no more commands can be counted; no
-// writer reaches that.
+// Carries out the command. It is refused if memory ran out, or if the number of commands would not fit in
+// 32 bits, which no desk reaches.
 fn change(index: &mut Index, edit: &Edit) -> Result<(), AllocError>
     ensures ok { OnOk result (index.new ≡ applied (command_of edit.now) index.old) }
     ensures err { OnErr result (index.new ≡ index.old) }

@@ -1,11 +1,11 @@
-//! What a publish tells.
+//! The receipt of a publish.
 
 ghost use Rattle.std.specs.Prelude.{◌≡◌, length};
 
 use crate::history::Front;
 use std::marker::Model;
 
-/// What was published at some time. It can be lent to many readings at once.
+/// The receipt of a publish: what was published then. It can be lent to many readings at once.
 ///
 /// Contracts see it as the opening and the commands that were published.
 #[derive(Drop)]
@@ -22,7 +22,7 @@ impl Model for Told {
 }
 
 impl Told {
-    /// The number of commands that were published.
+    /// The number of commands that were published then, those of earlier publishes included.
     pub fn version(&self) -> u32
         ensures { result ≡ length self.now.commands }
     {

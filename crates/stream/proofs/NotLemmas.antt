@@ -1,4 +1,4 @@
--- What a test with a `!` says.
+-- What the result of a test with a `!` means.
 use Rattle.std.proofs.Common.{◌≡◌, Bool, true, false, not, refl, sym, true≢false}
 
 pub if_not : (b : Bool) → not b ≡ true → b ≡ false

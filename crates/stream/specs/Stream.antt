@@ -18,7 +18,7 @@ pub record StreamState : Type 0 where
 abbrev pub stream_at : ℕ → Bool → StreamState
 stream_at line ended = record { line = line; ended = ended }
 
--- the item, without the place of its bytes in memory; of a body that was passed over, only that it is too long is known, or nothing
+-- the item, without the place of its bytes in memory; a body that was passed over is only known to be too long, or is not known
 abbrev pub Shows : StreamItem → Item → Type 0
 Shows (variants.Put name body) item = item ≡ put name.now body.items
 Shows (variants.LongPut name) item = (body : List ℕ) × (item ≡ put name.now body) × (MAX_BODY < length body)
@@ -30,7 +30,8 @@ pub data IsFault : Item → Type 0 where
   no_header : IsFault bad_put
   no_end : IsFault body_not_closed
 
--- The bytes are those of this item, from its line's number on; the next line's number follows them, or nothing does.
+-- The bytes begin at the line of the first number: lines that are skipped, and then this item. What follows them begins at the line of
+-- the second number; or, if `true`, the reading ends with the item.
 abbrev pub IsItemOf : ℕ → List ℕ → Numbered → Bool → ℕ → Type 0
 IsItemOf line bytes item false next = (rest : List ℕ) (items : List Numbered) → ItemsFrom next rest items → ItemsFrom line (bytes ++ rest) (item ∷ items)
 IsItemOf line bytes item true next = ItemsFrom line bytes (item ∷ [])
@@ -44,7 +45,7 @@ pub record Takes (old : StreamState) (taken : Taken) (new : StreamState) (bytes 
   pub ended : new.ended ≡ taken.ended
   pub end : IsTrue taken.ended → OnSome was (IsAtEnd left) ⊎ IsFault item
 
--- What a call gives, where these bytes were taken from the input.
+-- What a call returns, if these bytes were taken from the input.
 abbrev pub IsNext : StreamState → Result (Option Taken) StreamError → StreamState → List ℕ → Option (List ℕ) → Option (List ℕ) → Type 0
 IsNext old (Ok (Some taken)) new bytes was left = Takes old taken new bytes was left
 IsNext old (Ok None) new bytes was left = ItemsFrom old.line bytes [] × IsTrue new.ended × (IsTrue old.ended ⊎ OnSome was (IsAtEnd left))

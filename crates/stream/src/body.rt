@@ -28,7 +28,7 @@ pub enum Body {
     Lost,
 }
 
-/// A put's bytes: as many as its size says, or fewer if the input ends before.
+/// A put's bytes: as many as its size says, or fewer if the input ends first.
 #[derive(Debug, Drop)]
 pub struct PutBytes {
     pub body: Body,
@@ -52,8 +52,8 @@ fn count(bytes: &[u8]) -> Passed
     }
 }
 
-/// Appends to the body what the reader has, at most so many bytes, and returns whether it has any. It reads once
-/// if the reader has nothing. If it has none then, the input ends.
+/// Appends to the body what the reader has, at most `most` bytes. It reads once if the reader has nothing. `false`
+/// means that the input has ended. An interrupted read appends nothing, and the result is `true`.
 fn take_some<I: BufRead>(
     input: &mut I,
     most: usize,
@@ -76,7 +76,7 @@ fn take_some<I: BufRead>(
     Ok(more)
 }
 
-/// Appends bytes to the body until it has so many or the input ends.
+/// Appends bytes to the empty body until it has `size` of them or the input ends.
 fn fill<I: BufRead>(input: &mut I, size: usize, body: &mut Vec<u8>) -> Result<(), StreamError>
     requires { length body.old.items ≡ 0 }
     ensures { (bytes : List ℕ) × Consumes (I.remaining input.old) (I.remaining input.new) bytes
@@ -98,11 +98,11 @@ fn fill<I: BufRead>(input: &mut I, size: usize, body: &mut Vec<u8>) -> Result<()
 #[derive(Clone, Copy, Debug)]
 struct Piece {
     passed: Passed,
-    /// Whether the reader had any bytes. If not, the input ends.
+    /// `false` if the input has ended. It is `true` after an interrupted read too, which passes over nothing.
     more: bool,
 }
 
-/// Passes over what the reader has, at most so many bytes. It reads once if the reader has nothing.
+/// Passes over what the reader has, at most `most` bytes. It reads once if the reader has nothing.
 fn pass_piece<I: BufRead>(input: &mut I, most: usize) -> Result<Piece, StreamError>
     ensures { (bytes : List ℕ) × Consumes (I.remaining input.old) (I.remaining input.new) bytes
         × PassesPiece most result bytes (I.remaining input.old) (I.remaining input.new) }
@@ -124,7 +124,7 @@ fn pass_piece<I: BufRead>(input: &mut I, most: usize) -> Result<Piece, StreamErr
     Ok(Piece { passed, more })
 }
 
-/// Passes over so many bytes, or over fewer if the input ends before. None of them is kept.
+/// Passes over `size` bytes, or fewer if the input ends first. None of them is kept.
 fn pass_over<I: BufRead>(input: &mut I, size: usize) -> Result<Passed, StreamError>
     ensures { (bytes : List ℕ) × Consumes (I.remaining input.old) (I.remaining input.new) bytes
         × Passes size result bytes (I.remaining input.old) (I.remaining input.new) }
@@ -182,7 +182,7 @@ fn front_of(shown: &[u8]) -> Front
 }
 
 /// Takes the byte after a put's bytes, if the reader has one. It reads once if the reader has nothing.
-/// `None` means that this was interrupted.
+/// `None` means that the read was interrupted.
 fn look<I: BufRead>(input: &mut I) -> Result<Option<Closing>, StreamError>
     ensures { (bytes : List ℕ) × Consumes (I.remaining input.old) (I.remaining input.new) bytes
         × Looks result bytes (I.remaining input.old) (I.remaining input.new) }
@@ -213,7 +213,7 @@ pub fn close<I: BufRead>(input: &mut I) -> Result<Closing, StreamError>
     Err(StreamError::CannotRead)
 }
 
-/// An empty body with room for so many bytes.
+/// An empty body with room for `size` bytes. `None` if there is no memory for it.
 fn room_for(alloc: Global, size: usize) -> Option<Vec<u8>>
     ensures { IfSome result (λ body. length body.items ≡ 0) }
 {
@@ -258,7 +258,7 @@ fn skip_body<I: BufRead>(input: &mut I, size: usize, body: Body) -> Result<PutBy
     }
 }
 
-/// Takes a put's bytes. They are kept if there are at most `MAX_BODY` of them and memory for them.
+/// Takes a put's bytes. They are kept if `size` is at most `MAX_BODY` and there is memory for that many.
 pub fn take_bytes<I: BufRead>(
     alloc: Global,
     input: &mut I,

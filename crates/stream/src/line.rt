@@ -27,7 +27,7 @@ enum Piece {
 struct Part<'a> {
     /// The piece, without a line feed.
     line: &'a [u8],
-    /// The number of its bytes, with the line feed.
+    /// The number of its bytes, with its line feed if it has one.
     taken: usize,
     piece: Piece,
 }
@@ -55,8 +55,8 @@ fn part_of(shown: &[u8]) -> Part<'_>
     }
 }
 
-/// `Ok` if the error is that of an interrupted read, which is to be tried again. For any other error, after which
-/// nothing more can be read, `CannotRead`.
+/// `Ok` for the error of an interrupted read, which is to be tried again. `CannotRead` for any other error, after
+/// which nothing more is read.
 pub fn interrupted(error: &Error) -> Result<(), StreamError>
     ensures again { OnOk result (error_kind error.now ≡ ErrorKind.Interrupted) }
     ensures no_more { IfErr result (λ fault. (fault ≡ StreamError.CannotRead) × (error_kind error.now ≢ ErrorKind.Interrupted)) }
@@ -78,7 +78,8 @@ pub fn append(text: &mut Vec<u8>, bytes: &[u8]) -> Result<(), StreamError>
     }
 }
 
-/// Appends a piece to the text of a line, unless the line is too long then.
+/// Appends a piece to the text of a line. `LineTooLong` if the text would then have more than `MAX_SCRIPT` bytes,
+/// and `OutOfMemory` if memory ran out.
 fn append_piece(text: &mut Vec<u8>, piece: &[u8]) -> Result<(), StreamError>
     ensures { IfOk result (λ _. text.new.items ≡ text.old.items ++ piece.now) }
 {
@@ -89,7 +90,7 @@ fn append_piece(text: &mut Vec<u8>, piece: &[u8]) -> Result<(), StreamError>
 }
 
 /// Takes what the reader has of a line, up to its line feed, and appends it to the text. It reads once if the
-/// reader has nothing.
+/// reader has nothing. An interrupted read takes nothing, and the result is `More`.
 fn take_piece<I: BufRead>(input: &mut I, text: &mut Vec<u8>) -> Result<Piece, StreamError>
     ensures { (bytes : List ℕ) × Consumes (I.remaining input.old) (I.remaining input.new) bytes
         × Grows text.old.items result text.new.items bytes (I.remaining input.old) (I.remaining input.new) }
@@ -108,7 +109,8 @@ fn take_piece<I: BufRead>(input: &mut I, text: &mut Vec<u8>) -> Result<Piece, St
     Ok(piece)
 }
 
-/// Takes a line, and whether a line feed ended it. Otherwise the input's end did.
+/// Takes a line into `text`, without its line feed, and returns whether a line feed ended it. If not, the input's
+/// end did.
 fn take_line<I: BufRead>(input: &mut I, text: &mut Vec<u8>) -> Result<bool, StreamError>
     ensures { (bytes : List ℕ) × Consumes (I.remaining input.old) (I.remaining input.new) bytes
         × IsLineTaken result text.new.items bytes (I.remaining input.old) (I.remaining input.new) }
@@ -132,8 +134,8 @@ pub struct LineStart {
     pub closed: bool,
 }
 
-/// Takes lines up to the first that is neither empty nor a comment. `None` means that the input has no
-/// such line.
+/// Takes lines up to the first one that is neither empty nor a comment, and leaves that one in `text`. `first` is
+/// the number of the first line taken. `None` means that the input has no such line.
 pub fn next_line<I: BufRead>(
     input: &mut I,
     first: u32,

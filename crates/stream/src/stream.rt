@@ -17,10 +17,10 @@ use std::alloc::Global;
 use std::io::BufRead;
 use std::marker::Model;
 
-/// A text of more bytes than this is freed before the next item is read.
+/// A text with room for more bytes than this is freed before the next item is read.
 const KEPT_TEXT: usize = 65_536;
 
-/// Where the reading of an input stands.
+/// How far an input has been read: the number of the next line, and whether the reading has ended.
 #[derive(Debug, Drop)]
 pub struct ItemStream {
     alloc: Global,
@@ -37,7 +37,8 @@ impl Model for ItemStream {
 }
 
 impl ItemStream {
-    /// Before the first byte of an input. The first line has the number 1.
+    /// A stream at the first byte of an input. The first line has the number 1. `alloc` is for the bodies
+    /// of puts, and for the text that replaces a long one.
     pub fn new(alloc: Global) -> ItemStream
         ensures { result ≡ stream_at 1 false }
     {
@@ -48,17 +49,21 @@ impl ItemStream {
         }
     }
 
-    /// Takes the next item from the input, and waits for no byte after the item's last one. This is the line
-    /// feed of its line, or the byte after a put's body. Empty lines and comments are skipped.
+    /// Takes the next item from the input, and waits for no byte after the item's last one, which is the line
+    /// feed of its line or the byte after a put's body. Empty lines and comments are skipped.
     ///
-    /// All calls on a stream are given the same input. `text` is changed: the item's name and texts lie in it.
+    /// Pass the same input to all calls on a stream. `text` is overwritten with the item's line, from which the
+    /// item's name and texts are borrowed.
     ///
-    /// `None` means that the input's end was met, or that the reading had ended before: at an item of which
-    /// `Taken::ended` says so, or at an error.
+    /// `None` means that the input ended without a further item, or that the reading had ended in an earlier
+    /// call: with an item whose `Taken::ended` is `true`, with `None`, or with an error.
     ///
     /// # Errors
     ///
-    /// `StreamError` tells them. Reads that are interrupted are tried again.
+    /// `CannotRead` if the input cannot be read, `OutOfMemory` if there is no memory for a line, `LineTooLong` if
+    /// a line has more than `script::MAX_SCRIPT` bytes, and `TooManyLines` if the number of the line after the item,
+    /// or after a skipped line, would not fit in 32 bits. The reading ends at an error. Interrupted reads are tried
+    /// again.
     pub fn next_item<'t, I: BufRead>(
         &mut self,
         input: &mut I,
@@ -132,7 +137,7 @@ fn last_item(line: &[u8]) -> Item<'_>
     }
 }
 
-/// An item, and the number of the line after it. There is none if the reading ends with the item.
+/// An item, and the number of the line after it: `None` if the reading ends with the item.
 #[derive(Debug, Drop)]
 struct Step<'t> {
     item: StreamItem<'t>,
@@ -162,8 +167,8 @@ fn take_item<'t, I: BufRead>(
     }
 }
 
-/// The step of an item, after which the number of the line grows by `lines`. `TooManyLines` means that it would not fit
-/// in 32 bits.
+/// The step of an item that is followed by a line whose number is greater by `lines`. `TooManyLines` means that this
+/// number would not fit in 32 bits.
 fn go_on_after(item: StreamItem<'_>, number: u32, lines: usize) -> Result<Step<'_>, StreamError>
     ensures { IfOk result (λ step. (step.item ≡ item.entry) × (step.next ≡ Some (number + lines)) × (number + lines < 2 ^ 32)) }
 {

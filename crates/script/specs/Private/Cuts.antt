@@ -17,7 +17,7 @@ pub record CutsLast (byte : ℕ) (text front back : List ℕ) : Type 0 where
   pub whole : text ≡ front ++ byte ∷ back
   pub last : Lacks byte back
 
--- the first line, and what follows its line feed, where it has one
+-- the first line, and what follows its line feed, if it has one
 abbrev pub CutsLine : List ℕ → List ℕ → Option (List ℕ) → Type 0
 CutsLine text line (Some rest) = Cuts 10 text line rest
 CutsLine text line None = (text ≡ line) × IsLine line

@@ -16,7 +16,7 @@ pub record FollowsLine (line : ℕ) (text first : List ℕ) (new_line : ℕ) (ne
   pub room : new_line + length new_text ≤ line + length text
   pub shorter : length new_text < length text
 
--- What follows the space after `put`, if there is one, is such a header; or it is not.
+-- `HasHeader`: there is a space after `put`, and what follows it is a header of this name and size. `LacksHeader`: there is no header.
 abbrev pub HasHeader : Option (List ℕ) → List ℕ → ℕ → Type 0
 HasHeader None name size = ⊥
 HasHeader (Some fields) name size = IsPutHeader fields name size

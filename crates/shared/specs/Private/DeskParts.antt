@@ -1,4 +1,4 @@
--- How what a desk keeps makes up its state.
+-- How the parts of a desk make up its state.
 use Rattle.std.specs.Prelude.{◌≡◌, ℕ, ◌≤◌, List, ◌++◌, length, drop}
 use mathlib.Core.List.{IsPrefix}
 use Rattle.logbook.specs.Pages.{Named}
@@ -12,7 +12,7 @@ use Rattle.shared.specs.declared.names.Names.{Names}
 use Rattle.shared.specs.declared.shelf.Shelf.{Shelf}
 use Rattle.shared.specs.declared.shelf.Operation.{Operation}
 
--- what is on the shelf, and then what is still to come to it
+-- the commands that are on the shelf, and then those still pending
 abbrev pub accepted_of : Shelf → List Operation → List Command
 accepted_of shown pending = shown.front.commands ++ commands_in pending
 
@@ -20,8 +20,8 @@ accepted_of shown pending = shown.front.commands ++ commands_in pending
 abbrev pub lacking : Known → Shelf → List Operation → List Command
 lacking front shown pending = drop (length front.commands) (accepted_of shown pending)
 
--- The head and the shelf are of the front's opening. What is accepted begins with the front, which is as far as the
--- history is known. It is counted, and its documents have the names.
+-- The head and the shelf are of the front's opening. The accepted commands begin with those of the front, which is as
+-- far as the history is known. `accepted` is their number, and `names` are the names of the documents after them.
 pub record IsDesk (shown : Shelf) (pending : List Operation) (head : Named) (front : Known) (names : Names) (accepted limit : ℕ) : Type 0 where
   pub one : shown.front.opening ≡ front.opening
   pub head_is : head ≡ head_of front.opening

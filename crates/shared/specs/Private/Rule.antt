@@ -7,7 +7,7 @@ use Rattle.index.specs.State.{state_of}
 use Rattle.shared.specs.History.{Known}
 use Rattle.shared.specs.declared.shelf.Shelf.{Shelf}
 
--- the index is the one that the commands of the front leave
+-- the index is the result of the commands of the front
 abbrev pub IsExact : Shelf → Type 0
 IsExact shelf = shelf.index ≡ state_of shelf.front.commands
 
@@ -19,7 +19,7 @@ pub record IsKept (shelf : Shelf) (seats : List (Option Known)) : Type 0 where
   pub exact : IsExact shelf
   pub one : (seat : ℕ) (met : Option Known) → get_elem? seats seat ≡ some met → IsOf shelf.front.opening met
 
--- what a step from one shelf to another tells of the seat that makes it
+-- what a step from one shelf to another says about the seat that makes it
 pub record Meets (before : Option Known) (old new : Shelf) (after : Option Known) : Type 0 where
   pub exact : IsExact new
   pub met : after ≡ Some new.front

@@ -13,16 +13,16 @@ use Rattle.stream.specs.declared.body.Body.{Body}
 use Rattle.stream.specs.declared.body.Body.TheVariants.{Kept, Long, Lost}
 use Rattle.stream.specs.declared.body.PutBytes.{PutBytes}
 
--- this many of the bytes, unless the input ends before
+-- this many bytes, or fewer if the input ends first
 abbrev pub IsUpTo : List ℕ → ℕ → Option (List ℕ) → Option (List ℕ) → Type 0
 IsUpTo bytes most was left = (length bytes ≤ most) × (length bytes < most → OnSome was (IsAtEnd left))
 
--- bytes were appended to a body; if there were none, the input ends
+-- bytes were appended to a body; `false` means that the input has ended
 abbrev pub Appends : ℕ → List ℕ → Result Bool StreamError → List ℕ → List ℕ → Option (List ℕ) → Option (List ℕ) → Type 0
 Appends most old (Ok more) new bytes was left = (new ≡ old ++ bytes) × (length bytes ≤ most) × (IsFalse more → OnSome was (IsAtEnd left))
 Appends most old (Err error) new bytes was left = ⊤
 
--- the bytes are the body, as many as its size says unless the input ends before
+-- the bytes are the body: as many as its size says, or fewer if the input ends first
 abbrev pub Fills : {A : Type 0} → ℕ → Result A StreamError → List ℕ → List ℕ → Option (List ℕ) → Option (List ℕ) → Type 0
 Fills size (Ok done) body bytes was left = (body ≡ bytes) × IsUpTo bytes size was left
 Fills size (Err error) body bytes was left = ⊤
@@ -30,7 +30,7 @@ Fills size (Err error) body bytes was left = ⊤
 abbrev pub Counts : Passed → List ℕ → Type 0
 Counts passed bytes = (passed.count ≡ length bytes) × (passed.line_feeds ≡ line_feeds bytes)
 
--- a piece was passed over; if there were no bytes, the input ends
+-- a piece was passed over; if `more` is `false`, the input has ended
 abbrev pub PassesPiece : ℕ → Result Piece StreamError → List ℕ → Option (List ℕ) → Option (List ℕ) → Type 0
 PassesPiece most (Ok piece) bytes was left = Counts piece.passed bytes × (length bytes ≤ most) × (IsFalse piece.more → OnSome was (IsAtEnd left))
 PassesPiece most (Err error) bytes was left = ⊤

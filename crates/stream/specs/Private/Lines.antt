@@ -12,7 +12,7 @@ abbrev pub line_feed_if : Bool → List ℕ
 line_feed_if true = 10 ∷ []
 line_feed_if false = []
 
--- What the front of these bytes is of a line, and how a line goes on after it.
+-- The front of these bytes is this piece of a line, and the line goes on like this after it.
 abbrev pub IsPart : List ℕ → List ℕ → ℕ → Piece → Type 0
 IsPart shown line taken More = IsLine line × (take taken shown ≡ line)
 IsPart shown line taken LineFeed = IsLine line × (take taken shown ≡ line ++ 10 ∷ [])
@@ -30,11 +30,11 @@ abbrev pub IsLineTaken : Result Bool StreamError → List ℕ → List ℕ → O
 IsLineTaken (Ok closed) line bytes was left = IsLine line × (bytes ≡ line ++ line_feed_if closed) × (IsFalse closed → OnSome was (IsAtEnd left))
 IsLineTaken (Err error) line bytes was left = ⊤
 
--- Empty lines and comments from the first number to the second, as these bytes.
+-- These bytes are empty lines and comments, from the line of the first number up to that of the second.
 abbrev pub Skips : ℕ → List ℕ → ℕ → Type 0
 Skips first skipped next = (rest : List ℕ) (items : List Numbered) → ItemsFrom next rest items → ItemsFrom first (skipped ++ rest) items
 
--- Lines were taken from the input, and the last is neither empty nor a comment.
+-- Lines were taken from the input: empty lines and comments, and then one that is neither.
 pub record TakesLine (first : ℕ) (start : LineStart) (line bytes : List ℕ) (was left : Option (List ℕ)) : Type 0 where
   pub skipped : List ℕ
   pub whole : bytes ≡ skipped ++ (line ++ line_feed_if start.closed)

@@ -7,13 +7,14 @@ use Rattle.stream.specs.Stream.{Shows, IsFault}
 use Rattle.stream.specs.declared.item.StreamError.{StreamError}
 use Rattle.stream.specs.declared.stream.Step.{Step}
 
--- The text is that of this item, from its line's number on; the next line's number follows it, or nothing does.
+-- The text is that of this item, whose line has this number. What follows it begins at the line of the next number; or the reading ends
+-- with the item.
 abbrev pub IsStep : ℕ → List ℕ → Item → Option ℕ → Type 0
 IsStep number text item (Some next) =
     (rest : List ℕ) (items : List Numbered) → ItemsFrom next rest items → ItemsFrom number (text ++ rest) (numbered number item ∷ items)
 IsStep number text item None = ItemsFrom number text (numbered number item ∷ [])
 
--- An item was taken: its line was taken before, and these are the bytes after the line feed.
+-- An item was taken: its line was taken before, and these are the bytes after the line's line feed.
 pub record TakesStep (number : ℕ) (line : List ℕ) (step : Step) (bytes : List ℕ) (was left : Option (List ℕ)) : Type 0 where
   pub item : Item
   pub shows : Shows step.item item

@@ -1,4 +1,4 @@
--- Nothing was taken so far.
+-- Nothing has been taken so far.
 use Rattle.std.proofs.Common.{[]}
 use Rattle.std.specs.Io.KnownBytes.{Consumes}
 use Rattle.stream.proofs.body.close.Given as goal

@@ -1,4 +1,4 @@
--- The body is what was read so far, and no longer than it is to be.
+-- The body is what has been read so far, and is no longer than `size`.
 use Rattle.std.proofs.Common.{◌≤◌, length}
 use Rattle.std.specs.Io.KnownBytes.{Consumes}
 use Rattle.stream.proofs.body.fill.Given as goal

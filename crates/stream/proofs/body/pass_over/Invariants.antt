@@ -1,4 +1,4 @@
--- What was passed over so far is counted, and is no more than is to be passed over.
+-- What has been passed over so far is counted, and is no more than is to be passed over.
 use Rattle.std.proofs.Common.{ℕ, ◌≤◌, List}
 use Rattle.std.specs.Io.KnownBytes.{Consumes}
 use Rattle.stream.specs.Private.Bytes.{Counts}

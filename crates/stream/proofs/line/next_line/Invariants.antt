@@ -1,4 +1,4 @@
--- The lines so far were skipped. Each raises the number, which fits in 32 bits.
+-- All lines so far have been skipped. Each raises the number, which fits in 32 bits.
 use Rattle.std.proofs.Common.{ℕ, ◌-◌, List}
 use Rattle.std.specs.Io.KnownBytes.{Consumes}
 use Rattle.stream.specs.Private.Lines.{Skips}

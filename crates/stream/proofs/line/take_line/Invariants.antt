@@ -1,4 +1,4 @@
--- The text is what was taken so far, and has no line feed.
+-- The text is what has been taken so far, and has no line feed.
 use Rattle.std.specs.Io.KnownBytes.{Consumes}
 use Rattle.script.specs.Items.{IsLine}
 use Rattle.stream.proofs.line.take_line.Given as goal
