@@ -1,4 +1,4 @@
--- What a parse gives of an option that takes a number.
+-- What a parse returns for an option that takes a number.
 use Rattle.std.proofs.Common.{◌≡◌, ◌⊎◌, ◌∙◌, ◌<◌, ◌≤◌, ap, ℕ, true, List, [], ◌∷◌, length, Option, Some, None, refl, sym, subst, inl, inr}
 use Rattle.std.proofs.Common.{arith, ◌^◌, zero, suc, codes}
 use Rattle.std.specs.List.{All, slice_index_or}
@@ -59,7 +59,7 @@ module _ (old : Command) (m : ArgMatches) (p : IsParsedFrom old m) (options : Ha
   module _ (E : Type 0) (G : List ℕ → Result ℕ E → Type 0) (only : (u : List ℕ) (x : Result ℕ E) → G u x → ParsesUnsigned 32 10 u x) (fits : high < 2 ^ 32)
       (r : Option ℕ)
       (value : (t : List ℕ) → one_text (found_of m) id ≡ Some t → ReadsOne G t r) where
-    -- the option's number, where it has a text
+    -- the option has no text, or its text is a number within the limits
     abbrev pub IsNumber : Type 0
     IsNumber = (one_text (found_of m) id ≡ None) ⊎ ((n : ℕ) × (r ≡ Some n) × (low ≤ n) × (n ≤ high))
 

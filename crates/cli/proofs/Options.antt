@@ -22,7 +22,7 @@ abbrev pub TakesNumber : Command → ℕ → ℕ → ℕ → Type 0
 TakesNumber c place low high =
     (d : Arg) → (slice_index_or (args_of c) place d).value_parser ≡ Some (Signed (pos low) (pos high))
 
--- the command has the program's options, of which two take a number in its limits, and none excludes another
+-- the command has the program's options, of which two take a number within limits, and none excludes another
 pub record HasOptions (c : Command) : Type 0 where
   pub names : map (λ a. a.id.now) (args_of c)
       ≡ codes "readers" ∷ codes "stats" ∷ codes "max-commands" ∷ codes "live" ∷ codes "FILE" ∷ []

@@ -23,7 +23,7 @@ pub in_limits : (live : Bool) (n : ℕ) → n ≡ default_max_commands live → 
 in_limits true n is = (rw is (omega arith), rw is (omega arith))
 in_limits false n is = (rw is (omega arith), rw is (omega arith))
 
--- a flag is set where its text is `true`
+-- a flag is set if its text is `true`
 set_where : (v : Bool) (text : Option (List ℕ)) → (v ≡ true) ↔ (text ≡ Some (codes "true")) → is_set text ≡ v
 set_where true text flag = rw (flag.0 refl) refl
 set_where false None flag = refl
@@ -40,7 +40,7 @@ faults_where : (live : Bool) (readers : ℕ) (found : List Row) → is_set (one_
     → session_faults found ≡ (if live && not (readers == 0) then ArgumentConflict ∷ [] else [])
 faults_where live readers found set number = rw (set, number) refl
 
--- a number of a session is that of the arguments, or 0
+-- the number of readers of a session is that of the arguments, or 0
 session_number : (settings : Settings) (found : List Row) → IsSettingsIn found settings → settings.live ≡ true
     → number_or 0 (one_of (codes "readers") found) ≡ settings.readers
 session_number settings found is live = sym (is.readers ∙ ap (λ (l : Bool). number_or (default_readers l) (one_of (codes "readers") found)) live)
@@ -52,7 +52,7 @@ no_session_faults true settings found is live none =
 no_session_faults false settings found is live none =
     faults_where false _ found (set_where settings.live _ is.live ∙ live) refl
 
--- settings that `clap` takes, and that ask for no readers of a session
+-- arguments that `clap` accepts, and that ask for no session with readers, spell their settings
 pub spells : (arguments : List Text) (settings : Settings) → fault_of command_line arguments ≡ [] → IsSettingsIn (found_in arguments) settings
     → IsInLimits settings → (settings.live ≡ true → settings.readers ≡ 0) → SpellSettings arguments settings
 spells arguments settings none found limits alone = record {
@@ -65,7 +65,7 @@ spells arguments settings none found limits alone = record {
 nonzero : (n : ℕ) → n ≢ 0 → (n == 0) ≡ false
 nonzero n some = grind (arith, nat_tests)
 
--- readers of a session are a conflict
+-- a session with readers is a conflict
 pub conflicts : (arguments : List Text) (settings : Settings) → fault_of command_line arguments ≡ [] → IsSettingsIn (found_in arguments) settings
     → settings.live ≡ true → settings.readers ≢ 0 → (e : Error) → kind_of e ≡ ArgumentConflict → HasKind (faults_of arguments) e
 conflicts arguments settings none found live some e kind =
@@ -79,7 +79,7 @@ among_else : (kind : ErrorKind) (kinds next : Kinds) → IsAmong kind kinds → 
 among_else kind [] next bad = absurd bad
 among_else kind (k ∷ ks) next among = among
 
--- what `clap` refuses is refused
+-- what `clap` refuses is among the faults of the arguments
 pub refuses : (arguments : List Text) (e : Error) → HasKind (fault_of command_line arguments) e → HasKind (faults_of arguments) e
 refuses arguments e (inl memory) = inl memory
 refuses arguments e (inr among) = inr (among_else (kind_of e) (fault_of command_line arguments) (session_faults (found_in arguments)) among)

@@ -1,4 +1,4 @@
--- What a getter gives of an argument's text, with the default where there is none.
+-- What a getter returns for an argument's text, or the default if there is no text.
 use Rattle.std.proofs.Common.{◌≡◌, ◌∙◌, ◌⊎◌, ◌≤◌, ap, sym, refl, subst, inl, inr, true, false, Bool, arith, ℕ, List, [], Option, Some, None, codes}
 use Rattle.std.specs.List.{slice_index_or}
 use Rattle.std.specs.Prelude.{◌↔◌, Result, Ok, unwrap_or}
@@ -7,7 +7,7 @@ use Rattle.clap.specs.Matches.{ReadsOne}
 use Rattle.cli.specs.CommandLine.{number_or}
 
 module _ (E : Type 0) (G : List ℕ → Result ℕ E → Type 0) (only : (u : List ℕ) (x : Result ℕ E) → G u x → ParsesUnsigned 32 10 u x) where
-  -- a number in its limits, or a default in them
+  -- a number within its limits, or a default within them
   pub settled_number : (text : Option (List ℕ)) (read : Option ℕ) (v low high d : ℕ) → v ≡ unwrap_or read d
       → (text ≡ None → read ≡ None) → ((t : List ℕ) → text ≡ Some t → ReadsOne G t read)
       → ((text ≡ None) ⊎ ((n : ℕ) × (read ≡ Some n) × (low ≤ n) × (n ≤ high))) → low ≤ d → d ≤ high
@@ -21,7 +21,7 @@ module _ (E : Type 0) (G : List ℕ → Result ℕ E → Type 0) (only : (u : Li
       let parsed = only t (Ok some.0) (subst (λ (o : Option ℕ). ReadsOne G t o) some.1 (value t refl)) in
       (at ∙ parsed.1, rw at some.2, rw at some.3)
 
--- a flag is set where its text is `true`
+-- a flag is set if its text is `true`
 pub settled_flag : (E : Type 0) (text : Option (List ℕ)) (read : Option Bool) (v : Bool) → v ≡ unwrap_or read false
     → (text ≡ None → read ≡ None) → ((t : List ℕ) → text ≡ Some t → ReadsOne (ParsesBool {E = E}) t read)
     → (v ≡ true) ↔ (text ≡ Some (codes "true"))

@@ -34,11 +34,11 @@ command_line = with_rule (with_rule (with_rule (with_rule (with_rule (new_app (c
     (flag (codes "live")))
     (new_rule (codes "FILE"))
 
--- what is found in the arguments, by `clap`'s reading of a command line
+-- what `clap` finds in the arguments when it reads them by this command line
 abbrev pub found_in : List Text → List Row
 found_in arguments = matches_of command_line arguments
 
--- the number that is written, or else the default
+-- the number that the text spells, or the default if there is no text
 abbrev pub number_or : ℕ → Option Text → ℕ
 number_or default (Some text) = digits_value 10 (without_leading_plus text)
 number_or default None = default
@@ -48,7 +48,7 @@ abbrev pub is_set : Option Text → Bool
 is_set (Some text) = bytes_eq text (codes "true")
 is_set None = false
 
--- a session has no readers, and an option may say so
+-- a session has no readers; `--readers 0` is allowed
 abbrev pub session_faults : List Row → Kinds
 session_faults found =
     if is_set (one_of (codes "live") found) && not (number_or 0 (one_of (codes "readers") found) == 0)
@@ -65,7 +65,7 @@ default_readers live = if live then 0 else 2
 abbrev pub default_max_commands : Bool → ℕ
 default_max_commands live = if live then 1000000 else 65536
 
--- The settings are those that are found, each under its name, with the defaults for those that are not.
+-- The settings are those that are found, each under its name, and the defaults for those that are not found.
 pub record IsSettingsIn (found : List Row) (settings : Settings) : Type 0 where
   pub live : (settings.live ≡ true) ↔ (one_of (codes "live") found ≡ Some (codes "true"))
   pub readers : settings.readers ≡ number_or (default_readers settings.live) (one_of (codes "readers") found)
@@ -89,7 +89,7 @@ pub record SpellSettings (arguments : List Text) (settings : Settings) : Type 0 
 abbrev pub AskForHelp : List Text → Type 0
 AskForHelp arguments = IsAmong DisplayHelp (faults_of arguments)
 
--- Something else is wrong with them.
+-- Something is wrong with the arguments, and they do not ask for the help.
 pub record AreRefused (arguments : List Text) : Type 0 where
   pub faulty : faults_of arguments ≢ []
   pub no_help : AskForHelp arguments → ⊥

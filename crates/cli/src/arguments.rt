@@ -1,4 +1,4 @@
-//! The arguments of the program, and the settings that they give.
+//! The arguments of the program, and the settings that they spell.
 
 ghost use Rattle.std.specs.Prelude.{◌≡◌, IfOk, IfErr, map, string_bytes};
 ghost use Rattle.clap.specs.Faults.{fault_of};
@@ -28,12 +28,12 @@ const DEFAULT_MAX_COMMANDS_LIVE: u32 = 1_000_000;
 pub struct Settings<'a> {
     /// `--live`: whether it is a session, which carries out each item of the script as it comes.
     pub live: bool,
-    /// `--readers`: how many readers there are, 0 to 16, by default 2. A session has none.
+    /// `--readers`: how many readers there are, 0 to 16, by default 2. It is 0 in a session.
     pub readers: u32,
     /// `--max-commands`: how many commands are accepted at most, 1 to 1,000,000, by default 65,536, or
     /// 1,000,000 in a session.
     pub max_commands: u32,
-    /// `--stats`: whether each answer shows its number of candidates.
+    /// `--stats`: whether each answer shows its number of candidates and of documents.
     pub stats: bool,
     /// `FILE`: the path of the script, if it is not standard input.
     pub file: Option<&'a str>,
@@ -69,7 +69,7 @@ pub fn read_arguments<'a>(
     }
 }
 
-/// The error that refuses arguments that are not UTF-8.
+/// The error for arguments that are not UTF-8: `Refused`, or `OutOfMemory` if memory ran out for its text.
 pub fn not_text(alloc: Global) -> ArgumentError {
     let message = "invalid UTF-8 was detected in one or more arguments";
     let refused = match command(alloc) {
@@ -82,7 +82,7 @@ pub fn not_text(alloc: Global) -> ArgumentError {
     }
 }
 
-/// Reads the settings from the arguments, and refuses a session that has readers.
+/// Reads the settings from the arguments, and refuses a session with readers.
 #[tactic(auto, using(crate::proofs::SessionLemmas::spells, crate::proofs::SessionLemmas::conflicts))]
 fn parse<'a>(alloc: Global, arguments: &'a [String]) -> Result<Settings<'a>, Error>
     ensures settings { IfOk result (SpellSettings (map string_bytes arguments.entry.now)) }
@@ -95,7 +95,7 @@ fn parse<'a>(alloc: Global, arguments: &'a [String]) -> Result<Settings<'a>, Err
     }
 }
 
-/// The error that refuses readers of a session.
+/// The error that refuses a session with readers. An `Err` means that memory ran out.
 fn readers_of_session(alloc: Global) -> Result<Error, AllocError>
     ensures kind { IfOk result (λ error. kind_of error ≡ ErrorKind.ArgumentConflict) }
 {
@@ -142,7 +142,7 @@ fn default_max_commands(live: bool) -> u32
     }
 }
 
-/// The command line, by which `clap` reads the arguments.
+/// The command line that `clap` reads the arguments by. An `Err` means that memory ran out.
 fn command<'a>(alloc: Global) -> Result<Command<'a>, AllocError>
     ensures command_line { IfOk result (λ command. app_of command ≡ command_line) }
 {

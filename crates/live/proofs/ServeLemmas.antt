@@ -30,7 +30,7 @@ use Rattle.live.specs.Served.{run_options, EndsReading, IsOver, IsServed, IsBrok
 use Rattle.live.specs.Served as served
 use Rattle.live.specs.Private.Serving.{marks_with, marks_of, status_by, Start, Now, now, IsServing, IsDone, IsStopped, IsAdvanced, marks_after, text_of_shown}
 
--- An item that was taken, and then carried out.
+-- A run goes on by an item that was taken and then carried out.
 module _ (Holds : List ℕ → List ℕ → Type 0) (old : LoneState) (failed : ℕ) (name : List ℕ) (line : ℕ) (item : Item) (entry : Entry) where
   pub shown_put : (body : List ℕ) (new : LoneState) → item ≡ put name body → IsPutOn old name body line entry new
       → GoesOn Holds old failed (numbered line item) (Some entry) new failed
@@ -71,7 +71,7 @@ serving_begins Holds stats limit failed input output run stream marks fresh firs
   more = refl;
 })
 
--- A source that held no more later.
+-- What the source holds later (Holds'), it already held at first (Holds).
 pub serving_held : (Holds Holds' : List ℕ → List ℕ → Type 0) → ((path body : List ℕ) → Holds' path body → Holds path body)
     → (stats : Bool) (start : Start) (at : Now) → IsServing Holds' stats start at → IsServing Holds stats start at
 serving_held Holds Holds' holds stats start at is = record {
@@ -120,7 +120,7 @@ advanced_held Holds Holds' holds stats start (Ok true) at is = serving_held Hold
 advanced_held Holds Holds' holds stats start (Ok false) at is = done_held Holds Holds' holds stats start at is
 advanced_held Holds Holds' holds stats start (Err error) at is = stopped_held Holds Holds' holds stats start at is
 
--- A step, where the source holds by then what it held at first.
+-- A step of a session whose source still holds what it held at first.
 pub goes_on_from : (Holds Holds' : List ℕ → List ℕ → Type 0)
     → ((path body : List ℕ) → (Holds' path body → Holds path body) × (Holds path body → Holds' path body))
     → (stats : Bool) (start : Start) (old : Now) (result : Result Bool LiveError) (new : Now) → IsServing Holds stats start old
@@ -352,7 +352,7 @@ module _ (Holds : List ℕ → List ℕ → Type 0) (stats : Bool) (start : Star
 
 module _ (Holds : List ℕ → List ℕ → Type 0) (stats : Bool) (start : Start) (old : Now) (bytes : List ℕ) (left : Option (List ℕ))
     (serving : IsServing Holds stats start old) (read : Consumes old.left left bytes) (stream : StreamState) where
-  -- The input's end was met.
+  -- The end of the input was reached.
   pub advanced_none : streams.IsNext old.stream (Ok None) stream bytes old.left left
       → IsAdvanced Holds stats start (Ok false) (now old.run stream old.marks old.failed left old.written)
   advanced_none next = is_over Holds stats start old serving bytes left read next.0 (by_end next.2) stream
@@ -361,7 +361,7 @@ module _ (Holds : List ℕ → List ℕ → Type 0) (stats : Bool) (start : Star
       by_end (inl over) = absurd (let both : false ≡ true = sym serving.more ∙ over in cc)
       by_end (inr ended) = ended
 
-  -- No item could be had, or none is taken any more.
+  -- There was an error instead of an item, or no more items are taken.
   pub advanced_error : (error : LiveError) → IsAdvanced Holds stats start (Err error) (now old.run stream old.marks old.failed left old.written)
   advanced_error error = stays Holds stats start old serving bytes left read stream old.marks
 

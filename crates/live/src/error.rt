@@ -26,7 +26,7 @@ pub enum LiveError {
     /// The number of a line would not fit in 32 bits.
     #[error("tsearch: too many lines")]
     TooManyLines,
-    /// There were 4,294,967,295 searches. No item is read after the last of them.
+    /// There were 4,294,967,295 searches, the most that a session can count. No item is read after the last of them.
     #[error("tsearch: too many searches")]
     TooManySearches,
 }

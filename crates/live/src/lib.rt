@@ -1,5 +1,5 @@
-//! `live`: a session that stays open. Items are read as they come, and each is carried out, and its text written,
-//! before the next one is waited for.
+//! `live`: a session that stays open. It reads items as they come, carries out each one and writes its text before it
+//! waits for the next one.
 #![tactic(auto)]
 
 mod error;

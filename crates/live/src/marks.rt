@@ -6,7 +6,7 @@ ghost use Rattle.live.specs.Private.Serving.{marks_with, status_by};
 
 use tsearch::{Entry, has_hit, is_refusal};
 
-/// Whether an entry so far refuses something, and whether one has a hit.
+/// Whether any entry so far refuses something, and whether any has a hit.
 #[derive(Clone, Copy, Debug, PartialEq, Eq)]
 pub(crate) struct Marks {
     pub(crate) refused: bool,
@@ -14,7 +14,7 @@ pub(crate) struct Marks {
 }
 
 impl Marks {
-    /// After one more entry.
+    /// The marks after one more entry.
     pub(crate) fn with(self, entry: &Entry) -> Marks
         ensures { result ≡ marks_with self entry.now }
     {

@@ -16,12 +16,13 @@ use tsearch::{LoneRun, Source};
 pub struct LiveOptions {
     /// How many commands are accepted at most, 1 to 1,000,000.
     pub max_commands: u32,
-    /// Whether each answer shows its number of candidates too.
+    /// Whether each answer also shows its number of candidates and of documents.
     pub stats: bool,
 }
 
 /// Serves a session: takes items from the input as they come, carries each one out, and writes its text, until the
-/// input ends or a fault ends the reading. Returns the status of the session, which is that of a run.
+/// input ends or a fault ends the reading. Returns the status of the session: 2 if anything was refused, otherwise 0
+/// if some search has a hit, and otherwise 1, as `tsearch::status` does for a run.
 ///
 /// All text that an item causes is written and flushed before a byte after the item is waited for, and no byte is
 /// waited for that the item does not need. Reader 0 answers each search at once; no threads are started. Neither
@@ -31,6 +32,11 @@ pub struct LiveOptions {
 /// (`docs/DEFINITIONS.md`). After an `Err`, which says why the session ended early, it is a beginning of such a text,
 /// for a beginning of those bytes. The source holds afterwards what it held before, and its count of failures has not
 /// fallen.
+///
+/// `NoPlace` means that reader 0 got no place, `CannotRead` that the input failed, `CannotWrite` that the output
+/// failed or took no byte, and `OutOfMemory` that memory ran out for the session itself, for a line, or for the text
+/// of an entry. `LineTooLong`, `TooManyLines` and `TooManySearches` mean that a limit was reached, which `LiveError`
+/// states.
 pub fn serve<R: Wait, S: Source, I: BufRead, O: Write>(
     rt: &R,
     alloc: Global,
@@ -57,7 +63,7 @@ pub fn serve<R: Wait, S: Source, I: BufRead, O: Write>(
     served
 }
 
-/// Serves a session with a run before its first item.
+/// Serves a session with a run that is before its first item.
 fn serve_items<R: Wait, S: Source, I: BufRead, O: Write>(
     rt: &R,
     alloc: Global,

@@ -38,7 +38,7 @@ pub(crate) struct Session {
 }
 
 impl Session {
-    /// Before the first item.
+    /// A session before its first item.
     pub(crate) fn new(alloc: Global) -> Session
         ensures stream { result.stream ≡ stream_at 1 false }
         ensures marks { result.marks ≡ marks_of [] }
@@ -75,7 +75,7 @@ impl Session {
     }
 }
 
-/// Takes the next item, carries it out and writes the text of its entry. Says whether more is to be read.
+/// Takes the next item, carries it out and writes the text of its entry. Returns whether more is to be read.
 pub(crate) fn advance<R: Wait, S: Source, I: BufRead, O: Write>(
     plan: &Plan<'_, R>,
     run: &mut LoneRun,
@@ -106,7 +106,7 @@ pub(crate) fn advance<R: Wait, S: Source, I: BufRead, O: Write>(
     Ok(more)
 }
 
-/// Carries out an item. A sync has no entry.
+/// Carries out an item, and returns its entry; `None` for a sync.
 fn carry_out<R: Wait, S: Source>(
     plan: &Plan<'_, R>,
     run: &mut LoneRun,

@@ -13,8 +13,8 @@ use tsearch::{Entry, append_entry, write_whole};
 /// A buffer of more bytes than this is freed once its text is written.
 const LARGE: usize = 1_048_576;
 
-/// Writes the text of an entry and flushes it. An entry without text writes nothing, and flushes nothing. `text` is a
-/// buffer, whose bytes do not matter.
+/// Writes the text of an entry and flushes it. For an entry without text, nothing is written or flushed. `text` is a
+/// buffer; its old bytes do not matter.
 pub(crate) fn write_entry<O: Write>(
     alloc: Global,
     entry: &Entry,

@@ -10,7 +10,7 @@ use Rattle.program.specs.Answer.{IsAnswer, IsFailure, IsFailureOfRun, IsRunOf, I
 use Rattle.program.specs.declared.error.ProgramError.{ProgramError}
 use Rattle.program.specs.declared.error.ProgramError.TheVariants as error
 
--- bytes that were written stay written at a flush
+-- bytes that were written stay written after a flush
 pub written_and_kept : (a b c : Option (List ℕ)) (bs : List ℕ) → Appends a b bs → Keeps b c → Appends a c bs
 written_and_kept = Appends-kept
 
@@ -46,7 +46,7 @@ module _ {O : Type 0} (contents : O → Option (List ℕ)) (arguments : List (Li
   session_answers settings (Ok done) spelled live session = served settings spelled live session
   session_answers settings (Err e) spelled live session = session
 
-  -- and so is the help where they ask for it
+  -- and so is the help if they ask for it
   pub help_answers : (r : Result (ℕ × O) ProgramError) → AskForHelp arguments
       → IfOk r (λ done. (done.0 ≡ 0) × Appends old (contents done.1) HELP.now)
       → IfOk r (λ done. IsAnswer arguments opens input failed failed' old (contents done.1) done.0)

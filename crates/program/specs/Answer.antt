@@ -21,7 +21,7 @@ abbrev pub live_options_of : Settings → LiveOptions
 live_options_of settings = record { max_commands = settings.max_commands; stats = settings.stats }
 
 -- A run as the settings say: the script is read from their file or from the input, a transcript that is legal for
--- it under their options is written, once and as text, and the status is the transcript's. opens: the bytes of
+-- it under their options is written, once and as text, and the status is the transcript's. opens: the bytes of the
 -- files. input: what standard input has left. failed, failed': how often files have failed, before and after.
 -- old, new: what has been written, before and after.
 pub record IsRunOf (opens : List ℕ → Option (List ℕ) → Type 0) (input : Option (List ℕ)) (failed failed' : ℕ) (old new : Option (List ℕ))
@@ -51,12 +51,12 @@ pub data IsAnswer (arguments : List (List ℕ)) (opens : List ℕ → Option (Li
       → IsSessionOf opens input failed failed' old new settings status → IsAnswer arguments opens input failed failed' old new status
   helped : AskForHelp arguments → Appends old new HELP.now → status ≡ 0 → IsAnswer arguments opens input failed failed' old new status
 
--- Why a run or a session may have no answer.
+-- The errors with which a run or a session can end.
 abbrev pub IsFailureOfRun : ProgramError → Type 0
 IsFailureOfRun (error.Arguments fault) = ⊥
 IsFailureOfRun _ = ⊤
 
--- Why the program may have no answer to the arguments.
+-- The errors with which the program can end for these arguments.
 abbrev pub IsFailure : List (List ℕ) → ProgramError → Type 0
 IsFailure arguments (error.Arguments fault) = IsRefusalOf arguments fault
 IsFailure arguments error.OutOfMemory = faults_of arguments ≡ []

@@ -5,8 +5,8 @@ use Rattle.std.specs.Str.{IsUtf8}
 use Rattle.index.specs.declared.body.TheConstants.{MAX_BODY}
 use Rattle.script.specs.declared.reader.TheConstants.{MAX_SCRIPT}
 
--- The bytes are those of the file at the path, up to the first `most` of them. Of a file whose bytes are not known
--- nothing more is said. `opens path all`: the file at the path has all these bytes, where they are known.
+-- The bytes are those of the file at the path, or the first `most` of them. If the bytes of the file are not known, nothing
+-- more is said. `opens path all`: the file at the path has these bytes in all, or they are not known.
 pub record IsReadFrom (opens : List ℕ → Option (List ℕ) → Type 0) (path : List ℕ) (most : ℕ) (bytes : List ℕ) : Type 0 where
   pub all : Option (List ℕ)
   pub opened : opens path all

@@ -23,12 +23,13 @@ use tsearch::{Gate, Options, Point};
 /// The status if an argument is refused, or the program has no answer or cannot write it.
 const REFUSED: u8 = 2;
 
-/// Does what the arguments ask for and returns the status. The first argument is the program's name.
+/// Does what the arguments ask for and returns the status: that of the run or session (0, 1 or 2), 0 for the help, or
+/// 2 if the program cannot do what they ask. The first argument is the program's name.
 ///
 /// A run or a session reads its script from the file that the arguments name, or from `input`, and its loads
 /// from the files of the source. A run's transcript is written to `out` at its end, the text of a session as its
 /// items come, and the help if the arguments ask for that. If the program cannot do this, it says why on standard
-/// error. If standard error fails too, only the status tells.
+/// error. If standard error fails too, only the status shows it.
 #[tactic(auto, using(crate::proofs::AnswerLemmas::refused_have_none))]
 pub fn respond<R: Eprint + Threads + Wait + Sync, D: Disk, I: Read + Drop, O: Write + Drop>(
     rt: &R,
@@ -48,11 +49,11 @@ pub fn respond<R: Eprint + Threads + Wait + Sync, D: Disk, I: Read + Drop, O: Wr
     }
 }
 
-/// Says on standard error why there is no answer, and returns the status for that.
+/// Says on standard error why there is no answer, and returns the status for that, 2.
 pub fn report<R: Eprint>(rt: &R, error: &ProgramError) -> u8
     ensures { result ≡ 2 }
 {
-    // If standard error fails too, only the status tells.
+    // If standard error fails too, only the status shows it.
     let _ = match error {
         ProgramError::Arguments(refused) => rt.eprint(refused),
         other => rt.eprintln(other),
@@ -132,8 +133,8 @@ fn run_script<R: Threads + Wait + Sync, D: Disk, I: Read + Drop, O: Write + Drop
     };
     let written = write_text(alloc, &transcript, settings.stats, out)?;
     let status = tsearch::status(&transcript);
-    // The process ends next and gives its memory back at once: freeing each hit of the answers would take
-    // about as long as writing it.
+    // The process ends next, which frees its memory at once: freeing each hit of the answers would take about as long
+    // as writing it.
     forget(transcript);
     Ok((status, written))
 }

@@ -13,17 +13,17 @@ pub trait Disk {
     /// A file that is open.
     type File: Read + Drop;
 
-    /// The file at the path has these bytes, where they are known.
+    /// The file at the path has these bytes. `None` means that its bytes are not known.
     ghost opens: { Self → List ℕ → Option (List ℕ) → Type 0 };
 
-    /// Opens the file at the path, at its start.
+    /// Opens the file at the path, at its start. An `Err` means that it cannot be opened.
     fn open(&self, path: &str) -> io::Result<Self::File>
         ensures { IfOk result (λ file. opens self.now path.now (Self.File.remaining file)) };
 }
 
 /// The files of the machine on which the program runs.
 ///
-/// The bytes are read from a file that was opened. Contracts do not know which file is at a path.
+/// Contracts know that the bytes are those of a file that was opened, but not which file is at a path.
 #[derive(Drop)]
 pub struct HostDisk<'a, R> {
     files: &'a R,
@@ -48,7 +48,8 @@ impl<R: Files> Disk for HostDisk<'_, R> {
     }
 }
 
-/// Reads the file at the path to its end, or its first `most` bytes if it has more.
+/// Reads the file at the path to its end, or its first `most` bytes if it has more. An `Err` means that the file
+/// cannot be opened or read, or that memory ran out.
 pub fn read_path<D: Disk>(alloc: Global, disk: &D, path: &str, most: u64) -> io::Result<Vec<u8>>
     ensures { IfOk result (λ bytes. IsReadFrom (D.opens disk.now) path.now most bytes.items) }
 {
@@ -58,7 +59,8 @@ pub fn read_path<D: Disk>(alloc: Global, disk: &D, path: &str, most: u64) -> io:
     }
 }
 
-/// Reads the bytes of a reader to its end, or the first `most` of them if there are more.
+/// Reads a reader to its end, or its first `most` bytes if there are more. An `Err` means that the reading failed, or
+/// that memory ran out.
 pub fn read_at_most<R: Read + Drop>(alloc: Global, reader: R, most: u64) -> io::Result<Vec<u8>>
     ensures { IfSome (R.remaining reader) (λ all. IfOk result (λ bytes. bytes.items ≡ take most all)) }
 {

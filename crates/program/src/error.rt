@@ -8,10 +8,10 @@ use tsearch::{RunError, WriteError};
 /// Why the program ends before its answer is written whole. Its text is for standard error.
 #[derive(Debug, Drop, Error)]
 pub enum ProgramError {
-    /// The arguments cannot be read. This text ends with a line feed; the others do not.
+    /// The arguments cannot be read. Its text ends with a line feed; the texts of the others do not.
     #[error(transparent)]
     Arguments(ArgumentError),
-    /// The file or standard input could not be read.
+    /// The script's file could not be opened or read, or standard input could not be read.
     #[error("tsearch: cannot read the script")]
     CannotRead,
     /// Memory ran out.

@@ -20,7 +20,7 @@ pub struct FileSource<'a, D> {
 }
 
 impl<'a, D: Disk> FileSource<'a, D> {
-    /// The files of a disk, which have not failed.
+    /// The files of a disk, with no failures yet.
     pub fn new(disk: &'a D) -> FileSource<'a, D>
         ensures disk { result.disk ≡ disk.entry }
         ensures failures { result.failures ≡ 0 }
@@ -28,10 +28,10 @@ impl<'a, D: Disk> FileSource<'a, D> {
         FileSource { disk, failures: 0 }
     }
 
-    /// Reads a file. If it is longer than a body may be, only one byte more than the limit is read.
+    /// Reads a file. If it is longer than a body can be (1,048,576 bytes), only one byte more than that is read.
     ///
-    /// `OutOfMemory` means that memory ran out for the bytes, and `Failed` that the path is not UTF-8, or that
-    /// the file cannot be opened, or that the reading fails.
+    /// `OutOfMemory` means that memory ran out, and `Failed` that the path is not UTF-8, or that the file cannot be
+    /// opened or read.
     fn read_file(&self, alloc: Global, path: &[u8]) -> Result<Vec<u8>, Fault>
         ensures bytes { IfOk result (λ bytes. IsLoadFrom (D.opens self.now.disk.now) path.now bytes.items) }
         ensures no_text { ¬ IsUtf8 path.now → IsErrOf result Fault.Failed }
@@ -47,7 +47,7 @@ impl<'a, D: Disk> FileSource<'a, D> {
     }
 }
 
-/// What a run is told of an error that a load met.
+/// The fault that a run gets for an error in a load.
 fn fault_of_load(error: &io::Error) -> Fault
     ensures memory { error_kind error.now ≡ ErrorKind.OutOfMemory → result ≡ Fault.OutOfMemory }
     ensures other { error_kind error.now ≢ ErrorKind.OutOfMemory → result ≡ Fault.Failed }

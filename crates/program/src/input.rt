@@ -10,11 +10,11 @@ use script::MAX_SCRIPT;
 use std::alloc::Global;
 use std::io::{self, ErrorKind, Read};
 
-/// Reads the script from a file, or from `input` if none is named. If the script is too long, only one byte
-/// more than the limit is read.
+/// Reads the script from the file at the path `file`, or from `input` if there is no path. If the script has over
+/// 67,108,864 bytes, only one byte more than that is read.
 ///
-/// `OutOfMemory` means that memory ran out for the bytes, and `CannotRead` that the file cannot be opened or
-/// that the reading fails.
+/// `OutOfMemory` means that memory ran out, and `CannotRead` that the file cannot be opened or that the reading
+/// fails.
 pub fn read_script<D: Disk, I: Read + Drop>(
     alloc: Global,
     disk: &D,
@@ -35,7 +35,7 @@ pub fn read_script<D: Disk, I: Read + Drop>(
     }
 }
 
-/// What the program says of an error that it met while it opened or read the script.
+/// The program's error for one that it met while it opened or read the script.
 pub fn fault_of_script(error: &io::Error) -> ProgramError
     ensures memory { error_kind error.now ≡ ErrorKind.OutOfMemory → result ≡ ProgramError.OutOfMemory }
     ensures other { error_kind error.now ≢ ErrorKind.OutOfMemory → result ≡ ProgramError.CannotRead }

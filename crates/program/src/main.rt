@@ -1,6 +1,6 @@
 //! `tsearch`: searches documents by extended regular expressions, as a script says.
 //!
-//! The program fetches its arguments, does what they ask for, and ends with the status of that.
+//! The program fetches its arguments, does what they ask for, and ends with the status.
 #![tactic(auto)]
 
 mod answer;
@@ -33,7 +33,7 @@ fn main(rt: HostRuntime) -> ExitCode {
     ExitCode::from(status)
 }
 
-/// The arguments of the program, the first being its name.
+/// The arguments of the program. The first one is its name.
 ///
 /// `Arguments` means that an argument is not UTF-8, and `OutOfMemory` that memory ran out.
 fn fetch_arguments<R: Env + AllocGlobal>(rt: &R) -> Result<Vec<String>, ProgramError> {

@@ -13,10 +13,11 @@ use tsearch::{Transcript, write_transcript};
 /// Output is written in parts of this many bytes.
 const OUTPUT_BUFFER: usize = 65536;
 
-/// Writes the text of a transcript to a writer, and gives the writer back once it has the whole text.
+/// Writes the text of a transcript to a writer, and returns the writer once it has the whole text.
 ///
 /// `OutOfMemory` means that there was no memory for the buffer, `Write` that the text could not be written to the
-/// buffer whole, and `CannotWrite` that its last part could not be written from the buffer.
+/// buffer whole or that memory ran out for an entry's text, and `CannotWrite` that the last part of the text could
+/// not be written from the buffer.
 pub fn write_text<W: Write + Drop>(
     alloc: Global,
     transcript: &Transcript,

@@ -22,8 +22,8 @@ const INPUT_BUFFER: usize = 65536;
 /// Serves a session from the file that the settings name, or from `input` if they name none. Returns its status,
 /// and the writer with what was written.
 ///
-/// `CannotRead` means that the file cannot be opened, `OutOfMemory` that there was no memory for that or for the
-/// buffer, and `Live` that the session ended early.
+/// `CannotRead` means that the file cannot be opened, `OutOfMemory` that there was no memory for opening it or for
+/// the buffer, and `Live` that the session ended early.
 pub fn serve_session<R: Wait, D: Disk, I: Read + Drop, O: Write + Drop>(
     rt: &R,
     alloc: Global,

@@ -20,7 +20,7 @@ use Rattle.tsearch.specs.Private.Entries.{entry_of, published_entry_of, desk_aft
 use Rattle.tsearch.specs.Private.Items.{searches_in, IsEntered, all, nothing}
 use Rattle.tsearch.proofs.ItemLemmas.{counted_same, no_failure_in_body}
 
--- what an entry of a command says of versions, searches and the desk
+-- the entry of a command has no version and is not that of a search; and the desk after the command
 pub no_version : (line : ℕ) (done : Result ℕ Reason) → version_in (Some (entry_of line done)) ≡ []
 no_version line (Ok count) = refl
 no_version line (Err why) = refl
@@ -123,7 +123,7 @@ module _ (Holds : List ℕ → List ℕ → Type 0) (desk : DeskState) (told : K
         legal_is);
   })
 
--- publishes, and lines that are no items
+-- publishes, and lines that are not valid items
 module _ (Holds : List ℕ → List ℕ → Type 0) (desk : DeskState) (told : Known) (failed line : ℕ) (entry : Entry) where
   pub carried_publish : (desk' : DeskState) (told' : Known) (published : Result ℕ Reason) → entry ≡ published_entry_of line published
       → IfOk published (λ version. (version ≡ length desk.accepted) × (told' ≡ known desk.opening desk.accepted))

@@ -17,14 +17,14 @@ use Rattle.tsearch.specs.declared.settled.Last.{Last}
 use Rattle.tsearch.specs.declared.transcript.Entry.TheVariants.{Found}
 use Rattle.tsearch.specs.Private.Tallies.{last, last_of, IsUseful, CanStand, IsClosed, found}
 
--- what a search in a list finds is in it
+-- a version that a binary search finds is in the list
 pub found_in_list : ((x y : ℕ) → nat_cmp x y ≡ Equal → x ≡ y) → (versions : List ℕ) (v : ℕ) (r : Result ℕ ℕ)
     → IsSearchInRange r (length versions) → IfOk r (HoldsAt (λ y. nat_cmp y v ≡ Equal) versions)
     → MatchBool (is_ok r) (Contains versions v) (Unit {0})
 found_in_list same versions v (Ok k) bound ok = (k, bound, same (get_or versions k v) v (ok v))
 found_in_list same versions v (Err k) bound ok = tt
 
--- the answer of a reader
+-- an open search is closed with the answer of a reader
 pub closed_by_reader : (searches : List (Option Prepared)) (told : List Command) (versions : List ℕ) (number least : ℕ) (lasts : List Last)
     (reader version : ℕ) (before d : Last) (given : Given)
     → IsUseful searches told given → given.search ≡ number → CanStand told versions least before given → before ≡ get_or lasts reader d
@@ -45,7 +45,7 @@ closed_by_reader searches told versions number least lasts reader version before
       noted = ap (λ v. set lasts reader (last given.turn v)) is_version;
     })
 
--- the answer of reader 0
+-- an open search is closed with the answer of reader 0
 pub closed_by_first : (searches : List (Option Prepared)) (told : List Command) (versions : List ℕ) (number least : ℕ) (lasts : List Last)
     (turn version : ℕ) (before d : Last) (prepared : Prepared) (answer : Answer)
     → slice_get searches (number - 1) ≡ Some (Some prepared) → IsAnswerOf (state_of told) (pattern_of prepared) answer

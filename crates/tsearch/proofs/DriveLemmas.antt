@@ -30,7 +30,7 @@ pended_opening Holds desk told failed number item _ desk' told' failed' (session
 pended_opening Holds desk told failed number item _ desk' told' failed' (sessions.asked is_search left) opening =
     (ap (λ k. k.opening) left.1 ∙ opening, ap (λ d. d.opening) left.0)
 
--- What stays as it was when an item is taken.
+-- What holds from item to item still holds when an item is taken,
 pub step_keeps : {Holds : List ℕ → List ℕ → Type 0} {desk : DeskState} {failed : ℕ} {old : Session} {item : Numbered} {next : Step}
     {desk' : DeskState} {failed' : ℕ} {new : Session} → IsStep Holds desk failed old item next desk' failed' new
     → old.reading.opening ≡ old.told.opening → old.told.opening ≡ desk.opening → IsKept desk old desk' new
@@ -53,7 +53,7 @@ step_keeps {Holds} {desk} {failed} {old} {item} {next} {desk'} {failed'} {new} (
   waiting = omega (arith, ap (λ s. s.settled.searches + length s.pending.items) same);
 }
 
--- And then when all is settled.
+-- and when everything is settled after that.
 pub settled_keeps : {searches : List (Option Prepared)} {desk : DeskState} {old : Session} {desk' : DeskState} {mid new : Session}
     → IsKept desk old desk' mid → IsSettled searches mid new → new.reading.opening ≡ new.told.opening → IsKept desk old desk' new
 settled_keeps {searches} {desk} {old} {desk'} {mid} {new} kept is reading = record {
@@ -65,7 +65,7 @@ settled_keeps {searches} {desk} {old} {desk'} {mid} {new} kept is reading = reco
   waiting = omega (arith, settled_few searches mid new is, kept.waiting);
 }
 
--- A run goes on by an item that was taken, after which all is settled, or nothing.
+-- A run goes on by an item that was taken, after which everything is settled, or nothing is.
 pub step_settled : {Holds : List ℕ → List ℕ → Type 0} {searches : List (Option Prepared)} {readers : ℕ} {desk : DeskState} {failed : ℕ}
     {old : Session} {item : Numbered} {next : Step} {desk' : DeskState} {failed' : ℕ} {mid new : Session}
     → IsStep Holds desk failed old item next desk' failed' mid → IsSettled searches mid new

@@ -41,7 +41,7 @@ pub named_loaded : (Holds : List ℕ → List ℕ → Type 0) (most : ℕ) (stat
 named_loaded Holds most state bytes path bytes' line entry is held (inl body_is) = named is (loaded_body bytes' refl held body_is)
 named_loaded Holds most state bytes path bytes' line entry is held (inr ran_out) = no_memory is ran_out.2
 
--- A kind of fault is want of memory, or it is not.
+-- A kind of fault is lack of memory, or it is not.
 memory_or_not : (k : EreErrorKind) → (k ≡ kind.OutOfMemory) ⊎ (k ≡ kind.OutOfMemory → ⊥)
 memory_or_not kind.TooLong = inr (λ e. cc)
 memory_or_not kind.BadByte = inr (λ e. cc)
@@ -128,7 +128,7 @@ pub too_long_body : (bytes : List ℕ) → greatest_body < length bytes → IsBo
 unfolding IsBodyFault
 too_long_body bytes h = h
 
--- Only a source that failed counts as a failure.
+-- A refusal for the name or the body does not count as a failure of the source.
 pub no_failure_in_name : (error : NameError) → failures_in (Some (Refused 0 (reason_of_name error))) ≡ 0
 no_failure_in_name name.Empty = refl
 no_failure_in_name name.TooLong = refl
@@ -151,7 +151,7 @@ counted_none entry failed failed' none same = record {
   stays = λ e. same ∙ e;
 }
 
--- A read that failed said so.
+-- An entry that says that the source failed counts as one failure.
 pub counted_one : (entry : Entry) (failed failed' : ℕ) → failures_in (Some entry) ≡ 1 → failed ≤ failed' → failed' ≤ failed + 1
     → failed' < 2 ^ 64 → (failed < failed') ⊎ (failed' ≡ 2 ^ 64 - 1) → IsCounted (failures_in (Some entry)) failed failed'
 counted_one entry failed failed' one grows by_one below failure = record {

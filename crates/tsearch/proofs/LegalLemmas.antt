@@ -26,7 +26,7 @@ use Rattle.tsearch.proofs.RowLemmas.{commands_of-append, published_in-append, Ri
 abbrev pub context_of : ℕ → List Row → Row → List Row → Context
 context_of readers before row after = record { readers = readers; before = before; row = row; after = after }
 
--- The source held no more later than at first.
+-- What the source holds later (Holds'), it already held at first (Holds).
 module _ (Holds Holds' : List ℕ → List ℕ → Type 0) (holds : (path body : List ℕ) → Holds' path body → Holds path body) (most : ℕ) where
   map_loaded : (state : State) (path : List ℕ) (loaded : Option (List ℕ)) (line : ℕ) (entry : Entry)
       → HasLoaded Holds' most state path loaded line entry → HasLoaded Holds most state path loaded line entry
@@ -82,7 +82,7 @@ legal_sync Holds most context bad_put is = cc
 legal_sync Holds most context truncated is = cc
 legal_sync Holds most context body_not_closed is = cc
 
--- A search may be refused where the refusal is that of its texts.
+-- A refusal of a search is legal if its reason is one that `IsReasonOfRefusal` allows.
 pub legal_refusal : (Holds : List ℕ → List ℕ → Type 0) (most : ℕ) (context : Context) (item : Item) (why : SearchReason)
     → searches_of item ≡ 1 → IsReasonOfRefusal item why
     → HasEntry Holds most context item (Some (SearchRefused (count_searches context.before + 1) why))
@@ -99,7 +99,7 @@ legal_refusal Holds most context bad_put why one refusal = absurd (omega (arith,
 legal_refusal Holds most context truncated why one refusal = absurd (omega (arith, one))
 legal_refusal Holds most context body_not_closed why one refusal = absurd (omega (arith, one))
 
--- Memory may run out for each search.
+-- Any search can be refused for memory.
 pub no_memory_refusal : (item : Item) → IsReasonOfRefusal item search_reason.OutOfMemory
 no_memory_refusal (search case text) = λ context. legal.searched (legal.no_memory refl)
 no_memory_refusal (search_in case name_text text) = λ context. legal.searched (legal.no_memory refl)
@@ -139,7 +139,7 @@ sync_is_no_search bad_put is = refl
 sync_is_no_search truncated is = refl
 sync_is_no_search body_not_closed is = refl
 
--- A search that was answered, for what the list of searches has under its number.
+-- A search that was answered for the pattern that the list of searches has under its number.
 pub record IsFoundRow (searches : List (Option Prepared)) (readers : ℕ) (before : List Row) (row : Row) (after : List Row) : Type 0 where
   pub reader : ℕ
   pub turn : ℕ
@@ -156,7 +156,7 @@ pub record IsFoundRow (searches : List (Option Prepared)) (readers : ℕ) (befor
   pub at_once : readers ≡ 0 → answer.version ≤ published_last before
   pub bounded : answer.version ≤ published_last (before ++ row ∷ until_sync after)
 
--- The list of searches has the pattern of this row.
+-- If the list of searches has a pattern for this row, the row asks for it.
 abbrev pub IsListed : List (Option Prepared) → List Row → Row → Type 0
 IsListed searches before row =
     (prepared : Prepared) → searches_of row.numbered.item ≡ 1 → slice_get searches (count_searches before) ≡ Some (Some prepared)
@@ -291,7 +291,7 @@ AllStand Holds most searches readers before (row ∷ rows) =
     Stands Holds most searches readers before row rows × AllStand Holds most searches readers (before ++ row ∷ []) rows
 
 module _ (Holds : List ℕ → List ℕ → Type 0) (most : ℕ) (searches : List (Option Prepared)) (readers : ℕ) where
-  -- Rows that stand, stand before more rows.
+  -- Rows that stand still stand when more rows follow them.
   pub stand_both : (before rows more : List Row) → Rises 0 (published_in (before ++ (rows ++ more)))
       → AllStand Holds most searches readers before rows → AllStand Holds most searches readers (before ++ rows) more
       → AllStand Holds most searches readers before (rows ++ more)

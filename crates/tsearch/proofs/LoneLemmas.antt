@@ -57,7 +57,7 @@ so_far_begins Holds most failed = record {
   failures = inl (omega arith);
 }
 
--- A source that held no more later.
+-- What the source holds later (Holds'), it already held at first (Holds).
 pub so_far_held : (Holds Holds' : List ℕ → List ℕ → Type 0) → ((path body : List ℕ) → Holds' path body → Holds path body)
     → (failed : ℕ) (state : LoneState) (failed' : ℕ) (rows : List Row) → AreSoFar Holds' failed state failed' rows
     → AreSoFar Holds failed state failed' rows
@@ -158,7 +158,7 @@ state_at desk told searches turn = record { limit = desk.limit; accepted = desk.
 not_found : (entry : Entry) → searches_in entry ≡ 0 → (number reader turn : ℕ) (answer : Answer) → Some entry ≡ Some (Found number reader turn answer) → ⊥
 not_found entry zero number reader turn answer e = let same : entry ≡ Found number reader turn answer = cc in omega (arith, zero, ap searches_in same)
 
--- what is told of begins what is accepted, and grows
+-- what was told of is a beginning of what was accepted, and grows
 record IsTelling (old : LoneState) (row : Row) (new : LoneState) : Type 0 where
   pub others : List Command
   pub begins : new.accepted ≡ new.told ++ others
@@ -190,7 +190,7 @@ telling_entered desk told searches turn others begins item loaded entry desk' to
   grows = omega (arith, ap length begins, length-append told.commands others, ap (λ k. length k.commands) same);
 }
 
--- An item that is neither a search nor a sync.
+-- A run goes on by an item that is neither a search nor a sync.
 pub entered_goes_on : (Holds : List ℕ → List ℕ → Type 0) (desk : DeskState) (told : Known) (failed : ℕ) (item : Numbered) (entry : Entry)
     (desk' : DeskState) (told' : Known) (failed' searches turn : ℕ) → IsEntered Holds desk told failed item entry desk' told' failed'
     → GoesOn Holds (state_at desk told searches turn) failed item (Some entry) (state_at desk' told' searches turn) failed'
@@ -251,7 +251,7 @@ quiet_next Holds first rows old before are row new after is_legal limit accepts 
 none_is_no_answer : {A : Type 0} {x : A} → None ≡ Some x → ⊥
 none_is_no_answer e = cc
 
--- A sync.
+-- A run goes on by a sync.
 pub sync_goes_on : (Holds : List ℕ → List ℕ → Type 0) (old : LoneState) (failed : ℕ) (item : Numbered) (new : LoneState) (failed' : ℕ)
     → is_sync item.item ≡ true → new ≡ old → failed' ≡ failed → GoesOn Holds old failed item None new failed'
 sync_goes_on Holds old failed item new failed' is same same_failed = record {
@@ -290,7 +290,7 @@ module _ (Holds : List ℕ → List ℕ → Type 0) (most : ℕ) (context : Cont
 
 module _ (Holds : List ℕ → List ℕ → Type 0) (first : ℕ) (rows : List Row) (old : LoneState) (failed : ℕ)
     (are : AreSoFar Holds first old failed rows) (item : Numbered) (one : searches_of item.item ≡ 1) where
-  -- what stands in the rows of an answer
+  -- what holds of an answer among the rows
   module _ (pattern : Pattern) (answer : Answer) (answers : IsAnswerOf (state_of old.told) pattern answer) (row : Row) (rest : List Row) where
     all_told : answer.version ≡ length old.told
     all_told = answers.version
@@ -353,7 +353,7 @@ no_entry_commands (Refused line why) commands is = absurd (omega (arith, is))
 no_entry_commands (Published line version) commands is = absurd (omega (arith, is))
 
 module _ (Holds : List ℕ → List ℕ → Type 0) (old : LoneState) (failed : ℕ) (item : Numbered) (one : searches_of item.item ≡ 1) where
-  -- a search that is refused
+  -- a run goes on by a search that is refused
   refused_goes_on : (why : SearchReason) → IsReasonOfRefusal item.item why
       → GoesOn Holds old failed item (Some (SearchRefused (old.searches + 1) why)) (counted old) failed
   refused_goes_on why refusal = record {
@@ -374,7 +374,7 @@ module _ (Holds : List ℕ → List ℕ → Type 0) (old : LoneState) (failed : 
     few = omega arith;
   }
 
-  -- a search that is answered
+  -- a run goes on by a search that is answered
   found_goes_on : (prepared : Prepared) (answer : Answer) → Asks item.item (pattern_of prepared)
       → IsAnswerOf (state_of old.told) (pattern_of prepared) answer
       → GoesOn Holds old failed item (Some (Found (old.searches + 1) 0 (old.turn + 1) answer))
@@ -415,7 +415,7 @@ module _ (Holds : List ℕ → List ℕ → Type 0) (old : LoneState) (failed : 
       (subst (λ s. GoesOn Holds old failed item (Some (SearchRefused (old.searches + 1) why)) s failed) (sym same)
       (refused_goes_on why refusal))
 
--- A search.
+-- A run goes on by a search.
 pub search_goes_on : (Holds : List ℕ → List ℕ → Type 0) (old mid : LoneState) (failed : ℕ) (item : Numbered) (entry : Entry)
     (new : LoneState) (failed' : ℕ) → searches_of item.item ≡ 1 → mid ≡ old → failed' ≡ failed → IsSearchedAlone mid item.item entry new
     → GoesOn Holds old failed item (Some entry) new failed'
@@ -423,7 +423,7 @@ search_goes_on Holds old mid failed item entry new failed' one same same_failed 
     subst (λ n. GoesOn Holds old failed item (Some entry) new n) (sym same_failed)
     (subst (λ s. GoesOn Holds s failed item (Some entry) new failed) same (by_search Holds mid failed item one entry new is))
 
--- What the entry of a put is.
+-- What holds of an accepted line and of each refusal but that of a failed source holds of the entry of a put.
 module _ (P : Entry → Type 0) (line : ℕ) (refuses : (why : Reason) → failures_in (Some (Refused line why)) ≡ 0 → P (Refused line why))
     (accepts : (count : ℕ) → P (Accepted line count)) (entry : Entry) where
   by_refusal : (why : Reason) → failures_in (Some (Refused line why)) ≡ 0 → entry ≡ Refused line why → P entry
@@ -442,7 +442,7 @@ module _ (P : Entry → Type 0) (line : ℕ) (refuses : (why : Reason) → failu
   by_put most state name body (no_memory is_name is) = by_refusal OutOfMemory refl is
   by_put most state name body (named is_name with) = by_body most state body with
 
--- It publishes nothing, is no answer, and no source failed.
+-- The entry publishes nothing, is not that of a search, and does not say that the source failed.
 IsPlain : Entry → Type 0
 IsPlain entry = (version_in (Some entry) ≡ []) × (searches_in entry ≡ 0) × (failures_in (Some entry) ≡ 0)
 
@@ -451,7 +451,7 @@ unfolding IsPlain
 put_is_plain most state name body line entry is =
     by_put IsPlain line (λ why none. (refl, refl, none)) (λ count. (refl, refl, refl)) entry most state name body is
 
--- A put.
+-- A run goes on by a put.
 pub put_goes_on : (Holds : List ℕ → List ℕ → Type 0) (old : LoneState) (failed : ℕ) (name body : List ℕ) (line : ℕ) (entry : Entry)
     (new : LoneState) → IsPutOn old name body line entry new
     → GoesOn Holds old failed (numbered line (put name body)) (Some entry) new failed
@@ -485,7 +485,7 @@ put_goes_on Holds old failed name body line entry new is =
       few = omega (arith, ap (λ s. s.searches) is.left);
     }
 
--- From a desk and what was told of, as a run sees them.
+-- The same for a state that is the view of a desk and of what was told of.
 module _ (desk : DeskState) (told : Known) (searches turn : ℕ) (old : LoneState) (view : state_at desk told searches turn ≡ old) where
   pub entered_goes_from : (Holds : List ℕ → List ℕ → Type 0) (failed : ℕ) (item : Numbered) (entry : Entry) (desk' : DeskState)
       (told' : Known) (failed' : ℕ) → IsEntered Holds desk told failed item entry desk' told' failed'
@@ -528,7 +528,7 @@ module _ (desk : DeskState) (told : Known) (searches turn : ℕ) (old : LoneStat
       subst (λ s. IsSearchedAlone s item (SearchRefused (searches + 1) why) (state_at desk told (searches + 1) turn)) view
       (lone.refused why is refl refl)
 
--- A desk after a put, or after none.
+-- The state with these parts, for a put that is accepted or refused.
 abbrev state_with : ℕ → List Command → List Command → ℕ → ℕ → LoneState
 state_with limit commands told searches turn = record { limit = limit; accepted = commands; told = told; searches = searches; turn = turn }
 

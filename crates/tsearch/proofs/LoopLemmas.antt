@@ -35,7 +35,7 @@ one_search_entry (Found number reader turn answer) = omega arith
 one_search_entry (SearchRefused number reason) = omega arith
 
 module _ (searches : List (Option Prepared)) (told : List Command) (versions : List ℕ) where
-  -- What settles first, and then more.
+  -- Pending entries that are settled, and then more of them, are settled together.
   pub settles_both : (t : Tally) (pending : List (Option Entry)) (entries : List Entry) (t' : Tally) (more : List (Option Entry))
       (others : List Entry) (t'' : Tally) → Settles searches told versions t pending entries t'
       → Settles searches told versions t' more others t'' → Settles searches told versions t (pending ++ more) (entries ++ others) t''
@@ -45,7 +45,7 @@ module _ (searches : List (Option Prepared)) (told : List Command) (versions : L
   settles_both t _ _ t' more others t'' (tallies.opened {pending = rest} {entries = entries} entry lasts is_closed is) next =
       tallies.opened entry lasts is_closed (settles_both (tally_with entry lasts t) rest entries t' more others t'' is next)
 
-  -- Each entry is that of one search at most.
+  -- Settling adds at most one search for each pending entry.
   pub settles_few : (t : Tally) (pending : List (Option Entry)) (entries : List Entry) (t' : Tally)
       → Settles searches told versions t pending entries t' → t'.searches ≤ t.searches + length pending
   settles_few t _ _ _ tallies.none = omega arith
@@ -67,7 +67,7 @@ module _ (searches : List (Option Prepared)) (told : List Command) (versions : L
   settles_lasts t _ _ t' (tallies.opened {pending = rest} {entries = entries} entry lasts is_closed is) =
       settles_lasts (tally_with entry lasts t) rest entries t' is ∙ closed_lasts (t.searches + 1) t.published t.lasts entry lasts is_closed
 
--- What is settled so far of what was pending at first.
+-- A session that has settled some of what was pending at first.
 pub record IsSettling (searches : List (Option Prepared)) (first now : Session) : Type 0 where
   pub done : List (Option Entry)
   pub entries : List Entry
@@ -158,7 +158,7 @@ settling_ends searches first now so_far none =
       count = so_far.count;
     }
 
--- After all is settled there are no more searches than before it, with one for each that was pending.
+-- Settling everything does not raise the number of settled searches and pending entries together.
 pub settled_few : (searches : List (Option Prepared)) (old new : Session) → IsSettled searches old new
     → new.settled.searches + length new.pending.items ≤ old.settled.searches + length old.pending.items
 settled_few searches old new is =

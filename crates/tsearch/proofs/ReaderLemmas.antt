@@ -17,7 +17,7 @@ use Rattle.tsearch.specs.declared.reader.Reader.{Reader}
 use Rattle.tsearch.specs.Private.Tallies.{IsUseful}
 use Rattle.tsearch.specs.Private.Readers.{IsOf, IsReader}
 
--- of two beginnings of one list, the first so many of one are those of the other
+-- a list and a beginning of it have the same first n elements, if the beginning has at least n
 prefix_take : {A : Type 0} (xs ys : List A) (n : ℕ) → IsPrefix xs ys → n ≤ length xs → take n ys ≡ take n xs
 prefix_take xs ys n p le = ap (take n) (sym p.1) ∙ take-append-le n xs p.0 le
 
@@ -35,7 +35,7 @@ given_grows searches seen seen' p given is = record {
   exact = is.exact;
 }
 
--- what is told begins what is seen
+-- an answer is useful if what was told of is a beginning of what the reading has seen
 pub useful : (searches : List (Option Prepared)) (seen told : List Command) → IsPrefix told seen → (given : Given)
     → IsGiven searches seen given → IsUseful searches told given
 useful searches seen told p given is = record {

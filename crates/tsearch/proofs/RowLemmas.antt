@@ -83,7 +83,7 @@ unfoldable pub until_sync : List Row → List Row
 until_sync [] = []
 until_sync (row ∷ rows) = if is_sync row.numbered.item then [] else row ∷ until_sync rows
 
--- as many rows at the front
+-- if there is a sync, `until_sync` is the rows before it
 Fronts : List Row → Type 0
 Fronts rows = (front : List Row) → before_sync rows ≡ Some front → until_sync rows ≡ front
 
@@ -119,7 +119,7 @@ unfolding until_sync
 until_rest [] = ([], refl)
 until_rest (row ∷ rows) = until_rest_by (is_sync row.numbered.item) row rows refl (until_rest rows)
 
--- Rows that are appended come after those before the first sync.
+-- Appending rows leaves the rows before the first sync, and can only add to their end.
 pub record IsLonger (rows more : List Row) : Type 0 where
   pub rest : List Row
   pub after : List Row
@@ -187,7 +187,7 @@ last_never_falls before middle after rises =
     rises_front 0 (published_in before ++ published_in middle) (published_in after) (subst (Rises 0) split rises) in
     subst (λ l. published_last before ≤ last_or 0 l) (sym (published_in-append before middle)) (rises_grows 0 (published_in before) (published_in middle) front)
 
--- Rows that differ in the entries of searches alone.
+-- Rows that differ at most in the entries of searches.
 pub record IsSameRow (row row' : Row) : Type 0 where
   pub numbered : row.numbered ≡ row'.numbered
   pub commands : accepted_by row.entry (command_of row.numbered.item row.loaded) ≡ accepted_by row'.entry (command_of row'.numbered.item row'.loaded)

@@ -122,7 +122,7 @@ run_begins Holds options searches script failed opening desk session is start = 
     first version (zero, few, same) = sym same
     first version (suc k, few, same) = absurd (omega (arith, few))
 
--- What a reading can learn of after one more row. accepted: what was accepted before it.
+-- What a reading can learn after one more row. accepted: what was accepted before that row.
 data IsTelling (accepted told : List Command) (versions : List ℕ) (commands : List Command) (told' : List Command) : Type 0 where
   nothing : versions ≡ [] → told' ≡ told → IsTelling accepted told versions commands told'
   all : versions ≡ length accepted ∷ [] → commands ≡ [] → told' ≡ accepted → IsTelling accepted told versions commands told'
@@ -250,7 +250,7 @@ count_more failures more failed before after (inl few) counted = by_rise counted
 count_more failures more failed before after (inr most) counted = inr (counted.stays most.0, omega (arith, most.1))
 
 module _ (Holds : List ℕ → List ℕ → Type 0) (options : Options) (searches : List (Option Prepared)) (script : List ℕ) (failed : ℕ) where
-  -- All that was pending is settled.
+  -- The run after everything that was pending is settled.
   run_settles : (desk : DeskState) (session new : Session) (position : Position) (failed' : ℕ) (rows pending : List Row)
       → IsRunOf Holds options searches script failed desk session position failed' rows pending
       → (options.readers ≡ 0 → IsAlone session.told.commands rows pending) → IsSettled searches session new
@@ -319,7 +319,7 @@ module _ (Holds : List ℕ → List ℕ → Type 0) (options : Options) (searche
         },
       )
 
-  -- One more item is pending.
+  -- The run after one more item becomes pending.
   module _ (Holds' : List ℕ → List ℕ → Type 0) (holds : (path body : List ℕ) → Holds' path body → Holds path body)
       (position position' : Position) (item : Numbered) (takes : Takes position item position') (rows : List Row) where
     module _ (pending : List Row) (row : Row) (numbered : row.numbered ≡ item) where
@@ -405,7 +405,7 @@ module _ (Holds : List ℕ → List ℕ → Type 0) (options : Options) (searche
           next.tells_none,
         )
 
-    -- A sync, once nothing is pending.
+    -- The run after a sync, once nothing is pending.
     run_syncs : (desk : DeskState) (session : Session) (failed' : ℕ)
         → IsRunOf Holds options searches script failed desk session position failed' rows [] → is_sync item.item ≡ true
         → IsRunOf Holds options searches script failed desk session position' failed' (rows ++ row_of item None None ∷ []) []
@@ -521,7 +521,7 @@ unfolding searches_among count_searches
 counted_items [] = refl
 counted_items (row ∷ rows) = omega (arith, counted_items rows)
 
--- At the script's end, once all is settled, a run is legal.
+-- At the script's end, once everything is settled, a run is legal.
 pub run_is_legal : (Holds : List ℕ → List ℕ → Type 0) (options : Options) (searches : List (Option Prepared)) (script : List ℕ) (failed : ℕ)
     (desk : DeskState) (session : Session) (position : Position) (failed' : ℕ) (new : Session) → ArePrepared script searches
     → IsRun Holds options searches script failed desk session position failed' → ItemsFrom position.line position.rest []

@@ -1,4 +1,4 @@
--- Rows that are pending, and get settled.
+-- Rows that are pending, and are then settled.
 use Rattle.std.proofs.Common.{◌≡◌, ℕ, ◌+◌, ◌-◌, ◌≤◌, ◌⊎◌, inl, inr, false, List, [], ◌∷◌, ◌++◌, map, Option, Some, None, refl, sym, ap, ◌∙◌}
 use Rattle.std.proofs.Common.{subst, arith, take, length, append_assoc, length-append}
 use Rattle.std.proofs.lemmas.List.{append-nil, take-append-le, length-set}
@@ -81,7 +81,7 @@ module _ (Holds : List ℕ → List ℕ → Type 0) (most : ℕ) where
     no_sync_pending (commands ++ accepted_in row) (count + searches_of row.numbered.item) rows are.1,
   )
 
--- What is told of begins what is accepted, up to what was published last, and each version that is listed was
+-- What was told of is a beginning of what was accepted, up to what was published last, and each version that is listed was
 -- published. accepted, published: the commands and the versions of all rows.
 pub record IsTold (told : List Command) (versions : List ℕ) (accepted : List Command) (published : List ℕ) : Type 0 where
   pub others : List Command
@@ -98,7 +98,7 @@ pub record IsTallied (readers : ℕ) (told : List Command) (rows : List Row) (t 
   pub count : length t.lasts ≡ readers + 1
   pub below : AreBelow (length told) t.lasts
 
--- Without readers, one row is pending at most, and what was told of is what was published before it.
+-- Without readers at most one row is pending. If it is an open search, nothing was told of but what was published before it.
 pub data IsAlone (told : List Command) (rows : List Row) : List Row → Type 0 where
   nobody : IsAlone told rows []
   one : (row : Row) → (row.entry ≡ None → length told ≤ published_last rows) → IsAlone told rows (row ∷ [])
@@ -112,7 +112,7 @@ last_is_one default (x ∷ xs) = by_rest (last_is_one x xs)
     by_rest (inl same) = inr (0, omega arith, sym same)
     by_rest (inr inside) = inr (Contains-append_right (x ∷ []) xs (last_or x xs) inside)
 
--- a row with an entry in place of none
+-- the row of an open search, with the entry that it is closed with
 abbrev closed_row : Row → Entry → Row
 closed_row row entry = row_of row.numbered row.loaded (Some entry)
 
@@ -234,7 +234,7 @@ module _ (Holds : List ℕ → List ℕ → Type 0) (most : ℕ) (searches : Lis
     closed_count (no_memory is same) = ap length same ∙ tallied.count
     closed_count (found reader turn answer is taken) = ap length taken.noted ∙ length-set t.lasts reader (last turn answer.version) ∙ tallied.count
 
-  -- Pending rows that are settled after rows that are.
+  -- Pending rows that are settled after rows that already are.
   pub record AreSettled (rows pending : List Row) (entries : List Entry) (t : Tally) : Type 0 where
     pub new : List Row
     pub same : AreSame pending new
@@ -256,7 +256,7 @@ module _ (Holds : List ℕ → List ℕ → Type 0) (most : ℕ) (searches : Lis
       published_in-append rows new ∙ ap (λ l. published_in rows ++ l) (sym (same_published pending new same))
       ∙ sym (published_in-append rows pending)
 
-  -- one row more that stands, before others that are settled
+  -- one more row that stands, before others that are settled
   module _ (rows : List Row) (row row' : Row) (pending : List Row) (entry : Entry) (lasts' : List Last) (t : Tally)
       (same : IsSameRow row row') (is : row'.entry ≡ Some entry) (tallied : IsTallied readers told rows t)
       (turn : IsTurn t.lasts row' lasts') (count : length lasts' ≡ readers + 1) (below : AreBelow (length told) lasts')

@@ -11,7 +11,7 @@ use Rattle.tsearch.specs.Legal.{IsInTurn, AreInTurn}
 use Rattle.tsearch.specs.Private.Tallies.{last, last_of}
 use Rattle.tsearch.proofs.RowLemmas.{split_push}
 
--- The answer of a reader is no later than the reader's last one.
+-- An answer of a reader has no later turn and no later version than the reader's last one.
 pub record IsNoted (lasts : List Last) (reader turn : ℕ) (answer : Answer) : Type 0 where
   pub turned : turn ≤ (last_of lasts reader).turn
   pub seen : answer.version ≤ (last_of lasts reader).version
@@ -26,7 +26,7 @@ pub record AreTurned (lasts : List Last) (rows : List Row) : Type 0 where
   pub in_turn : AreInTurn rows
   pub noted : AreNoted lasts rows
 
--- One more row has no answer, or one in a later turn of its reader.
+-- One more row has no answer, or an answer in a later turn of its reader that is no older than the reader's last one.
 pub data IsTurn (lasts : List Last) (row : Row) (lasts' : List Last) : Type 0 where
   quiet : ((number reader turn : ℕ) (answer : Answer) → row.entry ≡ Some (Found number reader turn answer) → ⊥) → lasts' ≡ lasts → IsTurn lasts row lasts'
   turned : (number reader turn : ℕ) (answer : Answer) → row.entry ≡ Some (Found number reader turn answer) → reader < length lasts
@@ -43,7 +43,7 @@ turned_none lasts = record {
     not_empty [] row after e = cc
     not_empty (b ∷ before) row after e = cc
 
--- Two entries that are one are of one reader, in one turn, with one answer.
+-- Two equal entries are of the same reader, in the same turn, with the same answer.
 pub record IsOne (reader turn : ℕ) (answer : Answer) (reader' turn' : ℕ) (answer' : Answer) : Type 0 where
   pub by : reader' ≡ reader
   pub at : turn' ≡ turn

@@ -58,7 +58,7 @@ pub empty_by_length : (text : List ℕ) → length text ≡ 0 → text ≡ []
 empty_by_length [] e = refl
 empty_by_length (b ∷ text) e = absurd (omega arith)
 
--- the rest of a slice from a place on
+-- taking the rest of a slice from a place on leaves all of that rest
 pub rest_dropped : (text : List ℕ) (count : ℕ) → take (length text - count) (drop count text) ≡ drop count text
 rest_dropped text count = take_all (length text - count) (drop count text) (simp length-drop (omega arith))
 

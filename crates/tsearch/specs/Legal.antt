@@ -22,19 +22,19 @@ use Rattle.tsearch.specs.declared.transcript.SearchReason.TheVariants as search_
 use Rattle.tsearch.specs.declared.run.Options.{Options}
 use Rattle.tsearch.specs.Rows.{Row, items_of, entries_of, commands_of, published_in, published_last, before_sync, count_searches, count_failures}
 
--- What becomes of a command whose name is a name, once nothing else is wrong with it.
+-- What becomes of a command in which nothing is wrong: it is accepted if there is room for it.
 pub data IsRoomFor (most : ℕ) (state : State) (line : ℕ) (entry : Entry) : Type 0 where
   full : state.version ≡ most → entry ≡ Refused line reason.Full → IsRoomFor most state line entry
   accepted : state.version < most → entry ≡ Accepted line (state.version + 1) → IsRoomFor most state line entry
 
--- Faults of a name come first; memory may run out only for a name.
+-- Faults of a name come first. Only a command with a valid name can be refused for memory.
 pub data IsNamed (name : List ℕ) (line : ℕ) (entry : Entry) (Else : Type 0) : Type 0 where
   bad_name : (fault : NameError) → (fault ≡ name_error.OutOfMemory → ⊥) → IsNameFault fault name → entry ≡ Refused line (reason.Name fault)
       → IsNamed name line entry Else
   no_memory : IsName name → entry ≡ Refused line reason.OutOfMemory → IsNamed name line entry Else
   named : IsName name → Else → IsNamed name line entry Else
 
--- then those of the body, then the room
+-- then faults of the body, then lack of room
 pub data HasBody (most : ℕ) (state : State) (body : List ℕ) (line : ℕ) (entry : Entry) : Type 0 where
   bad_body : (fault : BodyErrorKind) → IsBodyFault fault body → entry ≡ Refused line (reason.Body fault) → HasBody most state body line entry
   with_body : IsBody body → IsRoomFor most state line entry → HasBody most state body line entry
@@ -42,7 +42,7 @@ pub data HasBody (most : ℕ) (state : State) (body : List ℕ) (line : ℕ) (en
 abbrev pub IsPut : ℕ → State → List ℕ → List ℕ → ℕ → Entry → Type 0
 IsPut most state name body line entry = IsNamed name line entry (HasBody most state body line entry)
 
--- A load asks the source once; what it answers, the source held under the path.
+-- A load asks the source once. It cannot load if the source failed; otherwise the source held the loaded bytes under the path.
 pub data HasLoaded (Holds : List ℕ → List ℕ → Type 0) (most : ℕ) (state : State) (path : List ℕ) (loaded : Option (List ℕ)) (line : ℕ)
     (entry : Entry) : Type 0 where
   failed : loaded ≡ None → entry ≡ Refused line reason.CannotLoad → HasLoaded Holds most state path loaded line entry
@@ -57,7 +57,7 @@ pub data IsPublish (state : State) (line : ℕ) (entry : Entry) : Type 0 where
   published : entry ≡ Published line state.version → IsPublish state line entry
   no_memory : entry ≡ Refused line reason.OutOfMemory → IsPublish state line entry
 
--- The rows before and after a row, and how many readers there are.
+-- A row, the rows before and after it, and how many readers there are.
 pub record Context : Type 0 where
   pub readers : ℕ
   pub before : List Row
@@ -71,15 +71,15 @@ all_rows context = context.before ++ context.row ∷ context.after
 abbrev pub state_before : Context → State
 state_before context = state_of (commands_of context.before)
 
--- The newest version that an answer may be of: the one published last before the first sync after the search or,
--- without readers, before the search itself. If no sync comes after the search, there is no newest one.
+-- The newest version that an answer can have: the one published last before the first sync after the search or,
+-- without readers, before the search itself. With readers and without a sync after the search, there is no such bound.
 abbrev pub newest_allowed : Context → Option ℕ
 newest_allowed context =
     if context.readers == 0 then Some (published_last context.before)
     else option_map (λ rows. published_last (context.before ++ context.row ∷ rows)) (before_sync context.after)
 
--- An answer of a published version, no older than what was published before the search, which lists
--- exactly what the documents after that version's commands hold.
+-- An answer of a published version (0 counts as published), no older than what was published before the search and no newer
+-- than is allowed, which lists exactly the lines with a match in the documents after that version's commands.
 pub record IsAnswered (context : Context) (pattern : Pattern) (reader : ℕ) (answer : Answer) : Type 0 where
   pub published : (answer.version ≡ 0) ⊎ Contains (published_in (all_rows context)) answer.version
   pub not_older : published_last context.before ≤ answer.version
@@ -91,7 +91,7 @@ pub record IsAnswered (context : Context) (pattern : Pattern) (reader : ℕ) (an
 abbrev pub search_number : Context → ℕ
 search_number context = count_searches context.before + 1
 
--- What becomes of a search: refused for memory, or answered for its pattern, which some texts spell.
+-- What becomes of a search that is not refused for its texts: it is refused for memory, or answered for a pattern that they spell.
 pub data IsSearched (context : Context) (IsIt : Pattern → Type 0) (entry : Entry) : Type 0 where
   no_memory : entry ≡ SearchRefused (search_number context) search_reason.OutOfMemory → IsSearched context IsIt entry
   found : (pattern : Pattern) (reader turn : ℕ) (answer : Answer) → IsIt pattern → entry ≡ Found (search_number context) reader turn answer
@@ -110,7 +110,7 @@ pub data IsSearchIn (context : Context) (case : Case) (name_text text : List ℕ
       → entry ≡ SearchRefused (search_number context) (search_reason.Pattern fault) → IsSearchIn context case name_text text entry
   searched : IsSearched context (IsPatternWithin case name_text text) entry → IsSearchIn context case name_text text entry
 
--- The entry of an item among these rows.
+-- In this context, the item can have this entry.
 unfoldable pub IsEntryOf : (List ℕ → List ℕ → Type 0) → ℕ → Context → ℕ → Item → Entry → Type 0
 IsEntryOf Holds most context line (put name body) entry = IsPut most (state_before context) name body line entry
 IsEntryOf Holds most context line (load name path) entry =
@@ -149,11 +149,11 @@ AreInTurn rows =
     → row'.entry ≡ Some (Found number' reader turn' answer')
     → IsInTurn turn turn' answer.version answer'.version
 
--- The greatest count of failures that a source can answer.
+-- The greatest count of failures that a source can report.
 abbrev pub greatest_failures : ℕ
 greatest_failures = 2 ^ 64 - 1
 
--- A source's count rose by this number of failures, as far as it goes.
+-- A source's count rose by this number of failures, or as far as the greatest count.
 abbrev pub IsFailedTimes : ℕ → ℕ → ℕ → Type 0
 IsFailedTimes failures before after = (failures + before ≡ after) ⊎ ((after ≡ greatest_failures) × (greatest_failures ≤ failures + before))
 

@@ -1,4 +1,4 @@
--- A run of a script as rows: each item with what a source answered to it, and its entry.
+-- A run of a script as rows: each item with its entry and, if it is a load, what the source answered.
 use Rattle.std.specs.Prelude.{ℕ, ◌+◌, Bool, true, false, option_map, if◌then◌else◌, List, [], ◌∷◌, ◌++◌, map, flat_map, Option, Some, None}
 use Rattle.index.specs.declared.command.Command.{Command}
 use Rattle.index.specs.declared.command.Command.TheVariants.{Put, Remove}
@@ -7,7 +7,7 @@ use Rattle.tsearch.specs.declared.transcript.Entry.{Entry}
 use Rattle.tsearch.specs.declared.transcript.Reason.TheVariants.{CannotLoad}
 use Rattle.tsearch.specs.declared.transcript.Entry.TheVariants.{Accepted, Refused, Published}
 
--- loaded: of a load, the bytes that the source answered, if it did not fail.
+-- loaded: the bytes that the source returned for a load, if it did not fail.
 -- entry: a sync has none.
 pub record Row : Type 0 where
   pub numbered : Numbered
@@ -54,7 +54,7 @@ abbrev pub last_or : ℕ → List ℕ → ℕ
 last_or default [] = default
 last_or default (x ∷ xs) = last_or x xs
 
--- the version that was published last, and 0 before all publishes
+-- the version that was published last, or 0 before any publish
 abbrev pub published_last : List Row → ℕ
 published_last rows = last_or 0 (published_in rows)
 
@@ -62,7 +62,7 @@ abbrev pub is_sync : Item → Bool
 is_sync sync = true
 is_sync _ = false
 
--- the rows before the first sync, where there is one
+-- the rows before the first sync, if there is one
 unfoldable pub before_sync : List Row → Option (List Row)
 before_sync [] = None
 before_sync (row ∷ rows) = if is_sync row.numbered.item then Some [] else option_map (λ front. row ∷ front) (before_sync rows)
@@ -81,7 +81,7 @@ abbrev pub failures_in : Option Entry → ℕ
 failures_in (Some (Refused line CannotLoad)) = 1
 failures_in _ = 0
 
--- how many loads the source failed
+-- how many loads were refused because the source failed
 unfoldable pub count_failures : List Row → ℕ
 count_failures [] = 0
 count_failures (row ∷ rows) = failures_in row.entry + count_failures rows

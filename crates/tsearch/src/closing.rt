@@ -25,9 +25,9 @@ pub struct OpenSearch<'a> {
     pub told: &'a Told,
     /// 0, and then the versions that were published, rising.
     pub versions: &'a [u32],
-    /// Its number.
+    /// The number of the search, from 1.
     pub number: u32,
-    /// The version that was published last before it.
+    /// The version that was published last before the search.
     pub least: u32,
 }
 
@@ -63,7 +63,7 @@ pub fn close_search<R: Threads + Wait>(
     }
 }
 
-/// The answer of the reader that the search was sent to, if it gave one that is accepted.
+/// The answer of the reader that the search was sent to, if there is one and it is accepted.
 fn answer_of_reader<R: Threads>(
     rt: &R,
     asked: OpenSearch<'_>,
@@ -102,8 +102,8 @@ fn answer_of_reader<R: Threads>(
     })
 }
 
-/// Whether an answer is accepted: its version was published and is no older than what the search and its reader
-/// had seen, and its turn is after the reader's last one.
+/// Whether an answer is accepted: its version was published, is no older than the version published last before the
+/// search, and is no older than the reader's last answer; and its turn is after the reader's last one.
 fn can_stand(asked: OpenSearch<'_>, last: Last, given: &Given) -> bool
     ensures { MatchBool result (CanStand asked.entry.told.now.commands asked.entry.versions.now asked.entry.least last given.now) Unit }
 {
@@ -123,14 +123,15 @@ fn can_stand(asked: OpenSearch<'_>, last: Last, given: &Given) -> bool
     is_published(asked.versions, version)
 }
 
-/// Whether a version is among these, which rise.
+/// Whether a version is among these, which are in rising order.
 fn is_published(versions: &[u32], version: u32) -> bool
     ensures { MatchBool result (Contains versions.now version) Unit }
 {
     versions.binary_search(&version).is_ok()
 }
 
-/// The answer of reader 0, from what was published last.
+/// The answer of reader 0, from what was published last. `None` if the search was not prepared, if memory ran out, or
+/// if reader 0 has no turn left.
 fn answer_of_first<R: Wait>(
     rt: &R,
     alloc: Global,
@@ -165,7 +166,7 @@ fn answer_of_first<R: Wait>(
     })
 }
 
-/// The search of this number.
+/// The search of this number, if it was prepared.
 fn search_at(searches: &[Option<Prepared>], number: u32) -> Option<&Prepared>
     requires { 0 < number }
     ensures { IfSome result (λ prepared. slice_get searches.now (number - 1) ≡ Some (Some prepared.now)) }
@@ -173,7 +174,7 @@ fn search_at(searches: &[Option<Prepared>], number: u32) -> Option<&Prepared>
     searches.get(number as usize - 1)?.as_ref()
 }
 
-/// Searches until the answer is of what was published last. `None` if memory ran out.
+/// Searches until the answer is of the version that was published last. `None` if memory ran out.
 pub fn answer_last<R: Wait>(
     rt: &R,
     alloc: Global,

@@ -66,7 +66,7 @@ pub fn drive<'s, 'a: 's, E, R: Threads + Wait + Sync, S: Source, G: Gate>(
     Ok(settled.entries)
 }
 
-/// A run before its first item, and its readers. A publish of nothing tells of version 0.
+/// A run before its first item, and its readers. A first publish, of no commands, tells of version 0.
 fn start<'a, R: Wait, G>(
     plan: &Plan<'a, R, G>,
     desk: &mut Desk,
@@ -91,8 +91,8 @@ fn start<'a, R: Wait, G>(
     Ok((session, readers))
 }
 
-/// Takes an item. A search is sent to its reader. All that is pending is settled at a sync, and after any other item
-/// if there are no readers or no search is open.
+/// Takes an item. A search is sent to its reader. Everything that is pending is settled at a sync, and after any
+/// other item if there are no readers or no search is open.
 fn advance<'s, 'a: 's, E, R: Threads + Wait + Sync, S: Source, G: Gate>(
     scope: &Scope<'s, E>,
     plan: &Plan<'a, R, G>,
@@ -125,7 +125,7 @@ fn advance<'s, 'a: 's, E, R: Threads + Wait + Sync, S: Source, G: Gate>(
     Ok(())
 }
 
-/// Whether all that is pending is settled after this step. `waits` says whether a search is pending.
+/// Whether everything that is pending is settled after this step. `waits` says whether a search is open.
 fn is_to_settle(step: Step, readers: u32, waits: bool) -> bool
     ensures { MatchBool result Unit ((step ≢ Step.Sync) × (readers ≢ 0)) }
 {

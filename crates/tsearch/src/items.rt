@@ -64,7 +64,7 @@ fn put(alloc: Global, desk: &mut Desk, name: &[u8], body: &[u8]) -> Result<u32, 
     }
 }
 
-/// Puts a body that was read already.
+/// Puts a body that was already read.
 pub fn put_read(alloc: Global, desk: &mut Desk, name: &[u8], body: Vec<u8>) -> Result<u32, Reason>
     ensures entry { (line : ℕ) → IsPut desk.old.limit (state_of desk.old.accepted) name.now body.items line (entry_of line result) }
     ensures desk { desk.new ≡ desk_after result (put_command name.now body.items ∷ []) desk.old }
@@ -86,8 +86,8 @@ pub fn reason_of_long_put(alloc: Global, name: &[u8]) -> Reason
     }
 }
 
-/// Why a put for whose bytes there is no memory is refused: for its name, if that is not valid, and otherwise for want
-/// of memory.
+/// Why a put is refused if there is no memory for its bytes: for its name, if that is not valid, and otherwise for
+/// lack of memory.
 pub fn reason_of_lost_put(alloc: Global, name: &[u8]) -> Reason
     ensures { (most : ℕ) (state : State) (body : List ℕ) (line : ℕ) → IsPut most state name.now body line (Entry.Refused line result) }
 {
@@ -97,8 +97,8 @@ pub fn reason_of_lost_put(alloc: Global, name: &[u8]) -> Reason
     }
 }
 
-/// Loads a body and puts it. If the name is valid the source is asked for the body, once. `CannotLoad` means that
-/// the source failed.
+/// Loads a body and puts it. The source is asked for the body once, unless the line is refused at its name.
+/// `CannotLoad` means that the source failed.
 fn load<S: Source>(
     alloc: Global,
     desk: &mut Desk,
@@ -149,7 +149,7 @@ pub fn entry_of(line: u32, done: Result<u32, Reason>) -> Entry
     }
 }
 
-/// Publishes all that is accepted, and keeps what the publish tells.
+/// Publishes all accepted commands, and stores the receipt of the publish in `told`. Returns the version.
 fn publish<R: Wait>(rt: &R, desk: &mut Desk, told: &mut Told) -> Result<u32, Reason>
     ensures ok { IfOk result (λ version. (version ≡ length desk.old.accepted) × (told.new ≡ known desk.old.opening desk.old.accepted)) }
     ensures err { IfErr result (λ reason. (reason ≡ Reason.OutOfMemory) × (told.new ≡ told.old)) }
@@ -180,13 +180,14 @@ fn publish_entry(line: u32, done: Result<u32, Reason>) -> Entry
 pub enum Outcome {
     /// It was carried out, or refused.
     Entry(Entry),
-    /// It is a search, which readings are to answer.
+    /// It is a search, which a reading is to answer.
     Search,
-    /// It is a sync: the searches before it are to be answered before anything after it is done.
+    /// It is a sync: the searches before it are to be answered before anything after it is carried out.
     Sync,
 }
 
-/// Carries out an item at the desk, and keeps what a publish tells. Searches and syncs are left to the caller.
+/// Carries out an item at the desk, and stores the receipt of a publish in `told`. Searches and syncs are left to the
+/// caller.
 pub fn carry_out<R: Wait, S: Source>(
     rt: &R,
     alloc: Global,

@@ -1,7 +1,7 @@
 //! `tsearch`: runs a script of commands and searches, and writes what it answers.
 //!
 //! `run` carries out a script and returns its transcript; `write_transcript` writes the transcript's text,
-//! and `status` says how it ended.
+//! and `status` returns its status. `LoneRun` carries out a script without readers, item by item.
 #![tactic(auto)]
 
 mod closing;

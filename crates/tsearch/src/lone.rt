@@ -28,14 +28,15 @@ use std::sync::Wait;
 
 /// A run without readers, which is given its items one after the other. Reader 0 answers each search at once.
 ///
-/// Contracts see it as the commands that were accepted and published, and its counts. End it by `close`.
+/// Contracts see it as the commands that were accepted, those that were published last, and its counts. End it with
+/// `close`.
 pub struct LoneRun {
     desk: Desk,
     /// What was published last.
     told: Told,
     /// The reading of reader 0.
     reading: Reading,
-    /// How many searches there were.
+    /// How many searches have been taken.
     searches: u32,
     /// The turn of the last answer.
     turn: u32,
@@ -53,8 +54,8 @@ impl Model for LoneRun {
 }
 
 impl LoneRun {
-    /// A run that takes at most `max_commands` commands, before its first item. `NoPlace` means that reader 0 got no
-    /// place, and `OutOfMemory` that memory ran out.
+    /// A run before its first item. It accepts at most `max_commands` commands, 1 to 1,000,000. `NoPlace` means that
+    /// reader 0 got no place, and `OutOfMemory` that memory ran out.
     pub fn open<R: Wait>(rt: &R, alloc: Global, max_commands: u32) -> Result<LoneRun, OpenError>
         requires { (0 < max_commands) × (max_commands ≤ 1000000) }
         ensures { IfOk result (λ run. run ≡ first_state max_commands) }
@@ -75,14 +76,15 @@ impl LoneRun {
         }
     }
 
-    /// Whether there were as many searches as can be counted. No further item is taken then.
+    /// Whether the run has had 4,294,967,295 searches, the most that it can count. It can then take no further item.
     pub fn is_full(&self) -> bool
         ensures { MatchBool result (self.now.searches + 1 ≡ 2 ^ 32) (self.now.searches + 1 < 2 ^ 32) }
     {
         self.searches == u32::MAX
     }
 
-    /// Carries out the next item, and gives its entry. A sync has none. The source is asked as in `run`.
+    /// Carries out the next item, and returns its entry; `None` for a sync. Only a load asks the source, and only
+    /// once.
     pub fn take<R: Wait, S: Source>(
         &mut self,
         rt: &R,
@@ -104,21 +106,24 @@ impl LoneRun {
         }
     }
 
-    /// Carries out a put, whose bytes it keeps.
+    /// Carries out the put on this line, with these bytes as the body, and returns its entry. If it is accepted, the
+    /// run keeps the bytes.
     pub fn put(&mut self, alloc: Global, line: u32, name: &[u8], body: Vec<u8>) -> Entry
         ensures { IsPutOn self.old name.now body.items line result self.new }
     {
         entry_of(line, put_read(alloc, &mut self.desk, name, body))
     }
 
-    /// Refuses a put whose bytes were not kept, since there are more than a body may have.
+    /// The entry that refuses a put of over 1,048,576 bytes, which were not kept: for its name, if that is not valid,
+    /// and otherwise for its body. If memory runs out for the name, the entry says that.
     pub fn refuse_long_put(alloc: Global, line: u32, name: &[u8]) -> Entry
         ensures { (state : LoneState) (body : List ℕ) → greatest_body < length body → IsPutOn state name.now body line result state }
     {
         entry_of(line, Err(reason_of_long_put(alloc, name)))
     }
 
-    /// Refuses a put for whose bytes there was no memory.
+    /// The entry that refuses a put if there was no memory for its bytes: for its name, if that is not valid, and
+    /// otherwise for lack of memory.
     pub fn refuse_lost_put(alloc: Global, line: u32, name: &[u8]) -> Entry
         ensures { (state : LoneState) (body : List ℕ) → IsPutOn state name.now body line result state }
     {
@@ -175,7 +180,8 @@ impl LoneRun {
     }
 }
 
-/// What is told of before the first item, and the reading of reader 0. A publish of nothing tells of version 0.
+/// What is told of before the first item, and the reading of reader 0. A first publish, of no commands, tells of
+/// version 0. An `Err` means that memory ran out.
 fn begin<R: Wait>(
     rt: &R,
     desk: &mut Desk,

@@ -1,4 +1,4 @@
-//! Transcripts, written.
+//! Writing transcripts.
 
 ghost use Rattle.std.specs.Prelude.{◌≡◌, ◌++◌, OnOk, OnErr, IsErrOf, List, ℕ};
 ghost use Rattle.std.specs.Io.KnownBytes.{Appends};
@@ -11,7 +11,7 @@ use std::alloc::Global;
 use std::io::Write;
 use thiserror::Error;
 
-/// Why a transcript is not written whole.
+/// Why a transcript was not written whole.
 #[derive(Debug, Drop, Error)]
 pub enum WriteError {
     /// The writer failed.
@@ -25,11 +25,12 @@ pub enum WriteError {
     OutOfMemory,
 }
 
-/// Writes the text of a transcript, entry by entry: the lines of searches and of refusals (this program's
-/// choice; `NAME:LINE:TEXT` is grep's form). With `stats` each answer shows its number of candidates too.
+/// Writes the text of a transcript, entry by entry: the lines of searches and of refusals (their form is this
+/// program's choice; `NAME:LINE:TEXT` is grep's form). With `stats` each answer also shows its number of candidates
+/// and of documents.
 ///
 /// `Failed` means that the writer failed, `Stopped` that it took no byte, and `OutOfMemory` that memory ran
-/// out for an entry's text. After an `Err` what was written is a beginning of the text.
+/// out for an entry's text. After an `Err`, what was written is a beginning of the text.
 pub fn write_transcript<W: Write>(
     alloc: Global,
     transcript: &Transcript,
@@ -53,8 +54,8 @@ pub fn write_transcript<W: Write>(
     Ok(())
 }
 
-/// Writes all bytes. It takes no memory. `Failed` means that the writer failed, and `Stopped` that it took no byte;
-/// what was written is then a beginning of the bytes.
+/// Writes all bytes, without allocating memory. `Failed` means that the writer failed, and `Stopped` that it took no
+/// byte; what was written is then a beginning of the bytes. `OutOfMemory` is never returned.
 pub fn write_whole<W: Write>(out: &mut W, bytes: &[u8]) -> Result<(), WriteError>
     ensures ok { OnOk result (Appends (W.contents out.old) (W.contents out.new) bytes.now) }
     ensures err { OnErr result (AppendsFront (W.contents out.old) (W.contents out.new) bytes.now) }

@@ -1,4 +1,4 @@
-//! Readers: each has a reading of its own, which is at rest or with a worker.
+//! Readers: each has its own reading, which is at rest or with a worker.
 
 ghost use Rattle.std.specs.Prelude.{◌≡◌, ℕ, ◌≤◌, ◌<◌, All, IfOk, IfSome, List, [], length, Option, None};
 ghost use Rattle.logbook.specs.Pages.{Book};
@@ -18,12 +18,12 @@ use std::thread::{Scope, Threads};
 /// A reader of a run.
 #[derive(Drop)]
 pub struct Reader<'a> {
-    /// At rest.
+    /// The reading, while it is at rest.
     reading: Option<Reading>,
-    /// At work.
+    /// The worker that has the reading, while the reader is at work.
     worker: Option<Worker<'a>>,
     turns: u32,
-    /// The answers of the last worker that have not been taken yet, the first one last.
+    /// The answers of the last worker that have not been taken yet, in reverse order.
     given: Vec<Given>,
 }
 
@@ -89,7 +89,7 @@ impl<'a> Reader<'a> {
         }
     }
 
-    // The reading is with this worker from now on.
+    // Records that the reading is now with this worker.
     fn work_with(&mut self, worker: Worker<'a>)
         requires { self.old.reading ≡ None }
         ensures { (opening : Book) → worker.entry.before.opening ≡ opening → IsReader opening worker.entry.searches self.new }
@@ -97,8 +97,9 @@ impl<'a> Reader<'a> {
         self.worker = Some(worker);
     }
 
-    /// Waits until the reader's worker, if it has one, has gone through its searches. The reading then learns what
-    /// was published last. The next answer is taken, if it is one for the search of this number.
+    /// Waits until the reader's worker, if it has one, has ended. The reading then learns what was published last.
+    /// Removes and returns the next answer if it is for the search of this number; `None` means that it is not, or
+    /// that there is none.
     pub fn next_answer<R: Threads>(&mut self, rt: &R, told: &Told, number: u32) -> Option<Given>
         requires { IsOf told.now.opening self.old }
         ensures given { IfSome result (λ given. given.search ≡ number) }
@@ -121,7 +122,7 @@ impl<'a> Reader<'a> {
         self.keep(worker.join(rt));
     }
 
-    // Learns what was published last, and takes the next answer if it is one for the search of this number.
+    // Learns what was published last, and takes the next answer if it is for the search of this number.
     fn next_given(&mut self, told: &Told, number: u32) -> Option<Given>
         requires { IsOf told.now.opening self.old }
         ensures given { IfSome result (λ given. given.search ≡ number) }

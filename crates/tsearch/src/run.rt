@@ -40,7 +40,7 @@ pub enum RunError {
     ScriptTooLong,
 }
 
-/// Runs a script, and says what became of each of its items.
+/// Runs a script, and returns what became of each of its items.
 ///
 /// The script is read on the calling thread, which is the one writer. A search is sent to one of the readers, each of
 /// which answers its searches in a thread of its own. Without readers, or if a reader gives no answer that is accepted,
@@ -48,8 +48,8 @@ pub enum RunError {
 /// the gate at each point of a search; reader 0 does not.
 ///
 /// The transcript is legal for the script (`docs/DEFINITIONS.md`), whatever the number of readers and however their
-/// steps fall: each search is answered for the documents after some published list of commands, and lists exactly the
-/// lines with a match. An item that is refused is an entry of the transcript, and the run goes on with the next item,
+/// steps interleave: each search is answered for the documents after some published list of commands, and lists
+/// exactly the lines with a match. A refused item has an entry in the transcript, and the run goes on with the next,
 /// except after the three faults that end the reading of a script: a bad put, a put that the script's end cuts
 /// short, or one with a byte other than a line feed after its bytes.
 ///
@@ -109,14 +109,14 @@ pub fn run<R: Threads + Wait + Sync, S: Source + Drop, G: Gate>(
     }
 }
 
-/// Whether a script is longer than those that a run takes.
+/// Whether a script is longer than a run accepts.
 fn is_too_long(script: &[u8]) -> bool
     ensures { MatchBool result (MAX_SCRIPT < length script.now) (length script.now ≤ MAX_SCRIPT) }
 {
     script.len() > MAX_SCRIPT
 }
 
-/// Runs the script with workers in a scope, which have all ended afterwards.
+/// Runs the script with workers in a scope. All of them have ended when it returns.
 fn in_scope<R: Threads + Wait + Sync, S: Source + Drop, G: Gate>(
     plan: &Plan<'_, R, G>,
     desk: &mut Desk,

@@ -14,8 +14,8 @@ use script::{Item, MAX_SCRIPT, ScriptReader};
 use search::Prepared;
 use std::alloc::{AllocError, Global};
 
-/// The searches of a script by their numbers, which begin at 1. A refused search is `None`. An `Err` means
-/// that memory ran out.
+/// The searches of a script in order: search number N, from 1, is at index N - 1. A search that could not be prepared
+/// is `None`. An `Err` means that memory ran out for the list.
 pub fn prepare_all(alloc: Global, script: &[u8]) -> Result<Vec<Option<Prepared>>, AllocError>
     requires { length script.now ≤ MAX_SCRIPT }
     ensures { IfOk result (λ searches. ArePrepared script.now searches.items) }
@@ -28,7 +28,7 @@ pub fn prepare_all(alloc: Global, script: &[u8]) -> Result<Vec<Option<Prepared>>
     Ok(searches)
 }
 
-/// Adds the item to the searches, if it is one.
+/// Adds the item to the searches, if it is a search.
 fn list(
     alloc: Global,
     item: Item<'_>,
@@ -52,7 +52,7 @@ fn is_search(item: &Item<'_>) -> bool
     }
 }
 
-/// Prepares a search.
+/// Prepares a search. `None` if it has a fault, if memory ran out, or if the item is not a search.
 pub fn prepare(alloc: Global, item: Item<'_>) -> Option<Prepared>
     ensures { IfSome result (λ prepared. Asks (shown_item item.entry) (pattern_of prepared)) }
 {

@@ -34,13 +34,13 @@ pub struct Session {
     pub told: Told,
     /// 0, and then the versions that were published, rising.
     pub versions: Vec<u32>,
-    /// How many searches there were.
+    /// How many searches have been taken.
     pub searches: u32,
     /// The reading of reader 0.
     pub reading: Reading,
     pub settled: Settled,
     pub pending: VecDeque<Option<Entry>>,
-    /// Whether a search is among the pending ones.
+    /// Whether an open search is pending.
     pub waits: bool,
 }
 
@@ -49,9 +49,9 @@ pub struct Session {
 pub enum Step {
     /// Nothing.
     Entry,
-    /// It is a search with this number, which is open.
+    /// The search with this number is open and is to be answered.
     Search(u32),
-    /// All searches so far are to be settled before the next item.
+    /// Everything that is pending is to be settled before the next item.
     Sync,
 }
 
@@ -82,8 +82,8 @@ impl Session {
         })
     }
 
-    /// Takes the next item: it is carried out, or it is a search, and open if it was prepared. An `Err`
-    /// means that memory ran out, and ends the run.
+    /// Takes the next item. A search becomes open if it was prepared, and is refused otherwise; a sync changes
+    /// nothing; any other item is carried out. An `Err` means that memory ran out, and ends the run.
     pub fn take<R: Wait, S: Source>(
         &mut self,
         rt: &R,
@@ -126,7 +126,7 @@ impl Session {
         Ok(())
     }
 
-    /// Takes a search.
+    /// Takes a search: it becomes open if it was prepared, and is refused otherwise.
     fn ask(
         &mut self,
         alloc: Global,
@@ -156,8 +156,9 @@ impl Session {
         }
     }
 
-    /// Settles all that is pending: the open searches get the answers of their readers, or of reader 0. It waits for
-    /// the workers. An `Err` means that memory ran out, and ends the run.
+    /// Settles everything that is pending: each open search gets the answer of its reader, or else of reader 0, or is
+    /// refused if reader 0 runs out of memory. Waits for the workers of those searches. An `Err` means that memory
+    /// ran out for the entries, and ends the run.
     pub fn settle<R: Threads + Wait>(
         &mut self,
         rt: &R,
@@ -181,7 +182,7 @@ impl Session {
         Ok(())
     }
 
-    /// Settles the first pending entry. `None` is that of an open search, which is closed first.
+    /// Settles `entry`, the first of the pending ones. `None` stands for an open search, which is closed first.
     fn settle_next<R: Threads + Wait>(
         &mut self,
         rt: &R,

@@ -7,7 +7,7 @@ ghost use Rattle.tsearch.specs.Private.Items.{searches_in};
 use crate::transcript::Entry;
 use std::alloc::{AllocError, Global};
 
-/// The last turn of a reader, and the version that it answered from then.
+/// The last turn of a reader, and the version that it answered from in that turn.
 #[derive(Clone, Copy, Debug, PartialEq, Eq)]
 pub struct Last {
     pub turn: u32,
@@ -17,20 +17,21 @@ pub struct Last {
 /// The entries of a script's first items, up to a search that is still open, and what they add up to.
 #[derive(Drop)]
 pub struct Settled {
-    /// One for each item but `sync`.
+    /// One for each item except `sync`.
     pub entries: Vec<Entry>,
     /// How many of them are entries of searches.
     pub searches: u32,
     /// The version that was published last.
     pub published: u32,
-    /// The last turn of each reader.
+    /// The last turn of each reader, beginning with reader 0.
     pub lasts: Vec<Last>,
 }
 
 impl Settled {
     ghost use Rattle.tsearch.specs.Private.Sessions.{IsFresh};
 
-    /// No entries, and `readers` readers that have answered nothing.
+    /// No entries, and `readers` readers, reader 0 included, that have answered nothing. An `Err` means that memory
+    /// ran out.
     pub fn new(alloc: Global, readers: u32) -> Result<Settled, AllocError>
         requires { readers ≤ 17 }
         ensures { IfOk result (IsFresh readers) }

@@ -4,7 +4,7 @@ ghost use Rattle.std.specs.Prelude.{◌≡◌, ℕ, ◌+◌, ◌-◌, ◌^◌, �
 
 use std::alloc::Global;
 
-/// Why a source gives nothing for a path. A load is then refused, and the run goes on.
+/// Why a source returns no bytes for a path. The load is then refused, and the run goes on.
 #[derive(Clone, Copy, Debug, PartialEq, Eq)]
 pub enum Fault {
     /// The source has no bytes for the path, or could not read them. It counts such failures.
@@ -15,16 +15,16 @@ pub enum Fault {
 
 /// What a run reads the bodies of its loads from.
 pub trait Source {
-    /// The bytes may be read under the path. No read changes it.
+    /// The source can return these bytes for this path. No read changes that.
     ghost holds: { Self → List ℕ → List ℕ → Type 0 };
 
     /// How often the source has failed.
     ghost failed: { Self → ℕ };
 
-    /// Reads what the source holds under the path, whose bytes it takes as they are in the script.
+    /// Returns the bytes that the source holds under the path, which is given as it is in the script.
     ///
-    /// `Failed` is returned only if `failures` rises in this call or is the greatest `u64` after it, and
-    /// `OutOfMemory` only if memory ran out for the bytes. `failures` rises by at most one, and only for `Failed`.
+    /// `Failed` is returned only if `failures` rises by one in this call, or has already reached the greatest `u64`.
+    /// `OutOfMemory` is returned only if memory ran out for the bytes. `failures` rises only for `Failed`.
     fn read(&mut self, alloc: Global, path: &[u8]) -> Result<Vec<u8>, Fault>
         ensures read { IfOk result (λ bytes. holds self.old path.now bytes.items) }
         ensures same { (path body : List ℕ) → (holds self.new path body → holds self.old path body) × (holds self.old path body → holds self.new path body) }

@@ -112,8 +112,8 @@ fn append_search_refusal(
     out.extend_from_slice(b"\n")
 }
 
-/// Appends the text of an entry. An answer shows its number of candidates if `stats`. An `Err` means that memory ran
-/// out, and a beginning of the text may have been appended.
+/// Appends the text of an entry. With `stats` an answer also shows its number of candidates and of documents. An
+/// `Err` means that memory ran out; a beginning of the text may then have been appended.
 pub fn append_entry(entry: &Entry, stats: bool, out: &mut Vec<u8>) -> Result<(), AllocError>
     ensures { OnOk result (out.new.items ≡ out.old.items ++ text_of_entry stats entry.now) }
 {

@@ -14,7 +14,7 @@ use std::alloc::AllocError;
 pub enum Reason {
     /// The line is not an item.
     BadLine,
-    /// A bad put.
+    /// A put line without a name and a size.
     BadPut,
     /// A put that the script's end cuts short.
     Truncated,
@@ -24,11 +24,11 @@ pub enum Reason {
     Name(NameError),
     /// The body is not valid.
     Body(BodyErrorKind),
-    /// The source failed.
+    /// The source failed to return the bytes of a load.
     CannotLoad,
     /// No document has this name after all accepted commands.
     NoSuchFile,
-    /// The run has accepted its greatest number of commands.
+    /// The run has already accepted as many commands as it can.
     Full,
     /// Memory ran out.
     OutOfMemory,
@@ -48,29 +48,32 @@ pub enum SearchReason {
 /// What became of an item of a script.
 #[derive(Debug, Drop)]
 pub enum Entry {
-    /// A command was accepted: the number of its line, and how many commands are accepted with it.
+    /// A command was accepted: the number of its line, from 1, and how many commands are accepted so far, itself
+    /// included.
     Accepted {
         line: u32,
         commands: u32,
     },
-    /// A line was refused.
+    /// A line was refused: its number, from 1, and why.
     Refused {
         line: u32,
         reason: Reason,
     },
-    /// All accepted commands were published; the version is their number.
+    /// All accepted commands were published: the number of the line, from 1, and the version, which is
+    /// the number of accepted commands.
     Published {
         line: u32,
         version: u32,
     },
-    /// A search was answered: its number, the reader that answered, and that reader's turn, from 1.
+    /// A search was answered: its number, from 1, the reader that answered, from 0, that reader's turn, from 1, and
+    /// the answer.
     Found {
         search: u32,
         reader: u32,
         turn: u32,
         answer: Answer,
     },
-    /// A search was refused: its number, and why.
+    /// A search was refused: its number, from 1, and why.
     SearchRefused {
         search: u32,
         reason: SearchReason,
@@ -80,12 +83,12 @@ pub enum Entry {
 /// What a run answered.
 #[derive(Debug, Drop)]
 pub struct Transcript {
-    /// In the order of the script, one for each item but `sync`.
+    /// In the order of the script, one for each item except `sync`.
     pub entries: Vec<Entry>,
 }
 
 /// The status of a run: 2 if anything was refused, a line or a search, otherwise 0 if some search has a hit,
-/// and otherwise 1. These are grep's statuses, by POSIX.1-2017, XCU, grep, EXIT STATUS.
+/// and otherwise 1. These are grep's statuses (POSIX.1-2017, XCU, grep, EXIT STATUS).
 pub fn status(transcript: &Transcript) -> u8
     ensures { result ≡ status_of transcript.now.entries.items }
 {
@@ -110,7 +113,7 @@ fn any_hit(entries: &[Entry]) -> bool
     entries.iter().any(|entry| has_hit(entry))
 }
 
-/// Whether a line or a search is refused.
+/// Whether the entry refuses a line or a search.
 pub fn is_refusal(entry: &Entry) -> bool
     ensures { result ≡ is_refusal entry.now }
 {
@@ -121,7 +124,7 @@ pub fn is_refusal(entry: &Entry) -> bool
     }
 }
 
-/// Whether it is the entry of a search with a hit.
+/// Whether the entry is that of a search with a hit.
 pub fn has_hit(entry: &Entry) -> bool
     ensures { result ≡ has_hit entry.now }
 {

@@ -33,7 +33,7 @@ marks_of entries = record { refused = list_any is_refusal entries; hit = list_an
 abbrev pub status_by : Marks → ℕ
 status_by marks = if marks.refused then 2 else (if marks.hit then 0 else 1)
 
--- What there was before a session: how many commands it takes, how often the source had failed, what the input had left,
+-- The state before a session: how many commands it can accept, how often the source had failed, what the input had left,
 -- and what had been written.
 pub record Start : Type 0 where
   pub limit : ℕ
@@ -41,7 +41,7 @@ pub record Start : Type 0 where
   pub input : Option (List ℕ)
   pub output : Option (List ℕ)
 
--- What there is between two items.
+-- The state between two items.
 pub record Now : Type 0 where
   pub run : LoneState
   pub stream : StreamState
@@ -78,7 +78,7 @@ pub record IsDone (Holds : List ℕ → List ℕ → Type 0) (stats : Bool) (sta
   pub marks : at.marks ≡ marks_of (entries_of rows)
   pub over : IsOver start.input at.left (entries_of rows)
 
--- The session cannot go on. Of the bytes that were read, some may be of no item that was carried out, and the last text
+-- The session cannot go on. Some of the bytes that were read may belong to no item that was carried out, and the last text
 -- may be written in part.
 pub record IsStopped (Holds : List ℕ → List ℕ → Type 0) (stats : Bool) (start : Start) (at : Now) : Type 0 where
   pub script : List ℕ

@@ -49,7 +49,7 @@ desk_after (Err why) commands desk = desk
 abbrev pub RanOut : ℕ → Entry → Type 0
 RanOut line entry = entry ≡ Refused line reason.OutOfMemory
 
--- Full exactly where the limit is reached; where it is not, memory may run out.
+-- Refused as full exactly if the limit is reached. If it is not, memory can run out.
 abbrev pub IsAccepted : ℕ → State → ℕ → Entry → Type 0
 IsAccepted most state line entry = IsRoomFor most state line entry ⊎ ((state.version < most) × RanOut line entry)
 
@@ -57,12 +57,12 @@ IsAccepted most state line entry = IsRoomFor most state line entry ⊎ ((state.v
 abbrev pub HasBodyOrNoMemory : ℕ → State → List ℕ → ℕ → Entry → Type 0
 HasBodyOrNoMemory most state body line entry = HasBody most state body line entry ⊎ (IsBody body × (state.version < most) × RanOut line entry)
 
--- A source's count rose by this number of failures, and stays once it is the greatest.
+-- A source's count rose by this number of failures, and no longer changes once it is the greatest.
 pub record IsCounted (failures failed failed' : ℕ) : Type 0 where
   pub rises : IsFailedTimes failures failed failed'
   pub stays : failed ≡ greatest_failures → failed' ≡ greatest_failures
 
--- A load: the source is asked once, unless the name is not a name, and failed exactly if the entry says so.
+-- A load: the source is asked once, unless the load is refused at its name, and failed exactly if the entry says so.
 pub record IsLoaded (Holds : List ℕ → List ℕ → Type 0) (desk : DeskState) (failed : ℕ) (name path : List ℕ) (done : Result ℕ Reason)
     (desk' : DeskState) (failed' : ℕ) : Type 0 where
   pub loaded : Option (List ℕ)

@@ -14,19 +14,19 @@ use Rattle.tsearch.specs.Private.Entries.{IsCounted}
 abbrev pub row_of : Numbered → Option (List ℕ) → Option Entry → Row
 row_of item loaded entry = record { numbered = item; loaded = loaded; entry = entry }
 
--- one where the entry is that of a search
+-- 1 if the entry is that of a search, and otherwise 0
 abbrev pub searches_in : Entry → ℕ
 searches_in (Found number reader turn answer) = 1
 searches_in (SearchRefused number why) = 1
 searches_in _ = 0
 
--- What a reading can learn of last: all that is accepted at a publish, and else what it was.
+-- What a reading can learn after the entry: after a publish, everything accepted; otherwise, the same as before.
 pub data Tells (desk : DeskState) (told : Known) (entry : Entry) (told' : Known) : Type 0 where
   all : (line : ℕ) → entry ≡ Published line (length desk.accepted) → told' ≡ known desk.opening desk.accepted → Tells desk told entry told'
   nothing : version_in (Some entry) ≡ [] → told' ≡ told → Tells desk told entry told'
 
--- The item is neither a search nor a sync. Its entry is legal after each list of rows that accepts what the desk has
--- accepted, and the desk goes on as the entry says.
+-- The item is neither a search nor a sync. Its entry is legal after any rows that accept what the desk has accepted, and
+-- the desk changes as the entry says.
 pub record IsEntered (Holds : List ℕ → List ℕ → Type 0) (desk : DeskState) (told : Known) (failed : ℕ) (item : Numbered) (entry : Entry)
     (desk' : DeskState) (told' : Known) (failed' : ℕ) : Type 0 where
   pub loaded : Option (List ℕ)
@@ -41,7 +41,7 @@ pub record IsEntered (Holds : List ℕ → List ℕ → Type 0) (desk : DeskStat
   pub tells : Tells desk told entry told'
   pub counted : IsCounted (failures_in (Some entry)) failed failed'
 
--- Searches and syncs leave all as it is.
+-- Searches and syncs leave everything as it was.
 abbrev pub IsLeft : DeskState → Known → ℕ → DeskState → Known → ℕ → Type 0
 IsLeft desk told failed desk' told' failed' = (desk' ≡ desk) × (told' ≡ told) × (failed' ≡ failed)
 

@@ -10,8 +10,8 @@ pub record IsOf (opening : Book) (reader : Reader) : Type 0 where
   pub reading : IfSome reader.reading (λ reading. reading.opening ≡ opening)
   pub worker : IfSome reader.worker (λ worker. worker.before.opening ≡ opening)
 
--- The reading is of this opening, and the answers that were not taken yet are of no more than it has seen. Or it is
--- with a worker, which was given it with these searches.
+-- The reading is of this opening, and the answers that were not taken yet are of no more than it has seen. Or the reading
+-- is with a worker, which got it together with these searches.
 pub record IsReader (opening : Book) (searches : List (Option Prepared)) (reader : Reader) : Type 0 where
   pub reading : IfSome reader.reading (λ reading. reading.opening ≡ opening)
   pub given : IfSome reader.reading (λ reading. All (IsGiven searches reading.commands) reader.given.items)

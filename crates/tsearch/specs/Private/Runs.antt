@@ -7,7 +7,7 @@ use Rattle.tsearch.specs.declared.run.Options.{Options}
 use Rattle.tsearch.specs.Private.Searches.{ArePrepared}
 
 -- The searches are those of the script, nothing is accepted or published, and no reading has seen anything. There is
--- one reading more than readers.
+-- one more reading than there are readers.
 pub record IsReady (script : List ℕ) (searches : List (Option Prepared)) (options : Options) (desk : DeskState) (readings : List Known) : Type 0 where
   pub prepared : ArePrepared script searches
   pub few_readers : options.readers ≤ 16

@@ -15,7 +15,7 @@ Asks (search case text) pattern = IsPatternOf case text pattern
 Asks (search_in case name_text text) pattern = IsPatternWithin case name_text text pattern
 Asks _ pattern = Unit {0}
 
--- An item is added to the searches, where it is one: with its pattern, or with nothing.
+-- An item that is a search is added to the list: with its pattern, or as `None` if it was not prepared.
 pub data IsListed (item : Item) (old new : List (Option Prepared)) : Type 0 where
   other : searches_of item ≡ 0 → new ≡ old → IsListed item old new
   listed : (found : Option Prepared) → searches_of item ≡ 1 → IfSome found (λ prepared. Asks item (pattern_of prepared))
@@ -26,8 +26,8 @@ unfoldable pub searches_among : List Numbered → ℕ
 searches_among [] = 0
 searches_among (item ∷ items) = searches_of item.item + searches_among items
 
--- Each search among the items has its place in the list, by its number, where it asks for the pattern that is there,
--- if one is there.
+-- Each search among the items has a place in the list by its number. If there is a pattern in that place, the search asks
+-- for it.
 unfoldable pub ArePaired : List Numbered → List (Option Prepared) → Type 0
 ArePaired items searches =
     (before : List Numbered) (item : Numbered) (after : List Numbered) (prepared : Prepared)
@@ -41,7 +41,7 @@ pub record ArePrepared (script : List ℕ) (searches : List (Option Prepared)) :
   pub are : IsItemsOf script items
   pub paired : ArePaired items searches
 
--- The search may be refused like this, whatever rows are around it.
+-- The search can be refused for this reason, whatever rows are around it.
 abbrev pub IsReasonOfRefusal : Item → SearchReason → Type 0
 IsReasonOfRefusal (search case text) why = (context : Context) → IsSearch context case text (SearchRefused (search_number context) why)
 IsReasonOfRefusal (search_in case name_text text) why = (context : Context) → IsSearchIn context case name_text text (SearchRefused (search_number context) why)

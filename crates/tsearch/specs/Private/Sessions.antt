@@ -28,7 +28,7 @@ pub record IsFresh (readers : ℕ) (settled : Settled) : Type 0 where
   pub published : settled.published ≡ 0
   pub lasts : settled.lasts.items ≡ replicate readers (last 0 0)
 
--- A run before its first item: nothing is told of but version 0.
+-- A run before its first item: only version 0 was told of.
 pub record IsStart (opening : Book) (readers : ℕ) (session : Session) : Type 0 where
   pub told : session.told ≡ known opening []
   pub reading : session.reading.opening ≡ opening
@@ -37,7 +37,7 @@ pub record IsStart (opening : Book) (readers : ℕ) (session : Session) : Type 0
   pub pending : session.pending.items ≡ []
   pub settled : IsFresh (readers + 1) session.settled
 
--- What an item leaves for the entries that are pending: its entry, or nothing where it is an open search.
+-- What an item adds to the pending entries: its entry, or `None` if it is an open search.
 pub data IsPended (Holds : List ℕ → List ℕ → Type 0) (desk : DeskState) (told : Known) (failed number : ℕ) (item : Numbered) : Option Entry
     → DeskState → Known → ℕ → Type 0 where
   entered : {desk' : DeskState} {told' : Known} {failed' : ℕ} (entry : Entry) → IsEntered Holds desk told failed item entry desk' told' failed'
@@ -79,13 +79,13 @@ pub record IsAsked (old : Session) (item : Item) (next : Step) (new : Session) :
   pub settled : new.settled ≡ old.settled
   pub reading : new.reading ≡ old.reading
 
--- The item was taken: a sync leaves all as it is.
+-- The item was taken. A sync leaves everything as it was.
 pub data IsStep (Holds : List ℕ → List ℕ → Type 0) (desk : DeskState) (failed : ℕ) (old : Session) (item : Numbered) (next : Step)
     (desk' : DeskState) (failed' : ℕ) (new : Session) : Type 0 where
   taken : next ≢ step.Sync → Pends Holds desk failed old item desk' failed' new → IsStep Holds desk failed old item next desk' failed' new
   left : next ≡ step.Sync → is_sync item.item ≡ true → desk' ≡ desk → failed' ≡ failed → new ≡ old → IsStep Holds desk failed old item next desk' failed' new
 
--- An entry that was pending first, or the search that was open, is settled.
+-- What was pending first is settled: its entry as it is, or, if it is an open search, the entry that it is closed with.
 pub data SettlesNext (searches : List (Option Prepared)) (old : Session) (entry : Option Entry) (new : Session) : Type 0 where
   ready : (settled : Entry) → entry ≡ Some settled → new.settled.entries.items ≡ old.settled.entries.items ++ settled ∷ []
       → tally_of new.settled ≡ tally_with settled old.settled.lasts.items (tally_of old.settled) → SettlesNext searches old entry new
@@ -93,7 +93,7 @@ pub data SettlesNext (searches : List (Option Prepared)) (old : Session) (entry 
       → IsClosed searches old.told.commands old.versions.items (old.settled.searches + 1) old.settled.published old.settled.lasts.items settled lasts
       → tally_of new.settled ≡ tally_with settled lasts (tally_of old.settled) → SettlesNext searches old entry new
 
--- All that was pending is settled.
+-- Everything that was pending is settled.
 pub record IsSettled (searches : List (Option Prepared)) (old new : Session) : Type 0 where
   pub entries : List Entry
   pub settles : Settles searches old.told.commands old.versions.items (tally_of old.settled) old.pending.items entries (tally_of new.settled)
@@ -103,7 +103,7 @@ pub record IsSettled (searches : List (Option Prepared)) (old new : Session) : T
   pub versions : new.versions ≡ old.versions
   pub count : new.searches ≡ old.searches
 
--- A run went on by one item. Without readers all is settled after each; with them, where no search is open.
+-- A run went on by one item. Without readers everything is then settled; with readers it can stay pending until a sync.
 pub data Advances (Holds : List ℕ → List ℕ → Type 0) (searches : List (Option Prepared)) (readers : ℕ) (desk : DeskState) (failed : ℕ)
     (old : Session) (item : Numbered) (desk' : DeskState) (failed' : ℕ) (new : Session) : Type 0 where
   synced : is_sync item.item ≡ true → desk' ≡ desk → failed' ≡ failed → IsSettled searches old new
@@ -112,7 +112,7 @@ pub data Advances (Holds : List ℕ → List ℕ → Type 0) (searches : List (O
   settled : (mid : Session) → Pends Holds desk failed old item desk' failed' mid → IsSettled searches mid new
       → Advances Holds searches readers desk failed old item desk' failed' new
 
--- What stays as it was from item to item: all is of one opening, and there is one more search at most.
+-- What holds from item to item: everything is of one opening, and each item adds one search at most.
 pub record IsKept (desk : DeskState) (old : Session) (desk' : DeskState) (new : Session) : Type 0 where
   pub reading : new.reading.opening ≡ new.told.opening
   pub told : new.told.opening ≡ desk'.opening

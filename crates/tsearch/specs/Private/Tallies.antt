@@ -33,14 +33,14 @@ tally searches published lasts = record { searches = searches; published = publi
 abbrev pub tally_with : Entry → List Last → Tally → Tally
 tally_with entry lasts t = tally (t.searches + searches_in entry) (last_or t.published (version_in (Some entry))) lasts
 
--- The search of its number is listed with a pattern. Where the version is no later than what was told, the answer is
--- that of the commands told of, for that pattern.
+-- The list has a pattern for the search that is answered. If the answer's version is no later than what was told of, it is
+-- the answer for that pattern after the first commands told of, as many as the version says.
 pub record IsUseful (searches : List (Option Prepared)) (told : List Command) (given : Given) : Type 0 where
   pub prepared : Prepared
   pub listed : slice_get searches (given.search - 1) ≡ Some (Some prepared)
   pub exact : given.answer.version ≤ length told → IsAnswerOf (state_of (take given.answer.version told)) (pattern_of prepared) given.answer
 
--- What is tested of an answer before it is accepted.
+-- What is checked of an answer before it is accepted.
 pub record CanStand (told : List Command) (versions : List ℕ) (least : ℕ) (last : Last) (given : Given) : Type 0 where
   pub seen : given.answer.version ≤ length told
   pub not_older : least ≤ given.answer.version
@@ -49,8 +49,8 @@ pub record CanStand (told : List Command) (versions : List ℕ) (least : ℕ) (l
   pub published : Contains versions given.answer.version
 
 -- An answer for the search of this number. Its version was published, is no older than what was published last before
--- the search, and is no older than the reader's last one; none of the three is asked of the version of all that was told
--- of. Its turn is after the reader's last one.
+-- the search, and is no older than the reader's last one; none of these three need hold if it is the version of all that
+-- was told of. Its turn is after the reader's last one.
 pub record IsTaken (searches : List (Option Prepared)) (told : List Command) (versions : List ℕ) (number least : ℕ) (lasts : List Last)
     (reader turn : ℕ) (answer : Answer) (lasts' : List Last) : Type 0 where
   pub prepared : Prepared

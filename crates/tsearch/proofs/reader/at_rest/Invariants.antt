@@ -5,7 +5,7 @@ use Rattle.search.specs.declared.pattern.Prepared.{Prepared}
 use Rattle.tsearch.specs.Private.Readers.{IsReader}
 use Rattle.tsearch.proofs.reader.at_rest.Given as goal
 
--- There are as many readers and readings as readings at the start, and both are as they should be.
+-- The readers made and the readings left are together as many as the readings at the start, and all are of their opening.
 abbrev pub invariant-loop-reading : goal.invariant-loop-reading
 invariant-loop-reading l =
     (vec_len l.readers + into_iter_len l.reading-iterator ≡ length l.fn.readings.items)
