@@ -15,7 +15,7 @@ use crate::fixtures::{
 use ere::EreErrorKind;
 use index::{Body, Command, Index, Name};
 use search::{Answer, Prepared, find};
-use std::alloc::Global;
+use std::alloc::{AllocError, Global};
 use std::process::Abort;
 use std::test::Fail;
 
@@ -189,27 +189,34 @@ fn finds_the_needle(alloc: Global, index: &Index) -> Result<bool, Fail> {
     Ok(text.as_slice() == want.as_slice())
 }
 
+/// Fails if one of many searches of the large body does not find what it should.
+fn search_often(rt: &impl Abort, alloc: Global, index: &Index) -> Result<(), Fail> {
+    for _ in 0..150 {
+        assert!(rt; finds_the_needle(alloc, index)?);
+    }
+    let head = b"search 1 version 1 lines 174760 candidates 1 of 1\nf:1:straw\n";
+    assert!(rt; begins(alloc, index, b"s.*w$", head, &mut Kept::new())?);
+    Ok(())
+}
+
 /// A body of 1,048,575 bytes, searched again and again.
 #[test]
 fn a_large_body_and_many_searches(rt: HostRuntime) -> Result<(), Fail> {
     let index = index_of_large(&rt, rt.alloc())?;
-    for _ in 0..150 {
-        assert!(rt; finds_the_needle(rt.alloc(), &index)?);
-    }
-    let head = b"search 1 version 1 lines 174760 candidates 1 of 1\nf:1:straw\n";
-    assert!(rt; begins(rt.alloc(), &index, b"s.*w$", head, &mut Kept::new())?);
-    Ok(())
+    search_often(&rt, rt.alloc(), &index)
 }
 
-/// The answer within names. A row begins with a name pattern and a pattern.
-fn answer_within(alloc: Global, index: &Index, row: &[&[u8]; 3]) -> Result<Answer, Fail> {
-    let prepared = Prepared::within(alloc, row[0], row[1])?;
-    Ok(find(alloc, index, &prepared)?)
+/// The answer within names, if there is one. A row begins with a name pattern and a pattern.
+fn answer_within(alloc: Global, index: &Index, row: &[&[u8]; 3]) -> Option<Answer> {
+    let prepared = Prepared::within(alloc, row[0], row[1]).ok()?;
+    find(alloc, index, &prepared).ok()
 }
 
 /// Whether the answer within names has this text. A row is a name pattern, a pattern, and the text.
-fn is_within(alloc: Global, index: &Index, row: &[&[u8]; 3]) -> Result<bool, Fail> {
-    let answer = answer_within(alloc, index, row)?;
+fn is_within(alloc: Global, index: &Index, row: &[&[u8]; 3]) -> Result<bool, AllocError> {
+    let Some(answer) = answer_within(alloc, index, row) else {
+        return Ok(false);
+    };
     let text = text_of_answer(alloc, &answer, 7, false)?;
     Ok(text.as_slice() == row[2])
 }
@@ -224,13 +231,18 @@ const NAMED: &[[&[u8]; 3]] = &[
     [b"^h", b"x", b"search 7 version 2 lines 0\n"],
 ];
 
+/// Fails if a search within names does not have its answer.
+fn expect_within(rt: &impl Abort, alloc: Global, index: &Index) -> Result<(), Fail> {
+    for row in NAMED {
+        assert!(rt; is_within(alloc, index, row)?, "of {:?}", row[0]);
+    }
+    Ok(())
+}
+
 #[test]
 fn names_as_lines(rt: HostRuntime) -> Result<(), Fail> {
     let index = index_of(&rt, rt.alloc(), b"a.c x\ny\nx|a.h x")?;
-    for row in NAMED {
-        assert!(rt; is_within(rt.alloc(), &index, row)?, "of {:?}", row[0]);
-    }
-    Ok(())
+    expect_within(&rt, rt.alloc(), &index)
 }
 
 const LONG_NAMES: Pieces<'static> = &[(b"a", 200), (b"c x|", 1), (b"a", 200), (b"b x", 1)];
@@ -252,29 +264,27 @@ fn names_in_many_stars(rt: HostRuntime) -> Result<(), Fail> {
     Ok(())
 }
 
-/// Whether the pattern is refused because there is nothing to repeat.
-fn is_refused(alloc: Global, pattern: &[u8]) -> bool {
-    match Prepared::new(alloc, pattern) {
-        Ok(_) => false,
-        Err(error) => error.kind == EreErrorKind::NothingToRepeat,
-    }
+/// Why the pattern is refused, if it is.
+fn fault_of(alloc: Global, pattern: &[u8]) -> Option<EreErrorKind> {
+    Some(Prepared::new(alloc, pattern).err()?.kind)
 }
 
-/// Whether the name pattern or the pattern is refused because there is nothing to repeat. `in_name` says which one.
-fn is_refused_within(alloc: Global, name_pattern: &[u8], pattern: &[u8], in_name: bool) -> bool {
-    match Prepared::within(alloc, name_pattern, pattern) {
-        Ok(_) => false,
-        Err(refused) => {
-            refused.in_name == in_name && refused.error.kind == EreErrorKind::NothingToRepeat
-        }
-    }
+/// Why the name pattern or the pattern is refused, if one is, and whether it is the name pattern.
+fn fault_within(
+    alloc: Global,
+    name_pattern: &[u8],
+    pattern: &[u8],
+) -> Option<(bool, EreErrorKind)> {
+    let refused = Prepared::within(alloc, name_pattern, pattern).err()?;
+    Some((refused.in_name, refused.error.kind))
 }
 
 #[test]
 fn refused_patterns(rt: HostRuntime) {
-    assert!(rt; is_refused(rt.alloc(), b"*a"));
-    assert!(rt; is_refused_within(rt.alloc(), b"*a", b"*b", true));
-    assert!(rt; is_refused_within(rt.alloc(), b"a", b"*b", false));
+    let fault = EreErrorKind::NothingToRepeat;
+    assert!(rt; fault_of(rt.alloc(), b"*a") == Some(fault));
+    assert!(rt; fault_within(rt.alloc(), b"*a", b"*b") == Some((true, fault)));
+    assert!(rt; fault_within(rt.alloc(), b"a", b"*b") == Some((false, fault)));
 }
 
 /// The answer of two documents.

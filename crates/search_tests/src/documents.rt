@@ -537,10 +537,20 @@ fn are_numbers(
     with_bcd: &[u32],
 ) -> Result<bool, Fail> {
     let index = index_of(rt, alloc, commands)?;
+    Ok(are_numbers_of(alloc, &index, live, with_bcd)?)
+}
+
+/// Whether these are the live documents of the index, which all have the trigram abc, and these the ones with bcd.
+fn are_numbers_of(
+    alloc: Global,
+    index: &Index,
+    live: &[u32],
+    with_bcd: &[u32],
+) -> Result<bool, AllocError> {
     Ok(
-        is_live(alloc, &index, live)?
-            && has(alloc, &index, *b"abc", live)?
-            && has(alloc, &index, *b"bcd", with_bcd)?,
+        is_live(alloc, index, live)?
+            && has(alloc, index, *b"abc", live)?
+            && has(alloc, index, *b"bcd", with_bcd)?,
     )
 }
 

@@ -426,15 +426,20 @@ fn gives(alloc: Global, index: &Index, pattern: &[u8], want: &[u8]) -> Result<bo
     Ok(text_of(alloc, index, pattern)?.as_slice() == want)
 }
 
+/// Fails if the answer to one of the patterns does not have this text.
+fn expect_needles(rt: &impl Abort, alloc: Global, index: &Index, want: &[u8]) -> Result<(), Fail> {
+    for pattern in PATTERNS_OF_NEEDLES {
+        assert!(rt; gives(alloc, index, pattern, want)?, "{pattern:?}");
+    }
+    Ok(())
+}
+
 /// The first of many documents are looked at line by line, and the others by the engine.
 #[test]
 fn several_hits_in_each_of_many_documents(rt: HostRuntime) -> Result<(), Fail> {
-    let index = eighty_documents(&rt, rt.alloc())?;
     let want = three_lines_of_each(rt.alloc())?;
-    for pattern in PATTERNS_OF_NEEDLES {
-        assert!(rt; gives(rt.alloc(), &index, pattern, &want)?, "{pattern:?}");
-    }
-    Ok(())
+    let index = eighty_documents(&rt, rt.alloc())?;
+    expect_needles(&rt, rt.alloc(), &index, &want)
 }
 
 /// The index of a document of these pieces, f.
@@ -453,17 +458,19 @@ fn finds_each_line(alloc: Global, index: &Index, pattern: &[u8]) -> Result<bool,
     )
 }
 
+/// Fails if one of the patterns does not find each line.
+fn expect_each_line(rt: &impl Abort, alloc: Global, index: &Index) -> Result<(), Fail> {
+    for pattern in PATTERNS_OF_EACH_LINE {
+        assert!(rt; finds_each_line(alloc, index, pattern)?, "{pattern:?}");
+    }
+    Ok(())
+}
+
 /// 1 MiB of line feeds: each line is a hit.
 #[test]
 fn a_megabyte_of_line_feeds(rt: HostRuntime) -> Result<(), Fail> {
     let index = index_built_of(&rt, rt.alloc(), &[(b"\n", 1_048_576)])?;
-    for pattern in PATTERNS_OF_EACH_LINE {
-        assert!(rt;
-            finds_each_line(rt.alloc(), &index, pattern)?,
-            "{pattern:?}"
-        );
-    }
-    Ok(())
+    expect_each_line(&rt, rt.alloc(), &index)
 }
 
 const PATTERNS_OF_EACH_LINE: &[&[u8]] = &[b"^$", b"x*"];
@@ -482,16 +489,18 @@ const PATTERNS_OF_THE_LAST_LINE: &[&[u8]] = &[
     b"[ab]{255}[ab]{255}[ab]{118}c",
 ];
 
+/// Fails if one of the patterns does not find its line, the first one or the last.
+fn expect_few_hits(rt: &impl Abort, alloc: Global, index: &Index) -> Result<(), Fail> {
+    assert!(rt; are_hits(alloc, index, b"^hay$", b"f:1:hay\n")?);
+    let last = built(alloc, LAST_HIT)?;
+    for pattern in PATTERNS_OF_THE_LAST_LINE {
+        assert!(rt; are_hits(alloc, index, pattern, &last)?, "{pattern:?}");
+    }
+    Ok(())
+}
+
 #[test]
 fn a_megabyte_with_few_hits(rt: HostRuntime) -> Result<(), Fail> {
     let index = index_built_of(&rt, rt.alloc(), FEW_HITS)?;
-    assert!(rt; are_hits(rt.alloc(), &index, b"^hay$", b"f:1:hay\n")?);
-    let last = built(rt.alloc(), LAST_HIT)?;
-    for pattern in PATTERNS_OF_THE_LAST_LINE {
-        assert!(rt;
-            are_hits(rt.alloc(), &index, pattern, &last)?,
-            "{pattern:?}"
-        );
-    }
-    Ok(())
+    expect_few_hits(&rt, rt.alloc(), &index)
 }
