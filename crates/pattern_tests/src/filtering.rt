@@ -76,11 +76,12 @@ fn size_of(query: &Query) -> usize {
 }
 
 /// Bodies, and the numbers of their trigrams.
-const TRIGRAMS_OF_BODIES: [(&[u8], &[u32]); 6] = [
+const TRIGRAMS_OF_BODIES: [(&[u8], &[u32]); 7] = [
     (b"ab", &[]),
     (b"", &[]),
     (b"abcabc", &[6382179, 6447969, 6512994]),
     (b"ab\ncd\n", &[]),
+    (b"abc\ndef", &[6382179, 6579558]),
     // xab and abc
     (b"xabc\nabc", &[6382179, 7889250]),
     (b"\xff\xff\xff\xff", &[16777215]),
