@@ -29,7 +29,7 @@ pub record IsPlain (from : List ℕ) : Type 0 where
 pub head_of : {x y : ℕ} {r q : List ℕ} → x ∷ r ≡ y ∷ q → x ≡ y
 head_of e = ap (λ t. get_or t 0 0) e
 
--- an item by how it begins
+-- how an item can begin, and what its set is then
 pub data ItemView (from rest : List ℕ) (set : List Bool) : Type 0 where
   simple : (x : ℕ) → IsByteOrSymbol from x rest → IsPlain from → IsFalse (range_ahead rest) → set ≡ single x → ItemView from rest set
   ranged : (low high : ℕ) (after : List ℕ) → IsByteOrSymbol from low (45 ∷ after) → IsPlain from → IsTrue (range_ahead (45 ∷ after))
@@ -136,7 +136,7 @@ no_colon name set e =
     (λ espace. walk name (codes "cntrl") _ _ set (omega arith) (λ none. absurd (cc)) espace)
     eblank) eprint) egraph) epunct) exdigit) ealnum) edigit) ealpha) elower) eupper) e
 
--- what is before the first `:`
+-- Only one name without a `:` is before the first `:` of a text.
 pub one_name : (n m r q : List ℕ) → NoColon n → NoColon m → n ++ 58 ∷ r ≡ m ++ 58 ∷ q → (n ≡ m) × (r ≡ q)
 one_name [] [] r q a b e = (refl, cc)
 one_name [] (y ∷ m) r q a b e = absurd (b.0 cc)
@@ -147,7 +147,7 @@ one_name (x ∷ n) (y ∷ m) r q a b e =
     let others = rest.0 in
     (cc, rest.1)
 
--- `[` and a mark begin only what they begin
+-- A text that begins with `[` and a mark opens with that mark and no other.
 pub mark_clash : (from : List ℕ) (a b : ℕ) (more : List ℕ) → from ≡ 91 ∷ a ∷ more → IsFalse (opens_with a from) → ⊥
 mark_clash from a b more e h = let t : IsTrue (opens_with a from) = rw e (first_begins a more) in cc
 

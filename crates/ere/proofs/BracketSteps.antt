@@ -16,7 +16,7 @@ use Rattle.ere.proofs.Texts.{front, Stands, Stands-read, Stands-begins, read_at,
 use Rattle.ere.proofs.BracketLemmas.{head_of, ItemView, ItemView as view, item_view, IsPlain, NoColon, no_colon, one_byte_or_symbol}
 use Rattle.ere.proofs.BracketLemmas.{mark_clash, items_left, ends_plain, plain_opens}
 
--- what holds whatever the error is
+-- what holds, for a result that may be an error
 pub if_err : {T E : Type 0} (r : Result T E) (P : Type 0) → P → IfErr r (λ _. P)
 if_err (Ok x) P p = tt
 if_err (Err e) P p = p
@@ -47,7 +47,7 @@ Opens-opens_with text at mark h = go (dec_lt at (length text))
 pub opens_then : (text : List ℕ) (at mark : ℕ) → IsTrue (begins_with 91 (drop at text)) → begins_with mark (drop (at + 1) text) ≡ opens_with mark (drop at text)
 opens_then text at mark h = rw (Stands-begins text at 91 h).from refl
 
--- a symbol of one byte that ends where its end was found
+-- If the end of a symbol is three bytes after its `[`, it is a symbol of one byte.
 pub symbol_found : (text : List ℕ) (at mark p : ℕ) → Opens text at mark → p ≡ at + 3 → p + 1 < length text → IsSymbolEnd mark text p
     → IsSymbol mark (drop at text) (get_or text (at + 2) 0) (drop (p + 2) text)
 symbol_found text at mark p o e inside ends =
@@ -59,7 +59,7 @@ symbol_found text at mark p o e inside ends =
     let e4 : drop (p + 1) text ≡ 93 ∷ drop (p + 2) text = next text (p + 1) (p + 2) inside (omega arith) ∙ ap (λ b. b ∷ drop (p + 2) text) ends.1 in
     cc
 
--- where a symbol of one byte ends
+-- A symbol of one byte ends three bytes after its `[`.
 pub symbol_ends : (text : List ℕ) (at mark x : ℕ) (rest : List ℕ) → IsSymbol mark (drop at text) x rest → IsSymbolEnd mark text (at + 3)
 symbol_ends text at mark x rest e =
     (read_at text at 3 _ e, subst (λ k. get_or text k 0 ≡ 93) (omega arith) (read_at text at 4 _ e))
@@ -179,7 +179,7 @@ ahead_no_dash [] h = refl
 ahead_no_dash (b ∷ []) h = refl
 ahead_no_dash (b ∷ c ∷ from) h = rw h refl
 
--- a range ahead, byte by byte
+-- A `-` is at the offset, and a byte other than `]` follows it.
 pub record IsAhead (text : List ℕ) (at : ℕ) : Type 0 where
   pub dash : Stands text at 45
   pub inside : at + 1 < length text
@@ -281,7 +281,7 @@ pub class_item : (first : Bool) (from rest : List ℕ) (set : List Bool)
     → (name : List ℕ) × IsCharacterClass from name rest × (class_named name ≡ Some set) → SpellsItem first from rest set
 class_item first from rest set (name, e, known) = item.class name e known
 
--- an item that fails, after items that were read
+-- If no item is next and no `]` either, no items end with `]`.
 pub items_fail : (from middle : List ℕ) (set : List Bool) → SpellsItems true from middle set → IsFalse (begins_with 93 middle)
     → ((r : List ℕ) (s : List Bool) → SpellsItem false middle r s → ⊥) → (rest : List ℕ) (t : List Bool)
     → SpellsItems true from (93 ∷ rest) t → ⊥
@@ -297,7 +297,7 @@ pub first_fails : (from : List ℕ) → ((r : List ℕ) (s : List Bool) → Spel
 first_fails from none rest t (items.last a) = none (93 ∷ rest) t a
 first_fails from none rest t (items.more {middle = m} {set = s} a b) = none m s a
 
--- after a `^`
+-- If the items after a `^` fail, so does the bracket expression.
 pub hat_fails : {case : Case} → (from after : List ℕ) → from ≡ 94 ∷ after
     → ((rest : List ℕ) (t : List Bool) → SpellsItems true after (93 ∷ rest) t → ⊥) → (rest : List ℕ) (t : List Bool)
     → SpellsBracket case from rest t → ⊥
@@ -323,7 +323,7 @@ pub may_begin_dash : (text : List ℕ) (at : ℕ) (first : Bool) → (IsTrue (be
 may_begin_dash text at first no_end (inl is_first) = record { no_end = no_end; no_dash = λ _. is_first }
 may_begin_dash text at first no_end (inr other) = record { no_end = no_end; no_dash = λ h. absurd (other (Stands-begins text at 45 h).is) }
 
--- what holds whatever the error is, but for some
+-- what holds, for a result that may be an error that meets a condition
 pub if_err_but : {T E : Type 0} (r : Result T E) (K : E → Type 0) (P : Type 0) → P → IfErr r (λ e. K e → P)
 if_err_but (Ok x) K P p = tt
 if_err_but (Err e) K P p = λ _. p

@@ -8,7 +8,7 @@ use Rattle.ere.specs.Spelling.{SpellsDuplications as duplications, SpellsAtom as
 use Rattle.ere.specs.Spelling.{SpellsBranch as branches_are, SpellsAlternatives as alternatives_are}
 use Rattle.ere.specs.Private.Reading.{Ends, EndsBranch, NoTimes, join}
 
--- what may follow
+-- Where alternatives end, a branch ends, and where a branch ends, no duplication follows.
 pub ends_branch_of : (ts : List Token) (depth : ℕ) → Ends ts depth → EndsBranch ts depth
 ends_branch_of [] depth h = tt
 ends_branch_of (token.closes ∷ ts) (suc depth) h = tt
@@ -31,7 +31,7 @@ ends_no_times (token.at_end ∷ ts) depth h = tt
 ends_no_times (token.times l g ∷ ts) depth h = absurd h
 
 module _ (limit : ℕ) where
-  -- how a piece begins
+  -- No piece begins with a duplication, nor where a branch ends.
   atom_begins : {depth : ℕ} {from rest : List Token} {tree : Tree} → SpellsAtom limit depth from rest tree → NoTimes from
   atom_begins atoms.literal = tt
   atom_begins (atoms.group below inner) = tt

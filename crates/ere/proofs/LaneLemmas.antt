@@ -70,7 +70,7 @@ equal_each a b p q k l =
     ap (λ n. n == 1) (bit_mask_l (zip2 eqb a b) k ∙ ap (λ t. cond t 1 0) (get_or-zip2 eqb a b k 0 0 false (omega arith) (omega arith)))
     ∙ one_is (eqb (get_or a k 0) (get_or b k 0))
 
--- The bit of a byte in the byte of a word that has it.
+-- Bit k of byte j of a word is bit 8 j + k of the word.
 power_of_byte : (j : ℕ) → j < 8 → 256 ^ j ≡ 2 ^ (8 * j)
 power_of_byte zero l = refl
 power_of_byte (suc zero) l = refl
@@ -125,7 +125,7 @@ last_two words zero l = refl
 last_two words (suc zero) l = refl
 last_two words (suc (suc i)) l = absurd (omega arith)
 
--- Of a byte's bit among the bytes of the first two words, or of the last two.
+-- Whether a set has byte b is bit b mod 8 of byte b / 8 mod 8 of word b / 64.
 at_place : (words : List ℕ) (b p i w : ℕ) → p ≡ b / 8 % 16 → w ≡ get_or words i 0 → i ≡ b / 64
     → (bit_and (w / 256 ^ (p % 8) % 256) (2 ^ (b % 8)) == 2 ^ (b % 8)) ≡ has_byte words b
 at_place words b p i w place word index =

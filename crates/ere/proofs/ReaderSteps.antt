@@ -54,7 +54,7 @@ Reads-map from to P Q f r = record {
   backward = λ all a. let found = r.backward all a in (found.0, found.1, f all found.0 found.2);
 }
 
--- one after the other
+-- If two texts are read one after the other, what they spell is read together.
 pub Reads-then : {case : Case} → (from middle to : List ℕ) (P Q R : List Token → List Token → Type 0)
     → ((all between rest : List Token) → P all between → Q between rest → R all rest) → Reads case from middle P → Reads case middle to Q
     → Reads case from to R
@@ -230,7 +230,7 @@ no_end_tokens depth (b ∷ text) (token.at_start ∷ ts) h a k = k
 no_end_tokens depth (b ∷ text) (token.at_end ∷ ts) h a k = k
 no_end_tokens depth (b ∷ text) (token.times l g ∷ ts) h a k = k
 
--- a fault among the tokens
+-- If no token is at the front, or a later part has no tokens, the text has no tokens.
 pub lexing_fails : {case : Case} → (from : List ℕ) (b : ℕ) (behind : List ℕ) → from ≡ b ∷ behind
     → ((rest : List ℕ) (t : Token) → SpellsToken case from rest t → ⊥) → HasNoTokens case from
 lexing_fails {case} from b behind e never [] a = absurd (let nothing : Tokens case (b ∷ behind) [] = subst (λ v. Tokens case v []) e a in elim nothing [ ])
@@ -239,7 +239,7 @@ lexing_fails from b behind e never (t ∷ ts) (tokens.more {rest = r} s a) = nev
 pub back_fails : {case : Case} → (from to : List ℕ) (P : List Token → List Token → Type 0) → Reads case from to P → HasNoTokens case to → HasNoTokens case from
 back_fails from to P r never all a = let rest = r.backward all a in never rest.0 rest.1
 
--- one duplication more
+-- One more duplication is read.
 pub repeat_more : {case : Case} → (from to behind : List ℕ) (tree whole : Tree) (least : ℕ) (greatest : Option ℕ)
     → Reads case from to (λ all rest. SpellsDuplications all rest tree whole) → SpellsToken case to behind (token.times least greatest)
     → Reads case from behind (λ all rest. SpellsDuplications all rest tree (repeat whole least greatest))
@@ -479,7 +479,7 @@ group_reads depth from start to behind part s below read e = record {
       (Reads-token to behind token.closes (closes_spelled to behind e)));
 }
 
--- an error that is handed on
+-- What is known of an error, when the error is handed on.
 pub pass_on : {T E : Type 0} (r : Result T E) (e : E) (K : E → Type 0) (P Q : Type 0) → IsErrAnd r (λ y. y ≡ e) → (P → Q) → (K e → P) → IfErr r (λ y. K y → Q)
 pass_on (Ok x) e K P Q h f g = tt
 pass_on (Err y) e K P Q h f g = λ k. f (g (subst K h k))

@@ -20,7 +20,7 @@ pub get_or-set_of : (test : ℕ → Bool) (b : ℕ) → b < 256 → get_or (set_
 unfolding set_of
 get_or-set_of test b h = get_or-map-range_with_len (λ k. is_line_byte k && test k) 0 256 b b false h (omega arith)
 
--- 256 truth values that are those of a test
+-- 256 truth values that agree with a test on line bytes, and are false elsewhere, are the set of the test.
 pub set_of_all : (test : ℕ → Bool) (set : List Bool) → length set ≡ 256
     → ((b : ℕ) → b < 256 → get_or set b false ≡ (is_line_byte b && test b)) → set ≡ set_of test
 unfolding set_of
@@ -52,7 +52,7 @@ has-set_of test b = go (nat_lt b 256) refl
     go true e = let below : b < 256 = grind (arith, nat_tests) in rw (get_or-set_of test b below) (and_twice (is_line_byte b) (test b))
     go false e = rw e refl
 
--- where m implies l, m is l and m
+-- If m implies l, m is the same as l and m.
 and_absorbs : (l m : Bool) → (IsTrue m → IsTrue l) → m ≡ (l && m)
 and_absorbs true m h = refl
 and_absorbs false true h = sym (h refl)
@@ -62,7 +62,7 @@ and_absorbs false false h = refl
 pub get_or-has : (set : List Bool) → IsByteSet set → (b : ℕ) → b < 256 → get_or set b false ≡ has set b
 get_or-has set h b below = and_absorbs (is_line_byte b) (get_or set b false) (h.line_bytes b below)
 
--- two tests that agree on line bytes make one set
+-- Two tests that agree on line bytes make the same set.
 pub set_of-ext : (p q : ℕ → Bool) → ((b : ℕ) → (is_line_byte b && p b) ≡ (is_line_byte b && q b)) → set_of p ≡ set_of q
 unfolding set_of
 set_of-ext p q h = ap (λ f. map f (range_with_len 0 256)) (fun_ext h)

@@ -17,7 +17,7 @@ use Rattle.ere.specs.Private.SetInverse.{byte_in, get_or-values_of, word_from}
 use Rattle.ere.proofs.Bits.{has_zero}
 use Rattle.ere.proofs.SetLemmas.{IsByteSet, left_of, and_falls, set_of_all, get_or-has}
 
--- the bytes of words as bits
+-- Byte b is bit b mod 64 of word b / 64.
 pub byte_is : (words : List ℕ) (b : ℕ) → has_byte words b ≡ has_bit (get_or words (b / 64) 0) (b % 64)
 unfolding has_byte
 byte_is words b = refl
@@ -62,7 +62,7 @@ byte_changed words byte word join inside stays each b =
         ap (λ n. has_bit n (b % 64)) (get_or-set_other words (byte / 64) (b / 64) word 0 other)
         ∙ sym (ap (λ t. join (has_bit (get_or words (b / 64) 0) (b % 64)) t) test ∙ stays (has_bit (get_or words (b / 64) 0) (b % 64)))
 
--- each word made of the words at its place
+-- Words joined bit by bit are sets joined byte by byte.
 pub bytes_joined : (left right words : List ℕ) (join : Bool → Bool → Bool)
     → ((i : ℕ) → i < 4 → (k : ℕ) → k < 64
     → has_bit (get_or words i 0) k ≡ join (has_bit (get_or left i 0) k) (has_bit (get_or right i 0) k))
@@ -146,7 +146,7 @@ either_lines : (l x y : Bool) → x ≡ (l && x) → y ≡ (l && y) → (x || y)
 either_lines true x y p q = refl
 either_lines false x y p q = rw (p, q) refl
 
--- what the words have that are made of two sets, in terms of the sets
+-- the bytes of words made from two sets, in terms of the sets
 pub either_is : (left right words : List ℕ) → AreLineBytes left → AreLineBytes right
     → ((b : ℕ) → b < 256 → has_byte words b ≡ (has_byte left b || has_byte right b))
     → (b : ℕ) → b < 256 → has_byte words b ≡ (is_line_byte b && (has (values_of left) b || has (values_of right) b))

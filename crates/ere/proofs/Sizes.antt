@@ -18,7 +18,7 @@ use Rattle.ere.specs.Limits.{height, highest, leaves, leaves_in, copies_counted,
 abbrev pub forms : List Ere → Trees
 forms members = trees_of (map form members)
 
--- one member more, from the last one back
+-- The members from one on are that member and those after it.
 pub forms_back : (members : List Ere) (i : ℕ) (x : Ere) → 0 < i → i ≤ length members → x ≡ get_or members (i - 1) x
     → forms (drop (i - 1) members) ≡ more (form x) (forms (drop i members))
 forms_back members i x above within read =
@@ -107,7 +107,7 @@ pub copies_positive : (least : ℕ) (greatest : Option ℕ) → 0 < copies_count
 copies_positive least (Some greatest) = omega arith
 copies_positive least None = omega arith
 
--- a product, each factor up to a bound: the product up to the bound
+-- A factor can be capped at the bound before the product is.
 pub capped_product : (copies l bound : ℕ) → 0 < copies → min (copies * min l bound) bound ≡ min (copies * l) bound
 capped_product copies l bound h = go (dec_le l bound)
   where

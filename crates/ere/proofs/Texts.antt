@@ -42,6 +42,6 @@ Stands-begins text at byte h =
     let inside = begins_inside text at byte h in
     Stands-read text at byte inside (first_is byte (get_or text at 0) (drop (at + 1) text) (subst (λ t. IsTrue (begins_with byte t)) (front text at inside) h))
 
--- what a list read from an offset on says of the text
+-- Byte i of the text from an offset on is byte `at + i` of the text.
 pub read_at : (text : List ℕ) (at i : ℕ) (from : List ℕ) → drop at text ≡ from → get_or text (at + i) 0 ≡ get_or from i 0
 read_at text at i from e = sym (get_or-drop at text i 0) ∙ ap (λ t. get_or t i 0) e

@@ -17,7 +17,7 @@ AllDigits digits = AllByRecursion (λ b. is_digit b ≡ true) digits
 pub tail_of : {x y : ℕ} {r q : List ℕ} → x ∷ r ≡ y ∷ q → r ≡ q
 tail_of e = ap (drop 1) e
 
--- what is before the first byte that is no digit
+-- A text has one run of digits at its front, up to the first byte that is not a digit.
 pub one_run : (a b r q : List ℕ) → AllDigits a → AllDigits b → IsFalse (digit_ahead r) → IsFalse (digit_ahead q) → a ++ r ≡ b ++ q → (a ≡ b) × (r ≡ q)
 one_run [] [] r q x y f g e = (refl, e)
 one_run [] (c ∷ b) r q x y f g e = absurd (let digit : digit_ahead r ≡ true = rw e y.0 in cc)

@@ -51,7 +51,7 @@ chosen : (b : Bool) (x y z : Option Token) → cond b x y ≡ z → ((b ≡ true
 chosen true x y z e = inl (refl, e)
 chosen false x y z e = inr (refl, e)
 
--- the duplications of one byte
+-- Only `*`, `+` and `?` are duplications of one byte.
 times_byte : (case : Case) → (b : ℕ) (text : List ℕ) (l : ℕ) (g : Option ℕ) → token_of_byte case b text ≡ Some (times l g) → b ≢ 42 → b ≢ 43 → b ≢ 63 → ⊥
 unfolding token_of_byte
 times_byte case b text l g e no_star no_plus no_question =
@@ -79,7 +79,7 @@ no_duplication from b rest e star plus question brace r l g (spelled.interval co
 pub no_duplication_end : {case : Case} → NoDuplication case []
 no_duplication_end r l g h = no_token r (times l g) h
 
--- another token is there
+-- A text that begins with another token begins with no duplication.
 pub no_duplication_other : {case : Case} → (from q : List ℕ) (t : Token) → SpellsToken case from q t
     → ((l : ℕ) (g : Option ℕ) → t ≡ times l g → ⊥) → NoDuplication case from
 no_duplication_other from q t h other r l g k = other l g (one_token from q r t (times l g) h k).1
@@ -187,7 +187,7 @@ tail_fails from tail count r no_brace no_comma rest l g h = go (low_view from ta
     go (view.at_least e a i) = begins_not tail 44 (125 ∷ rest) e no_comma
     go (view.between high most e a c o i) = begins_not tail 44 (high ++ 125 ∷ rest) e no_comma
 
--- how an interval still can fail after the comma
+-- After a comma that no `}` follows, an interval fails unless a count that is not below the first and a `}` follow.
 pub comma_fails : (from tail behind tail2 : List ℕ) (count count2 : Option ℕ) → ReadsCount from tail count → tail ≡ 44 ∷ behind
     → false ≡ begins_with 125 behind → (q : ReadsCount behind tail2 count2)
     → ((rest : List ℕ) (l m : ℕ) → tail2 ≡ 125 ∷ rest → SpellsCount q.digits m → MatchOption count (Unit {0}) (λ n. l ≡ n) → l ≤ m → ⊥)

@@ -160,7 +160,7 @@ spelled_proper limit text tree s =
 pub tree_within : (case : Case) → (pattern : List ℕ) (tree : Tree) → IsTreeOf case pattern tree → IsWithinLimits tree
 tree_within case pattern tree t = record { proper = spelled_proper greatest_open pattern tree t.spelled; low = t.low; small = t.small }
 
--- alternatives outside all groups end with the text
+-- Outside all groups, alternatives end only where the text does.
 at_end_of_text : (to : List ℕ) → IsTrue (ends_branch zero to) → IsFalse (begins_with 124 to) → to ≡ []
 at_end_of_text [] h k = refl
 at_end_of_text (b ∷ text) h k = absurd (never (b == 124) h k)

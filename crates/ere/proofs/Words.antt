@@ -99,7 +99,7 @@ mutual
 mutual
   unfolding InLanguage IsWord without_anchors
 
-  -- and the other way round
+  -- A word of the tree without its anchors, in any surroundings, is a word of the tree.
   pub IsWord-from_without_anchors : (tree : Tree) (before word after : List ℕ) → InLanguage (without_anchors tree) before word after → IsWord tree word
   IsWord-from_without_anchors empty before word after h = h
   IsWord-from_without_anchors (set members) before word after h = h

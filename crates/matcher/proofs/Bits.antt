@@ -92,14 +92,14 @@ highest_is word = ap (λ n. n == 1) (bit_at_lowest (word / 2 ^ 63))
 pub highest_small : (word : ℕ) → word < 2 ^ 64 → word / 2 ^ 63 < 2
 highest_small word small = omega arith
 
--- no bit from one on
+-- If a word shifted down by `bit` is 0, it has no bit from there on.
 pub none_from : (word bit b : ℕ) → word / 2 ^ bit ≡ 0 → bit ≤ b → has_bit word b ≡ false
 none_from word bit b none far =
     let sum : bit + (b - bit) ≡ b = omega arith in
     let moved : bit_at word b ≡ bit_at (word / 2 ^ bit) (b - bit) = sym (ap (λ n. n % 2) (shr-shr word bit (b - bit)) ∙ ap (λ n. bit_at word n) sum) in
     ap (λ n. n == 1) (moved ∙ ap (λ n. bit_at n (b - bit)) none ∙ bit_at-zero (b - bit))
 
--- positions of words
+-- Position 64 i + b is bit b of word i.
 pub position_in : (words : List ℕ) (i b : ℕ) → b < 64 → has_position words (i * 64 + b) ≡ has_bit (get_or words i 0) b
 unfolding has_position
 position_in words i b inside =

@@ -7,7 +7,7 @@ use Rattle.ere.specs.Bits.{has_bit}
 use Rattle.matcher.specs.Private.Moving.{comes, flood}
 use Rattle.ere.proofs.Bits.{has_or}
 
--- what is carried into a place of a sum; `carried` comes into the lowest place
+-- what is carried into place k of the sum a + b + carried
 abbrev carry : ℕ → ℕ → ℕ → ℕ → ℕ
 carry a b carried zero = carried
 carry a b carried (suc k) = carry (a / 2) (b / 2) ((a % 2 + b % 2 + carried) / 2) k
@@ -23,7 +23,7 @@ sum_bit a b carried (suc k) =
     ∙ ap (λ n. (n + bit_at (b / 2) k + carry (a / 2) (b / 2) ((a % 2 + b % 2 + carried) / 2) k) % 2) (sym (bit_at-suc a k))
     ∙ ap (λ n. (bit_at a (suc k) + n + carry (a / 2) (b / 2) ((a % 2 + b % 2 + carried) / 2) k) % 2) (sym (bit_at-suc b k))
 
--- the same, from the place below
+-- what is carried into a place, by the bits and the carry of the place below
 carry_next : (a b carried k : ℕ) → carry a b carried (suc k) ≡ (bit_at a k + bit_at b k + carry a b carried k) / 2
 carry_next a b carried zero = ap (λ n. (n + b % 2 + carried) / 2) (sym (bit_at_lowest a)) ∙ ap (λ n. (bit_at a 0 + n + carried) / 2) (sym (bit_at_lowest b))
 carry_next a b carried (suc k) =
@@ -31,7 +31,7 @@ carry_next a b carried (suc k) =
     ∙ ap (λ n. (n + bit_at (b / 2) k + carry (a / 2) (b / 2) ((a % 2 + b % 2 + carried) / 2) k) / 2) (sym (bit_at-suc a k))
     ∙ ap (λ n. (bit_at a (suc k) + n + carry (a / 2) (b / 2) ((a % 2 + b % 2 + carried) / 2) k) / 2) (sym (bit_at-suc b k))
 
--- one place: a word's bit, a bit that passes, and what is carried there
+-- what is carried on from one place, by the word's bit, whether it passes, and what is carried there
 next_place : (w p c : ℕ) → w < 2 → p < 2 → c < 2 → ((min w p + p + c) / 2 < 2) × (((min w p + p + c) / 2 == 1) ≡ (((w == 1) || (c == 1)) && (p == 1)))
 next_place zero zero zero x y z = (omega arith, refl)
 next_place zero zero (suc zero) x y z = (omega arith, refl)

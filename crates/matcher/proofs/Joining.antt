@@ -14,7 +14,7 @@ use Rattle.matcher.specs.Private.Moves.{more_unless, absent_below, absent, HasNo
 use Rattle.matcher.proofs.Bits.{false≢true, some_bit, position_in, same_word, empty_word, none_held, position_set_same, position_set_other}
 use Rattle.matcher.proofs.Shifting.{none_before, none_after}
 
--- positions for which there is room
+-- A position has room only if there are no more words than a line needs, and they hold it.
 pub in_room : (position size : ℕ) → position < room_of size → (size ≤ WORDS) × (position < 64 * size)
 in_room position size held = go (nat_le size WORDS) refl held
   where
@@ -22,7 +22,7 @@ in_room position size held = go (nat_le size WORDS) refl held
     go true e inside = (grind (arith, nat_tests), inside)
     go false e inside = absurd (omega arith)
 
--- a set that is found to be empty, or not
+-- A set is empty if all its words up to its end are 0, and not if one of them is not 0.
 pub none_in_bounds : {size : ℕ} {words : List ℕ} {first end : ℕ} → IsBounded size words first end → (at : ℕ) → end ≤ at
     → ((i : ℕ) → i < at → get_or words i 0 ≡ 0) → HasNone words
 none_in_bounds {size} {words} bounds at far none = none_held words each
@@ -39,7 +39,7 @@ some_position words i some small =
     let bit = some_bit (get_or words i 0) (omega arith) small in
     (i * 64 + trailing_zeros w64 (get_or words i 0), position_in words i (trailing_zeros w64 (get_or words i 0)) bit.0 ∙ bit.1)
 
--- without the empty words before the first position
+-- The bounds can leave out empty words at the front.
 pub trimmed : {size : ℕ} (words : List ℕ) (first end at : ℕ) → IsBounded size words first end → (first ≤ at) × (at ≤ end)
     → ((i : ℕ) → first ≤ i → i < at → get_or words i 0 ≡ 0) → IsBounded size words at end
 trimmed words first end at bounds between none =
@@ -107,7 +107,7 @@ cleared_all words at end bounds past i = go (nat_lt i at) refl
     go true e = bounds.low i (grind (arith, nat_tests))
     go false e = let far : at ≤ i = grind (arith, nat_tests) in bounds.high i (omega arith)
 
--- the words of the positions up to one
+-- All positions before word `at` are in the set, and no others.
 pub record IsFilled (size : ℕ) (words : List ℕ) (at : ℕ) : Type 0 where
   pub whole : length words ≡ size
   pub below : (k : ℕ) → k < at * 64 → has_position words k ≡ true
@@ -183,7 +183,7 @@ filled_bounded words at word few h inside = record {
   high = λ i l. get_or-set_other words at i word 0 (omega arith) ∙ h.above i (omega arith);
 }
 
--- one position put back into an empty set
+-- A position of the old set, put into an empty set, is the only one there.
 and_none : (a b : Bool) → a ≡ false → (a && b) ≡ false
 and_none a b e = rw e refl
 
@@ -417,7 +417,7 @@ module _ {size : ℕ} (old_found old_fresh found fresh : List ℕ) (first at end
               let past : end ≤ i = grind (arith, nat_tests) in
               h.found_above i (omega arith) ∙ old_none i out_old (nat_lt i old_first) (nat_lt i old_end) refl refl
 
--- a set that grows has fewer positions absent
+-- A set that grows has no more positions absent, and fewer if it gains one.
 absent_least : (old new : List ℕ) → ((k : ℕ) → IsTrue (has_position old k) → IsTrue (has_position new k)) → (n : ℕ) → absent_below new n ≤ absent_below old n
 unfolding absent_below
 absent_least old new grows zero = omega arith
@@ -452,7 +452,7 @@ absent_fewer old new grows (suc n) k inside gone there = pick (k == n) refl (λ 
     pick true e fewer = let same : k ≡ n = grind (arith, nat_tests) in own (rw same at gone) (rw same at there)
     pick false e fewer = let apart : k ≢ n = grind (arith, nat_tests) in go (has_position old n) (has_position new n) (grows n) (fewer (omega arith))
 
--- a position within the words
+-- Only positions within the words are in a set.
 held_inside : (words : List ℕ) (k : ℕ) → IsTrue (has_position words k) → k < 64 * length words
 held_inside words k h = go (nat_lt k (64 * length words)) refl
   where

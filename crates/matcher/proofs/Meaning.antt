@@ -8,11 +8,11 @@ use Rattle.ere.specs.Tree.{Tree, empty, set, at_start, at_end, cat, alt, repeat,
 use Rattle.ere.specs.Language.{Language, InCopies, InLanguage, InEach, InSome, ContainsMatch}
 use Rattle.matcher.specs.Spans.{Relation, Steps, Spans, SpansEach, SpansSome}
 
--- where a text ends that comes after another
+-- An empty word after x ends where x ends.
 end_of_nothing : (x w : List ℕ) → w ≡ [] → length x ≡ length (x ++ w)
 end_of_nothing x w e = rw e (ap length (sym (append-nil x)))
 
--- from words to positions
+-- Copies of words are steps from where x ends to where the last copy ends.
 steps_of_copies : (line : List ℕ) (language : Language) (relation : Relation)
     → ((x w y : List ℕ) → line ≡ x ++ (w ++ y) → language x w y → relation (length x) (length (x ++ w))) → (count : ℕ) (x w y : List ℕ)
     → line ≡ x ++ (w ++ y) → InCopies language count x w y → Steps relation count (length x) (length (x ++ w))
@@ -76,7 +76,7 @@ record Leads (language : Language) (x z : List ℕ) (to : ℕ) : Type 0 where
 leads_nowhere : (language : Language) (x z : List ℕ) (to : ℕ) → length x ≡ to → language x [] z → Leads language x z to
 leads_nowhere language x z to e h = record { word = []; after = z; is_rest = refl; is_end = sym e ∙ ap length (sym (append-nil x)); in_language = h }
 
--- a word, and another after it
+-- A word of one language and then a word of another make a word of both.
 leads_on : (first second both : Language) (line x z : List ℕ) (to middle : ℕ) → line ≡ x ++ z → Leads first x z middle
     → ((x' z' : List ℕ) → line ≡ x' ++ z' → length x' ≡ middle → Leads second x' z' to)
     → ((u v y : List ℕ) → first x u (v ++ y) → second (x ++ u) v y → both x (u ++ v) y) → Leads both x z to
@@ -154,7 +154,7 @@ mutual
       let one = some_of_spans line trees x z from to whole at h in
       record { word = one.word; after = one.after; is_rest = one.is_rest; is_end = one.is_end; in_language = inr one.in_language }
 
--- a hit, by positions
+-- A line contains a match if a word of the tree leads from one of its positions to any position.
 pub hit_of_spans : (line : List ℕ) (tree : Tree) (from to : ℕ) → from ≤ length line → Spans line tree from to → ContainsMatch tree line
 hit_of_spans line tree from to inside h =
     let whole : line ≡ take from line ++ drop from line = sym (take-append-drop from line) in

@@ -15,7 +15,7 @@ pub passing_none : (members : List Bool) (line : List ℕ) (at count : ℕ) → 
     → IsPassing members line 0 at count
 passing_none members line at count none = record { each = λ b l. has_zero b ∙ sym (none b l) }
 
--- one position more, before those that were found
+-- One more position is looked at, before those looked at so far.
 pub passing_more : (members : List Bool) (line : List ℕ) (found carried next at count after more : ℕ) → after ≡ at + 1 → more ≡ count + 1
     → more ≤ 64 → at < length line
     → IsPassing members line found after count → has_bit carried 0 ≡ has members (get_or line at 0) → has_bit next 0 ≡ has_bit carried 0
@@ -36,7 +36,7 @@ pub passing_at : (members : List Bool) (line : List ℕ) (word at other count as
     → IsPassing members line word at count → IsPassing members line word other as_many
 passing_at members line word at other count as_many same many h = rw (← same, ← many) h
 
--- The positions of a word that were found, and those of the rest that pass, are all that pass.
+-- The bits found so far, and those of the rest that pass, are all bits of the word that pass.
 pub picked_first : (pass : ℕ → Bool) (word b : ℕ) → (has_bit 0 b || (has_bit word b && pass b)) ≡ (has_bit word b && pass b)
 picked_first pass word b = ap (λ t. t || (has_bit word b && pass b)) (has_zero b)
 
@@ -79,7 +79,7 @@ picked_all pass word found rest b none h =
     or_none true = refl
     or_none false = refl
 
--- sixteen positions more
+-- Sixteen more positions are looked at, from bit `at` on.
 module _ (members : List Bool) (line : List ℕ) (found held moved both base at from : ℕ) (low : at ≤ from) (high : from ≤ at + 16)
     (in_line : base + at + 16 ≤ length line) (h : IsPassingFrom members line found base from) (small : held < 2 ^ 16)
     (looked_at : (k : ℕ) → k < 16 → has_bit held k ≡ has members (get_or line (base + at + k) 0)) where
@@ -121,7 +121,7 @@ module _ (members : List Bool) (line : List ℕ) (found held moved both base at 
           let far : at + 16 ≤ b = grind (arith, nat_tests) in
           rw (e, past, has_no_more held (b - at) small (omega arith)) (rest (passes members line (base + b)))
 
--- after the word's last position that a byte follows, no position passes
+-- No position passes from the end of the line on.
 pub from_end : (members : List Bool) (line : List ℕ) (base end : ℕ) → ((bit : ℕ) → end ≤ bit → bit < 64 → length line ≤ base + bit)
     → IsPassingFrom members line 0 base end
 from_end members line base end past = record { each = λ b inside. has_zero b ∙ go b inside (nat_le end b) refl }

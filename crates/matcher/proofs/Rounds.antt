@@ -1,4 +1,4 @@
--- Rounds of a repeat: each goes on from new positions alone, and passes over those that are done.
+-- Rounds of a repeat: each goes on only from new positions, and can leave out what positions of `done` lead to.
 use Rattle.std.proofs.Common.{◌≡◌, ℕ, zero, suc, ◌+◌, ◌-◌, ◌≤◌, ◌<◌, Bool, true, false, not, ◌&&◌, IsTrue, List, length, get_or, drop, map}
 use Rattle.std.proofs.Common.{Option, Some, None, ◌⊎◌, inl, inr, refl, sym, subst, ◌∙◌, arith}
 use Rattle.ere.specs.declared.tree.Ere.{Ere}
@@ -31,7 +31,7 @@ pub past_alt : (line : List ℕ) (members : Trees) (done from to : List ℕ) →
 unfolding Spans
 past_alt line members done from to h = record { sound = h.sound; complete = h.complete }
 
--- any number of words, and one or more
+-- a repeat of any number of words, and one of one or more
 pub past_star : (line : List ℕ) (body : Tree) (done from to : List ℕ) → MovesPast (AnySteps (Spans line body)) done from to
     → MovesPast (Spans line (repeat body 0 None)) done from to
 unfolding Spans
@@ -62,7 +62,7 @@ past_plus line body done from to h = record {
     covered k (inl x) = inl x
     covered k (inr w) = inr (w.0, w.1, (suc w.2.0, omega arith, tt, w.2.1))
 
--- a count that is one less, and then one word or more
+-- one word fewer than the least count, and then one word or more
 pub moves_some_more_words : (line : List ℕ) (body : Tree) (least before : ℕ) (from middle to : List ℕ) → least ≡ suc before
     → Moves (Steps (Spans line body) before) from middle → Moves (MoreSteps (Spans line body)) middle to
     → Moves (Spans line (repeat body least None)) from to
@@ -195,7 +195,7 @@ pub past_if : (leads : Bool) (relation : Relation) (done from to : List ℕ) →
 past_if true relation done from to h = past_of_moves relation done from to h
 past_if false relation done from to h = h
 
--- one more member whose words may lead on
+-- one more alternative, before the others
 pub past_some_more : (line : List ℕ) (tree : Tree) (trees : Trees) (done from one rest both : List ℕ)
     → MovesPast (Spans line tree) done from one → MovesPast (SpansSome line trees) done from rest → IsEither rest one both
     → MovesPast (SpansSome line (more tree trees)) done from both
@@ -236,11 +236,11 @@ and_left : (a b : Bool) → IsTrue (a && b) → IsTrue a
 and_left true b e = refl
 and_left false b e = e
 
--- what is new is of the next ones
+-- What is new is one of the next positions.
 was_next : {next found new : List ℕ} → IsNew next found new → (k : ℕ) → IsTrue (has_position new k) → IsTrue (has_position next k)
 was_next {next} {found} new k held = and_left (has_position next k) (not (has_position found k)) (sym (new.each k) ∙ held)
 
--- by steps of a relation that another contains
+-- Steps of a relation are steps of one that contains it.
 steps_longer : (inner relation : Relation) → ((i k : ℕ) → inner i k → relation i k) → (count i k : ℕ) → Steps inner count i k → Steps relation count i k
 unfolding Steps
 steps_longer inner relation longer zero i k h = h
@@ -321,7 +321,7 @@ rounded_more relation done start found over known fresh next found_next unfound 
     closed k to (inr absent) (inl held) r = absurd (false≢true (sym absent ∙ held))
     closed k to (inr absent) (inr held) r = inl (new_known.each k ∙ rw (held, absent) refl)
 
--- with nothing fresh, everything is found or covered
+-- With nothing fresh, all that one step or more lead to is found or covered.
 pub rounded_all : (relation : Relation) (done start found over known fresh : List ℕ) → IsRounded relation done start found over known fresh
     → HasNone fresh → MovesPast (MoreSteps relation) done start found
 unfolding Steps
@@ -347,7 +347,7 @@ rounded_all relation done start found over known fresh h none_fresh = record {
         not_fresh i k (h.closed i k (h.knows_start i held) first)
     reached (suc count) i k held r = further r.0 k r.2 (reached count i r.0 held r.1)
 
--- with the fresh positions of one round
+-- after one round from the fresh positions
 pub rounded_on : (relation : Relation) (done start found known fresh fresh_next found_next known_next : List ℕ)
     → GoesOn relation fresh found known fresh_next found_next known_next → IsRounded relation done start found done known fresh
     → IsRounded relation done start found_next done known_next fresh_next
@@ -367,7 +367,7 @@ rounded_on relation done start found known fresh fresh_next found_next known_nex
       over_closed = λ k to held step. inr (k, held, (0, (k, refl, step)));
     }
 
--- from a part of what is fresh, widened by steps of a relation that this one contains
+-- after a round from a part of the fresh positions, widened by steps of a relation that this one contains
 module _ (inner relation : Relation) (longer : (i k : ℕ) → inner i k → relation i k)
     (done start found known fresh here here_wide here_next rest known_wide known_next found_next fresh_next : List ℕ)
     (split : IsEither here rest fresh) (widened : IsWidened inner here known here_wide known_wide)
@@ -484,7 +484,7 @@ widened_more relation here_first known_first here known next moved known_next ne
     in_known k (inr absent) (inl held) = absurd (false≢true (sym absent ∙ held))
     in_known k (inr absent) (inr held) = inr (in_right heres k (is_new.each k ∙ rw (held, absent) refl))
 
--- a word of no bytes
+-- trees that have the empty word
 pub empty_empty : (line : List ℕ) (place : ℕ) → Spans line empty place place
 unfolding Spans
 empty_empty line place = refl

@@ -96,7 +96,7 @@ shifted_more members line old new first i carried passing moved next h begun ins
         subst (λ n. has_position (set new i moved) n ≡ arrives members line old n) place
         (position_set_same new i moved (k - i * 64) within bit ∙ at (k - i * 64) bit)
 
--- What is carried out of the last word goes into the next, or there is no next.
+-- The whole step: what is carried out of the last word goes into the next one, or nothing is carried.
 module _ {size : ℕ} (members : List Bool) (line old new : List ℕ) (first end carried : ℕ)
     (h : IsShifted size members line old new first end carried) (bounds : IsBounded size old first end) where
   arrives_after : (k : ℕ) → end * 64 < k → arrives members line old k ≡ false
@@ -172,7 +172,7 @@ module _ {size : ℕ} (members : List Bool) (line old new : List ℕ) (first end
           let apart : j ≢ end = grind (arith, nat_tests) in
           get_or-set_other new end j carried 0 apart ∙ h.above j (omega arith) ∙ bounds.high j (omega arith)
 
--- at the end of all words nothing is carried
+-- A step carries nothing past the end of the line.
 pub none_carried : (members : List Bool) (line old : List ℕ) (end : ℕ) → length line < end * 64 → arrives members line old (end * 64) ≡ false
 none_carried members line old end short = go (end * 64) refl
   where
@@ -189,7 +189,7 @@ pub record IsSwept (size : ℕ) (members : List Bool) (line old new : List ℕ) 
   pub is_bit : carried < 2
   pub carry : has_bit carried 0 ≡ comes (has_position old) (passes members line) (i * 64)
 
--- if nothing is held, nothing comes
+-- If nothing comes to `start` and nothing is held from there on, nothing comes later.
 comes_none : (held pass : ℕ → Bool) (start k : ℕ) → comes held pass start ≡ false → ((j : ℕ) → start ≤ j → j < k → held j ≡ false)
     → start ≤ k → comes held pass k ≡ false
 comes_none held pass start zero none empty far = refl
@@ -218,7 +218,7 @@ swept_first members line old first end bounds = record {
     none : (k : ℕ) → k ≤ first * 64 → comes (has_position old) (passes members line) k ≡ false
     none k l = comes_none (has_position old) (passes members line) 0 k refl (λ j low high. none_before bounds j (omega arith)) (omega arith)
 
--- the flood of one word is that of all
+-- The flood of one word, with the carried bit, is that of all words at its positions.
 pub comes_word : (held pass : ℕ → Bool) (word carried base : ℕ)
     → ((b : ℕ) → b < 64 → has_bit word b ≡ (held (base + b) || has_bit carried b)) → ((b : ℕ) → 0 < b → has_bit carried b ≡ false)
     → has_bit carried 0 ≡ comes held pass base → (b : ℕ) → b < 64
@@ -305,7 +305,7 @@ module _ {size : ℕ} (members : List Bool) (line old new : List ℕ) (first i c
     high = λ j l. h.above j l ∙ bounds.high j (omega arith);
   }
 
--- after the last word nothing is carried
+-- A sweep carries nothing past the end of the line.
 pub none_swept_on : (members : List Bool) (line old : List ℕ) (i : ℕ) → length line < i * 64 → comes (has_position old) (passes members line) (i * 64) ≡ false
 none_swept_on members line old i short = go (i * 64) refl
   where
@@ -315,7 +315,7 @@ none_swept_on members line old i short = go (i * 64) refl
         and_false (has_position old k || comes (has_position old) (passes members line) k) (passes members line k)
         (none_passes members line k (omega arith))
 
--- by one byte of the set, and by any number
+-- a conjunction of three, taken apart and made
 and_parts : (a b c : Bool) → IsTrue (a && (b && c)) → IsTrue a × IsTrue b × IsTrue c
 and_parts true true true h = (refl, refl, refl)
 and_parts true true false h = absurd (false≢true h)
@@ -352,7 +352,7 @@ moves_shifted line members old new each = record {
         ∙ and_made (has_position old start) (nat_lt start (length line)) (has members (get_or line start 0)) held test leads.2 in
         subst (λ (n : ℕ). IsTrue (has_position new n)) (sym leads.0) at_next
 
--- the public words for one step
+-- what a step does, as the public function states it
 pub step_is : (line : List ℕ) (members : List Bool) (old new : List ℕ) → ((k : ℕ) → has_position new k ≡ arrives members line old k)
     → (k : ℕ)
     → IsTrue (has_position new k)

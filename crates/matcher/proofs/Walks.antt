@@ -17,7 +17,7 @@ use Rattle.matcher.proofs.Meaning.{hit_of_spans, spans_of_hit}
 pub not_held : {places : List ℕ} → HasNone places → (k : ℕ) → IsTrue (has_position places k) → ⊥
 not_held empties k h = false≢true (sym (empties.none k) ∙ h)
 
--- nothing leads from nothing to nothing
+-- Any relation moves the empty set to the empty set.
 pub moves_none : (relation : Relation) (from to : List ℕ) → HasNone from → HasNone to → Moves relation from to
 moves_none relation from to none_from none_to = record {
   sound = λ k h. absurd (not_held none_to k h);
@@ -137,7 +137,7 @@ moves_some_more line tree trees from one rest both first others either = record 
     complete i k h (inl r) = in_right either k (first.complete i k h r)
     complete i k h (inr r) = in_left either k (others.complete i k h r)
 
--- exact counts
+-- an exact count of steps
 pub moves_zero_steps : (relation : Relation) (places : List ℕ) → Moves (Steps relation 0) places places
 unfolding Steps
 moves_zero_steps relation places = moves_same (Steps relation 0) places (λ i. refl) (λ i k r. r)
@@ -242,7 +242,7 @@ widened_more relation allowed allowed_next start found fresh next found_next fre
     closed k to (inr absent) (inl held) r = absurd (false≢true (sym absent ∙ held))
     closed k to (inr absent) (inr held) r = inl (new.each k ∙ rw (held, absent) refl)
 
--- with nothing fresh, everything is found
+-- With nothing fresh, all that any count of steps leads to is found.
 widened_all : (relation : Relation) (allowed : ℕ → Type 0) (start found fresh : List ℕ) → IsWidened relation allowed start found fresh
     → HasNone fresh → (count i k : ℕ) → IsTrue (has_position start i) → Steps relation count i k → IsTrue (has_position found k)
 unfolding Steps
@@ -265,7 +265,7 @@ moves_any relation start found fresh h none_fresh = record {
 abbrev pub FewSteps : Relation → ℕ → Relation
 FewSteps relation most from to = (words : ℕ) × (words ≤ most) × Steps relation words from to
 
--- after this many rounds, all that at most as many steps lead to is found
+-- After this many rounds, exactly what at most this many steps lead to is found.
 pub record IsWidenedBy (relation : Relation) (rounds : ℕ) (start found fresh : List ℕ) : Type 0 where
   pub widened : IsWidened relation (λ count. count ≤ rounds) start found fresh
   pub reaches : (count i k : ℕ) → count ≤ rounds → IsTrue (has_position start i) → Steps relation count i k → IsTrue (has_position found k)
@@ -309,7 +309,7 @@ moves_few relation rounds start found fresh h = record {
   complete = λ i k held r. h.reaches r.0 i k r.1 held r.2;
 }
 
--- with nothing fresh, further rounds find nothing
+-- With nothing fresh, further rounds find nothing more.
 pub moves_few_closed : (relation : Relation) (rounds most : ℕ) (start found fresh : List ℕ) → rounds ≤ most
     → IsWidenedBy relation rounds start found fresh → HasNone fresh → Moves (FewSteps relation most) start found
 moves_few_closed relation rounds most start found fresh less h none_fresh = record {
@@ -338,7 +338,7 @@ moves_exactly relation count from to stays moves = record {
   complete = λ i k h r. moves.complete i k h (count, omega arith, r);
 }
 
--- counted repeats
+-- repeats with a greatest count
 pub moves_impossible : (line : List ℕ) (body : Tree) (least most : ℕ) (from to : List ℕ) → most < least → HasNone to
     → Moves (Spans line (repeat body least (Some most))) from to
 unfolding Spans
@@ -382,13 +382,13 @@ moves_at_least line body least from middle to one two =
 abbrev pub IsTransitive : Relation → Type 0
 IsTransitive relation = (start middle end : ℕ) → relation start middle → relation middle end → relation start end
 
--- so one step or more are one step
+-- One step or more of a transitive relation are one step.
 one_step : (relation : Relation) → IsTransitive relation → (count i k : ℕ) → Steps relation (suc count) i k → relation i k
 unfolding Steps
 one_step relation joins zero i k h = subst (λ n. relation n k) (sym h.1) h.2
 one_step relation joins (suc count) i k h = joins i h.0 k (one_step relation joins count i h.0 h.1) h.2
 
--- and a step after others adds nothing
+-- If the body is transitive, words after the least count add nothing.
 pub moves_joined : (line : List ℕ) (body : Tree) (least : ℕ) (from to : List ℕ) → IsTransitive (Spans line body) → 0 < least
     → Moves (Steps (Spans line body) least) from to → Moves (Spans line (repeat body least None)) from to
 unfolding Spans Steps
@@ -429,7 +429,7 @@ joins_if line body tree least None e absent a h = subst (λ t. IsTransitive (Spa
 joins_if line body tree least (Some most) e true a h = absurd (false≢true (sym a))
 joins_if line body tree least (Some most) e false a h = absurd (false≢true h)
 
--- one more member from the last one back, and from the first one on
+-- The members from the i-th on are the i-th and those after it.
 pub trees_from : (members : List Ere) (i : ℕ) (member : Ere) → i < length members → member ≡ get_or members i member
     → trees_of (map form (drop i members)) ≡ more (form member) (trees_of (map form (drop (i + 1) members)))
 trees_from members i member inside e =
@@ -464,7 +464,7 @@ pub moves_by_no_member : (line : List ℕ) (members : List Ere) (i : ℕ) (from 
 moves_by_no_member line members i from to past none_to =
     subst (λ trees. Moves (SpansSome line trees) from to) (sym (trees_past members i past)) (moves_some_none line from to none_to)
 
--- a walk of all positions of a line, and whether any is left
+-- A walk from all positions of a line leaves a position exactly if the line contains a match.
 module _ (tree : Tree) (line : List ℕ) (all left : List ℕ) (every : (k : ℕ) → has_position all k ≡ nat_le k (length line))
     (moves : Moves (Spans line tree) all left) where
   pub hit_of_position : (k : ℕ) → IsTrue (has_position left k) → ContainsMatch tree line
@@ -484,7 +484,7 @@ module _ (tree : Tree) (line : List ℕ) (all left : List ℕ) (every : (k : ℕ
   is_hit true is_none = (λ h. absurd (false≢true h), λ hit. let w = position_of_hit hit in absurd (not_held is_none w.0 w.1))
   is_hit false some = (λ _. hit_of_position some.0 some.1, λ _. refl)
 
--- counts after a step that changes nothing
+-- If a step changes nothing, neither do further steps.
 pub moves_still : (relation : Relation) (taken count : ℕ) (from at : List ℕ) → taken ≤ count → Moves (Steps relation taken) from at → Moves relation at at
     → Moves (Steps relation count) from at
 moves_still relation taken count from at low moves same =

@@ -29,7 +29,7 @@ pub fn advance<S: PositionSet>(tree: &Ere, line: &[u8], at: &mut S)
     }
 }
 
-/// The same, but a set, which most members are, costs no call.
+/// Does what `advance` does, but without a call for a set, which most members are.
 #[cycle(walk)]
 #[inline(always)]
 fn advance_over<S: PositionSet>(tree: &Ere, line: &[u8], at: &mut S)
@@ -42,7 +42,7 @@ fn advance_over<S: PositionSet>(tree: &Ere, line: &[u8], at: &mut S)
     }
 }
 
-/// Over a word of each member, one after the other.
+/// Moves each position by a word of each member, one after the other.
 #[cycle(walk)]
 fn advance_each<S: PositionSet>(members: &[Ere], line: &[u8], at: &mut S)
     requires { length line.now < S.room }
@@ -56,7 +56,7 @@ fn advance_each<S: PositionSet>(members: &[Ere], line: &[u8], at: &mut S)
     }
 }
 
-/// Over a word of one member.
+/// Moves each position by a word of any one member.
 #[cycle(walk)]
 fn advance_some<S: PositionSet>(members: &[Ere], line: &[u8], at: &mut S)
     requires { length line.now < S.room }
@@ -72,7 +72,7 @@ fn advance_some<S: PositionSet>(members: &[Ere], line: &[u8], at: &mut S)
     at.copy(&found);
 }
 
-/// Over `least` words of the body or more, and at most `greatest`, one after the other.
+/// Moves each position by at least `least` words of the body and at most `greatest`, one after the other.
 #[cycle(walk)]
 fn advance_counted<S: PositionSet>(
     body: &Ere,
@@ -111,13 +111,13 @@ fn advance_counted<S: PositionSet>(
     }
 }
 
-/// Over exactly `count` words of the body, one after the other.
+/// Moves each position by exactly `count` words of the body, one after the other.
 #[cycle(walk)]
 fn advance_exactly<S: PositionSet>(body: &Ere, count: u8, line: &[u8], at: &mut S)
     requires { length line.now < S.room }
     ensures { Moves (Steps (Spans line.now (form body.now)) count) (S.words at.old) (S.words at.new) }
 {
-    // If a word can be empty, any smaller number of words is as good.
+    // If a word can be empty, at most `count` words lead to the same positions as exactly `count`.
     if can_be_empty(body) {
         advance_at_most(body, count, line, at);
         return;
@@ -134,7 +134,7 @@ fn advance_exactly<S: PositionSet>(body: &Ere, count: u8, line: &[u8], at: &mut 
     }
 }
 
-/// The same for a short line: if a word changes nothing, those after it change nothing either.
+/// Does what `advance_exactly` does, for a short line: once a word changes nothing, later ones change nothing either.
 #[cycle(walk)]
 fn advance_while_new<S: PositionSet>(body: &Ere, count: u8, line: &[u8], at: &mut S)
     requires { length line.now < S.room }
@@ -153,7 +153,7 @@ fn advance_while_new<S: PositionSet>(body: &Ere, count: u8, line: &[u8], at: &mu
     }
 }
 
-/// Over at most `count` words of the body, one after the other.
+/// Moves each position by at most `count` words of the body, one after the other.
 #[cycle(walk)]
 fn advance_at_most<S: PositionSet>(body: &Ere, count: u8, line: &[u8], at: &mut S)
     requires { length line.now < S.room }
@@ -171,7 +171,7 @@ fn advance_at_most<S: PositionSet>(body: &Ere, count: u8, line: &[u8], at: &mut 
     at.copy(&found);
 }
 
-/// Over any number of words of the body, one after the other.
+/// Moves each position by any number of words of the body, one after the other.
 #[cycle(walk)]
 fn advance_any<S: PositionSet>(body: &Ere, line: &[u8], at: &mut S)
     requires { length line.now < S.room }
@@ -185,7 +185,7 @@ fn advance_any<S: PositionSet>(body: &Ere, line: &[u8], at: &mut S)
     any_past(body, line, at, &done);
 }
 
-/// Over one word of the body or more, one after the other.
+/// Moves each position by one word of the body or more, one after the other.
 #[cycle(walk)]
 fn advance_more<S: PositionSet>(body: &Ere, line: &[u8], at: &mut S)
     requires { length line.now < S.room }
@@ -195,8 +195,8 @@ fn advance_more<S: PositionSet>(body: &Ere, line: &[u8], at: &mut S)
     more_past(body, line, at, &done);
 }
 
-/// Over a word of the tree. Positions that a word of it reaches from a position of `done` can be missing, since the
-/// caller has them already.
+/// Moves each position by a word of the tree. Positions that a word of it reaches from a position of `done` can be
+/// missing, since the caller has them already.
 ///
 /// For a repeat, `done` has the positions at which its earlier rounds began: a repeat at the front of its body need
 /// not go on from these.
@@ -215,8 +215,8 @@ fn advance_past<S: PositionSet>(tree: &Ere, line: &[u8], at: &mut S, done: &S)
     }
 }
 
-/// Over a word of each member, one after the other. Members are at the front as long as all
-/// before them can be empty.
+/// Moves each position by a word of each member, one after the other, as `advance_past` does. A member is at the
+/// front only if all before it can be empty.
 #[cycle(walk)]
 fn each_past<S: PositionSet>(members: &[Ere], line: &[u8], at: &mut S, done: &S)
     requires { length line.now < S.room }
@@ -231,7 +231,7 @@ fn each_past<S: PositionSet>(members: &[Ere], line: &[u8], at: &mut S, done: &S)
     }
 }
 
-/// Over a word of a member, which is at the front if `leads`. Returns whether the next member
+/// Moves each position by a word of a member, which is at the front if `leads`. Returns whether the next member
 /// is at the front too.
 #[cycle(walk)]
 #[inline(always)]
@@ -253,7 +253,7 @@ fn member_past<S: PositionSet>(member: &Ere, leads: bool, line: &[u8], at: &mut 
     }
 }
 
-/// Over a word of one member.
+/// Moves each position by a word of any one member, as `advance_past` does.
 #[cycle(walk)]
 fn some_past<S: PositionSet>(members: &[Ere], line: &[u8], at: &mut S, done: &S)
     requires { length line.now < S.room }
@@ -269,7 +269,7 @@ fn some_past<S: PositionSet>(members: &[Ere], line: &[u8], at: &mut S, done: &S)
     at.copy(&found);
 }
 
-/// Over `least` words of the body or more, and at most `greatest`, one after the other.
+/// Moves each position by at least `least` words of the body and at most `greatest`, as `advance_past` does.
 #[cycle(walk)]
 fn repeat_past<S: PositionSet>(
     body: &Ere,
@@ -302,7 +302,7 @@ fn repeat_past<S: PositionSet>(
     }
 }
 
-/// Over a word of the body, or over none.
+/// Moves each position by one word of the body or none, as `advance_past` does.
 #[cycle(walk)]
 fn optional_past<S: PositionSet>(body: &Ere, line: &[u8], at: &mut S, done: &S)
     requires { length line.now < S.room }
@@ -314,7 +314,7 @@ fn optional_past<S: PositionSet>(body: &Ere, line: &[u8], at: &mut S, done: &S)
     at.add(&mut start);
 }
 
-/// Over any number of words of the body, one after the other.
+/// Moves each position by any number of words of the body, as `advance_past` does.
 #[cycle(walk)]
 fn any_past<S: PositionSet>(body: &Ere, line: &[u8], at: &mut S, done: &S)
     requires { length line.now < S.room }
@@ -326,7 +326,7 @@ fn any_past<S: PositionSet>(body: &Ere, line: &[u8], at: &mut S, done: &S)
     at.add(&mut start);
 }
 
-/// Over one word of the body or more, one after the other.
+/// Moves each position by one word of the body or more, as `advance_past` does.
 #[cycle(walk)]
 fn more_past<S: PositionSet>(body: &Ere, line: &[u8], at: &mut S, done: &S)
     requires { length line.now < S.room }
@@ -347,7 +347,7 @@ fn more_past<S: PositionSet>(body: &Ere, line: &[u8], at: &mut S, done: &S)
     at.copy(&found);
 }
 
-/// Adds to `found` what one word of the body or more leads to from `at`, round by round.
+/// Adds to `found` the positions to which one word of the body or more lead from `at`, round by round.
 #[cycle(walk)]
 #[inline(never)]
 fn rounds_past<S: PositionSet>(
@@ -364,8 +364,8 @@ fn rounds_past<S: PositionSet>(
     if at.is_empty() {
         return;
     }
-    // What a word reaches from `over` is found, or need not be. So is what a word reaches from a position of `known`
-    // that is not in `at`.
+    // What a word reaches from `over` is found, or need not be. The same holds for a position of `known` that is
+    // not in `at`.
     let mut over = S::none();
     over.copy(done);
     loop {
@@ -379,7 +379,7 @@ fn rounds_past<S: PositionSet>(
     }
 }
 
-/// Goes on from `at` if the body is plain and the line is long, so that mostly nothing is left.
+/// Goes on from `at` if the body is plain and the line is long. Mostly nothing is left in `at` then.
 ///
 /// A body is not plain if it has a star inside that is not of a single set: that star would go through all windows of
 /// the line for each window of this one.
@@ -399,7 +399,7 @@ fn begin_plain<S: PositionSet>(body: &Ere, line: &[u8], at: &mut S, found: &mut 
     window_by_window(body, line, at, found, known);
 }
 
-/// Adds what a word of the body leads to from `at`. What is left in `at` is new.
+/// Adds the positions to which a word of the body leads from `at`. Leaves in `at` only those that are new.
 #[cycle(walk)]
 fn go_on<S: PositionSet>(body: &Ere, line: &[u8], at: &mut S, found: &mut S, known: &mut S)
     requires { length line.now < S.room }
@@ -452,7 +452,7 @@ fn over_window<S: PositionSet>(body: &Ere, line: &[u8], at: &mut S, found: &mut 
     at.add(&mut here);
 }
 
-/// Adds the new positions to which words of the body lead from `here`, until there are no more.
+/// Adds the positions to which words of the body lead from `here`, until none of them is new.
 #[cycle(walk)]
 #[inline(never)]
 fn widen<S: PositionSet>(body: &Ere, line: &[u8], here: &mut S, known: &mut S)
@@ -471,7 +471,7 @@ fn widen<S: PositionSet>(body: &Ere, line: &[u8], here: &mut S, known: &mut S)
     }
 }
 
-/// Whether it is plain that the empty word is a word of the tree.
+/// `true` only if the empty word is a word of the tree. `false` is allowed for such a tree too.
 fn can_be_empty(tree: &Ere) -> bool
     ensures { IsTrue result → (line : List ℕ) (place : ℕ) → Spans line (form tree.now) place place }
 {
@@ -482,7 +482,7 @@ fn can_be_empty(tree: &Ere) -> bool
     }
 }
 
-/// Whether two words of the tree, one after the other, are always a word of it: true of a repeat
+/// `true` only if two words of the tree, one after the other, are always a word of it. It is `true` for a repeat
 /// without a greatest count.
 fn joins_words(tree: &Ere) -> bool
     ensures { IsTrue result → (line : List ℕ) (start middle end : ℕ) → Spans line (form tree.now) start middle

@@ -1,6 +1,6 @@
 //! From the arguments to the bytes that are written and the status.
 
-ghost use Rattle.std.specs.Prelude.{◌≡◌, ◌⊎◌, IfOk, IfErr, map, string_bytes};
+ghost use Rattle.std.specs.Prelude.{◌≡◌, IfOk, IfErr, IfSome, IfNone, IsNone, map, string_bytes};
 ghost use Rattle.std.specs.Io.KnownBytes.{Appends};
 ghost use Rattle.cli.specs.CommandLine.{AreRefused, IsInLimits};
 ghost use Rattle.program.specs.Answer.{IsAnswer, IsFailure, IsFailureOfRun, IsRunOf};
@@ -28,8 +28,9 @@ const REFUSED: u8 = 2;
 ///
 /// A run or a session reads its script from the file that the arguments name, or from `input`, and its loads
 /// from the files of the source. A run's transcript is written to `out` at its end, the text of a session as its
-/// items come, and the help if the arguments ask for that. If the program cannot do this, it says why on standard
-/// error. If standard error fails too, only the status shows it.
+/// items come, and the help if the arguments ask for that. Afterwards the writer is returned; nothing else has been
+/// written to it. If the program cannot do this, it says why on standard error and returns no writer; a part may have
+/// been written. If standard error fails too, only the status shows it.
 #[tactic(auto, using(crate::proofs::AnswerLemmas::refused_have_none))]
 pub fn respond<R: Eprint + Threads + Wait + Sync, D: Disk, I: Read + Drop, O: Write + Drop>(
     rt: &R,
@@ -38,14 +39,16 @@ pub fn respond<R: Eprint + Threads + Wait + Sync, D: Disk, I: Read + Drop, O: Wr
     source: &mut FileSource<'_, D>,
     input: I,
     out: O,
-) -> u8
-    ensures answered { ((written : O) × IsAnswer (map string_bytes arguments.now) (D.opens source.old.disk.now) (I.remaining input)
-        source.old.failures source.new.failures (O.contents out) (O.contents written) result) ⊎ (result ≡ 2) }
-    ensures refused { AreRefused (map string_bytes arguments.now) → result ≡ 2 }
+) -> (u8, Option<O>)
+    ensures answered { IfSome result.1 (λ written. IsAnswer (map string_bytes arguments.now)
+        (D.opens source.old.disk.now) (I.remaining input) source.old.failures source.new.failures
+        (O.contents out) (O.contents written) result.0) }
+    ensures failed { IfNone result.1 (result.0 ≡ 2) }
+    ensures refused { AreRefused (map string_bytes arguments.now) → IsNone result.1 }
 {
     match answer(rt, alloc, arguments, source, input, out) {
-        Ok(answered) => answered.0,
-        Err(error) => report(rt, &error),
+        Ok((status, written)) => (status, Some(written)),
+        Err(error) => (report(rt, &error), None),
     }
 }
 

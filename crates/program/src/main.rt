@@ -26,7 +26,8 @@ fn main(rt: HostRuntime) -> ExitCode {
             let disk = HostDisk::new(&rt);
             let mut source = FileSource::new(&disk);
             let out = io::writer(&rt);
-            respond(&rt, rt.alloc(), &arguments, &mut source, rt.reader(), out)
+            let (status, _) = respond(&rt, rt.alloc(), &arguments, &mut source, rt.reader(), out);
+            status
         }
         Err(error) => report(&rt, &error),
     };

@@ -87,6 +87,22 @@ fn faults_of_loads(rt: HostRuntime) -> Result<(), Fail> {
     Ok(())
 }
 
+/// A load that fails, a pattern that is a byte too long, and a put that the end of the script cuts short.
+#[test]
+fn hostile_script(rt: HostRuntime) -> Result<(), Fail> {
+    let alloc = rt.alloc();
+    let first = b"put f 3\nabc\npublish\nsearch b\nload g missing\nsearch ".as_slice();
+    let script = repeated(alloc, first, b"a", 1025, b"\nput h 10\nxyz")?;
+    let case = Case {
+        script: script.as_slice(),
+        max_commands: 65_536,
+        stats: false,
+        text: b"search 1 version 1 lines 1\nf:1:abc\nline 5 refused: cannot load\nsearch 2 refused: pattern too long at 1024\nline 7 refused: truncated\n",
+        status: 2,
+    };
+    expect_always(&rt, alloc, &case, &mut Table::new(FILES, b"", 0))
+}
+
 /// Writes the transcript to a narrow writer. The writer takes these bytes, and the writing ends like this.
 fn expect_written(
     rt: &impl Abort,

@@ -3,6 +3,13 @@
 ghost use Rattle.std.specs.Prelude.{◌≡◌, ℕ, List};
 ghost use Rattle.script.specs.Items.{Numbered as NumberedItem, ItemsFrom};
 
+use crate::reader::MAX_SCRIPT;
+
+/// A script has at most 67,108,864 bytes (this program's choice).
+pub fn script_limit()
+    ensures { MAX_SCRIPT ≡ 67108864 }
+{}
+
 /// A text has at most one list of items, whatever the number of its first line.
 pub fn items_are_one()
     ensures { (n : ℕ) (text : List ℕ) (items items' : List NumberedItem) → ItemsFrom n text items → ItemsFrom n text items' → items ≡ items' }

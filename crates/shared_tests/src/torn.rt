@@ -85,7 +85,7 @@ fn watch(alloc: Global, mut reading: Reading, pattern: &Prepared, done: &AtomicU
     false
 }
 
-// An even version 2k; if k is not 0, two lines with the text of k.
+// An even version 2k; if k is not 0, the text of k as the first line of `a` and of `b`.
 fn is_whole(answer: &Answer) -> bool {
     let number = answer.version() / 2;
     let hits = if number == 0 { 0 } else { 2 };
@@ -93,10 +93,12 @@ fn is_whole(answer: &Answer) -> bool {
 }
 
 fn are_lines_of(answer: &Answer, number: u32) -> bool {
+    let mut name = b'a';
     for hit in answer.hits() {
-        if number_of(&hit.text) != number {
+        if hit.name.as_bytes() != &[name] || hit.line != 1 || number_of(&hit.text) != number {
             return false;
         }
+        name = name.wrapping_add(1);
     }
     true
 }

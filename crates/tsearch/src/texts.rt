@@ -1,8 +1,10 @@
 //! The texts of entries.
 
-ghost use Rattle.std.specs.Prelude.{◌≡◌, ◌++◌, OnOk};
+ghost use Rattle.std.specs.Prelude.{◌≡◌, ◌++◌, OnOk, OnErr, codes, decimal};
+ghost use Rattle.ere.specs.Faults.{reason_of};
+ghost use Rattle.search.specs.Text.{line_end};
 ghost use Rattle.tsearch.specs.Reasons.{text_of_name_error, text_of_body_error, text_of_reason};
-ghost use Rattle.tsearch.specs.Transcript.{text_of_entry, text_of_fault, text_of_search_reason, line_refusal, search_refusal};
+ghost use Rattle.tsearch.specs.Transcript.{text_of_entry, line_refusal, search_refusal};
 
 use crate::transcript::{Entry, Reason, SearchReason};
 use ere::EreError;
@@ -49,8 +51,10 @@ fn reason_text(reason: Reason) -> &'static str
     }
 }
 
+/// An `Err` leaves `out` as it was.
 fn append_line_refusal(out: &mut Vec<u8>, line: u32, reason: Reason) -> Result<(), AllocError>
-    ensures { OnOk result (out.new.items ≡ out.old.items ++ line_refusal line reason) }
+    ensures ok { OnOk result (out.new.items ≡ out.old.items ++ line_refusal line reason) }
+    ensures err { OnErr result (out.new.items ≡ out.old.items) }
 {
     let mut number = Buffer::new();
     append_all(
@@ -65,57 +69,66 @@ fn append_line_refusal(out: &mut Vec<u8>, line: u32, reason: Reason) -> Result<(
     )
 }
 
-fn append_fault(out: &mut Vec<u8>, error: EreError) -> Result<(), AllocError>
-    ensures { OnOk result (out.new.items ≡ out.old.items ++ text_of_fault error) }
-{
-    let mut at = Buffer::new();
-    append_all(
-        out,
-        &[
-            error.kind.reason().as_bytes(),
-            b" at ".as_slice(),
-            at.format(error.at).as_bytes(),
-        ],
-    )
-}
-
-fn append_search_reason(out: &mut Vec<u8>, reason: SearchReason) -> Result<(), AllocError>
-    ensures { OnOk result (out.new.items ≡ out.old.items ++ text_of_search_reason reason) }
-{
-    match reason {
-        SearchReason::Pattern(error) => append_fault(out, error),
-        SearchReason::NamePattern(error) => {
-            out.extend_from_slice(b"name pattern: ")?;
-            append_fault(out, error)
-        }
-        SearchReason::OutOfMemory => out.extend_from_slice(b"out of memory"),
-    }
-}
-
-fn append_search_refusal(
+/// Appends the refusal of a search whose pattern has a fault, with `which` before the fault. An `Err` leaves `out` as it
+/// was.
+fn append_fault(
     out: &mut Vec<u8>,
     search: u32,
-    reason: SearchReason,
+    which: &'static [u8],
+    error: EreError,
 ) -> Result<(), AllocError>
-    ensures { OnOk result (out.new.items ≡ out.old.items ++ search_refusal search reason) }
+    ensures ok { OnOk result (out.new.items ≡ out.old.items ++ codes "search " ++ decimal search ++ codes " refused: "
+        ++ which.now ++ reason_of error.kind ++ codes " at " ++ decimal error.at ++ line_end) }
+    ensures err { OnErr result (out.new.items ≡ out.old.items) }
 {
     let mut number = Buffer::new();
+    let mut at = Buffer::new();
     append_all(
         out,
         &[
             b"search ".as_slice(),
             number.format(search).as_bytes(),
             b" refused: ".as_slice(),
+            which,
+            error.kind.reason().as_bytes(),
+            b" at ".as_slice(),
+            at.format(error.at).as_bytes(),
+            b"\n".as_slice(),
         ],
-    )?;
-    append_search_reason(out, reason)?;
-    out.extend_from_slice(b"\n")
+    )
+}
+
+/// An `Err` leaves `out` as it was.
+fn append_search_refusal(
+    out: &mut Vec<u8>,
+    search: u32,
+    reason: SearchReason,
+) -> Result<(), AllocError>
+    ensures ok { OnOk result (out.new.items ≡ out.old.items ++ search_refusal search reason) }
+    ensures err { OnErr result (out.new.items ≡ out.old.items) }
+{
+    match reason {
+        SearchReason::Pattern(error) => append_fault(out, search, b"", error),
+        SearchReason::NamePattern(error) => append_fault(out, search, b"name pattern: ", error),
+        SearchReason::OutOfMemory => {
+            let mut number = Buffer::new();
+            append_all(
+                out,
+                &[
+                    b"search ".as_slice(),
+                    number.format(search).as_bytes(),
+                    b" refused: out of memory\n".as_slice(),
+                ],
+            )
+        }
+    }
 }
 
 /// Appends the text of an entry. With `stats` an answer also shows its number of candidates and of documents. An
-/// `Err` means that memory ran out; a beginning of the text may then have been appended.
+/// `Err` means that memory ran out; `out` is then as it was.
 pub fn append_entry(entry: &Entry, stats: bool, out: &mut Vec<u8>) -> Result<(), AllocError>
-    ensures { OnOk result (out.new.items ≡ out.old.items ++ text_of_entry stats entry.now) }
+    ensures ok { OnOk result (out.new.items ≡ out.old.items ++ text_of_entry stats entry.now) }
+    ensures err { OnErr result (out.new.items ≡ out.old.items) }
 {
     match entry {
         Entry::Accepted { .. } => Ok(()),

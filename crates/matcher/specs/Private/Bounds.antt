@@ -2,7 +2,7 @@
 use Rattle.std.specs.Prelude.{◌≡◌, ℕ, ◌*◌, ◌≤◌, ◌<◌, nat_le, if◌then◌else◌, List, length, slice_index}
 use Rattle.matcher.specs.declared.words.TheConstants.{WORDS}
 
--- how many positions this many words have room for; 0, which says nothing, if they are more than a line ever needs
+-- how many positions this many words have room for, or 0 if there are more words than a line ever needs
 abbrev pub room_of : ℕ → ℕ
 room_of size = if nat_le size WORDS then 64 * size else 0
 

@@ -3,7 +3,7 @@ use Rattle.std.specs.Prelude.{◌≡◌, ℕ, zero, suc, ◌*◌, Bool, true, fa
 use Rattle.matcher.specs.PositionSets.{has_position}
 use Rattle.matcher.specs.Spans.{Relation}
 
--- one more, unless it is there
+-- the count, and one more if the position is not in the set
 abbrev pub more_unless : Bool → ℕ → ℕ
 more_unless true count = count
 more_unless false count = suc count
@@ -33,14 +33,14 @@ pub record Moves (relation : Relation) (from to : List ℕ) : Type 0 where
   pub sound : (end : ℕ) → IsTrue (has_position to end) → (start : ℕ) × IsTrue (has_position from start) × relation start end
   pub complete : (start end : ℕ) → IsTrue (has_position from start) → relation start end → IsTrue (has_position to end)
 
--- The second set has only positions to which the relation leads from the first, and all of them but some to which
--- it leads from positions that are done.
+-- The second set has only positions to which the relation leads from the first. It can lack those to which the
+-- relation also leads from a position of `done`.
 pub record MovesPast (relation : Relation) (done from to : List ℕ) : Type 0 where
   pub sound : (end : ℕ) → IsTrue (has_position to end) → (start : ℕ) × IsTrue (has_position from start) × relation start end
   pub complete : (start end : ℕ) → IsTrue (has_position from start) → relation start end
       → IsTrue (has_position to end) ⊎ ((before : ℕ) × IsTrue (has_position done before) × relation before end)
 
--- at the front of a repeat's body, and elsewhere
+-- `MovesPast` at the front of a repeat's body, and `Moves` elsewhere
 abbrev pub MovesIf : Bool → Relation → List ℕ → List ℕ → List ℕ → Type 0
 MovesIf true relation done from to = MovesPast relation done from to
 MovesIf false relation done from to = Moves relation from to

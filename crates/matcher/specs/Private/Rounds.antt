@@ -1,4 +1,4 @@
--- Rounds of a repeat, each of which goes on from new positions alone.
+-- Rounds of a repeat, each of which goes on only from new positions.
 use Rattle.std.specs.Prelude.{ℕ, suc, IsTrue, List, ◌⊎◌}
 use Rattle.matcher.specs.PositionSets.{has_position}
 use Rattle.matcher.specs.Spans.{Relation, Steps}
@@ -12,7 +12,7 @@ AnySteps relation from to = (count : ℕ) × Steps relation count from to
 abbrev pub MoreSteps : Relation → Relation
 MoreSteps relation from to = (more : ℕ) × Steps relation (suc more) from to
 
--- to which positions that are done lead
+-- The relation leads to the position from a position of `done`.
 abbrev pub Covered : Relation → List ℕ → ℕ → Type 0
 Covered relation done to = (before : ℕ) × IsTrue (has_position done before) × relation before to
 
@@ -27,12 +27,12 @@ pub record IsRounded (relation : Relation) (done start found over known fresh : 
       → IsTrue (has_position fresh k) ⊎ (IsTrue (has_position found to) ⊎ Covered (MoreSteps relation) done to)
   pub over_closed : (k to : ℕ) → IsTrue (has_position over k) → relation k to → IsTrue (has_position found to) ⊎ Covered (MoreSteps relation) done to
 
--- from a set that rounds began with, to the next one
+-- Whatever the rounds started from, if the sets are what rounds have found, so are the next ones.
 abbrev pub KeepsRounds : Relation → List ℕ → List ℕ → List ℕ → List ℕ → List ℕ → List ℕ → Type 0
 KeepsRounds relation found known fresh found_next known_next fresh_next =
     (done start : List ℕ) → IsRounded relation done start found done known fresh → IsRounded relation done start found_next done known_next fresh_next
 
--- to everything that is to be found
+-- Whatever the rounds started from, `all` has the positions to which one step or more lead, as in `MovesPast`.
 abbrev pub EndsRounds : Relation → List ℕ → List ℕ → List ℕ → List ℕ → List ℕ → Type 0
 EndsRounds relation done found known fresh all =
     (start : List ℕ) → IsRounded relation done start found done known fresh → MovesPast (MoreSteps relation) done start all

@@ -7,7 +7,7 @@ use Rattle.matcher.specs.Private.Rounds.{IsRounded, KeepsRounds}
 use Rattle.matcher.proofs.Rounds.{IsWidening}
 use Rattle.matcher.proofs.walk.+walk.Given as goal
 
--- Whatever the members that are left lead to, all members lead to from the start.
+-- If the members that are left move the positions to `to`, all members move those of the start to `to`.
 abbrev pub invariant-advance_each-loop-member : goal.invariant-advance_each-loop-member
 invariant-advance_each-loop-member g l =
     (to : List ℕ) → Moves (SpansEach l.line (trees_of (map form (drop l.member-index l.members)))) (g.S.PositionSet.words l.at) to
@@ -25,7 +25,7 @@ invariant-advance_at_most-loop-round g l =
     IsWidenedBy (Spans l.line (form l.body)) l._round (g.S.PositionSet.words l.initial.at) (g.S.PositionSet.words l.found)
     (g.S.PositionSet.words l.at)
 
--- The same for the members that are left, at the front or after it.
+-- The same past `done`, where the members that are left are at the front only if `leads`.
 abbrev pub invariant-each_past-loop-member : goal.invariant-each_past-loop-member
 invariant-each_past-loop-member g l =
     (to : List ℕ)

@@ -3,7 +3,7 @@ use Rattle.ere.specs.Bits.{has_bit}
 use Rattle.matcher.specs.Private.Moving.{passes}
 use Rattle.matcher.proofs.words.followed_each.Given as goal
 
--- What was found, and what of the rest passes, is all that passes.
+-- The bits found so far, and those of the rest that pass, are all bits of the word that pass.
 abbrev pub invariant-loop-rest : goal.invariant-loop-rest
 invariant-loop-rest l =
     (b : ℕ) → b < 64
