@@ -95,7 +95,10 @@ fn is_whole(answer: &Answer) -> bool {
 fn are_lines_of(answer: &Answer, number: u32) -> bool {
     let mut name = b'a';
     for hit in answer.hits() {
-        if hit.name.as_bytes() != &[name] || hit.line != 1 || number_of(&hit.text) != number {
+        if hit.name.as_bytes() != [name].as_slice()
+            || hit.line != 1
+            || number_of(&hit.text) != number
+        {
             return false;
         }
         name = name.wrapping_add(1);
