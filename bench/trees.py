@@ -20,8 +20,8 @@ import timed
 RUNS = 5
 
 PATTERNS = [
-    ("rare literal", "inflateInit2_"),
-    ("rare literal", "GNU_GETTEXT_REQUIRE"),
+    ("rare literal", "sched_setaffinity"),
+    ("rare literal", "pthread_cond_signal"),
     ("common literal", "return"),
     ("common literal", "include"),
     ("two literals", "static.*inline"),
@@ -47,7 +47,7 @@ PATTERNS = [
 ]
 
 # Searches that ignore case, by `isearch` and by -i; the first is searched with its case too.
-IGNORED = ["deadlock", "gnu_gettext_require", "ERROR", "todo", "return", "static.*inline", "[a-z]+_max"]
+IGNORED = ["deadlock", "PTHREAD_COND_SIGNAL", "ERROR", "todo", "return", "static.*inline", "[a-z]+_max"]
 
 # A name pattern, the file names as a glob, and the pattern.
 NAMED = [
