@@ -122,14 +122,20 @@ def words_of(base):
     return args.read_text().splitlines() if args.exists() else []
 
 
+def write_command(path, text):
+    """Writes a file that can be run. Another process writes it: a file that is open for writing cannot be run, and each
+    process that a thread starts has, for a moment, all files open that the other threads have."""
+    write = ["sh", "-c", 'cat >"$1" && chmod 755 "$1"', "sh", str(path)]
+    subprocess.run(write, input=text.encode(), check=True)
+
+
 def make_live_program(folder):
     """Makes a program that runs the built one as a session. Seen from its path, docs/ and examples/ are where they
     are for the built program."""
     program = folder / PROGRAM.relative_to(TOP)
     program.parent.mkdir(parents=True)
-    program.write_text(f'#!/bin/sh\nexec "{PROGRAM}" {LIVE} "$@"\n')
-    # so that a case can run it as another user too
-    program.chmod(0o755)
+    write_command(program, f'#!/bin/sh\nexec "{PROGRAM}" {LIVE} "$@"\n')
+    # so that a case can run the program as another user too
     folder.chmod(0o755)
     for name in ("docs", "examples"):
         (folder / name).symlink_to(TOP / name)
@@ -280,8 +286,7 @@ def compare_readme(base):
     with tempfile.TemporaryDirectory() as folder:
         copy = pathlib.Path(folder)
         shutil.copytree(EXAMPLES, copy / "examples")
-        (copy / "tsearch").write_text(f'#!/bin/sh\nexec "{PROGRAM}" "$@"\n')
-        (copy / "tsearch").chmod(0o755)
+        write_command(copy / "tsearch", f'#!/bin/sh\nexec "{PROGRAM}" "$@"\n')
         for command, lines in shown:
             compare_command(folder, command, lines)
 
