@@ -316,7 +316,7 @@ def micros(times):
 
 
 def show_publishes(program, path):
-    print("| documents | readings | they search for | us for a publish | the longest | us for a put | searches beside 200 publishes |")
+    print("| documents | readings | they search for | us for a publish | the longest | us for a put | searches during 200 publishes |")
     print("|---|---|---|---|---|---|---|")
     for documents, readings, pattern in PUBLISHES:
         blocks = ask(program, "publish", path, documents, readings, pattern)
@@ -333,7 +333,7 @@ def speeds(blocks):
 
 
 def show_searches(program, path):
-    print("\n| pattern | lines | a writer | " + " | ".join("%d at a time" % number for number in READINGS) + " | publishes a second beside them |")
+    print("\n| pattern | lines | a writer | " + " | ".join("%d at a time" % number for number in READINGS) + " | publishes a second meanwhile |")
     print("|---|---|---|" + "---|" * len(READINGS) + "---|")
     for pattern in SEARCHES:
         for kind, writer in [("alone", "no"), ("written", "yes")]:
