@@ -65,7 +65,7 @@ pub fn report<R: Eprint>(rt: &R, error: &ProgramError) -> u8
 }
 
 /// Does what the arguments ask for. Returns the status, and the writer with what was written.
-#[tactic(auto, using(crate::proofs::AnswerLemmas::run_answers, crate::proofs::AnswerLemmas::run_fails, crate::proofs::AnswerLemmas::help_answers, crate::proofs::AnswerLemmas::help_fails))]
+#[tactic(auto, using(crate::proofs::AnswerLemmas::run_fails, crate::proofs::AnswerLemmas::help_answers, crate::proofs::AnswerLemmas::help_fails))]
 fn answer<R: Threads + Wait + Sync, D: Disk, I: Read + Drop, O: Write + Drop>(
     rt: &R,
     alloc: Global,
