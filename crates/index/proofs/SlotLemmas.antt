@@ -12,7 +12,7 @@ use Rattle.std.proofs.lemmas.List.Sorted.{IsPartitionedBy-ltb}
 use Rattle.posting.proofs.Rising.{rising-push}
 use Rattle.index.proofs.RisingLemmas.{below_later, rise-filter}
 use Rattle.index.specs.declared.slots.Slot.{Slot}
-use Rattle.index.specs.declared.slots.Entry.{Entry}
+use Rattle.index.specs.declared.slots.Occupant.{Occupant}
 use Rattle.index.specs.Documents.{Document, document, document_at}
 use Rattle.index.specs.Private.Slots.{documents_of_slot, documents_in, numbers_in, RiseTo, texts_of, without_number}
 
@@ -63,25 +63,25 @@ others_apart last number slots place slot rises point read apart =
         let same : (get_or slots k slot).number ≡ (get_or slots k d).number = ap (λ s. s.number) one in
         λ e. omega arith
 
-document_at-skip : (number other : ℕ) (entry : Option Entry) (ds : List Document) → other ≢ number
-    → document_at number (documents_of_slot other entry ++ ds) ≡ document_at number ds
+document_at-skip : (number other : ℕ) (occupant : Option Occupant) (ds : List Document) → other ≢ number
+    → document_at number (documents_of_slot other occupant ++ ds) ≡ document_at number ds
 unfolding document_at
 document_at-skip number other None ds apart = refl
-document_at-skip number other (Some entry) ds apart =
+document_at-skip number other (Some occupant) ds apart =
     let no : (other == number) ≡ false = grind (arith, nat_tests) in
     rw no refl
 
-without-skip : (number other : ℕ) (entry : Option Entry) (ds : List Document) → other ≢ number
-    → without_number number (documents_of_slot other entry ++ ds) ≡ documents_of_slot other entry ++ without_number number ds
+without-skip : (number other : ℕ) (occupant : Option Occupant) (ds : List Document) → other ≢ number
+    → without_number number (documents_of_slot other occupant ++ ds) ≡ documents_of_slot other occupant ++ without_number number ds
 without-skip number other None ds apart = refl
-without-skip number other (Some entry) ds apart =
+without-skip number other (Some occupant) ds apart =
     let no : (other == number) ≡ false = grind (arith, nat_tests) in
     rw no refl
 
-without-here : (number other : ℕ) (entry : Option Entry) (ds : List Document) → other ≡ number
-    → without_number number (documents_of_slot other entry ++ ds) ≡ without_number number ds
+without-here : (number other : ℕ) (occupant : Option Occupant) (ds : List Document) → other ≡ number
+    → without_number number (documents_of_slot other occupant ++ ds) ≡ without_number number ds
 without-here number other None ds same = refl
-without-here number other (Some entry) ds same =
+without-here number other (Some occupant) ds same =
     let yes : (other == number) ≡ true = grind (arith, nat_tests) in
     rw yes refl
 
@@ -89,7 +89,7 @@ pub document_at-absent : (number : ℕ) (slots : List Slot) → Others number sl
 unfolding document_at documents_in
 document_at-absent number [] others = refl
 document_at-absent number (s ∷ slots) others =
-    document_at-skip number s.number s.entry (documents_in slots) (All-head (λ t. t.number ≢ number) s slots others)
+    document_at-skip number s.number s.occupant (documents_in slots) (All-head (λ t. t.number ≢ number) s slots others)
     ∙ document_at-absent number slots (All-tail (λ t. t.number ≢ number) s slots others)
 
 pub without-absent : (number : ℕ) (slots : List Slot) → Others number slots → documents_in slots ≡ without_number number (documents_in slots)
@@ -97,8 +97,8 @@ unfolding documents_in
 without-absent number [] others = refl
 without-absent number (s ∷ slots) others =
     let rest = without-absent number slots (All-tail (λ t. t.number ≢ number) s slots others) in
-    ap (λ ds. documents_of_slot s.number s.entry ++ ds) rest
-    ∙ sym (without-skip number s.number s.entry (documents_in slots) (All-head (λ t. t.number ≢ number) s slots others))
+    ap (λ ds. documents_of_slot s.number s.occupant ++ ds) rest
+    ∙ sym (without-skip number s.number s.occupant (documents_in slots) (All-head (λ t. t.number ≢ number) s slots others))
 
 -- ---- the slot with the number
 
@@ -128,64 +128,64 @@ place_above s slots place slot above at =
     (above place slot (slice_get_within slots place slot at))
 
 pub document_at-here : (number : ℕ) (slots : List Slot) (place : ℕ) (slot : Slot) → Rising slots → slice_get slots place ≡ Some slot
-    → slot.number ≡ number → document_at number (documents_in slots) ≡ option_map texts_of slot.entry
+    → slot.number ≡ number → document_at number (documents_in slots) ≡ option_map texts_of slot.occupant
 unfolding document_at documents_in Rising
 document_at-here number [] place slot rises at same = cc
 document_at-here number (s ∷ slots) zero slot rises at same =
     let is : s ≡ slot = cc in
-    here s.entry (ap (λ t. t.number) is ∙ same) (above_are_others number slots s (ap (λ t. t.number) is ∙ same) rises.0)
-    ∙ ap (λ t. option_map texts_of t.entry) is
+    here s.occupant (ap (λ t. t.number) is ∙ same) (above_are_others number slots s (ap (λ t. t.number) is ∙ same) rises.0)
+    ∙ ap (λ t. option_map texts_of t.occupant) is
   where
-    here : (entry : Option Entry) → s.number ≡ number → Others number slots
-        → document_at number (documents_of_slot s.number entry ++ documents_in slots) ≡ option_map texts_of entry
+    here : (occupant : Option Occupant) → s.number ≡ number → Others number slots
+        → document_at number (documents_of_slot s.number occupant ++ documents_in slots) ≡ option_map texts_of occupant
     here None e others = document_at-absent number slots others
-    here (Some entry) e others =
+    here (Some occupant) e others =
         let yes : (s.number == number) ≡ true = grind (arith, nat_tests) in
         rw yes refl
 document_at-here number (s ∷ slots) (suc place) slot rises at same =
     let below = place_above s slots place slot rises.0 at in
-    document_at-skip number s.number s.entry (documents_in slots) (λ e. omega arith) ∙ document_at-here number slots place slot rises.1 at same
+    document_at-skip number s.number s.occupant (documents_in slots) (λ e. omega arith) ∙ document_at-here number slots place slot rises.1 at same
 
 pub documents_in-emptied : (number : ℕ) (slots : List Slot) (place : ℕ) (slot : Slot) → Rising slots → slice_get slots place ≡ Some slot
     → slot.number ≡ number
-    → documents_in (set slots place (record { number = slot.number; entry = None })) ≡ without_number number (documents_in slots)
+    → documents_in (set slots place (record { number = slot.number; occupant = None })) ≡ without_number number (documents_in slots)
 unfolding documents_in Rising
 documents_in-emptied number [] place slot rises at same = cc
 documents_in-emptied number (s ∷ slots) zero slot rises at same =
     let is : s ≡ slot = cc in
     let e : s.number ≡ number = ap (λ t. t.number) is ∙ same in
-    sym (without-here number s.number s.entry (documents_in slots) e ∙ sym (without-absent number slots (above_are_others number slots s e rises.0)))
+    sym (without-here number s.number s.occupant (documents_in slots) e ∙ sym (without-absent number slots (above_are_others number slots s e rises.0)))
 documents_in-emptied number (s ∷ slots) (suc place) slot rises at same =
     let below = place_above s slots place slot rises.0 at in
-    ap (λ ds. documents_of_slot s.number s.entry ++ ds) (documents_in-emptied number slots place slot rises.1 at same)
-    ∙ sym (without-skip number s.number s.entry (documents_in slots) (λ e. omega arith))
+    ap (λ ds. documents_of_slot s.number s.occupant ++ ds) (documents_in-emptied number slots place slot rises.1 at same)
+    ∙ sym (without-skip number s.number s.occupant (documents_in slots) (λ e. omega arith))
 
 -- ---- empty slots dropped
 
 abbrev pub is_full : Slot → Bool
-is_full slot = is_some slot.entry
+is_full slot = is_some slot.occupant
 
 pub documents_in-compact : (slots : List Slot) → documents_in (filter is_full slots) ≡ documents_in slots
 unfolding documents_in
 documents_in-compact [] = refl
-documents_in-compact (s ∷ slots) = go s.entry refl (documents_in-compact slots)
+documents_in-compact (s ∷ slots) = go s.occupant refl (documents_in-compact slots)
   where
-    go : (entry : Option Entry) → s.entry ≡ entry → documents_in (filter is_full slots) ≡ documents_in slots
-        → documents_in (cond (is_some s.entry) (s ∷ filter is_full slots) (filter is_full slots))
-        ≡ documents_of_slot s.number s.entry ++ documents_in slots
+    go : (occupant : Option Occupant) → s.occupant ≡ occupant → documents_in (filter is_full slots) ≡ documents_in slots
+        → documents_in (cond (is_some s.occupant) (s ∷ filter is_full slots) (filter is_full slots))
+        ≡ documents_of_slot s.number s.occupant ++ documents_in slots
     go None e rest = rw e rest
-    go (Some entry) e rest = rw e (ap (λ ds. document s.number entry.name entry.held ∷ ds) rest)
+    go (Some occupant) e rest = rw e (ap (λ ds. document s.number occupant.name occupant.held ∷ ds) rest)
 
 pub length-full : (slots : List Slot) → length (filter is_full slots) ≡ length (documents_in slots)
 unfolding documents_in
 length-full [] = refl
-length-full (s ∷ slots) = go s.entry refl (length-full slots)
+length-full (s ∷ slots) = go s.occupant refl (length-full slots)
   where
-    go : (entry : Option Entry) → s.entry ≡ entry → length (filter is_full slots) ≡ length (documents_in slots)
-        → length (cond (is_some s.entry) (s ∷ filter is_full slots) (filter is_full slots))
-        ≡ length (documents_of_slot s.number s.entry ++ documents_in slots)
+    go : (occupant : Option Occupant) → s.occupant ≡ occupant → length (filter is_full slots) ≡ length (documents_in slots)
+        → length (cond (is_some s.occupant) (s ∷ filter is_full slots) (filter is_full slots))
+        ≡ length (documents_of_slot s.number s.occupant ++ documents_in slots)
     go None e rest = rw e rest
-    go (Some entry) e rest = rw e (ap suc rest)
+    go (Some occupant) e rest = rw e (ap suc rest)
 
 numbers_in-filter : (p : Slot → Bool) (n : ℕ) (slots : List Slot)
     → ((k : ℕ) (d : ℕ) → k < length (numbers_in slots) → get_or (numbers_in slots) k d ≤ n) → All (λ m. m ≤ n) (numbers_in (filter p slots))
@@ -204,12 +204,13 @@ RiseTo-filter p last slots rises = record {
 
 -- ---- one more slot
 
-pub documents_in-push : (slots : List Slot) (slot : Slot) → documents_in (slots ++ slot ∷ []) ≡ documents_in slots ++ documents_of_slot slot.number slot.entry
+pub documents_in-push : (slots : List Slot) (slot : Slot)
+    → documents_in (slots ++ slot ∷ []) ≡ documents_in slots ++ documents_of_slot slot.number slot.occupant
 unfolding documents_in
-documents_in-push [] slot = append-nil (documents_of_slot slot.number slot.entry)
+documents_in-push [] slot = append-nil (documents_of_slot slot.number slot.occupant)
 documents_in-push (s ∷ slots) slot =
-    ap (λ ds. documents_of_slot s.number s.entry ++ ds) (documents_in-push slots slot)
-    ∙ sym (append_assoc (documents_of_slot s.number s.entry) (documents_in slots) (documents_of_slot slot.number slot.entry))
+    ap (λ ds. documents_of_slot s.number s.occupant ++ ds) (documents_in-push slots slot)
+    ∙ sym (append_assoc (documents_of_slot s.number s.occupant) (documents_in slots) (documents_of_slot slot.number slot.occupant))
 
 pub RiseTo-push : (last : ℕ) (slots : List Slot) (slot : Slot) → RiseTo last slots → last < slot.number → RiseTo slot.number (slots ++ slot ∷ [])
 RiseTo-push last slots slot rises above = record {

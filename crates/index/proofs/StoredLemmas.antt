@@ -15,7 +15,7 @@ use Rattle.posting.specs.ListValue.{has, without}
 use Rattle.posting.specs.Postings.{holds}
 use Rattle.posting.proofs.Members.{has_at, All-has}
 use Rattle.index.specs.declared.slots.Slot.{Slot}
-use Rattle.index.specs.declared.slots.Entry.{Entry}
+use Rattle.index.specs.declared.slots.Occupant.{Occupant}
 use Rattle.index.specs.declared.sets.Sets.{Sets}
 use Rattle.index.specs.Documents.{Document, document, document_at}
 use Rattle.index.specs.State.{body_bytes}
@@ -53,22 +53,22 @@ All-documents_in : (P : ℕ → Type 0) (slots : List Slot) → All (λ s. P s.n
 unfolding documents_in
 All-documents_in P [] each = All-nil (λ d. P d.number)
 All-documents_in P (s ∷ slots) each =
-    All-append (λ d. P d.number) (documents_of_slot s.number s.entry) (documents_in slots)
-    (one s.entry (All-head (λ t. P t.number) s slots each)) (All-documents_in P slots (All-tail (λ t. P t.number) s slots each))
+    All-append (λ d. P d.number) (documents_of_slot s.number s.occupant) (documents_in slots)
+    (one s.occupant (All-head (λ t. P t.number) s slots each)) (All-documents_in P slots (All-tail (λ t. P t.number) s slots each))
   where
-    one : (entry : Option Entry) → P s.number → All (λ d. P d.number) (documents_of_slot s.number entry)
+    one : (occupant : Option Occupant) → P s.number → All (λ d. P d.number) (documents_of_slot s.number occupant)
     one None p = All-nil (λ d. P d.number)
-    one (Some entry) p = All-cons (λ d. P d.number) (document s.number entry.name entry.held) [] p (All-nil (λ d. P d.number))
+    one (Some occupant) p = All-cons (λ d. P d.number) (document s.number occupant.name occupant.held) [] p (All-nil (λ d. P d.number))
 
 Numbered-rising : (slots : List Slot) → Rising slots → Numbered (documents_in slots)
 unfolding documents_in Rising
 Numbered-rising [] rises = tt
-Numbered-rising (s ∷ slots) rises = go s.entry (All-documents_in (λ n. s.number < n) slots rises.0) (Numbered-rising slots rises.1)
+Numbered-rising (s ∷ slots) rises = go s.occupant (All-documents_in (λ n. s.number < n) slots rises.0) (Numbered-rising slots rises.1)
   where
-    go : (entry : Option Entry) → All (λ d. s.number < d.number) (documents_in slots) → Numbered (documents_in slots)
-        → Numbered (documents_of_slot s.number entry ++ documents_in slots)
+    go : (occupant : Option Occupant) → All (λ d. s.number < d.number) (documents_in slots) → Numbered (documents_in slots)
+        → Numbered (documents_of_slot s.number occupant ++ documents_in slots)
     go None above rest = rest
-    go (Some entry) above rest = (above, rest)
+    go (Some occupant) above rest = (above, rest)
 
 pub Numbered-stored : (last : ℕ) (slots : List Slot) → RiseTo last slots → Numbered (documents_in slots)
 Numbered-stored last slots rises = Numbered-rising slots (rising last slots rises)

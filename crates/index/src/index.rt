@@ -18,7 +18,7 @@ use crate::command::Command;
 use crate::error::{ApplyError, HeldError};
 use crate::held::{Held, trigrams_in};
 use crate::name::Name;
-use crate::slots::{Entry, entry_at};
+use crate::slots::{Occupant, occupant_at};
 use crate::store::Store;
 use query::Query;
 use std::alloc::{AllocError, Global};
@@ -111,7 +111,8 @@ impl Index {
         };
         match Held::with(body, trigrams) {
             Ok(held) => {
-                self.store.replace(gone, number, Entry { name: own, held });
+                self.store
+                    .replace(gone, number, Occupant { name: own, held });
                 self.version = number;
                 Ok(())
             }
@@ -131,13 +132,13 @@ impl Index {
         ensures err { OnErr result (self.new ≡ self.old) }
     {
         let number = self.version + 1;
-        let entry = Entry {
+        let occupant = Occupant {
             name: shared_name(&self.numbers, name)?,
             held: held.share()?,
         };
-        self.store.make_room(number, entry.held.trigrams())?;
-        let gone = enter(&mut self.numbers, &entry.name, number)?;
-        self.store.replace(gone, number, entry);
+        self.store.make_room(number, occupant.held.trigrams())?;
+        let gone = enter(&mut self.numbers, &occupant.name, number)?;
+        self.store.replace(gone, number, occupant);
         self.version = number;
         Ok(())
     }
@@ -182,8 +183,8 @@ impl Index {
     pub fn document(&self, number: u32) -> Option<(&Name, &Body)>
         ensures { option_map (λ d. (d.0.now, d.1.now)) result ≡ document_at number self.now.documents }
     {
-        match entry_at(&self.store.slots, number) {
-            Some(entry) => Some((&entry.name, entry.held.body())),
+        match occupant_at(&self.store.slots, number) {
+            Some(occupant) => Some((&occupant.name, occupant.held.body())),
             None => None,
         }
     }
@@ -192,8 +193,8 @@ impl Index {
     pub fn held(&self, number: u32) -> Option<&Held>
         ensures { option_map (λ h. h.now) result ≡ option_map (λ d. d.1) (document_at number self.now.documents) }
     {
-        match entry_at(&self.store.slots, number) {
-            Some(entry) => Some(&entry.held),
+        match occupant_at(&self.store.slots, number) {
+            Some(occupant) => Some(&occupant.held),
             None => None,
         }
     }
@@ -247,8 +248,8 @@ impl Index {
     {
         let mut few = BTreeMap::new(alloc);
         for number in chosen.numbers() {
-            if let Some(entry) = entry_at(&self.store.slots, number) {
-                few.insert(&entry.name, number)?;
+            if let Some(occupant) = occupant_at(&self.store.slots, number) {
+                few.insert(&occupant.name, number)?;
             }
         }
         Ok(few)

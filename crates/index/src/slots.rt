@@ -11,7 +11,7 @@ use crate::name::Name;
 
 /// The name and the body of a document.
 #[derive(Drop)]
-pub(crate) struct Entry {
+pub(crate) struct Occupant {
     pub(crate) name: Name,
     pub(crate) held: Held,
 }
@@ -20,24 +20,24 @@ pub(crate) struct Entry {
 #[derive(Drop)]
 pub(crate) struct Slot {
     pub(crate) number: u32,
-    pub(crate) entry: Option<Entry>,
+    pub(crate) occupant: Option<Occupant>,
 }
 
 /// The name and the body of the document with this number, if there is one.
-pub(crate) fn entry_at(slots: &[Slot], number: u32) -> Option<&Entry>
+pub(crate) fn occupant_at(slots: &[Slot], number: u32) -> Option<&Occupant>
     requires { (last : ℕ) × RiseTo last slots.now }
     ensures { option_map (λ e. texts_of e.now) result ≡ document_at number (documents_in slots.now) }
 {
     match place_of(slots, number) {
-        Some(place) => slots[place].entry.as_ref(),
+        Some(place) => slots[place].occupant.as_ref(),
         None => None,
     }
 }
 
 /// Takes the document with this number, if there is one, out of its slot. The slot stays, empty.
-pub(crate) fn take(slots: &mut Vec<Slot>, number: u32) -> Option<Entry>
+pub(crate) fn take(slots: &mut Vec<Slot>, number: u32) -> Option<Occupant>
     requires { (last : ℕ) × RiseTo last slots.old.items }
-    ensures entry { option_map texts_of result ≡ document_at number (documents_in slots.old.items) }
+    ensures occupant { option_map texts_of result ≡ document_at number (documents_in slots.old.items) }
     ensures documents { documents_in slots.new.items ≡ without_number number (documents_in slots.old.items) }
     ensures numbers { numbers_in slots.new.items ≡ numbers_in slots.old.items }
     ensures len { vec_len slots.new ≡ vec_len slots.old }
@@ -46,7 +46,7 @@ pub(crate) fn take(slots: &mut Vec<Slot>, number: u32) -> Option<Entry>
     match place_of(slots, number) {
         Some(place) => {
             let slot = &mut slots[place];
-            slot.entry.take()
+            slot.occupant.take()
         }
         None => None,
     }
@@ -62,7 +62,7 @@ pub(crate) fn compact(slots: &mut Vec<Slot>, documents: usize)
     ensures capacity { vec_capacity slots.new ≡ vec_capacity slots.old }
 {
     if slots.len() / 2 > documents {
-        slots.retain(|slot| slot.entry.is_some());
+        slots.retain(|slot| slot.occupant.is_some());
     }
 }
 

@@ -8,7 +8,7 @@ ghost use Rattle.index.specs.Private.Slots.{without_number};
 ghost use Rattle.index.specs.Private.Store.{stored, IsStore, HasPlaceFor, left_after};
 
 use crate::sets::Sets;
-use crate::slots::{Entry, Slot, compact, take};
+use crate::slots::{Occupant, Slot, compact, take};
 use posting::Trigrams;
 use std::alloc::{AllocError, Global};
 
@@ -52,40 +52,40 @@ impl Store {
         ensures documents { stored self.new ≡ without_number number (stored self.old) }
         ensures store { (last : ℕ) → IsStore last self.old → IsStore last self.new }
     {
-        if let Some(entry) = take(&mut self.slots, number) {
-            self.sets.take_out(number, entry.held.trigrams());
-            self.held_bytes -= entry.held.body().as_bytes().len() as u64;
+        if let Some(occupant) = take(&mut self.slots, number) {
+            self.sets.take_out(number, occupant.held.trigrams());
+            self.held_bytes -= occupant.held.body().as_bytes().len() as u64;
             compact(&mut self.slots, self.sets.live.len());
         }
     }
 
     /// Puts in a document with this number, for which there is room.
-    pub(crate) fn put_in(&mut self, number: u32, entry: Entry)
+    pub(crate) fn put_in(&mut self, number: u32, occupant: Occupant)
         requires store { (last : ℕ) × IsStore last self.old × (last < number) }
-        requires room { HasPlaceFor self.old entry.held }
-        requires bytes { body_bytes (stored self.old) + length entry.held < 2 ^ 64 }
-        ensures documents { stored self.new ≡ stored self.old ++ document number entry.name entry.held ∷ [] }
+        requires room { HasPlaceFor self.old occupant.held }
+        requires bytes { body_bytes (stored self.old) + length occupant.held < 2 ^ 64 }
+        ensures documents { stored self.new ≡ stored self.old ++ document number occupant.name occupant.held ∷ [] }
         ensures store { IsStore number self.new }
     {
-        self.sets.put_in(number, entry.held.trigrams());
-        self.held_bytes += entry.held.body().as_bytes().len() as u64;
+        self.sets.put_in(number, occupant.held.trigrams());
+        self.held_bytes += occupant.held.body().as_bytes().len() as u64;
         self.slots.push_reserved(Slot {
             number,
-            entry: Some(entry),
+            occupant: Some(occupant),
         });
     }
 
     /// Puts in a document with this number, for which there is room, and takes out the one that it replaces, `gone`.
-    pub(crate) fn replace(&mut self, gone: Option<u32>, number: u32, entry: Entry)
+    pub(crate) fn replace(&mut self, gone: Option<u32>, number: u32, occupant: Occupant)
         requires store { (last : ℕ) × IsStore last self.old × (last < number) }
-        requires room { HasPlaceFor self.old entry.held }
-        requires bytes { body_bytes (stored self.old) + length entry.held < 2 ^ 64 }
+        requires room { HasPlaceFor self.old occupant.held }
+        requires bytes { body_bytes (stored self.old) + length occupant.held < 2 ^ 64 }
         ensures documents { stored self.new
-            ≡ left_after gone (stored self.old) ++ document number entry.name entry.held ∷ [] }
+            ≡ left_after gone (stored self.old) ++ document number occupant.name occupant.held ∷ [] }
         ensures store { IsStore number self.new }
     {
         // the new document goes in first, since taking the old one out can give up the room that was made
-        self.put_in(number, entry);
+        self.put_in(number, occupant);
         if let Some(old) = gone {
             // always so: no document that was there has the new number
             if old != number {

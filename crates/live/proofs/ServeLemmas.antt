@@ -9,7 +9,7 @@ use Rattle.std.proofs.lemmas.Grind.{flat_map-append}
 use Rattle.std.proofs.lemmas.List.Folds.{list_any-append}
 use Rattle.index.specs.Text.{greatest_body}
 use Rattle.script.specs.Items.{Item, Numbered, numbered, ItemsFrom, done, IsItemsOf, put, bad_put, body_not_closed}
-use Rattle.stream.specs.declared.item.Taken.{Taken}
+use Rattle.stream.specs.declared.item.TakenItem.{TakenItem}
 use Rattle.stream.specs.Stream.{StreamState, IsItemOf, IsFault}
 use Rattle.stream.specs.Stream as streams
 use Rattle.tsearch.specs.declared.transcript.Entry.{Entry}
@@ -365,7 +365,7 @@ module _ (Holds : List ℕ → List ℕ → Type 0) (stats : Bool) (start : Star
   pub advanced_error : (error : LiveError) → IsAdvanced Holds stats start (Err error) (now old.run stream old.marks old.failed left old.written)
   advanced_error error = stays Holds stats start old serving bytes left read stream old.marks
 
-  module _ (taken : Taken) (takes : streams.Takes old.stream taken stream bytes old.left left) (entry : Option Entry) (run : LoneState)
+  module _ (taken : TakenItem) (takes : streams.Takes old.stream taken stream bytes old.left left) (entry : Option Entry) (run : LoneState)
       (failed : ℕ) (goes_on : GoesOn Holds old.run old.failed (numbered taken.line takes.item) entry run failed) (marks : Marks)
       (written : Option (List ℕ)) where
     -- An item was carried out, and its text written whole,

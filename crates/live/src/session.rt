@@ -15,7 +15,7 @@ use script::Numbered;
 use std::alloc::Global;
 use std::io::{BufRead, Write};
 use std::sync::Wait;
-use stream::{ItemStream, StreamItem, Taken};
+use stream::{ItemStream, StreamItem, TakenItem};
 use tsearch::{Entry, LoneRun, Source};
 
 /// What a session needs throughout.
@@ -111,7 +111,7 @@ fn carry_out<R: Wait, S: Source>(
     plan: &Plan<'_, R>,
     run: &mut LoneRun,
     source: &mut S,
-    taken: Taken<'_>,
+    taken: TakenItem<'_>,
 ) -> Option<Entry>
     requires { run.old.searches + 1 < 2 ^ 32 }
     ensures goes_on { (item : ItemValue) → Shows taken.entry.item item

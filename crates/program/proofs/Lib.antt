@@ -1,2 +1,2 @@
-pub mod AnswerLemmas
+pub mod ResponseLemmas
 pub mod SessionLemmas

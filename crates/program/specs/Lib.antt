@@ -1,2 +1,2 @@
-pub mod Answer
+pub mod Response
 pub mod Reads

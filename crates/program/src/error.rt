@@ -1,11 +1,11 @@
-//! Why the program has no answer.
+//! Why the program has no response.
 
 use cli::ArgumentError;
 use live::LiveError;
 use thiserror::Error;
 use tsearch::{RunError, WriteError};
 
-/// Why the program ends before its answer is written whole. Its text is for standard error.
+/// Why the program ends before its response is written whole. Its text is for standard error.
 #[derive(Debug, Drop, Error)]
 pub enum ProgramError {
     /// The arguments cannot be read. Its text ends with a line feed; the texts of the others do not.

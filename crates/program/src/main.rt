@@ -3,19 +3,19 @@
 //! The program fetches its arguments, does what they ask for, and ends with the status.
 #![tactic(auto)]
 
-mod answer;
 mod disk;
 mod error;
 mod files;
 mod input;
 mod output;
+mod response;
 mod session;
 
-use answer::{report, respond};
 use cli::arguments::not_text;
 use disk::HostDisk;
 use error::ProgramError;
 use files::FileSource;
+use response::{report, respond};
 use std::env::{self, Env};
 use std::io;
 use std::process::ExitCode;

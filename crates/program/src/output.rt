@@ -3,7 +3,7 @@
 ghost use Rattle.std.specs.Prelude.{IfOk, IfErr};
 ghost use Rattle.std.specs.Io.KnownBytes.{Appends};
 ghost use Rattle.tsearch.specs.Transcript.{text_of_transcript};
-ghost use Rattle.program.specs.Answer.{IsFailureOfRun};
+ghost use Rattle.program.specs.Response.{IsFailureOfRun};
 
 use crate::error::ProgramError;
 use std::alloc::Global;

@@ -3,7 +3,7 @@
 ghost use Rattle.std.specs.Prelude.{ℕ, List, Option, IfOk, IfErr};
 ghost use Rattle.cli.specs.CommandLine.{IsInLimits};
 ghost use Rattle.live.specs.Served.{IsServed};
-ghost use Rattle.program.specs.Answer.{IsFailureOfRun, IsSessionOf, live_options_of};
+ghost use Rattle.program.specs.Response.{IsFailureOfRun, IsSessionOf, live_options_of};
 ghost use Rattle.program.specs.Reads.{IsLoadFrom};
 
 use crate::disk::Disk;

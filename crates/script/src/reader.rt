@@ -86,7 +86,7 @@ struct Start<'a> {
 
 /// An item, and what follows it.
 #[derive(Clone, Copy, Debug)]
-struct Taken<'a> {
+struct TakenItem<'a> {
     item: Item<'a>,
     after: Start<'a>,
 }
@@ -133,7 +133,7 @@ fn after_line<'a>(start: Start<'a>, first: CutLine<'a>) -> Start<'a>
 }
 
 /// Takes the item at the front of a text whose first line is not blank.
-fn take_item(start: Start<'_>) -> Taken<'_>
+fn take_item(start: Start<'_>) -> TakenItem<'_>
     requires room { start.line + length start.text.now ≤ 67108865 }
     requires some { 0 < length start.text.now }
     requires not_blank { (first rest : List ℕ) → BeginsWithLine start.text.now first rest → IsFalse (is_blank first) }
@@ -144,7 +144,7 @@ fn take_item(start: Start<'_>) -> Taken<'_>
     if keyword == b"put".as_slice() {
         take_put(start, first, others)
     } else {
-        Taken {
+        TakenItem {
             item: item_of(keyword, others),
             after: after_line(start, first),
         }
@@ -263,7 +263,7 @@ pub fn header_in(others: Option<&[u8]>) -> Option<Header<'_>>
 }
 
 /// Takes a put: the keyword of the first line is `put`.
-fn take_put<'a>(start: Start<'a>, first: CutLine<'a>, others: Option<&'a [u8]>) -> Taken<'a>
+fn take_put<'a>(start: Start<'a>, first: CutLine<'a>, others: Option<&'a [u8]>) -> TakenItem<'a>
     requires room { start.line + length start.text.now ≤ 67108865 }
     requires some { 0 < length start.text.now }
     requires line { CutsLine start.text.now first.line.now (option_map (λ rest. rest.now) first.rest) }
@@ -275,12 +275,12 @@ fn take_put<'a>(start: Start<'a>, first: CutLine<'a>, others: Option<&'a [u8]>) 
         line: start.line,
     };
     let Some(header) = header_in(others) else {
-        return Taken {
+        return TakenItem {
             item: Item::BadPut,
             after: end,
         };
     };
-    let truncated = Taken {
+    let truncated = TakenItem {
         item: Item::Truncated,
         after: end,
     };
@@ -297,7 +297,7 @@ fn take_put<'a>(start: Start<'a>, first: CutLine<'a>, others: Option<&'a [u8]>) 
 }
 
 /// Takes the body of a put whose bytes are all there.
-fn take_body<'a>(start: Start<'a>, header: Header<'a>, left: &'a [u8]) -> Taken<'a>
+fn take_body<'a>(start: Start<'a>, header: Header<'a>, left: &'a [u8]) -> TakenItem<'a>
     requires room { start.line + length start.text.now ≤ 67108865 }
     requires line { (line : List ℕ) × (start.text.now ≡ line ++ 10 ∷ left.now) × IsPutLine line header.name.now header.size }
     requires size { header.size ≤ length left.now }
@@ -309,7 +309,7 @@ fn take_body<'a>(start: Start<'a>, header: Header<'a>, left: &'a [u8]) -> Taken<
         body,
     };
     match after.split_first() {
-        None => Taken {
+        None => TakenItem {
             item: put,
             after: Start {
                 text: after,
@@ -318,7 +318,7 @@ fn take_body<'a>(start: Start<'a>, header: Header<'a>, left: &'a [u8]) -> Taken<
         },
         Some((first, rest)) => {
             if *first == b'\n' {
-                Taken {
+                TakenItem {
                     item: put,
                     after: Start {
                         text: rest,
@@ -326,7 +326,7 @@ fn take_body<'a>(start: Start<'a>, header: Header<'a>, left: &'a [u8]) -> Taken<
                     },
                 }
             } else {
-                Taken {
+                TakenItem {
                     item: Item::BodyNotClosed,
                     after: Start {
                         text: &[],

@@ -13,7 +13,7 @@ use Rattle.shared.specs.Private.Batches.{head_of}
 use Rattle.shared.specs.Private.Names.{has_name}
 use Rattle.shared.specs.Desk.{DeskState, desk_state, with_command, all_published, has_document}
 use Rattle.shared.specs.declared.names.Names.{Names}
-use Rattle.shared.specs.declared.shelf.Edit.{Edit}
+use Rattle.shared.specs.declared.shelf.Update.{Update}
 use Rattle.shared.specs.declared.shelf.Operation.{Operation}
 use Rattle.shared.specs.declared.shelf.Operation.TheVariants.{Change, Stamp}
 use Rattle.shared.specs.declared.shelf.Shelf.{Shelf}
@@ -48,22 +48,22 @@ desk_begins shown pending head front names limit is head_is none empty no_names 
 
 -- one more command, whose name is noted
 pub desk_goes_on : (shown shown' : Shelf) (pending pending' : List Operation) (head : Named) (front : Known) (names names' : Names)
-    (accepted limit : ℕ) (edit : Edit)
-    → IsDesk shown pending head front names accepted limit → accepted < limit → shown' ≡ shown → pending' ≡ pending ++ Change edit ∷ []
-    → ((name : List ℕ) → has_name names' name ≡ has_document (accepted_of shown pending ++ command_of edit ∷ []) name)
+    (accepted limit : ℕ) (update : Update)
+    → IsDesk shown pending head front names accepted limit → accepted < limit → shown' ≡ shown → pending' ≡ pending ++ Change update ∷ []
+    → ((name : List ℕ) → has_name names' name ≡ has_document (accepted_of shown pending ++ command_of update ∷ []) name)
     → IsDesk shown' pending' head front names' (accepted + 1) limit
-desk_goes_on shown shown' pending pending' head front names names' accepted limit edit was room same more noted =
-    let all : accepted_of shown' pending' ≡ accepted_of shown pending ++ command_of edit ∷ [] =
-    ap (λ s. accepted_of s pending') same ∙ (ap (accepted_of shown) more ∙ accepted_of-change shown pending edit) in
+desk_goes_on shown shown' pending pending' head front names names' accepted limit update was room same more noted =
+    let all : accepted_of shown' pending' ≡ accepted_of shown pending ++ command_of update ∷ [] =
+    ap (λ s. accepted_of s pending') same ∙ (ap (accepted_of shown) more ∙ accepted_of-change shown pending update) in
     record {
       one = ap (λ s. s.front.opening) same ∙ was.one;
       head_is = was.head_is;
       begins = (
-        was.begins.0 ++ command_of edit ∷ [],
-        sym (append_assoc front.commands was.begins.0 (command_of edit ∷ []))
-            ∙ (ap (λ c. c ++ command_of edit ∷ []) was.begins.1 ∙ sym all),
+        was.begins.0 ++ command_of update ∷ [],
+        sym (append_assoc front.commands was.begins.0 (command_of update ∷ []))
+            ∙ (ap (λ c. c ++ command_of update ∷ []) was.begins.1 ∙ sym all),
       );
-      counted = omega (arith, was.counted, ap length all, length-append (accepted_of shown pending) (command_of edit ∷ []));
+      counted = omega (arith, was.counted, ap length all, length-append (accepted_of shown pending) (command_of update ∷ []));
       few = omega arith;
       limited = was.limited;
       named = λ name. noted name ∙ sym (ap (λ c. has_document c name) all);
@@ -106,14 +106,14 @@ noted_remove commands names names' n n' same was now name =
     ∙ (ap (λ m. not (bytes_eq m name) && has_document commands name) (sym same) ∙ sym (has_document-remove commands n' name)))
 
 -- what contracts see, after one more command
-pub desk_with : (front : Known) (limit : ℕ) (shown shown' : Shelf) (pending pending' : List Operation) (edit : Edit) (command : Command) (desk : DeskState)
+pub desk_with : (front : Known) (limit : ℕ) (shown shown' : Shelf) (pending pending' : List Operation) (update : Update) (command : Command) (desk : DeskState)
     → desk_state front.opening limit shown.front.commands (accepted_of shown pending) ≡ desk → shown' ≡ shown
-    → pending' ≡ pending ++ Change edit ∷ [] → command_of edit ≡ command
+    → pending' ≡ pending ++ Change update ∷ [] → command_of update ≡ command
     → desk_state front.opening limit shown'.front.commands (accepted_of shown' pending') ≡ with_command command desk
-desk_with front limit shown shown' pending pending' edit command desk seen same more is =
+desk_with front limit shown shown' pending pending' update command desk seen same more is =
     ap (λ s. desk_state front.opening limit s.front.commands (accepted_of s pending')) same
     ∙ (ap (desk_state front.opening limit shown.front.commands)
-    (ap (accepted_of shown) more ∙ (accepted_of-change shown pending edit ∙ ap (λ c. accepted_of shown pending ++ c ∷ []) is))
+    (ap (accepted_of shown) more ∙ (accepted_of-change shown pending update ∙ ap (λ c. accepted_of shown pending ++ c ∷ []) is))
     ∙ ap (with_command command) seen)
 
 -- the stamp of a front with all accepted commands is added to what is pending

@@ -7,7 +7,7 @@ use Rattle.index.specs.declared.command.Command.{Command}
 use Rattle.index.specs.State.{State, applied, state_of}
 use Rattle.index.proofs.StateLemmas.{state_of-push}
 use Rattle.shared.specs.History.{Known}
-use Rattle.shared.specs.declared.shelf.Edit.{Edit}
+use Rattle.shared.specs.declared.shelf.Update.{Update}
 use Rattle.shared.specs.declared.shelf.Operation.{Operation}
 use Rattle.shared.specs.declared.shelf.Operation.TheVariants.{Change, Stamp}
 use Rattle.shared.specs.declared.shelf.Shelf.{Shelf}
@@ -21,7 +21,7 @@ after s commands = fold (λ (x : State) (c : Command). applied c x) s commands
 
 fold_index : (shelf : Shelf) (operations : List Operation) → (fold operated shelf operations).index ≡ after shelf.index (commands_in operations)
 fold_index shelf [] = refl
-fold_index shelf (Change edit ∷ later) = fold_index (operated shelf (Change edit)) later
+fold_index shelf (Change update ∷ later) = fold_index (operated shelf (Change update)) later
 fold_index shelf (Stamp front ∷ later) = fold_index (operated shelf (Stamp front)) later
 
 state_of-more : (commands more : List Command) → state_of (commands ++ more) ≡ after (state_of commands) more
@@ -33,14 +33,14 @@ state_of-more commands (command ∷ more) =
 -- the commands of operations, and of more operations after them
 pub commands_in-append : (xs ys : List Operation) → commands_in (xs ++ ys) ≡ commands_in xs ++ commands_in ys
 commands_in-append [] ys = refl
-commands_in-append (Change edit ∷ xs) ys = ap (λ c. command_of edit ∷ c) (commands_in-append xs ys)
+commands_in-append (Change update ∷ xs) ys = ap (λ c. command_of update ∷ c) (commands_in-append xs ys)
 commands_in-append (Stamp front ∷ xs) ys = commands_in-append xs ys
 
-pub accepted_of-change : (shown : Shelf) (pending : List Operation) (edit : Edit)
-    → accepted_of shown (pending ++ Change edit ∷ []) ≡ accepted_of shown pending ++ command_of edit ∷ []
-accepted_of-change shown pending edit =
-    ap (λ c. shown.front.commands ++ c) (commands_in-append pending (Change edit ∷ []))
-    ∙ sym (append_assoc shown.front.commands (commands_in pending) (command_of edit ∷ []))
+pub accepted_of-change : (shown : Shelf) (pending : List Operation) (update : Update)
+    → accepted_of shown (pending ++ Change update ∷ []) ≡ accepted_of shown pending ++ command_of update ∷ []
+accepted_of-change shown pending update =
+    ap (λ c. shown.front.commands ++ c) (commands_in-append pending (Change update ∷ []))
+    ∙ sym (append_assoc shown.front.commands (commands_in pending) (command_of update ∷ []))
 
 pub accepted_of-stamp : (shown : Shelf) (pending : List Operation) (front : Known) → accepted_of shown (pending ++ Stamp front ∷ []) ≡ accepted_of shown pending
 accepted_of-stamp shown pending front = ap (λ c. shown.front.commands ++ c) (commands_in-append pending (Stamp front ∷ []) ∙ append-nil (commands_in pending))

@@ -13,7 +13,7 @@ use crate::error::{PutError, PutErrorKind, RemoveError, Returned};
 use crate::history::{Batch, Front, Head};
 use crate::names::Names;
 use crate::rule::{Meet, ShelfWriter};
-use crate::shelf::{Edit, Operation};
+use crate::shelf::{Operation, Update};
 use crate::told::Told;
 use core::mem::replace_with;
 use index::{Body, Held, Name};
@@ -155,9 +155,9 @@ impl Desk {
         ensures ok { OnOk result (self.new ≡ with_command (put_command name.now held.now) self.old) }
         ensures err { OnErr result (self.new ≡ self.old) }
     {
-        let edit = Edit::Put(name.copy()?, held.share()?);
+        let update = Update::Put(name.copy()?, held.share()?);
         let added = self.names.add(name)?;
-        match append(&mut self.writer, Operation::Change(edit)) {
+        match append(&mut self.writer, Operation::Change(update)) {
             Ok(()) => {
                 self.accepted += 1;
                 Ok(())
@@ -195,16 +195,16 @@ impl Desk {
         ensures ok { OnOk result (self.new ≡ with_command (remove_command name.now) self.old) }
         ensures err { OnErr result (self.new ≡ self.old) }
     {
-        let edit = Edit::Remove(name.copy()?);
-        append(&mut self.writer, Operation::Change(edit))?;
+        let update = Update::Remove(name.copy()?);
+        append(&mut self.writer, Operation::Change(update))?;
         self.names.remove(name);
         self.accepted += 1;
         Ok(())
     }
 
-    /// Publishes all accepted commands, and returns the receipt; with nothing new it publishes the same again. It
-    /// may wait for readings that are taking what a search needs. An `Err` means that memory ran out, and that
-    /// nothing has changed.
+    /// Publishes all accepted commands, and returns the `Told` of this publish; with nothing new it publishes the same
+    /// again. It may wait for readings that are taking what a search needs. An `Err` means that memory ran out, and
+    /// that nothing has changed.
     pub fn publish<R: Wait>(&mut self, rt: &R) -> Result<Told, AllocError>
         ensures ok { IfOk result (λ told. (self.new ≡ all_published self.old) × (told ≡ known self.old.opening self.old.accepted)) }
         ensures err { OnErr result (self.new ≡ self.old) }

@@ -12,7 +12,7 @@ use std::alloc::AllocError;
 
 /// A command whose name and body are shared by both copies.
 #[derive(Drop)]
-pub enum Edit {
+pub enum Update {
     Put(Name, Held),
     Remove(Name),
 }
@@ -21,7 +21,7 @@ pub enum Edit {
 #[derive(Drop)]
 pub enum Operation {
     /// The documents change.
-    Change(Edit),
+    Change(Update),
     /// Notes the front of the history that the changes so far reach.
     Stamp(Front),
 }
@@ -44,7 +44,7 @@ impl Absorb<Operation> for Shelf {
 
     fn absorb_first(&mut self, operation: &Operation, _other: &Shelf) -> Result<(), AllocError> {
         match operation {
-            Operation::Change(edit) => change(&mut self.index, edit)?,
+            Operation::Change(update) => change(&mut self.index, update)?,
             Operation::Stamp(front) => self.front = front.again(),
         }
         Ok(())
@@ -53,15 +53,15 @@ impl Absorb<Operation> for Shelf {
 
 // Carries out the command. It is refused if memory ran out, or if the number of commands would not fit in
 // 32 bits, which no desk reaches.
-fn change(index: &mut Index, edit: &Edit) -> Result<(), AllocError>
-    ensures ok { OnOk result (index.new ≡ applied (command_of edit.now) index.old) }
+fn change(index: &mut Index, update: &Update) -> Result<(), AllocError>
+    ensures ok { OnOk result (index.new ≡ applied (command_of update.now) index.old) }
     ensures err { OnErr result (index.new ≡ index.old) }
 {
     if index.version() == u32::MAX {
         return Err(AllocError);
     }
-    match edit {
-        Edit::Put(name, held) => index.apply_put(name, held),
-        Edit::Remove(name) => index.remove(name),
+    match update {
+        Update::Put(name, held) => index.apply_put(name, held),
+        Update::Remove(name) => index.remove(name),
     }
 }

@@ -1,11 +1,11 @@
-//! The receipt of a publish.
+//! What a publish hands out.
 
 ghost use Rattle.std.specs.Prelude.{◌≡◌, length};
 
 use crate::history::Front;
 use std::marker::Model;
 
-/// The receipt of a publish: what was published then. It can be lent to many readings at once.
+/// What a publish hands out: it tells what was published then. It can be lent to many readings at once.
 ///
 /// Contracts see it as the opening and the commands that were published.
 #[derive(Drop)]

@@ -10,7 +10,7 @@ use Rattle.script.specs.Items.{line_feeds}
 use Rattle.stream.specs.declared.body.Passed.{Passed}
 use Rattle.stream.specs.declared.body.Closing.{Closing}
 use Rattle.stream.specs.declared.body.Closing.TheVariants.{LineFeed, OtherByte, InputEnd}
-use Rattle.stream.specs.Private.Bytes.{IsUpTo, Counts, Passes, IsFront, Closes}
+use Rattle.stream.specs.Private.Bytes.{IsUpTo, Counts, Passes, IsNextByte, Closes}
 use Rattle.stream.proofs.EndLemmas.{end_later}
 
 pub line_feeds-append : (front back : List ℕ) → line_feeds (front ++ back) ≡ line_feeds front + line_feeds back
@@ -57,8 +57,8 @@ module _ (start mid left : Option (List ℕ)) (size : ℕ) (done bytes : List �
 pub none_if_not_more : (n : ℕ) (more : Bool) → more ≡ nat_lt 0 n → more ≡ false → n ≡ 0
 none_if_not_more n more is not_more = grind (arith, nat_tests)
 
-pub closes_by_front : (closing : Closing) (shown : List ℕ) (taken : ℕ) (was left : Option (List ℕ)) → IsFront shown closing taken
+pub closes_by_next_byte : (closing : Closing) (shown : List ℕ) (taken : ℕ) (was left : Option (List ℕ)) → IsNextByte shown closing taken
     → (length shown ≡ 0 → OnSome was (IsAtEnd left)) → Closes closing (take taken shown) was left
-closes_by_front LineFeed shown taken was left front end = front
-closes_by_front OtherByte shown taken was left front end = front
-closes_by_front InputEnd shown taken was left front end = (ap (λ n. take n shown) front.0, end front.1)
+closes_by_next_byte LineFeed shown taken was left front end = front
+closes_by_next_byte OtherByte shown taken was left front end = front
+closes_by_next_byte InputEnd shown taken was left front end = (ap (λ n. take n shown) front.0, end front.1)

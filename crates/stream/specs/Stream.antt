@@ -7,7 +7,7 @@ use Rattle.script.specs.Items.{Item, Numbered, numbered, ItemsFrom, put, bad_put
 use Rattle.script.specs.Reading.{shown_item}
 use Rattle.stream.specs.declared.item.StreamItem.{StreamItem}
 use Rattle.stream.specs.declared.item.StreamItem.TheVariants as variants
-use Rattle.stream.specs.declared.item.Taken.{Taken}
+use Rattle.stream.specs.declared.item.TakenItem.{TakenItem}
 use Rattle.stream.specs.declared.item.StreamError.{StreamError}
 
 -- the number of the line that comes next, and whether the reading has ended
@@ -38,7 +38,7 @@ IsItemOf line bytes item true next = ItemsFrom line bytes (item ∷ [])
 
 -- An item was taken from an input, as these bytes. `was` is what the input had before them, and `left` what it has
 -- after them.
-pub record Takes (old : StreamState) (taken : Taken) (new : StreamState) (bytes : List ℕ) (was left : Option (List ℕ)) : Type 0 where
+pub record Takes (old : StreamState) (taken : TakenItem) (new : StreamState) (bytes : List ℕ) (was left : Option (List ℕ)) : Type 0 where
   pub item : Item
   pub shows : Shows taken.item item
   pub whole : IsItemOf old.line bytes (numbered taken.line item) taken.ended new.line
@@ -46,7 +46,7 @@ pub record Takes (old : StreamState) (taken : Taken) (new : StreamState) (bytes 
   pub end : IsTrue taken.ended → OnSome was (IsAtEnd left) ⊎ IsFault item
 
 -- What a call returns, if these bytes were taken from the input.
-abbrev pub IsNext : StreamState → Result (Option Taken) StreamError → StreamState → List ℕ → Option (List ℕ) → Option (List ℕ) → Type 0
+abbrev pub IsNext : StreamState → Result (Option TakenItem) StreamError → StreamState → List ℕ → Option (List ℕ) → Option (List ℕ) → Type 0
 IsNext old (Ok (Some taken)) new bytes was left = Takes old taken new bytes was left
 IsNext old (Ok None) new bytes was left = ItemsFrom old.line bytes [] × IsTrue new.ended × (IsTrue old.ended ⊎ OnSome was (IsAtEnd left))
 IsNext old (Err error) new bytes was left = ⊤

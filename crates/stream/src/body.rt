@@ -2,7 +2,7 @@
 
 ghost use Rattle.std.specs.Prelude.{◌≡◌, ℕ, ◌+◌, ◌≤◌, ◌<◌, ◌^◌, List, length, IfSome};
 ghost use Rattle.std.specs.Io.KnownBytes.{Consumes};
-ghost use Rattle.stream.specs.Private.Bytes.{Counts, Appends, Fills, PassesPiece, Passes, IsFront, Looks, IsClosing, Holds, IsPutBytes};
+ghost use Rattle.stream.specs.Private.Bytes.{Counts, Appends, Fills, PassesPiece, Passes, IsNextByte, Looks, IsClosing, Holds, IsPutBytes};
 
 use crate::item::StreamError;
 use crate::line::{append, interrupted};
@@ -19,7 +19,7 @@ pub struct Passed {
 
 /// What is kept of a put's bytes.
 #[derive(Debug, Drop)]
-pub enum Body {
+pub enum PutBody {
     /// All that were read.
     Kept(Vec<u8>),
     /// Nothing: the size is over `MAX_BODY`.
@@ -31,7 +31,7 @@ pub enum Body {
 /// A put's bytes: as many as its size says, or fewer if the input ends first.
 #[derive(Debug, Drop)]
 pub struct PutBytes {
-    pub body: Body,
+    pub body: PutBody,
     pub passed: Passed,
 }
 
@@ -154,23 +154,23 @@ fn both(first: Passed, second: Passed) -> Passed
     }
 }
 
-/// The byte at the front of what follows a put's bytes, if there is one.
+/// The byte after a put's bytes, if there is one.
 #[derive(Clone, Copy, Debug)]
-struct Front {
+struct NextByte {
     closing: Closing,
     taken: usize,
 }
 
-fn front_of(shown: &[u8]) -> Front
-    ensures front { IsFront shown.now result.closing result.taken }
+fn next_byte_of(shown: &[u8]) -> NextByte
+    ensures front { IsNextByte shown.now result.closing result.taken }
     ensures within { result.taken ≤ length shown.now }
 {
     match shown.first() {
-        None => Front {
+        None => NextByte {
             closing: Closing::InputEnd,
             taken: 0,
         },
-        Some(b) => Front {
+        Some(b) => NextByte {
             closing: if *b == b'\n' {
                 Closing::LineFeed
             } else {
@@ -194,9 +194,9 @@ fn look<I: BufRead>(input: &mut I) -> Result<Option<Closing>, StreamError>
             return Ok(None);
         }
     };
-    let front = front_of(shown);
-    input.consume(front.taken);
-    Ok(Some(front.closing))
+    let next = next_byte_of(shown);
+    input.consume(next.taken);
+    Ok(Some(next.closing))
 }
 
 /// Takes the byte after a put's bytes, unless the input ends there.
@@ -238,7 +238,7 @@ fn read_body<I: BufRead>(
         Ok(()) => {
             let passed = count(body.as_slice());
             Ok(PutBytes {
-                body: Body::Kept(body),
+                body: PutBody::Kept(body),
                 passed,
             })
         }
@@ -247,7 +247,7 @@ fn read_body<I: BufRead>(
 }
 
 /// Passes over a put's bytes, of which nothing is kept.
-fn skip_body<I: BufRead>(input: &mut I, size: usize, body: Body) -> Result<PutBytes, StreamError>
+fn skip_body<I: BufRead>(input: &mut I, size: usize, body: PutBody) -> Result<PutBytes, StreamError>
     requires { (bytes : List ℕ) → Holds body size bytes }
     ensures { (bytes : List ℕ) × Consumes (I.remaining input.old) (I.remaining input.new) bytes
         × IsPutBytes size result bytes (I.remaining input.old) (I.remaining input.new) }
@@ -268,10 +268,10 @@ pub fn take_bytes<I: BufRead>(
         × IsPutBytes size result bytes (I.remaining input.old) (I.remaining input.new) }
 {
     if size > MAX_BODY {
-        return skip_body(input, size, Body::Long);
+        return skip_body(input, size, PutBody::Long);
     }
     match room_for(alloc, size) {
         Some(body) => read_body(input, size, body),
-        None => skip_body(input, size, Body::Lost),
+        None => skip_body(input, size, PutBody::Lost),
     }
 }

@@ -20,7 +20,7 @@ pub enum StreamItem<'a> {
 
 /// An item that was taken from the input.
 #[derive(Debug, Drop)]
-pub struct Taken<'a> {
+pub struct TakenItem<'a> {
     /// The number of the item's line, from 1. The lines of bodies count too.
     pub line: u32,
     /// What the line says.

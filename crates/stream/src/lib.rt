@@ -7,5 +7,5 @@ mod item;
 mod line;
 mod stream;
 
-pub use item::{StreamError, StreamItem, Taken};
+pub use item::{StreamError, StreamItem, TakenItem};
 pub use stream::ItemStream;

@@ -9,8 +9,8 @@ ghost use Rattle.stream.specs.Stream.{StreamState, stream_at, IsNext, Shows};
 ghost use Rattle.stream.specs.Private.Bytes.{Holds};
 ghost use Rattle.stream.specs.Private.Taking.{TakesItem};
 
-use crate::body::{Body, Closing, close, take_bytes};
-use crate::item::{StreamError, StreamItem, Taken};
+use crate::body::{Closing, PutBody, close, take_bytes};
+use crate::item::{StreamError, StreamItem, TakenItem};
 use crate::line::next_line;
 use script::{Item, Line, read_line};
 use std::alloc::Global;
@@ -56,7 +56,7 @@ impl ItemStream {
     /// item's name and texts are borrowed.
     ///
     /// `None` means that the input ended without a further item, or that the reading had ended in an earlier
-    /// call: with an item whose `Taken::ended` is `true`, with `None`, or with an error.
+    /// call: with an item whose `TakenItem::ended` is `true`, with `None`, or with an error.
     ///
     /// # Errors
     ///
@@ -68,7 +68,7 @@ impl ItemStream {
         &mut self,
         input: &mut I,
         text: &'t mut Vec<u8>,
-    ) -> Result<Option<Taken<'t>>, StreamError>
+    ) -> Result<Option<TakenItem<'t>>, StreamError>
         ensures taken { (bytes : List ℕ) × Consumes (I.remaining input.old) (I.remaining input.new) bytes
             × IsNext self.old result self.new bytes (I.remaining input.old) (I.remaining input.new) }
         ensures over { self.old.ended ≡ true → (result ≡ Ok None) × (input.new ≡ input.old) }
@@ -85,7 +85,7 @@ impl ItemStream {
             Err(error) => return Err(error),
         };
         if !start.closed {
-            return Ok(Some(Taken {
+            return Ok(Some(TakenItem {
                 line: start.line,
                 item: StreamItem::Other(last_item(text.as_slice())),
                 ended: true,
@@ -94,7 +94,7 @@ impl ItemStream {
         match take_item(self.alloc, input, start.line, text.as_slice()) {
             Ok(step) => {
                 self.go_on(step.next);
-                Ok(Some(Taken {
+                Ok(Some(TakenItem {
                     line: start.line,
                     item: step.item,
                     ended: step.next.is_none(),
@@ -221,12 +221,12 @@ fn take_put<'t, I: BufRead>(
     }
 }
 
-fn put_item(name: &[u8], body: Body) -> StreamItem<'_>
+fn put_item(name: &[u8], body: PutBody) -> StreamItem<'_>
     ensures { (size : ℕ) (bytes : List ℕ) → Holds body size bytes → length bytes ≡ size → Shows result (put name.now bytes) }
 {
     match body {
-        Body::Kept(body) => StreamItem::Put { name, body },
-        Body::Long => StreamItem::LongPut { name },
-        Body::Lost => StreamItem::LostPut { name },
+        PutBody::Kept(body) => StreamItem::Put { name, body },
+        PutBody::Long => StreamItem::LongPut { name },
+        PutBody::Lost => StreamItem::LostPut { name },
     }
 }

@@ -22,7 +22,8 @@ use Rattle.trigram.specs.Analysis.{analysis_of, both_all, either_all, settle_loo
 use Rattle.trigram.specs.Private.Values.{shown_analysis, ArePlain, StandFor, EndsStandFor}
 
 pub loose_same : (n : Bool) (p q s t : Texts) (c d : SetTest) → p ≡ q → s ≡ t → ((set : TrigramSet) → c set ≡ d set) → loose n p s c ≡ loose n q t d
-loose_same n p q s t c d fronts backs conditions = ap (λ x. loose n x s c) fronts ∙ ap (λ x. loose n q x c) backs ∙ ap (loose n q t) (fun_ext conditions)
+loose_same n p q s t c d prefixes suffixes conditions =
+    ap (λ x. loose n x s c) prefixes ∙ ap (λ x. loose n q x c) suffixes ∙ ap (loose n q t) (fun_ext conditions)
 
 pub any_is_met : (set : TrigramSet) → is_met (formula_of query.Any) set ≡ true
 unfolding is_met
@@ -155,8 +156,8 @@ bytes_start set = refl
 
 settle_same : (n m : Bool) (p q s t : Texts) (c d : SetTest) → n ≡ m → p ≡ q → s ≡ t → ((set : TrigramSet) → c set ≡ d set)
     → settle_loose n p s c ≡ settle_loose m q t d
-settle_same n m p q s t c d nullable fronts backs conditions =
-    ap (λ x. settle_loose x p s c) nullable ∙ ap (λ x. settle_loose m x s c) fronts ∙ ap (λ x. settle_loose m q x c) backs
+settle_same n m p q s t c d nullable prefixes suffixes conditions =
+    ap (λ x. settle_loose x p s c) nullable ∙ ap (λ x. settle_loose m x s c) prefixes ∙ ap (λ x. settle_loose m q x c) suffixes
     ∙ ap (settle_loose m q t) (fun_ext conditions)
 
 and_true : (b : Bool) → (b && true) ≡ b
@@ -166,35 +167,35 @@ and_true false = refl
 pub known_before_stands : (texts p s q t : Texts) (n m : Bool) (c : SetTest) (ends : Ends) → m ≡ (has_text texts [] && n)
     → q ≡ joins texts p → t ≡ (if n then union s texts else s) → EndsStandFor (settle_loose m q t c) ends
     → EndsStandFor (both (known texts) (loose n p s c)) ends
-known_before_stands texts p s q t n m c ends nullable fronts backs h = record {
+known_before_stands texts p s q t n m c ends nullable prefixes suffixes h = record {
   plain = h.plain;
   is =
       h.is
       ∙ settle_same m (has_text texts [] && n) q (joins texts p) t (if n then union s texts else s) c (λ set. true && (c set && true))
-      nullable fronts backs (λ set. sym (and_true (c set)));
+      nullable prefixes suffixes (λ set. sym (and_true (c set)));
 }
 
 pub known_after_stands : (texts p s q t : Texts) (n m : Bool) (c : SetTest) (ends : Ends) → m ≡ (n && has_text texts [])
     → q ≡ (if n then union p texts else p) → t ≡ joins s texts → EndsStandFor (settle_loose m q t c) ends
     → EndsStandFor (both (loose n p s c) (known texts)) ends
-known_after_stands texts p s q t n m c ends nullable fronts backs h = record {
+known_after_stands texts p s q t n m c ends nullable prefixes suffixes h = record {
   plain = h.plain;
   is =
       h.is
       ∙ settle_same m (n && has_text texts []) q (if n then union p texts else p) t (joins s texts) c (λ set. c set && (true && true))
-      nullable fronts backs (λ set. sym (and_true (c set)));
+      nullable prefixes suffixes (λ set. sym (and_true (c set)));
 }
 
 pub both_loose_stands : (n m k : Bool) (p s q t u v : Texts) (c d e : SetTest) (ends : Ends) → k ≡ (n && m)
     → u ≡ (if n then union p q else p) → v ≡ (if m then union t s else t)
     → ((set : TrigramSet) → e set ≡ (c set && (d set && has_all_of_one (joins s q) set))) → EndsStandFor (settle_loose k u v e) ends
     → EndsStandFor (both (loose n p s c) (loose m q t d)) ends
-both_loose_stands n m k p s q t u v c d e ends nullable fronts backs conditions h = record {
+both_loose_stands n m k p s q t u v c d e ends nullable prefixes suffixes conditions h = record {
   plain = h.plain;
   is =
       h.is
       ∙ settle_same k (n && m) u (if n then union p q else p) v (if m then union t s else t) e
-      (λ set. c set && (d set && has_all_of_one (joins s q) set)) nullable fronts backs conditions;
+      (λ set. c set && (d set && has_all_of_one (joins s q) set)) nullable prefixes suffixes conditions;
 }
 
 pub stands_same : (a b : Analysis) (analysis : program.Analysis) → a ≡ b → StandFor a analysis → StandFor b analysis

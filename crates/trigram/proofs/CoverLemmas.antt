@@ -8,52 +8,52 @@ use Rattle.ere.proofs.Words.{WordSet, IsPower}
 use Rattle.query.specs.Trigrams.{TrigramSet, holds_front, has_all_trigrams}
 use Rattle.trigram.specs.Texts.{Texts, has_text, union, joins, has_all_of_one, ending, kept_ends}
 use Rattle.trigram.specs.Analysis.{SetTest, Analysis, known, loose, anything, just_empty, settle_loose, settle_known, are_kept, loosen}
-use Rattle.trigram.specs.Analysis.{is_nullable, fronts_of, backs_of, condition_beside, either, both, joined_fronts, joined_backs, across}
+use Rattle.trigram.specs.Analysis.{is_nullable, prefixes_of, suffixes_of, condition_beside, either, both, joined_prefixes, joined_suffixes, across}
 use Rattle.trigram.specs.Analysis.{copies_of, optional, repeated}
-use Rattle.trigram.proofs.MemberLemmas.{IsIn, has_text-IsIn, IsIn-union_left, IsIn-union_right, IsIn-joins, list_any-IsIn, IsFront, IsBack}
-use Rattle.trigram.proofs.MemberLemmas.{IsFront-trans, IsBack-trans, kept_front, kept_back}
+use Rattle.trigram.proofs.MemberLemmas.{IsIn, has_text-IsIn, IsIn-union_left, IsIn-union_right, IsIn-joins, list_any-IsIn, IsPrefix, IsSuffix}
+use Rattle.trigram.proofs.MemberLemmas.{IsPrefix-trans, IsSuffix-trans, kept_prefix, kept_suffix}
 
-front_held : (a : ℕ) (u v : List ℕ) (set : TrigramSet) → IsTrue (holds_front (a ∷ (u ++ v)) set) → IsTrue (holds_front (a ∷ u) set)
-front_held a [] v set h = refl
-front_held a (b ∷ []) v set h = refl
-front_held a (b ∷ c ∷ u) v set h = h
+prefix_held : (a : ℕ) (u v : List ℕ) (set : TrigramSet) → IsTrue (holds_front (a ∷ (u ++ v)) set) → IsTrue (holds_front (a ∷ u) set)
+prefix_held a [] v set h = refl
+prefix_held a (b ∷ []) v set h = refl
+prefix_held a (b ∷ c ∷ u) v set h = h
 
--- a set with all trigrams of a text has all trigrams of each front of it, and of each back
-pub held_by_front : (u v : List ℕ) (set : TrigramSet) → IsTrue (has_all_trigrams (u ++ v) set) → IsTrue (has_all_trigrams u set)
+-- a set with all trigrams of a text has all trigrams of each prefix of it, and of each suffix
+pub held_by_prefix : (u v : List ℕ) (set : TrigramSet) → IsTrue (has_all_trigrams (u ++ v) set) → IsTrue (has_all_trigrams u set)
 unfolding has_all_trigrams
-held_by_front [] v set h = refl
-held_by_front (a ∷ u) v set h =
+held_by_prefix [] v set h = refl
+held_by_prefix (a ∷ u) v set h =
     let parts = and_parts (holds_front (a ∷ (u ++ v)) set) (has_all_trigrams (u ++ v) set) h in
-    and_from (holds_front (a ∷ u) set) (has_all_trigrams u set) (front_held a u v set parts.0) (held_by_front u v set parts.1)
+    and_from (holds_front (a ∷ u) set) (has_all_trigrams u set) (prefix_held a u v set parts.0) (held_by_prefix u v set parts.1)
 
-pub held_by_back : (u v : List ℕ) (set : TrigramSet) → IsTrue (has_all_trigrams (u ++ v) set) → IsTrue (has_all_trigrams v set)
+pub held_by_suffix : (u v : List ℕ) (set : TrigramSet) → IsTrue (has_all_trigrams (u ++ v) set) → IsTrue (has_all_trigrams v set)
 unfolding has_all_trigrams
-held_by_back [] v set h = h
-held_by_back (a ∷ u) v set h = held_by_back u v set (and_parts (holds_front (a ∷ (u ++ v)) set) (has_all_trigrams (u ++ v) set) h).1
+held_by_suffix [] v set h = h
+held_by_suffix (a ∷ u) v set h = held_by_suffix u v set (and_parts (holds_front (a ∷ (u ++ v)) set) (has_all_trigrams (u ++ v) set) h).1
 
-held_front : (p w : List ℕ) (set : TrigramSet) → IsFront p w → IsTrue (has_all_trigrams w set) → IsTrue (has_all_trigrams p set)
-held_front p w set f h = held_by_front p f.0 set (subst (λ t. IsTrue (has_all_trigrams t set)) f.1 h)
+held_prefix : (p w : List ℕ) (set : TrigramSet) → IsPrefix p w → IsTrue (has_all_trigrams w set) → IsTrue (has_all_trigrams p set)
+held_prefix p w set f h = held_by_prefix p f.0 set (subst (λ t. IsTrue (has_all_trigrams t set)) f.1 h)
 
-held_back : (p w : List ℕ) (set : TrigramSet) → IsBack p w → IsTrue (has_all_trigrams w set) → IsTrue (has_all_trigrams p set)
-held_back p w set f h = held_by_back f.0 p set (subst (λ t. IsTrue (has_all_trigrams t set)) f.1 h)
+held_suffix : (p w : List ℕ) (set : TrigramSet) → IsSuffix p w → IsTrue (has_all_trigrams w set) → IsTrue (has_all_trigrams p set)
+held_suffix p w set f h = held_by_suffix f.0 p set (subst (λ t. IsTrue (has_all_trigrams t set)) f.1 h)
 
 pub some_held : (texts : Texts) (p : List ℕ) (set : TrigramSet) → IsIn p texts → IsTrue (has_all_trigrams p set) → IsTrue (has_all_of_one texts set)
 some_held texts p set i h = list_any-IsIn (λ text. has_all_trigrams text set) texts p i h
 
 -- What is known about a word: its ends and a condition.
-pub record IsCovered (nullable : Bool) (fronts backs : Texts) (condition : SetTest) (word : List ℕ) : Type 0 where
+pub record IsCovered (nullable : Bool) (prefixes suffixes : Texts) (condition : SetTest) (word : List ℕ) : Type 0 where
   pub empty : word ≡ [] → IsTrue nullable
-  pub front : (p : List ℕ) × IsIn p fronts × IsFront p word
-  pub back : (p : List ℕ) × IsIn p backs × IsBack p word
+  pub prefix : (p : List ℕ) × IsIn p prefixes × IsPrefix p word
+  pub suffix : (p : List ℕ) × IsIn p suffixes × IsSuffix p word
   pub held : (set : TrigramSet) → IsTrue (has_all_trigrams word set) → IsTrue (condition set)
 
 -- What the analysis says is true for each word of a set.
 abbrev pub Covers : Analysis → WordSet → Type 0
 Covers (known texts) words = (word : List ℕ) → words word → IsIn word texts
-Covers (loose nullable fronts backs condition) words = (word : List ℕ) → words word → IsCovered nullable fronts backs condition word
+Covers (loose nullable prefixes suffixes condition) words = (word : List ℕ) → words word → IsCovered nullable prefixes suffixes condition word
 
 abbrev pub Concat : WordSet → WordSet → WordSet
-Concat words others word = (front back : List ℕ) × (word ≡ front ++ back) × words front × others back
+Concat words others word = (prefix suffix : List ℕ) × (word ≡ prefix ++ suffix) × words prefix × others suffix
 
 abbrev pub Either : WordSet → WordSet → WordSet
 Either words others word = words word ⊎ others word
@@ -68,28 +68,28 @@ covers_weaker (loose n p s c) words fewer f h = λ w i. h w (f w i)
 cover_settle : (n : Bool) (p s : Texts) (c : SetTest) (w : List ℕ) → IsCovered n p s c w
     → IsCovered n (kept_ends take p) (kept_ends ending s) (λ set. c set && (has_all_of_one p set && has_all_of_one s set)) w
 cover_settle n p s c w h =
-    let f = h.front in
-    let b = h.back in
-    let kf = kept_front p f.0 f.1 in
-    let kb = kept_back s b.0 b.1 in
+    let f = h.prefix in
+    let b = h.suffix in
+    let kf = kept_prefix p f.0 f.1 in
+    let kb = kept_suffix s b.0 b.1 in
     record {
       empty = h.empty;
-      front = (kf.0, kf.1, IsFront-trans kf.0 f.0 w kf.2 f.2);
-      back = (kb.0, kb.1, IsBack-trans kb.0 b.0 w kb.2 b.2);
+      prefix = (kf.0, kf.1, IsPrefix-trans kf.0 f.0 w kf.2 f.2);
+      suffix = (kb.0, kb.1, IsSuffix-trans kb.0 b.0 w kb.2 b.2);
       held =
           λ set all.
           and_from (c set) (has_all_of_one p set && has_all_of_one s set) (h.held set all)
-          (and_from (has_all_of_one p set) (has_all_of_one s set) (some_held p f.0 set f.1 (held_front f.0 w set f.2 all))
-          (some_held s b.0 set b.1 (held_back b.0 w set b.2 all)));
+          (and_from (has_all_of_one p set) (has_all_of_one s set) (some_held p f.0 set f.1 (held_prefix f.0 w set f.2 all))
+          (some_held s b.0 set b.1 (held_suffix b.0 w set b.2 all)));
     }
 
 -- the words of an analysis by their ends; known texts then have no condition of their own
 covered : (a : Analysis) (words : WordSet) → Covers a words → (w : List ℕ) → words w
-    → IsCovered (is_nullable a) (fronts_of a) (backs_of a) (condition_beside a) w
+    → IsCovered (is_nullable a) (prefixes_of a) (suffixes_of a) (condition_beside a) w
 covered (known texts) words h w i = record {
   empty = λ e. has_text-IsIn texts [] (subst (λ v. IsIn v texts) e (h w i));
-  front = (w, h w i, ([], sym (append-nil w)));
-  back = (w, h w i, ([], refl));
+  prefix = (w, h w i, ([], sym (append-nil w)));
+  suffix = (w, h w i, ([], refl));
   held = λ set all. refl;
 }
 covered (loose n p s c) words h w i = h w i
@@ -97,8 +97,8 @@ covered (loose n p s c) words h w i = h w i
 pub covers_loosen : (a : Analysis) (words : WordSet) → Covers a words → Covers (loosen a) words
 covers_loosen (known texts) words h = λ w i. cover_settle (has_text texts []) texts texts (has_all_of_one texts) w (record {
   empty = λ e. has_text-IsIn texts [] (subst (λ v. IsIn v texts) e (h w i));
-  front = (w, h w i, ([], sym (append-nil w)));
-  back = (w, h w i, ([], refl));
+  prefix = (w, h w i, ([], sym (append-nil w)));
+  suffix = (w, h w i, ([], refl));
   held = λ set all. some_held texts w set (h w i) all;
 })
 covers_loosen (loose n p s c) words h = h
@@ -112,31 +112,31 @@ covers_settle_known texts words h = go (are_kept texts)
 
 covers_either_any : (l r : Analysis) (words others : WordSet) → Covers l words → Covers r others
     → Covers
-    (settle_loose (is_nullable l || is_nullable r) (union (fronts_of l) (fronts_of r)) (union (backs_of l) (backs_of r))
+    (settle_loose (is_nullable l || is_nullable r) (union (prefixes_of l) (prefixes_of r)) (union (suffixes_of l) (suffixes_of r))
     (λ set. condition_beside l set || condition_beside r set)) (Either words others)
 covers_either_any l r words others hl hr =
     λ w i.
-    cover_settle (is_nullable l || is_nullable r) (union (fronts_of l) (fronts_of r)) (union (backs_of l) (backs_of r))
+    cover_settle (is_nullable l || is_nullable r) (union (prefixes_of l) (prefixes_of r)) (union (suffixes_of l) (suffixes_of r))
     (λ set. condition_beside l set || condition_beside r set) w
     (⊎_elim (λ j. on_left w (covered l words hl w j)) (λ j. on_right w (covered r others hr w j)) i)
   where
-    on_left : (w : List ℕ) → IsCovered (is_nullable l) (fronts_of l) (backs_of l) (condition_beside l) w
-        → IsCovered (is_nullable l || is_nullable r) (union (fronts_of l) (fronts_of r)) (union (backs_of l) (backs_of r))
+    on_left : (w : List ℕ) → IsCovered (is_nullable l) (prefixes_of l) (suffixes_of l) (condition_beside l) w
+        → IsCovered (is_nullable l || is_nullable r) (union (prefixes_of l) (prefixes_of r)) (union (suffixes_of l) (suffixes_of r))
         (λ set. condition_beside l set || condition_beside r set) w
     on_left w h = record {
       empty = λ e. or_left (is_nullable l) (is_nullable r) (h.empty e);
-      front = let f = h.front in (f.0, IsIn-union_left (fronts_of l) (fronts_of r) f.0 f.1, f.2);
-      back = let f = h.back in (f.0, IsIn-union_left (backs_of l) (backs_of r) f.0 f.1, f.2);
+      prefix = let f = h.prefix in (f.0, IsIn-union_left (prefixes_of l) (prefixes_of r) f.0 f.1, f.2);
+      suffix = let f = h.suffix in (f.0, IsIn-union_left (suffixes_of l) (suffixes_of r) f.0 f.1, f.2);
       held = λ set all. or_left (condition_beside l set) (condition_beside r set) (h.held set all);
     }
 
-    on_right : (w : List ℕ) → IsCovered (is_nullable r) (fronts_of r) (backs_of r) (condition_beside r) w
-        → IsCovered (is_nullable l || is_nullable r) (union (fronts_of l) (fronts_of r)) (union (backs_of l) (backs_of r))
+    on_right : (w : List ℕ) → IsCovered (is_nullable r) (prefixes_of r) (suffixes_of r) (condition_beside r) w
+        → IsCovered (is_nullable l || is_nullable r) (union (prefixes_of l) (prefixes_of r)) (union (suffixes_of l) (suffixes_of r))
         (λ set. condition_beside l set || condition_beside r set) w
     on_right w h = record {
       empty = λ e. or_right (is_nullable l) (is_nullable r) (h.empty e);
-      front = let f = h.front in (f.0, IsIn-union_right (fronts_of l) (fronts_of r) f.0 f.1, f.2);
-      back = let f = h.back in (f.0, IsIn-union_right (backs_of l) (backs_of r) f.0 f.1, f.2);
+      prefix = let f = h.prefix in (f.0, IsIn-union_right (prefixes_of l) (prefixes_of r) f.0 f.1, f.2);
+      suffix = let f = h.suffix in (f.0, IsIn-union_right (suffixes_of l) (suffixes_of r) f.0 f.1, f.2);
       held = λ set all. or_right (condition_beside l set) (condition_beside r set) (h.held set all);
     }
 
@@ -149,38 +149,38 @@ covers_either (loose n p s c) (known y) words others h k =
     covers_either_any (loose n p s c) (loosen (known y)) words others h (covers_loosen (known y) others k)
 covers_either (loose n p s c) (loose m q t d) words others h k = covers_either_any (loose n p s c) (loose m q t d) words others h k
 
-front_of_both : (a b : Analysis) (words others : WordSet) → Covers a words → Covers b others → (u v : List ℕ) → words u → others v
-    → (p : List ℕ) × IsIn p (joined_fronts a b) × IsFront p (u ++ v)
-front_of_both (known x) b words others h k u v i j =
-    let f = (covered b others k v j).front in
-    (u ++ f.0, IsIn-joins x (fronts_of b) u f.0 (h u i) f.1, (f.2.0, ap (λ t. u ++ t) f.2.1 ∙ sym (append_assoc u f.0 f.2.0)))
-front_of_both (loose n p s c) b words others h k u v i j = go n
+prefix_of_both : (a b : Analysis) (words others : WordSet) → Covers a words → Covers b others → (u v : List ℕ) → words u → others v
+    → (p : List ℕ) × IsIn p (joined_prefixes a b) × IsPrefix p (u ++ v)
+prefix_of_both (known x) b words others h k u v i j =
+    let f = (covered b others k v j).prefix in
+    (u ++ f.0, IsIn-joins x (prefixes_of b) u f.0 (h u i) f.1, (f.2.0, ap (λ t. u ++ t) f.2.1 ∙ sym (append_assoc u f.0 f.2.0)))
+prefix_of_both (loose n p s c) b words others h k u v i j = go n
   where
-    f : (q : List ℕ) × IsIn q p × IsFront q u
-    f = (h u i).front
+    f : (q : List ℕ) × IsIn q p × IsPrefix q u
+    f = (h u i).prefix
 
-    longer : IsFront f.0 (u ++ v)
+    longer : IsPrefix f.0 (u ++ v)
     longer = (f.2.0 ++ v, ap (λ t. t ++ v) f.2.1 ∙ append_assoc f.0 f.2.0 v)
 
-    go : (e : Bool) → (q : List ℕ) × IsIn q (if e then union p (fronts_of b) else p) × IsFront q (u ++ v)
-    go true = (f.0, IsIn-union_left p (fronts_of b) f.0 f.1, longer)
+    go : (e : Bool) → (q : List ℕ) × IsIn q (if e then union p (prefixes_of b) else p) × IsPrefix q (u ++ v)
+    go true = (f.0, IsIn-union_left p (prefixes_of b) f.0 f.1, longer)
     go false = (f.0, f.1, longer)
 
-back_of_both : (a b : Analysis) (words others : WordSet) → Covers a words → Covers b others → (u v : List ℕ) → words u → others v
-    → (p : List ℕ) × IsIn p (joined_backs a b) × IsBack p (u ++ v)
-back_of_both a (known y) words others h k u v i j =
-    let f = (covered a words h u i).back in
-    (f.0 ++ v, IsIn-joins (backs_of a) y f.0 v f.1 (k v j), (f.2.0, ap (λ t. t ++ v) f.2.1 ∙ append_assoc f.2.0 f.0 v))
-back_of_both a (loose n p s c) words others h k u v i j = go n
+suffix_of_both : (a b : Analysis) (words others : WordSet) → Covers a words → Covers b others → (u v : List ℕ) → words u → others v
+    → (p : List ℕ) × IsIn p (joined_suffixes a b) × IsSuffix p (u ++ v)
+suffix_of_both a (known y) words others h k u v i j =
+    let f = (covered a words h u i).suffix in
+    (f.0 ++ v, IsIn-joins (suffixes_of a) y f.0 v f.1 (k v j), (f.2.0, ap (λ t. t ++ v) f.2.1 ∙ append_assoc f.2.0 f.0 v))
+suffix_of_both a (loose n p s c) words others h k u v i j = go n
   where
-    f : (q : List ℕ) × IsIn q s × IsBack q v
-    f = (k v j).back
+    f : (q : List ℕ) × IsIn q s × IsSuffix q v
+    f = (k v j).suffix
 
-    longer : IsBack f.0 (u ++ v)
+    longer : IsSuffix f.0 (u ++ v)
     longer = (u ++ f.2.0, ap (λ t. u ++ t) f.2.1 ∙ sym (append_assoc u f.2.0 f.0))
 
-    go : (e : Bool) → (q : List ℕ) × IsIn q (if e then union s (backs_of a) else s) × IsBack q (u ++ v)
-    go true = (f.0, IsIn-union_left s (backs_of a) f.0 f.1, longer)
+    go : (e : Bool) → (q : List ℕ) × IsIn q (if e then union s (suffixes_of a) else s) × IsSuffix q (u ++ v)
+    go true = (f.0, IsIn-union_left s (suffixes_of a) f.0 f.1, longer)
     go false = (f.0, f.1, longer)
 
 held_across : (a b : Analysis) (words others : WordSet) → Covers a words → Covers b others → (u v : List ℕ) → words u → others v
@@ -189,12 +189,12 @@ held_across (known x) (known y) words others h k u v i j set all = refl
 held_across (known x) (loose m q t d) words others h k u v i j set all = refl
 held_across (loose n p s c) (known y) words others h k u v i j set all = refl
 held_across (loose n p s c) (loose m q t d) words others h k u v i j set all =
-    let b = (h u i).back in
-    let f = (k v j).front in
+    let b = (h u i).suffix in
+    let f = (k v j).prefix in
     let border : u ++ v ≡ b.2.0 ++ ((b.0 ++ f.0) ++ f.2.0) =
     ap (λ t. t ++ v) b.2.1 ∙ append_assoc b.2.0 b.0 v ∙ ap (λ t. b.2.0 ++ (b.0 ++ t)) f.2.1 ∙ ap (λ t. b.2.0 ++ t) (sym (append_assoc b.0 f.0 f.2.0)) in
     some_held (joins s q) (b.0 ++ f.0) set (IsIn-joins s q b.0 f.0 b.1 f.1)
-    (held_by_front (b.0 ++ f.0) f.2.0 set (held_by_back b.2.0 ((b.0 ++ f.0) ++ f.2.0) set (subst (λ t. IsTrue (has_all_trigrams t set)) border all)))
+    (held_by_prefix (b.0 ++ f.0) f.2.0 set (held_by_suffix b.2.0 ((b.0 ++ f.0) ++ f.2.0) set (subst (λ t. IsTrue (has_all_trigrams t set)) border all)))
 
 empty_parts : (u v : List ℕ) → u ++ v ≡ [] → (u ≡ []) × (v ≡ [])
 empty_parts [] v e = (refl, e)
@@ -202,30 +202,30 @@ empty_parts (a ∷ u) v e = cc
 
 covers_both_any : (a b : Analysis) (words others : WordSet) → Covers a words → Covers b others
     → Covers
-    (settle_loose (is_nullable a && is_nullable b) (joined_fronts a b) (joined_backs a b)
+    (settle_loose (is_nullable a && is_nullable b) (joined_prefixes a b) (joined_suffixes a b)
     (λ set. condition_beside a set && (condition_beside b set && across a b set))) (Concat words others)
 covers_both_any a b words others h k =
     λ w i.
-    cover_settle (is_nullable a && is_nullable b) (joined_fronts a b) (joined_backs a b)
+    cover_settle (is_nullable a && is_nullable b) (joined_prefixes a b) (joined_suffixes a b)
     (λ set. condition_beside a set && (condition_beside b set && across a b set)) w
     (subst (λ t.
-    IsCovered (is_nullable a && is_nullable b) (joined_fronts a b) (joined_backs a b)
+    IsCovered (is_nullable a && is_nullable b) (joined_prefixes a b) (joined_suffixes a b)
     (λ set. condition_beside a set && (condition_beside b set && across a b set)) t) (sym i.2) (together i.0 i.1 i.3 i.4))
   where
     together : (u v : List ℕ) → words u → others v
-        → IsCovered (is_nullable a && is_nullable b) (joined_fronts a b) (joined_backs a b)
+        → IsCovered (is_nullable a && is_nullable b) (joined_prefixes a b) (joined_suffixes a b)
         (λ set. condition_beside a set && (condition_beside b set && across a b set)) (u ++ v)
     together u v i j =
         let l = covered a words h u i in
         let r = covered b others k v j in
         record {
           empty = λ e. let parts = empty_parts u v e in and_from (is_nullable a) (is_nullable b) (l.empty parts.0) (r.empty parts.1);
-          front = front_of_both a b words others h k u v i j;
-          back = back_of_both a b words others h k u v i j;
+          prefix = prefix_of_both a b words others h k u v i j;
+          suffix = suffix_of_both a b words others h k u v i j;
           held =
               λ set all.
-              and_from (condition_beside a set) (condition_beside b set && across a b set) (l.held set (held_by_front u v set all))
-              (and_from (condition_beside b set) (across a b set) (r.held set (held_by_back u v set all))
+              and_from (condition_beside a set) (condition_beside b set && across a b set) (l.held set (held_by_prefix u v set all))
+              (and_from (condition_beside b set) (across a b set) (r.held set (held_by_suffix u v set all))
               (held_across a b words others h k u v i j set all));
         }
 
@@ -255,9 +255,9 @@ cover_plus n p s c words h (suc k) w i = subst (λ t. IsCovered n p s c t) (sym 
     together : (u v : List ℕ) → IsCovered n p s c u → IsCovered n p s c v → IsCovered n p s c (u ++ v)
     together u v l r = record {
       empty = λ e. r.empty (empty_parts u v e).1;
-      front = let f = l.front in (f.0, f.1, (f.2.0 ++ v, ap (λ t. t ++ v) f.2.1 ∙ append_assoc f.0 f.2.0 v));
-      back = let f = r.back in (f.0, f.1, (u ++ f.2.0, ap (λ t. u ++ t) f.2.1 ∙ sym (append_assoc u f.2.0 f.0)));
-      held = λ set all. r.held set (held_by_back u v set all);
+      prefix = let f = l.prefix in (f.0, f.1, (f.2.0 ++ v, ap (λ t. t ++ v) f.2.1 ∙ append_assoc f.0 f.2.0 v));
+      suffix = let f = r.suffix in (f.0, f.1, (u ++ f.2.0, ap (λ t. u ++ t) f.2.1 ∙ sym (append_assoc u f.2.0 f.0)));
+      held = λ set all. r.held set (held_by_suffix u v set all);
     }
 
 abbrev pub Plus : WordSet → WordSet
@@ -274,8 +274,8 @@ covers_plus (loose n p s c) words h = λ w i. cover_plus n p s c words h i.0 w i
 pub covers_anything : (words : WordSet) → Covers anything words
 covers_anything words = λ w i. record {
   empty = λ e. refl;
-  front = ([], inl refl, (w, refl));
-  back = ([], inl refl, (w, sym (append-nil w)));
+  prefix = ([], inl refl, (w, refl));
+  suffix = ([], inl refl, (w, sym (append-nil w)));
   held = λ set all. refl;
 }
 

@@ -36,17 +36,17 @@ Fresh-append texts [] right one two = subst (λ t. Fresh t right) (append-nil te
 Fresh-append texts (text ∷ left) right one two =
     (one.0, Fresh-append (texts ++ text ∷ []) left right one.1 (subst (λ t. Fresh t right) (sym (append_assoc texts (text ∷ []) left)) two))
 
-Fresh-behind : (front : List ℕ) (texts backs : Texts) (n : ℕ) → AreDistinct n backs
-    → ((back : List ℕ) → IsIn back backs → IsIn (front ++ back) texts → ⊥) → Fresh texts (map (λ back. front ++ back) backs)
-Fresh-behind front texts [] n h none = tt
-Fresh-behind front texts (back ∷ backs) n h none = (
-  none back (inl refl),
-  Fresh-behind front (texts ++ (front ++ back) ∷ []) backs n h.2 (λ other later held.
-      ⊎_elim (λ old. none other (inr later) old) (λ new. same other later new) (IsIn-append_cases texts ((front ++ back) ∷ []) (front ++ other) held)),
+Fresh-behind : (prefix : List ℕ) (texts suffixes : Texts) (n : ℕ) → AreDistinct n suffixes
+    → ((suffix : List ℕ) → IsIn suffix suffixes → IsIn (prefix ++ suffix) texts → ⊥) → Fresh texts (map (λ suffix. prefix ++ suffix) suffixes)
+Fresh-behind prefix texts [] n h none = tt
+Fresh-behind prefix texts (suffix ∷ suffixes) n h none = (
+  none suffix (inl refl),
+  Fresh-behind prefix (texts ++ (prefix ++ suffix) ∷ []) suffixes n h.2 (λ other later held.
+      ⊎_elim (λ old. none other (inr later) old) (λ new. same other later new) (IsIn-append_cases texts ((prefix ++ suffix) ∷ []) (prefix ++ other) held)),
 )
   where
-    same : (other : List ℕ) → IsIn other backs → IsIn (front ++ other) ((front ++ back) ∷ []) → ⊥
-    same other later (inl e) = there backs back h.1 (subst (λ t. IsIn t backs) (sym (append_cancel_left front back other e)) later)
+    same : (other : List ℕ) → IsIn other suffixes → IsIn (prefix ++ other) ((prefix ++ suffix) ∷ []) → ⊥
+    same other later (inl e) = there suffixes suffix h.1 (subst (λ t. IsIn t suffixes) (sym (append_cancel_left prefix suffix other e)) later)
     same other later (inr e) = e
 
 length_in : (texts : Texts) (n : ℕ) (text : List ℕ) → AreDistinct n texts → IsIn text texts → length text ≡ n
@@ -54,29 +54,29 @@ length_in [] n text h held = absurd held
 length_in (first ∷ texts) n text h (inl e) = ap length (sym e) ∙ h.0
 length_in (first ∷ texts) n text h (inr later) = length_in texts n text h.2 later
 
-same_front : (one other back last : List ℕ) → length one ≡ length other → one ++ back ≡ other ++ last → one ≡ other
-same_front one other back last size e =
-    sym (take-append_seam one back) ∙ ap (take (length one)) e ∙ ap (λ n. take n (other ++ last)) size ∙ take-append_seam other last
+same_prefix : (one other suffix last : List ℕ) → length one ≡ length other → one ++ suffix ≡ other ++ last → one ≡ other
+same_prefix one other suffix last size e =
+    sym (take-append_seam one suffix) ∙ ap (take (length one)) e ∙ ap (λ n. take n (other ++ last)) size ∙ take-append_seam other last
 
 Fresh-joins : (texts left right : Texts) (n m : ℕ) → AreDistinct n left → AreDistinct m right
-    → ((front back : List ℕ) → IsIn front left → IsIn back right → IsIn (front ++ back) texts → ⊥)
-    → Fresh texts (flat_map (λ front. map (λ back. front ++ back) right) left)
+    → ((prefix suffix : List ℕ) → IsIn prefix left → IsIn suffix right → IsIn (prefix ++ suffix) texts → ⊥)
+    → Fresh texts (flat_map (λ prefix. map (λ suffix. prefix ++ suffix) right) left)
 Fresh-joins texts [] right n m l r none = tt
-Fresh-joins texts (front ∷ left) right n m l r none =
-    Fresh-append texts (map (λ back. front ++ back) right) (flat_map (λ front. map (λ back. front ++ back) right) left)
-    (Fresh-behind front texts right m r (λ back held old. none front back (inl refl) held old))
-    (Fresh-joins (texts ++ map (λ back. front ++ back) right) left right n m l.2 r (λ other back later held joined.
-    ⊎_elim (λ old. none other back (inr later) held old)
-    (λ new. let p = IsIn-from_map (λ b. front ++ b) right (other ++ back) new in same other back later p.0 p.2)
-    (IsIn-append_cases texts (map (λ back. front ++ back) right) (other ++ back) joined)))
+Fresh-joins texts (prefix ∷ left) right n m l r none =
+    Fresh-append texts (map (λ suffix. prefix ++ suffix) right) (flat_map (λ prefix. map (λ suffix. prefix ++ suffix) right) left)
+    (Fresh-behind prefix texts right m r (λ suffix held old. none prefix suffix (inl refl) held old))
+    (Fresh-joins (texts ++ map (λ suffix. prefix ++ suffix) right) left right n m l.2 r (λ other suffix later held joined.
+    ⊎_elim (λ old. none other suffix (inr later) held old)
+    (λ new. let p = IsIn-from_map (λ b. prefix ++ b) right (other ++ suffix) new in same other suffix later p.0 p.2)
+    (IsIn-append_cases texts (map (λ suffix. prefix ++ suffix) right) (other ++ suffix) joined)))
   where
-    same : (other back : List ℕ) → IsIn other left → (text : List ℕ) → other ++ back ≡ front ++ text → ⊥
-    same other back later text e =
-        there left front l.1
-        (subst (λ t. IsIn t left) (same_front other front back text (length_in left n other l.2 later ∙ sym l.0) e) later)
+    same : (other suffix : List ℕ) → IsIn other left → (text : List ℕ) → other ++ suffix ≡ prefix ++ text → ⊥
+    same other suffix later text e =
+        there left prefix l.1
+        (subst (λ t. IsIn t left) (same_prefix other prefix suffix text (length_in left n other l.2 later ∙ sym l.0) e) later)
 
 pub joins_of_distinct : (left right : Texts) (n m : ℕ) → AreDistinct n left → AreDistinct m right
-    → joins left right ≡ flat_map (λ front. map (λ back. front ++ back) right) left
+    → joins left right ≡ flat_map (λ prefix. map (λ suffix. prefix ++ suffix) right) left
 joins_of_distinct left right n m l r =
-    all_fresh [] (flat_map (λ front. map (λ back. front ++ back) right) left)
-    (Fresh-joins [] left right n m l r (λ front back one two held. held))
+    all_fresh [] (flat_map (λ prefix. map (λ suffix. prefix ++ suffix) right) left)
+    (Fresh-joins [] left right n m l r (λ prefix suffix one two held. held))

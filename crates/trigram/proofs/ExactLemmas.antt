@@ -12,7 +12,7 @@ use Rattle.trigram.proofs.CoverLemmas.{Concat, Either, Repeated, AtMost}
 -- Each text of a known set is a word.
 abbrev pub IsExact : Analysis → WordSet → Type 0
 IsExact (known texts) words = (word : List ℕ) → IsIn word texts → words word
-IsExact (loose nullable fronts backs condition) words = Unit {0}
+IsExact (loose nullable prefixes suffixes condition) words = Unit {0}
 
 pub exact_wider : (a : Analysis) (words wider : WordSet) → ((w : List ℕ) → words w → wider w) → IsExact a words → IsExact a wider
 exact_wider (known texts) words wider f h = λ w i. f w (h w i)

@@ -20,7 +20,7 @@ use Rattle.trigram.specs.Analysis.{either_all, condition_of}
 use Rattle.trigram.specs.Laws.{KnownTextsAreTheWords, MatchingLineMeetsCondition, TrigramsAreHeld, HasEachOnce, SetsHaveEachTextOnce}
 use Rattle.trigram.proofs.MemberLemmas.{IsIn, IsIn-has_text, has_text-IsIn, IsIn-distinct, IsIn-from_distinct, IsIn-append_cases}
 use Rattle.trigram.proofs.CoverLemmas.{Covers, Concat, Either, Repeated, covers_weaker, covers_either, covers_both, covers_at_least}
-use Rattle.trigram.proofs.CoverLemmas.{covers_between, some_held, held_by_front, held_by_back}
+use Rattle.trigram.proofs.CoverLemmas.{covers_between, some_held, held_by_prefix, held_by_suffix}
 use Rattle.trigram.proofs.ExactLemmas.{IsExact, exact_wider, exact_either, exact_both, exact_at_least, exact_between}
 
 abbrev single_texts : List ℕ → Texts
@@ -77,8 +77,8 @@ covers_one_byte members = go (nat_le (length (bytes_in members)) 16)
         (IsIn-single (has members) 0 256 i.0 (omega arith) (omega (arith, byte_below members i.0 i.2)) i.2)
     go false = λ w i. record {
       empty = λ e. absurd (not_empty w i.0 i.1 e);
-      front = ([], inl refl, (w, refl));
-      back = ([], inl refl, (w, sym (append-nil w)));
+      prefix = ([], inl refl, (w, refl));
+      suffix = ([], inl refl, (w, sym (append-nil w)));
       held = λ set all. refl;
     }
 
@@ -191,19 +191,19 @@ meets_condition : (a : Analysis) (words : WordSet) → Covers a words → (w : L
 meets_condition (known texts) words h w i set all = some_held texts w set (h w i) all
 meets_condition (loose n p s c) words h w i set all = (h w i).held set all
 
-front_in_set : (text : List ℕ) (set : TrigramSet) → ((g : ℕ) → IsTrue (front_trigram text g) → IsTrue (set g)) → IsTrue (holds_front text set)
-front_in_set [] set h = refl
-front_in_set (a ∷ []) set h = refl
-front_in_set (a ∷ b ∷ []) set h = refl
-front_in_set (a ∷ b ∷ c ∷ text) set h =
+prefix_in_set : (text : List ℕ) (set : TrigramSet) → ((g : ℕ) → IsTrue (front_trigram text g) → IsTrue (set g)) → IsTrue (holds_front text set)
+prefix_in_set [] set h = refl
+prefix_in_set (a ∷ []) set h = refl
+prefix_in_set (a ∷ b ∷ []) set h = refl
+prefix_in_set (a ∷ b ∷ c ∷ text) set h =
     let same : (trigram_of a b c == trigram_of a b c) ≡ true = grind (arith, nat_tests) in
     h (trigram_of a b c) same
 
-set_has_front : (text : List ℕ) (set : TrigramSet) (g : ℕ) → IsTrue (holds_front text set) → IsTrue (front_trigram text g) → IsTrue (set g)
-set_has_front [] set g h k = absurd (false≢true k)
-set_has_front (a ∷ []) set g h k = absurd (false≢true k)
-set_has_front (a ∷ b ∷ []) set g h k = absurd (false≢true k)
-set_has_front (a ∷ b ∷ c ∷ text) set g h k =
+set_has_prefix : (text : List ℕ) (set : TrigramSet) (g : ℕ) → IsTrue (holds_front text set) → IsTrue (front_trigram text g) → IsTrue (set g)
+set_has_prefix [] set g h k = absurd (false≢true k)
+set_has_prefix (a ∷ []) set g h k = absurd (false≢true k)
+set_has_prefix (a ∷ b ∷ []) set g h k = absurd (false≢true k)
+set_has_prefix (a ∷ b ∷ c ∷ text) set g h k =
     let same : trigram_of a b c ≡ g = grind (arith, nat_tests) in
     subst (λ n. IsTrue (set n)) same h
 
@@ -212,7 +212,7 @@ unfolding has_all_trigrams trigrams_of_text
 held_from_members [] set h = refl
 held_from_members (b ∷ text) set h =
     and_from (holds_front (b ∷ text) set) (has_all_trigrams text set)
-    (front_in_set (b ∷ text) set (λ g i. h g (or_left (front_trigram (b ∷ text) g) (trigrams_of_text text g) i)))
+    (prefix_in_set (b ∷ text) set (λ g i. h g (or_left (front_trigram (b ∷ text) g) (trigrams_of_text text g) i)))
     (held_from_members text set (λ g i. h g (or_right (front_trigram (b ∷ text) g) (trigrams_of_text text g) i)))
 
 members_from_held : (text : List ℕ) (set : TrigramSet) → IsTrue (has_all_trigrams text set) → (g : ℕ) → IsTrue (trigrams_of_text text g) → IsTrue (set g)
@@ -220,7 +220,7 @@ unfolding has_all_trigrams trigrams_of_text
 members_from_held [] set h g i = absurd (false≢true i)
 members_from_held (b ∷ text) set h g i =
     let parts = and_parts (holds_front (b ∷ text) set) (has_all_trigrams text set) h in
-    ⊎_elim (λ front. set_has_front (b ∷ text) set g parts.0 front) (λ later. members_from_held text set parts.1 g later)
+    ⊎_elim (λ prefix. set_has_prefix (b ∷ text) set g parts.0 prefix) (λ later. members_from_held text set parts.1 g later)
     (or_cases (front_trigram (b ∷ text) g) (trigrams_of_text text g) i)
 
 pub trigrams_held : TrigramsAreHeld
@@ -234,7 +234,7 @@ pub matching_line : MatchingLineMeetsCondition
 matching_line t body line there hit =
     let all = held_from_members line (trigrams_of_body body) (in_body body line there) in
     let whole = subst (λ l. IsTrue (has_all_trigrams l (trigrams_of_body body))) hit.is_line all in
-    let word = held_by_front hit.word hit.after (trigrams_of_body body) (held_by_back hit.before (hit.word ++ hit.after) (trigrams_of_body body) whole) in
+    let word = held_by_prefix hit.word hit.after (trigrams_of_body body) (held_by_suffix hit.before (hit.word ++ hit.after) (trigrams_of_body body) whole) in
     meets_condition (analysis_of t) (IsWord t) (covers_tree t (IsWord t)) hit.word
     (IsWord-from_language t hit.before hit.word hit.after hit.in_language) (trigrams_of_body body) word
 

@@ -105,21 +105,21 @@ IsIn-from_map f [] word h = absurd h
 IsIn-from_map f (t ∷ texts) word h = ⊎_elim (λ same. (t, inl refl, sym same)) (λ later. let r = IsIn-from_map f texts word later in (r.0, inr r.1, r.2)) h
 
 all_joins : Texts → Texts → Texts
-all_joins left right = flat_map (λ front. map (λ back. front ++ back) right) left
+all_joins left right = flat_map (λ prefix. map (λ suffix. prefix ++ suffix) right) left
 
-IsIn-all_joins : (left right : Texts) (front back : List ℕ) → IsIn front left → IsIn back right → IsIn (front ++ back) (all_joins left right)
+IsIn-all_joins : (left right : Texts) (prefix suffix : List ℕ) → IsIn prefix left → IsIn suffix right → IsIn (prefix ++ suffix) (all_joins left right)
 unfolding all_joins
-IsIn-all_joins [] right front back l r = absurd l
-IsIn-all_joins (text ∷ left) right front back l r =
+IsIn-all_joins [] right prefix suffix l r = absurd l
+IsIn-all_joins (text ∷ left) right prefix suffix l r =
     ⊎_elim
     (λ same.
-    IsIn-append_left (map (λ b. text ++ b) right) (all_joins left right) (front ++ back)
-    (subst (λ t. IsIn (t ++ back) (map (λ b. text ++ b) right)) same (IsIn-map (λ b. text ++ b) right back r)))
-    (λ later. IsIn-append_right (map (λ b. text ++ b) right) (all_joins left right) (front ++ back) (IsIn-all_joins left right front back later r))
+    IsIn-append_left (map (λ b. text ++ b) right) (all_joins left right) (prefix ++ suffix)
+    (subst (λ t. IsIn (t ++ suffix) (map (λ b. text ++ b) right)) same (IsIn-map (λ b. text ++ b) right suffix r)))
+    (λ later. IsIn-append_right (map (λ b. text ++ b) right) (all_joins left right) (prefix ++ suffix) (IsIn-all_joins left right prefix suffix later r))
     l
 
 IsIn-from_all_joins : (left right : Texts) (word : List ℕ) → IsIn word (all_joins left right)
-    → (front back : List ℕ) × (word ≡ front ++ back) × IsIn front left × IsIn back right
+    → (prefix suffix : List ℕ) × (word ≡ prefix ++ suffix) × IsIn prefix left × IsIn suffix right
 unfolding all_joins
 IsIn-from_all_joins [] right word h = absurd h
 IsIn-from_all_joins (text ∷ left) right word h =
@@ -128,12 +128,12 @@ IsIn-from_all_joins (text ∷ left) right word h =
     (λ later. let r = IsIn-from_all_joins left right word later in (r.0, r.1, r.2, inr r.3, r.4))
     (IsIn-append_cases (map (λ b. text ++ b) right) (all_joins left right) word h)
 
-pub IsIn-joins : (left right : Texts) (front back : List ℕ) → IsIn front left → IsIn back right → IsIn (front ++ back) (joins left right)
+pub IsIn-joins : (left right : Texts) (prefix suffix : List ℕ) → IsIn prefix left → IsIn suffix right → IsIn (prefix ++ suffix) (joins left right)
 unfolding all_joins
-IsIn-joins left right front back l r = IsIn-distinct (all_joins left right) (front ++ back) (IsIn-all_joins left right front back l r)
+IsIn-joins left right prefix suffix l r = IsIn-distinct (all_joins left right) (prefix ++ suffix) (IsIn-all_joins left right prefix suffix l r)
 
 pub IsIn-from_joins : (left right : Texts) (word : List ℕ) → IsIn word (joins left right)
-    → (front back : List ℕ) × (word ≡ front ++ back) × IsIn front left × IsIn back right
+    → (prefix suffix : List ℕ) × (word ≡ prefix ++ suffix) × IsIn prefix left × IsIn suffix right
 unfolding all_joins
 IsIn-from_joins left right word h = IsIn-from_all_joins left right word (IsIn-from_distinct (all_joins left right) word h)
 
@@ -193,23 +193,23 @@ module _ (cut : Cut) (IsEnd : List ℕ → List ℕ → Type 0) (itself : (t : L
       let r = shortest_end (cuts cut k texts) (suc (length (cut k text))) (cut k text) (omega arith) there in
       (r.0, r.1, within r.0 (cut k text) text r.2 (is_end k text))
 
--- One text is at the front of the other, or at its back.
-abbrev pub IsFront : List ℕ → List ℕ → Type 0
-IsFront front text = (rest : List ℕ) × (text ≡ front ++ rest)
+-- One text is a prefix of the other, or a suffix of it.
+abbrev pub IsPrefix : List ℕ → List ℕ → Type 0
+IsPrefix prefix text = (rest : List ℕ) × (text ≡ prefix ++ rest)
 
-abbrev pub IsBack : List ℕ → List ℕ → Type 0
-IsBack back text = (rest : List ℕ) × (text ≡ rest ++ back)
+abbrev pub IsSuffix : List ℕ → List ℕ → Type 0
+IsSuffix suffix text = (rest : List ℕ) × (text ≡ rest ++ suffix)
 
-pub IsFront-trans : (a b c : List ℕ) → IsFront a b → IsFront b c → IsFront a c
-IsFront-trans a b c h k = (h.0 ++ k.0, k.1 ∙ ap (λ t. t ++ k.0) h.1 ∙ append_assoc a h.0 k.0)
+pub IsPrefix-trans : (a b c : List ℕ) → IsPrefix a b → IsPrefix b c → IsPrefix a c
+IsPrefix-trans a b c h k = (h.0 ++ k.0, k.1 ∙ ap (λ t. t ++ k.0) h.1 ∙ append_assoc a h.0 k.0)
 
-pub IsBack-trans : (a b c : List ℕ) → IsBack a b → IsBack b c → IsBack a c
-IsBack-trans a b c h k = (k.0 ++ h.0, k.1 ∙ ap (λ t. k.0 ++ t) h.1 ∙ sym (append_assoc k.0 h.0 a))
+pub IsSuffix-trans : (a b c : List ℕ) → IsSuffix a b → IsSuffix b c → IsSuffix a c
+IsSuffix-trans a b c h k = (k.0 ++ h.0, k.1 ∙ ap (λ t. k.0 ++ t) h.1 ∙ sym (append_assoc k.0 h.0 a))
 
-pub kept_front : (texts : Texts) (text : List ℕ) → IsIn text texts → (end : List ℕ) × IsIn end (kept_ends take texts) × IsFront end text
-kept_front texts text h = kept_end take IsFront (λ t. ([], sym (append-nil t))) IsFront-trans (λ k t. (drop k t, sym (take-append-drop k t))) texts text h
+pub kept_prefix : (texts : Texts) (text : List ℕ) → IsIn text texts → (end : List ℕ) × IsIn end (kept_ends take texts) × IsPrefix end text
+kept_prefix texts text h = kept_end take IsPrefix (λ t. ([], sym (append-nil t))) IsPrefix-trans (λ k t. (drop k t, sym (take-append-drop k t))) texts text h
 
-pub kept_back : (texts : Texts) (text : List ℕ) → IsIn text texts → (end : List ℕ) × IsIn end (kept_ends ending texts) × IsBack end text
-kept_back texts text h =
-    kept_end ending IsBack (λ t. ([], refl)) IsBack-trans (λ k t. (take (length t - k) t, sym (take-append-drop (length t - k) t))) texts
+pub kept_suffix : (texts : Texts) (text : List ℕ) → IsIn text texts → (end : List ℕ) × IsIn end (kept_ends ending texts) × IsSuffix end text
+kept_suffix texts text h =
+    kept_end ending IsSuffix (λ t. ([], refl)) IsSuffix-trans (λ k t. (take (length t - k) t, sym (take-append-drop (length t - k) t))) texts
     text h

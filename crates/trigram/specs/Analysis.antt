@@ -32,12 +32,12 @@ anything = loose true just_empty just_empty (λ _. true)
 
 -- The trigrams of the ends go into the condition, and then the ends are cut.
 abbrev pub settle_loose : Bool → Texts → Texts → SetTest → Analysis
-settle_loose nullable fronts backs condition =
-    loose nullable (kept_ends take fronts) (kept_ends ending backs) (λ set. condition set && (has_all_of_one fronts set && has_all_of_one backs set))
+settle_loose nullable prefixes suffixes condition =
+    loose nullable (kept_ends take prefixes) (kept_ends ending suffixes) (λ set. condition set && (has_all_of_one prefixes set && has_all_of_one suffixes set))
 
 abbrev pub loosen : Analysis → Analysis
 loosen (known texts) = settle_loose (has_text texts []) texts texts (has_all_of_one texts)
-loosen (loose nullable fronts backs condition) = loose nullable fronts backs condition
+loosen (loose nullable prefixes suffixes condition) = loose nullable prefixes suffixes condition
 
 -- the longest text that is kept whole
 abbrev pub longest_text : ℕ
@@ -52,24 +52,24 @@ settle_known texts = if are_kept texts then known texts else loosen (known texts
 
 abbrev pub is_nullable : Analysis → Bool
 is_nullable (known texts) = has_text texts []
-is_nullable (loose nullable fronts backs condition) = nullable
+is_nullable (loose nullable prefixes suffixes condition) = nullable
 
-abbrev pub fronts_of : Analysis → Texts
-fronts_of (known texts) = texts
-fronts_of (loose nullable fronts backs condition) = fronts
+abbrev pub prefixes_of : Analysis → Texts
+prefixes_of (known texts) = texts
+prefixes_of (loose nullable prefixes suffixes condition) = prefixes
 
-abbrev pub backs_of : Analysis → Texts
-backs_of (known texts) = texts
-backs_of (loose nullable fronts backs condition) = backs
+abbrev pub suffixes_of : Analysis → Texts
+suffixes_of (known texts) = texts
+suffixes_of (loose nullable prefixes suffixes condition) = suffixes
 
--- the condition without the trigrams of known texts, which are in the fronts and the backs
+-- the condition without the trigrams of known texts, which are in the prefixes and the suffixes
 abbrev pub condition_beside : Analysis → SetTest
 condition_beside (known texts) = λ _. true
-condition_beside (loose nullable fronts backs condition) = condition
+condition_beside (loose nullable prefixes suffixes condition) = condition
 
 abbrev pub condition_of : Analysis → SetTest
 condition_of (known texts) = has_all_of_one texts
-condition_of (loose nullable fronts backs condition) = condition
+condition_of (loose nullable prefixes suffixes condition) = condition
 
 -- two alternatives
 abbrev pub either : Analysis → Analysis → Analysis
@@ -78,28 +78,28 @@ either left right = either_loose (loosen left) (loosen right)
   where
     either_loose : Analysis → Analysis → Analysis
     either_loose l r =
-        settle_loose (is_nullable l || is_nullable r) (union (fronts_of l) (fronts_of r)) (union (backs_of l) (backs_of r))
+        settle_loose (is_nullable l || is_nullable r) (union (prefixes_of l) (prefixes_of r)) (union (suffixes_of l) (suffixes_of r))
         (λ set. condition_beside l set || condition_beside r set)
 
--- the fronts of two neighbours together
-abbrev pub joined_fronts : Analysis → Analysis → Texts
-joined_fronts (known texts) right = joins texts (fronts_of right)
-joined_fronts (loose nullable fronts backs condition) right = if nullable then union fronts (fronts_of right) else fronts
+-- the prefixes of two neighbours together
+abbrev pub joined_prefixes : Analysis → Analysis → Texts
+joined_prefixes (known texts) right = joins texts (prefixes_of right)
+joined_prefixes (loose nullable prefixes suffixes condition) right = if nullable then union prefixes (prefixes_of right) else prefixes
 
-abbrev pub joined_backs : Analysis → Analysis → Texts
-joined_backs left (known texts) = joins (backs_of left) texts
-joined_backs left (loose nullable fronts backs condition) = if nullable then union backs (backs_of left) else backs
+abbrev pub joined_suffixes : Analysis → Analysis → Texts
+joined_suffixes left (known texts) = joins (suffixes_of left) texts
+joined_suffixes left (loose nullable prefixes suffixes condition) = if nullable then union suffixes (suffixes_of left) else suffixes
 
 -- the condition on the trigrams that cross the border of two loose neighbours
 abbrev pub across : Analysis → Analysis → SetTest
-across (loose nullable fronts backs condition) (loose nullable' fronts' backs' condition') = has_all_of_one (joins backs fronts')
+across (loose nullable prefixes suffixes condition) (loose nullable' prefixes' suffixes' condition') = has_all_of_one (joins suffixes prefixes')
 across _ _ = λ _. true
 
 -- two neighbours, one after the other
 abbrev pub both : Analysis → Analysis → Analysis
 both (known left) (known right) = settle_known (joins left right)
 both left right =
-    settle_loose (is_nullable left && is_nullable right) (joined_fronts left right) (joined_backs left right)
+    settle_loose (is_nullable left && is_nullable right) (joined_prefixes left right) (joined_suffixes left right)
     (λ set. condition_beside left set && (condition_beside right set && across left right set))
 
 -- one copy, and this many more
@@ -115,7 +115,7 @@ optional one most =
   where
     at_most_one : Analysis → Analysis
     at_most_one (known texts) = settle_known (union texts just_empty)
-    at_most_one (loose nullable fronts backs condition) = anything
+    at_most_one (loose nullable prefixes suffixes condition) = anything
 
 abbrev pub repeated : Analysis → ℕ → Option ℕ → Analysis
 repeated one least None =

@@ -28,7 +28,7 @@ union left right = distinct (left ++ right)
 
 -- every text of the first, followed by every text of the second
 abbrev pub joins : Texts → Texts → Texts
-joins left right = distinct (flat_map (λ front. map (λ back. front ++ back) right) left)
+joins left right = distinct (flat_map (λ prefix. map (λ suffix. prefix ++ suffix) right) left)
 
 -- whether all trigrams of one of the texts are in the set
 abbrev pub has_all_of_one : Texts → TrigramSet → Bool
@@ -38,7 +38,7 @@ has_all_of_one texts set = list_any (λ text. has_all_trigrams text set) texts
 abbrev pub ending : ℕ → List ℕ → List ℕ
 ending count text = drop (length text - count) text
 
--- how to cut a text to so many bytes at one end: `take` for the front, `ending` for the back
+-- how to cut a text to so many bytes at one end: `take` for the prefix, `ending` for the suffix
 abbrev pub Cut : Type 0
 Cut = ℕ → List ℕ → List ℕ
 

@@ -35,9 +35,9 @@ pub(crate) struct Ends {
     /// Whether a word can be empty.
     nullable: bool,
     /// Texts. Each word begins with one of them.
-    fronts: Vec<Vec<u8>>,
+    prefixes: Vec<Vec<u8>>,
     /// Texts. Each word ends with one of them.
-    backs: Vec<Vec<u8>>,
+    suffixes: Vec<Vec<u8>>,
     /// A condition that every set with all trigrams of a word meets.
     condition: Query,
 }
@@ -64,8 +64,8 @@ fn condition_of(ends: Ends) -> Query
 {
     let Ends {
         nullable: _,
-        fronts: _,
-        backs: _,
+        prefixes: _,
+        suffixes: _,
         condition,
     } = ends;
     condition
@@ -82,24 +82,24 @@ fn just_empty(alloc: Global) -> Result<Vec<Vec<u8>>, AllocError>
 fn settle_loose(alloc: Global, ends: Ends) -> Result<Ends, AllocError>
     requires { IsPlain (formula_of ends.condition) }
     ensures { IfOk result (EndsStandFor
-        (settle_loose ends.nullable (texts_of ends.fronts.items) (texts_of ends.backs.items) (is_met (formula_of ends.condition)))) }
+        (settle_loose ends.nullable (texts_of ends.prefixes.items) (texts_of ends.suffixes.items) (is_met (formula_of ends.condition)))) }
 {
     let Ends {
         nullable,
-        fronts,
-        backs,
+        prefixes,
+        suffixes,
         condition,
     } = ends;
-    let at_front = query_of_texts(alloc, fronts.as_slice())?;
-    let at_back = query_of_texts(alloc, backs.as_slice())?;
-    let at_ends = join(alloc, Connective::And, at_front, at_back)?;
+    let at_prefix = query_of_texts(alloc, prefixes.as_slice())?;
+    let at_suffix = query_of_texts(alloc, suffixes.as_slice())?;
+    let at_ends = join(alloc, Connective::And, at_prefix, at_suffix)?;
     let condition = join(alloc, Connective::And, condition, at_ends)?;
-    let fronts = kept_ends(alloc, Side::Front, fronts.as_slice())?;
-    let backs = kept_ends(alloc, Side::Back, backs.as_slice())?;
+    let prefixes = kept_ends(alloc, Side::Prefix, prefixes.as_slice())?;
+    let suffixes = kept_ends(alloc, Side::Suffix, suffixes.as_slice())?;
     Ok(Ends {
         nullable,
-        fronts,
-        backs,
+        prefixes,
+        suffixes,
         condition,
     })
 }
@@ -109,8 +109,8 @@ fn loosen_known(alloc: Global, texts: Vec<Vec<u8>>) -> Result<Ends, AllocError>
 {
     Ok(Ends {
         nullable: has_text(texts.as_slice(), &[]),
-        fronts: kept_ends(alloc, Side::Front, texts.as_slice())?,
-        backs: kept_ends(alloc, Side::Back, texts.as_slice())?,
+        prefixes: kept_ends(alloc, Side::Prefix, texts.as_slice())?,
+        suffixes: kept_ends(alloc, Side::Suffix, texts.as_slice())?,
         condition: query_of_texts(alloc, texts.as_slice())?,
     })
 }
@@ -158,8 +158,8 @@ fn either(alloc: Global, left: Analysis, right: Analysis) -> Result<Analysis, Al
         Analysis::Known(texts) => match right {
             Analysis::Known(others) => settle_known(alloc, union(alloc, texts, others)?),
             Analysis::Loose(ends) => {
-                let front = loosen_known(alloc, texts)?;
-                Ok(Analysis::Loose(either_loose(alloc, front, ends)?))
+                let prefix = loosen_known(alloc, texts)?;
+                Ok(Analysis::Loose(either_loose(alloc, prefix, ends)?))
             }
         },
         Analysis::Loose(ends) => {
@@ -178,8 +178,8 @@ fn either_loose(alloc: Global, left: Ends, right: Ends) -> Result<Ends, AllocErr
         alloc,
         Ends {
             nullable: left.nullable || right.nullable,
-            fronts: union(alloc, left.fronts, right.fronts)?,
-            backs: union(alloc, left.backs, right.backs)?,
+            prefixes: union(alloc, left.prefixes, right.prefixes)?,
+            suffixes: union(alloc, left.suffixes, right.suffixes)?,
             condition: join(alloc, Connective::Or, left.condition, right.condition)?,
         },
     )
@@ -192,15 +192,15 @@ fn both(alloc: Global, left: Analysis, right: Analysis) -> Result<Analysis, Allo
     ensures { IfOk result (StandFor (both (shown_analysis left) (shown_analysis right))) }
 {
     match left {
-        Analysis::Known(fronts) => match right {
-            Analysis::Known(backs) => {
-                let texts = joins(alloc, fronts.as_slice(), backs.as_slice())?;
+        Analysis::Known(prefixes) => match right {
+            Analysis::Known(suffixes) => {
+                let texts = joins(alloc, prefixes.as_slice(), suffixes.as_slice())?;
                 settle_known(alloc, texts)
             }
-            Analysis::Loose(ends) => Ok(Analysis::Loose(known_before(alloc, fronts, ends)?)),
+            Analysis::Loose(ends) => Ok(Analysis::Loose(known_before(alloc, prefixes, ends)?)),
         },
         Analysis::Loose(ends) => match right {
-            Analysis::Known(backs) => Ok(Analysis::Loose(known_after(alloc, ends, backs)?)),
+            Analysis::Known(suffixes) => Ok(Analysis::Loose(known_after(alloc, ends, suffixes)?)),
             Analysis::Loose(others) => Ok(Analysis::Loose(both_loose(alloc, ends, others)?)),
         },
     }
@@ -212,19 +212,19 @@ fn known_before(alloc: Global, texts: Vec<Vec<u8>>, ends: Ends) -> Result<Ends, 
 {
     let Ends {
         nullable,
-        fronts,
-        backs,
+        prefixes,
+        suffixes,
         condition,
     } = ends;
     let all_nullable = has_text(texts.as_slice(), &[]) & nullable;
-    let fronts = joins(alloc, texts.as_slice(), fronts.as_slice())?;
-    let backs = widened(alloc, nullable, backs, texts)?;
+    let prefixes = joins(alloc, texts.as_slice(), prefixes.as_slice())?;
+    let suffixes = widened(alloc, nullable, suffixes, texts)?;
     settle_loose(
         alloc,
         Ends {
             nullable: all_nullable,
-            fronts,
-            backs,
+            prefixes,
+            suffixes,
             condition,
         },
     )
@@ -236,19 +236,19 @@ fn known_after(alloc: Global, ends: Ends, texts: Vec<Vec<u8>>) -> Result<Ends, A
 {
     let Ends {
         nullable,
-        fronts,
-        backs,
+        prefixes,
+        suffixes,
         condition,
     } = ends;
     let all_nullable = nullable & has_text(texts.as_slice(), &[]);
-    let backs = joins(alloc, backs.as_slice(), texts.as_slice())?;
-    let fronts = widened(alloc, nullable, fronts, texts)?;
+    let suffixes = joins(alloc, suffixes.as_slice(), texts.as_slice())?;
+    let prefixes = widened(alloc, nullable, prefixes, texts)?;
     settle_loose(
         alloc,
         Ends {
             nullable: all_nullable,
-            fronts,
-            backs,
+            prefixes,
+            suffixes,
             condition,
         },
     )
@@ -261,28 +261,28 @@ fn both_loose(alloc: Global, left: Ends, right: Ends) -> Result<Ends, AllocError
 {
     let Ends {
         nullable: left_nullable,
-        fronts: left_fronts,
-        backs: left_backs,
+        prefixes: left_prefixes,
+        suffixes: left_suffixes,
         condition: left_condition,
     } = left;
     let Ends {
         nullable: right_nullable,
-        fronts: right_fronts,
-        backs: right_backs,
+        prefixes: right_prefixes,
+        suffixes: right_suffixes,
         condition: right_condition,
     } = right;
-    let border = joins(alloc, left_backs.as_slice(), right_fronts.as_slice())?;
+    let border = joins(alloc, left_suffixes.as_slice(), right_prefixes.as_slice())?;
     let across = query_of_texts(alloc, border.as_slice())?;
     let after = join(alloc, Connective::And, right_condition, across)?;
     let condition = join(alloc, Connective::And, left_condition, after)?;
-    let fronts = widened(alloc, left_nullable, left_fronts, right_fronts)?;
-    let backs = widened(alloc, right_nullable, right_backs, left_backs)?;
+    let prefixes = widened(alloc, left_nullable, left_prefixes, right_prefixes)?;
+    let suffixes = widened(alloc, right_nullable, right_suffixes, left_suffixes)?;
     settle_loose(
         alloc,
         Ends {
             nullable: left_nullable & right_nullable,
-            fronts,
-            backs,
+            prefixes,
+            suffixes,
             condition,
         },
     )
@@ -311,8 +311,8 @@ fn copied_analysis(alloc: Global, analysis: &Analysis) -> Result<Analysis, Alloc
         Analysis::Known(texts) => Ok(Analysis::Known(copied_texts(alloc, texts.as_slice())?)),
         Analysis::Loose(ends) => Ok(Analysis::Loose(Ends {
             nullable: ends.nullable,
-            fronts: copied_texts(alloc, ends.fronts.as_slice())?,
-            backs: copied_texts(alloc, ends.backs.as_slice())?,
+            prefixes: copied_texts(alloc, ends.prefixes.as_slice())?,
+            suffixes: copied_texts(alloc, ends.suffixes.as_slice())?,
             condition: copied(alloc, &ends.condition)?,
         })),
     }
@@ -336,8 +336,8 @@ fn anything(alloc: Global) -> Result<Analysis, AllocError>
 {
     Ok(Analysis::Loose(Ends {
         nullable: true,
-        fronts: just_empty(alloc)?,
-        backs: just_empty(alloc)?,
+        prefixes: just_empty(alloc)?,
+        suffixes: just_empty(alloc)?,
         condition: Query::Any,
     }))
 }
@@ -384,9 +384,9 @@ fn at_least(alloc: Global, one: Analysis, least: u8) -> Result<Analysis, AllocEr
     if least == 1 {
         return Ok(Analysis::Loose(loosen(alloc, one)?));
     }
-    let front = copies_of(alloc, &one, least - 2)?;
-    let back = Analysis::Loose(loosen(alloc, one)?);
-    both(alloc, front, back)
+    let prefix = copies_of(alloc, &one, least - 2)?;
+    let suffix = Analysis::Loose(loosen(alloc, one)?);
+    both(alloc, prefix, suffix)
 }
 
 fn between(alloc: Global, one: Analysis, least: u8, most: u8) -> Result<Analysis, AllocError>
@@ -396,12 +396,12 @@ fn between(alloc: Global, one: Analysis, least: u8, most: u8) -> Result<Analysis
     if least == 0 {
         return optional(alloc, one, most);
     }
-    let front = copies_of(alloc, &one, least - 1)?;
+    let prefix = copies_of(alloc, &one, least - 1)?;
     if least == most {
-        return Ok(front);
+        return Ok(prefix);
     }
-    let back = optional(alloc, one, most.saturating_sub(least))?;
-    both(alloc, front, back)
+    let suffix = optional(alloc, one, most.saturating_sub(least))?;
+    both(alloc, prefix, suffix)
 }
 
 fn one_byte(alloc: Global, set: &ByteSet) -> Result<Analysis, AllocError>
@@ -413,8 +413,8 @@ fn one_byte(alloc: Global, set: &ByteSet) -> Result<Analysis, AllocError>
     }
     Ok(Analysis::Loose(Ends {
         nullable: false,
-        fronts: just_empty(alloc)?,
-        backs: just_empty(alloc)?,
+        prefixes: just_empty(alloc)?,
+        suffixes: just_empty(alloc)?,
         condition: Query::Any,
     }))
 }

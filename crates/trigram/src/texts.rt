@@ -16,8 +16,8 @@ pub(crate) const MOST_TEXTS: usize = 16;
 /// One end of a text.
 #[derive(Clone, Copy)]
 pub(crate) enum Side {
-    Front,
-    Back,
+    Prefix,
+    Suffix,
 }
 
 /// Whether the text is in the set.
@@ -119,8 +119,8 @@ pub(crate) fn joins(
         return all_joins(alloc, left, right);
     }
     let mut whole = Vec::new(alloc);
-    for front in left {
-        add_joins(alloc, &mut whole, front.as_slice(), right)?;
+    for prefix in left {
+        add_joins(alloc, &mut whole, prefix.as_slice(), right)?;
     }
     Ok(whole)
 }
@@ -130,15 +130,15 @@ pub(crate) fn joins(
 #[tactic(auto, using(crate::proofs::DistinctLemmas::joins_of_distinct))]
 fn are_all_different(left: &[Vec<u8>], right: &[Vec<u8>]) -> bool
     ensures { IsTrue result → joins (texts_of left.now) (texts_of right.now)
-        ≡ flat_map (λ front. map (λ back. front ++ back) (texts_of right.now)) (texts_of left.now) }
+        ≡ flat_map (λ prefix. map (λ suffix. prefix ++ suffix) (texts_of right.now)) (texts_of left.now) }
 {
-    let Some(front) = left.first() else {
+    let Some(prefix) = left.first() else {
         return false;
     };
-    let Some(back) = right.first() else {
+    let Some(suffix) = right.first() else {
         return false;
     };
-    are_distinct(left, front.len()) && are_distinct(right, back.len())
+    are_distinct(left, prefix.len()) && are_distinct(right, suffix.len())
 }
 
 /// Whether the texts are all different, and of this length.
@@ -156,11 +156,11 @@ fn are_distinct(texts: &[Vec<u8>], size: usize) -> bool
 
 /// The joins, each added without comparing it with the others.
 fn all_joins(alloc: Global, left: &[Vec<u8>], right: &[Vec<u8>]) -> Result<Vec<Vec<u8>>, AllocError>
-    ensures { IfOk result (λ whole. texts_of whole.items ≡ flat_map (λ front. map (λ back. front ++ back) (texts_of right.now)) (texts_of left.now)) }
+    ensures { IfOk result (λ whole. texts_of whole.items ≡ flat_map (λ prefix. map (λ suffix. prefix ++ suffix) (texts_of right.now)) (texts_of left.now)) }
 {
     let mut whole = Vec::new(alloc);
-    for front in left {
-        push_joins(alloc, &mut whole, front.as_slice(), right)?;
+    for prefix in left {
+        push_joins(alloc, &mut whole, prefix.as_slice(), right)?;
     }
     Ok(whole)
 }
@@ -168,13 +168,13 @@ fn all_joins(alloc: Global, left: &[Vec<u8>], right: &[Vec<u8>]) -> Result<Vec<V
 fn push_joins(
     alloc: Global,
     whole: &mut Vec<Vec<u8>>,
-    front: &[u8],
-    backs: &[Vec<u8>],
+    prefix: &[u8],
+    suffixes: &[Vec<u8>],
 ) -> Result<(), AllocError>
-    ensures { OnOk result (texts_of whole.new.items ≡ texts_of whole.old.items ++ map (λ back. front.now ++ back) (texts_of backs.now)) }
+    ensures { OnOk result (texts_of whole.new.items ≡ texts_of whole.old.items ++ map (λ suffix. prefix.now ++ suffix) (texts_of suffixes.now)) }
 {
-    for back in backs {
-        whole.push(joined(alloc, front, back.as_slice())?)?;
+    for suffix in suffixes {
+        whole.push(joined(alloc, prefix, suffix.as_slice())?)?;
     }
     Ok(())
 }
@@ -183,23 +183,23 @@ fn push_joins(
 fn add_joins(
     alloc: Global,
     whole: &mut Vec<Vec<u8>>,
-    front: &[u8],
-    backs: &[Vec<u8>],
+    prefix: &[u8],
+    suffixes: &[Vec<u8>],
 ) -> Result<(), AllocError>
-    ensures { OnOk result (texts_of whole.new.items ≡ with_texts (texts_of whole.old.items) (map (λ back. front.now ++ back) (texts_of backs.now))) }
+    ensures { OnOk result (texts_of whole.new.items ≡ with_texts (texts_of whole.old.items) (map (λ suffix. prefix.now ++ suffix) (texts_of suffixes.now))) }
 {
-    for back in backs {
-        add(whole, joined(alloc, front, back.as_slice())?)?;
+    for suffix in suffixes {
+        add(whole, joined(alloc, prefix, suffix.as_slice())?)?;
     }
     Ok(())
 }
 
-fn joined(alloc: Global, front: &[u8], back: &[u8]) -> Result<Vec<u8>, AllocError>
-    ensures { IfOk result (λ text. text.items ≡ front.now ++ back.now) }
+fn joined(alloc: Global, prefix: &[u8], suffix: &[u8]) -> Result<Vec<u8>, AllocError>
+    ensures { IfOk result (λ text. text.items ≡ prefix.now ++ suffix.now) }
 {
-    let mut text = Vec::with_capacity(alloc, front.len().saturating_add(back.len()))?;
-    text.extend_from_slice(front)?;
-    text.extend_from_slice(back)?;
+    let mut text = Vec::with_capacity(alloc, prefix.len().saturating_add(suffix.len()))?;
+    text.extend_from_slice(prefix)?;
+    text.extend_from_slice(suffix)?;
     Ok(text)
 }
 
@@ -267,8 +267,8 @@ fn cut<'a>(side: Side, count: usize, text: &'a [u8]) -> &'a [u8]
     let kept = count.min(text.len());
     let dropped = text.len() - kept;
     match side {
-        Side::Front => &text[..kept],
-        Side::Back => &text[dropped..],
+        Side::Prefix => &text[..kept],
+        Side::Suffix => &text[dropped..],
     }
 }
 

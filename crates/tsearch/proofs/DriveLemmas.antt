@@ -3,15 +3,15 @@ use Rattle.std.proofs.Common.{◌≡◌, ◌≢◌, ℕ, ◌+◌, ◌≤◌, Lis
 use Rattle.script.specs.Items.{Numbered}
 use Rattle.shared.specs.Desk.{DeskState}
 use Rattle.shared.specs.History.{Known}
-use Rattle.tsearch.specs.declared.session.Session.{Session}
+use Rattle.tsearch.specs.declared.progress.Progress.{Progress}
 use Rattle.tsearch.specs.declared.transcript.Entry.{Entry}
 use Rattle.tsearch.specs.Private.Items.{Tells}
 use Rattle.tsearch.specs.Private.Items as items
 use Rattle.search.specs.declared.pattern.Prepared.{Prepared}
-use Rattle.tsearch.specs.declared.session.Step.{Step}
-use Rattle.tsearch.specs.declared.session.Step.TheVariants as step
-use Rattle.tsearch.specs.Private.Sessions.{IsPended, IsStep, IsSettled, IsKept, Advances}
-use Rattle.tsearch.specs.Private.Sessions as sessions
+use Rattle.tsearch.specs.declared.progress.Step.{Step}
+use Rattle.tsearch.specs.declared.progress.Step.TheVariants as step
+use Rattle.tsearch.specs.Private.Progress.{IsPended, IsStep, IsSettled, IsKept, Advances}
+use Rattle.tsearch.specs.Private.Progress as steps
 use Rattle.tsearch.proofs.LoopLemmas.{one_search, settled_few, settled_lasts}
 
 told_opening : (desk : DeskState) (told : Known) (entry : Entry) (told' : Known) → Tells desk told entry told' → told.opening ≡ desk.opening
@@ -23,18 +23,18 @@ pended_opening : (Holds : List ℕ → List ℕ → Type 0) (desk : DeskState) (
     (entry : Option Entry) (desk' : DeskState) (told' : Known) (failed' : ℕ)
     → IsPended Holds desk told failed number item entry desk' told' failed' → told.opening ≡ desk.opening
     → (told'.opening ≡ desk.opening) × (desk'.opening ≡ desk.opening)
-pended_opening Holds desk told failed number item _ desk' told' failed' (sessions.entered entry is) opening =
+pended_opening Holds desk told failed number item _ desk' told' failed' (steps.entered entry is) opening =
     (told_opening desk told entry told' is.tells opening, is.opening)
-pended_opening Holds desk told failed number item _ desk' told' failed' (sessions.refused why is_search refusal left) opening =
+pended_opening Holds desk told failed number item _ desk' told' failed' (steps.refused why is_search refusal left) opening =
     (ap (λ k. k.opening) left.1 ∙ opening, ap (λ d. d.opening) left.0)
-pended_opening Holds desk told failed number item _ desk' told' failed' (sessions.asked is_search left) opening =
+pended_opening Holds desk told failed number item _ desk' told' failed' (steps.asked is_search left) opening =
     (ap (λ k. k.opening) left.1 ∙ opening, ap (λ d. d.opening) left.0)
 
 -- What holds from item to item still holds when an item is taken,
-pub step_keeps : {Holds : List ℕ → List ℕ → Type 0} {desk : DeskState} {failed : ℕ} {old : Session} {item : Numbered} {next : Step}
-    {desk' : DeskState} {failed' : ℕ} {new : Session} → IsStep Holds desk failed old item next desk' failed' new
+pub step_keeps : {Holds : List ℕ → List ℕ → Type 0} {desk : DeskState} {failed : ℕ} {old : Progress} {item : Numbered} {next : Step}
+    {desk' : DeskState} {failed' : ℕ} {new : Progress} → IsStep Holds desk failed old item next desk' failed' new
     → old.reading.opening ≡ old.told.opening → old.told.opening ≡ desk.opening → IsKept desk old desk' new
-step_keeps {Holds} {desk} {failed} {old} {item} {next} {desk'} {failed'} {new} (sessions.taken no_sync pends) reading told =
+step_keeps {Holds} {desk} {failed} {old} {item} {next} {desk'} {failed'} {new} (steps.taken no_sync pends) reading told =
     let is = pended_opening Holds desk old.told failed (old.searches + 1) item pends.entry desk' new.told failed' pends.is told in
     record {
       reading = ap (λ r. r.opening) pends.reading ∙ reading ∙ told ∙ sym is.0;
@@ -44,7 +44,7 @@ step_keeps {Holds} {desk} {failed} {old} {item} {next} {desk'} {failed'} {new} (
       searches = omega (arith, pends.searches, one_search item.item);
       waiting = omega (arith, ap (λ s. s.searches) pends.settled, ap length pends.pending, length-append old.pending.items (pends.entry ∷ []));
     }
-step_keeps {Holds} {desk} {failed} {old} {item} {next} {desk'} {failed'} {new} (sessions.left is_left is same_desk same_failed same) reading told = record {
+step_keeps {Holds} {desk} {failed} {old} {item} {next} {desk'} {failed'} {new} (steps.left is_left is same_desk same_failed same) reading told = record {
   reading = ap (λ s. s.reading.opening) same ∙ reading ∙ sym (ap (λ s. s.told.opening) same);
   told = ap (λ s. s.told.opening) same ∙ told ∙ sym (ap (λ d. d.opening) same_desk);
   same = ap (λ d. d.opening) same_desk;
@@ -54,7 +54,7 @@ step_keeps {Holds} {desk} {failed} {old} {item} {next} {desk'} {failed'} {new} (
 }
 
 -- and when everything is settled after that.
-pub settled_keeps : {searches : List (Option Prepared)} {desk : DeskState} {old : Session} {desk' : DeskState} {mid new : Session}
+pub settled_keeps : {searches : List (Option Prepared)} {desk : DeskState} {old : Progress} {desk' : DeskState} {mid new : Progress}
     → IsKept desk old desk' mid → IsSettled searches mid new → new.reading.opening ≡ new.told.opening → IsKept desk old desk' new
 settled_keeps {searches} {desk} {old} {desk'} {mid} {new} kept is reading = record {
   reading = reading;
@@ -67,19 +67,19 @@ settled_keeps {searches} {desk} {old} {desk'} {mid} {new} kept is reading = reco
 
 -- A run goes on by an item that was taken, after which everything is settled, or nothing is.
 pub step_settled : {Holds : List ℕ → List ℕ → Type 0} {searches : List (Option Prepared)} {readers : ℕ} {desk : DeskState} {failed : ℕ}
-    {old : Session} {item : Numbered} {next : Step} {desk' : DeskState} {failed' : ℕ} {mid new : Session}
+    {old : Progress} {item : Numbered} {next : Step} {desk' : DeskState} {failed' : ℕ} {mid new : Progress}
     → IsStep Holds desk failed old item next desk' failed' mid → IsSettled searches mid new
     → Advances Holds searches readers desk failed old item desk' failed' new
-step_settled (sessions.taken no_sync pends) settled = sessions.settled _ pends settled
-step_settled {searches = searches} {new = new} (sessions.left is_left is same_desk same_failed same) settled =
-    sessions.synced is same_desk same_failed (subst (λ s. IsSettled searches s new) same settled)
+step_settled (steps.taken no_sync pends) settled = steps.settled _ pends settled
+step_settled {searches = searches} {new = new} (steps.left is_left is same_desk same_failed same) settled =
+    steps.synced is same_desk same_failed (subst (λ s. IsSettled searches s new) same settled)
 
 pub step_waits : {Holds : List ℕ → List ℕ → Type 0} {searches : List (Option Prepared)} {readers : ℕ} {desk : DeskState} {failed : ℕ}
-    {old : Session} {item : Numbered} {next : Step} {desk' : DeskState} {failed' : ℕ} {new : Session}
+    {old : Progress} {item : Numbered} {next : Step} {desk' : DeskState} {failed' : ℕ} {new : Progress}
     → IsStep Holds desk failed old item next desk' failed' new → (next ≢ step.Sync) × (readers ≢ 0)
     → Advances Holds searches readers desk failed old item desk' failed' new
-step_waits (sessions.taken no_sync pends) is = sessions.pended is.1 pends
-step_waits (sessions.left is_left at same_desk same_failed same) is = absurd (is.0 is_left)
+step_waits (steps.taken no_sync pends) is = steps.pended is.1 pends
+step_waits (steps.left is_left at same_desk same_failed same) is = absurd (is.0 is_left)
 
 pub no_less : {a b c : ℕ} → a ≤ b → b ≤ c → a ≤ c
 no_less few more = omega (arith, few, more)

@@ -10,6 +10,6 @@ pub mod SettleLemmas
 pub mod RunLemmas
 pub mod LoopLemmas
 pub mod DriveLemmas
-pub mod SessionLemmas
+pub mod ProgressLemmas
 pub mod WriteLemmas
 pub mod LoneLemmas

@@ -4,7 +4,7 @@ use Rattle.std.proofs.lemmas.List.{append-nil, length-set}
 use Rattle.index.specs.declared.command.Command.{Command}
 use Rattle.search.specs.declared.pattern.Prepared.{Prepared}
 use Rattle.script.specs.Items.{Item, put, load, remove, publish, search, search_in, sync, bad_line, bad_put, truncated, body_not_closed}
-use Rattle.tsearch.specs.declared.session.Session.{Session}
+use Rattle.tsearch.specs.declared.progress.Progress.{Progress}
 use Rattle.tsearch.specs.declared.settled.Last.{Last}
 use Rattle.tsearch.specs.declared.transcript.Entry.{Entry}
 use Rattle.tsearch.specs.declared.transcript.Entry.TheVariants.{Accepted, Refused, Published, Found, SearchRefused}
@@ -12,7 +12,7 @@ use Rattle.tsearch.specs.Rows.{searches_of}
 use Rattle.tsearch.specs.Private.Items.{searches_in}
 use Rattle.tsearch.specs.Private.Tallies.{last, Tally, tally_with, IsClosed, no_memory, found, Settles}
 use Rattle.tsearch.specs.Private.Tallies as tallies
-use Rattle.tsearch.specs.Private.Sessions.{tally_of, SettlesNext, IsSettled, ready, closed}
+use Rattle.tsearch.specs.Private.Progress.{tally_of, SettlesNext, IsSettled, ready, closed}
 
 pub one_search : (item : Item) → searches_of item ≤ 1
 one_search (put name body) = omega arith
@@ -67,8 +67,8 @@ module _ (searches : List (Option Prepared)) (told : List Command) (versions : L
   settles_lasts t _ _ t' (tallies.opened {pending = rest} {entries = entries} entry lasts is_closed is) =
       settles_lasts (tally_with entry lasts t) rest entries t' is ∙ closed_lasts (t.searches + 1) t.published t.lasts entry lasts is_closed
 
--- A session that has settled some of what was pending at first.
-pub record IsSettling (searches : List (Option Prepared)) (first now : Session) : Type 0 where
+-- The progress of a run that has settled some of what was pending at first.
+pub record IsSettling (searches : List (Option Prepared)) (first now : Progress) : Type 0 where
   pub done : List (Option Entry)
   pub entries : List Entry
   pub settles : Settles searches first.told.commands first.versions.items (tally_of first.settled) done entries (tally_of now.settled)
@@ -78,19 +78,19 @@ pub record IsSettling (searches : List (Option Prepared)) (first now : Session) 
   pub versions : now.versions ≡ first.versions
   pub count : now.searches ≡ first.searches
 
-pub settling_starts : (searches : List (Option Prepared)) (session : Session) → IsSettling searches session session
-settling_starts searches session = record {
+pub settling_starts : (searches : List (Option Prepared)) (progress : Progress) → IsSettling searches progress progress
+settling_starts searches progress = record {
   done = [];
   entries = [];
   settles = tallies.none;
-  settled = sym (append-nil session.settled.entries.items);
+  settled = sym (append-nil progress.settled.entries.items);
   whole = refl;
   told = refl;
   versions = refl;
   count = refl;
 }
 
-settles_next : (searches : List (Option Prepared)) (old : Session) (entry : Option Entry) (new : Session)
+settles_next : (searches : List (Option Prepared)) (old : Progress) (entry : Option Entry) (new : Progress)
     → SettlesNext searches old entry new
     → (settled : Entry) × (new.settled.entries.items ≡ old.settled.entries.items ++ settled ∷ [])
     × Settles searches old.told.commands old.versions.items (tally_of old.settled) (entry ∷ []) (settled ∷ []) (tally_of new.settled)
@@ -113,8 +113,8 @@ settles_next searches old entry new (closed settled lasts is entries is_closed s
       (subst (λ t. Settles searches old.told.commands old.versions.items t [] [] (tally_of new.settled)) same tallies.none)),
 )
 
--- One more is taken from the front and settled. mid: the session when it is taken.
-pub settling_goes_on : (searches : List (Option Prepared)) (first old mid new : Session) (entry : Option Entry)
+-- One more is taken from the front and settled. mid: the progress when it is taken.
+pub settling_goes_on : (searches : List (Option Prepared)) (first old mid new : Progress) (entry : Option Entry)
     → IsSettling searches first old → old.pending.items ≡ entry ∷ mid.pending.items → mid.told ≡ old.told → mid.versions ≡ old.versions
     → mid.searches ≡ old.searches → mid.settled ≡ old.settled → SettlesNext searches mid entry new → new.told ≡ mid.told
     → new.versions ≡ mid.versions → new.searches ≡ mid.searches → new.pending ≡ mid.pending → IsSettling searches first new
@@ -141,7 +141,7 @@ settling_goes_on searches first old mid new entry so_far front told versions cou
       count = count' ∙ count ∙ so_far.count;
     }
 
-pub settling_ends : (searches : List (Option Prepared)) (first now : Session) → IsSettling searches first now → now.pending.items ≡ []
+pub settling_ends : (searches : List (Option Prepared)) (first now : Progress) → IsSettling searches first now → now.pending.items ≡ []
     → IsSettled searches first now
 settling_ends searches first now so_far none =
     let whole : so_far.done ≡ first.pending.items = sym (so_far.whole ∙ ap (λ l. so_far.done ++ l) none ∙ append-nil so_far.done) in
@@ -159,7 +159,7 @@ settling_ends searches first now so_far none =
     }
 
 -- Settling everything does not raise the number of settled searches and pending entries together.
-pub settled_few : (searches : List (Option Prepared)) (old new : Session) → IsSettled searches old new
+pub settled_few : (searches : List (Option Prepared)) (old new : Progress) → IsSettled searches old new
     → new.settled.searches + length new.pending.items ≤ old.settled.searches + length old.pending.items
 settled_few searches old new is =
     omega (
@@ -169,7 +169,7 @@ settled_few searches old new is =
           (tally_of new.settled) is.settles,
     )
 
-pub settled_lasts : (searches : List (Option Prepared)) (old new : Session) → IsSettled searches old new
+pub settled_lasts : (searches : List (Option Prepared)) (old new : Progress) → IsSettled searches old new
     → length new.settled.lasts.items ≡ length old.settled.lasts.items
 settled_lasts searches old new is =
     settles_lasts searches old.told.commands old.versions.items (tally_of old.settled) old.pending.items is.entries (tally_of new.settled)

@@ -15,7 +15,7 @@ use Rattle.script.proofs.OneReading.{one_reading}
 use Rattle.shared.specs.Desk.{DeskState, desk_state}
 use Rattle.shared.specs.History.{Known}
 use Rattle.tsearch.specs.declared.run.Options.{Options}
-use Rattle.tsearch.specs.declared.session.Session.{Session}
+use Rattle.tsearch.specs.declared.progress.Progress.{Progress}
 use Rattle.tsearch.specs.declared.settled.Last.{Last}
 use Rattle.tsearch.specs.declared.transcript.Entry.{Entry}
 use Rattle.tsearch.specs.declared.transcript.Entry.TheVariants.{SearchRefused}
@@ -27,8 +27,8 @@ use Rattle.tsearch.specs.Private.Items.{row_of, searches_in, Tells, IsEntered}
 use Rattle.tsearch.specs.Private.Items as items
 use Rattle.tsearch.specs.Private.Searches.{searches_among, ArePaired, ArePrepared}
 use Rattle.tsearch.specs.Private.Tallies.{last, last_of}
-use Rattle.tsearch.specs.Private.Sessions.{tally_of, IsFresh, IsStart, IsPended, AreListed, Pends, IsSettled, Advances}
-use Rattle.tsearch.specs.Private.Sessions as sessions
+use Rattle.tsearch.specs.Private.Progress.{tally_of, IsFresh, IsStart, IsPended, AreListed, Pends, IsSettled, Advances}
+use Rattle.tsearch.specs.Private.Progress as steps
 use Rattle.tsearch.proofs.RowLemmas.{items_of-append, entries_of-append, commands_of-append, commands_of-one, published_in-append}
 use Rattle.tsearch.proofs.RowLemmas.{published_in-one, published_last-push, count_searches-append, count_searches-push}
 use Rattle.tsearch.proofs.RowLemmas.{count_failures-append, count_failures-push, Rises, rises_push, same_items, same_searches}
@@ -40,25 +40,25 @@ use Rattle.tsearch.proofs.SettleLemmas.{IsAlone, nobody, one, same_after_command
 
 -- A run so far: rows that are settled, and pending ones after them.
 pub record IsRunOf (Holds : List ℕ → List ℕ → Type 0) (options : Options) (searches : List (Option Prepared)) (script : List ℕ) (failed : ℕ)
-    (desk : DeskState) (session : Session) (position : Position) (failed' : ℕ) (rows pending : List Row) : Type 0 where
+    (desk : DeskState) (progress : Progress) (position : Position) (failed' : ℕ) (rows pending : List Row) : Type 0 where
   pub items : (more : List Numbered) → ItemsFrom position.line position.rest more → IsItemsOf script (items_of (rows ++ pending) ++ more)
   pub stand : AllStand Holds options.max_commands searches options.readers [] rows
   pub are_pending : ArePending Holds options.max_commands (commands_of rows) (count_searches rows) pending
-  pub entries : session.settled.entries.items ≡ entries_of rows
-  pub waiting : session.pending.items ≡ map (λ r. r.entry) pending
-  pub tallied : IsTallied options.readers session.told.commands rows (tally_of session.settled)
-  pub are_told : IsTold session.told.commands session.versions.items (commands_of (rows ++ pending)) (published_in (rows ++ pending))
-  pub count : session.searches ≡ count_searches (rows ++ pending)
+  pub entries : progress.settled.entries.items ≡ entries_of rows
+  pub waiting : progress.pending.items ≡ map (λ r. r.entry) pending
+  pub tallied : IsTallied options.readers progress.told.commands rows (tally_of progress.settled)
+  pub are_told : IsTold progress.told.commands progress.versions.items (commands_of (rows ++ pending)) (published_in (rows ++ pending))
+  pub count : progress.searches ≡ count_searches (rows ++ pending)
   pub accepted : desk.accepted ≡ commands_of (rows ++ pending)
   pub limit : desk.limit ≡ options.max_commands
   pub failures : IsFailedTimes (count_failures (rows ++ pending)) failed failed'
 
 -- A run so far. Without readers nothing is pending.
 pub record IsRun (Holds : List ℕ → List ℕ → Type 0) (options : Options) (searches : List (Option Prepared)) (script : List ℕ) (failed : ℕ)
-    (desk : DeskState) (session : Session) (position : Position) (failed' : ℕ) : Type 0 where
+    (desk : DeskState) (progress : Progress) (position : Position) (failed' : ℕ) : Type 0 where
   pub rows : List Row
   pub pending : List Row
-  pub are : IsRunOf Holds options searches script failed desk session position failed' rows pending
+  pub are : IsRunOf Holds options searches script failed desk progress position failed' rows pending
   pub at_once : options.readers ≡ 0 → pending ≡ []
 
 below_none : (readers : ℕ) (lasts : List Last) → lasts ≡ replicate readers (last 0 0) → AreBelow 0 lasts
@@ -81,11 +81,11 @@ below_none readers lasts is reader = by_place (cases_lt reader readers)
         )
 
 pub run_begins : (Holds : List ℕ → List ℕ → Type 0) (options : Options) (searches : List (Option Prepared)) (script : List ℕ) (failed : ℕ)
-    (opening : Book) (desk : DeskState) (session : Session) → desk ≡ desk_state opening options.max_commands [] []
-    → IsStart opening options.readers session
-    → IsRun Holds options searches script failed desk session (record { line = 1; rest = script }) failed
+    (opening : Book) (desk : DeskState) (progress : Progress) → desk ≡ desk_state opening options.max_commands [] []
+    → IsStart opening options.readers progress
+    → IsRun Holds options searches script failed desk progress (record { line = 1; rest = script }) failed
 unfolding commands_of published_in count_searches count_failures
-run_begins Holds options searches script failed opening desk session is start = record {
+run_begins Holds options searches script failed opening desk progress is start = record {
   rows = [];
   pending = [];
   are = record {
@@ -97,15 +97,15 @@ run_begins Holds options searches script failed opening desk session is start = 
     tallied = record {
       searches = start.settled.searches;
       published = start.settled.published;
-      turned = turned_none session.settled.lasts.items;
+      turned = turned_none progress.settled.lasts.items;
       count = ap length start.settled.lasts ∙ length-replicate (options.readers + 1) (last 0 0);
       below =
-          subst (λ told. AreBelow (length told) session.settled.lasts.items) (sym (ap (λ k. k.commands) start.told))
-          (below_none (options.readers + 1) session.settled.lasts.items start.settled.lasts);
+          subst (λ told. AreBelow (length told) progress.settled.lasts.items) (sym (ap (λ k. k.commands) start.told))
+          (below_none (options.readers + 1) progress.settled.lasts.items start.settled.lasts);
     };
     are_told = record {
       others = [];
-      begins = sym (append-nil session.told.commands ∙ ap (λ k. k.commands) start.told);
+      begins = sym (append-nil progress.told.commands ∙ ap (λ k. k.commands) start.told);
       latest = ap (λ k. length k.commands) start.told;
       rises = tt;
       listed = λ version inside. inl (first version (subst (λ l. Contains l version) start.versions inside));
@@ -202,7 +202,7 @@ next_row : (Holds Holds' : List ℕ → List ℕ → Type 0) → ((path body : L
     → (most : ℕ) (desk : DeskState) (told : Known) (failed count : ℕ) (item : Numbered) (entry : Option Entry) (desk' : DeskState)
     (told' : Known) (failed' : ℕ) → desk.limit ≡ most → IsPended Holds' desk told failed (count + 1) item entry desk' told' failed'
     → IsNextRow Holds most desk told failed count item entry desk' told' failed'
-next_row Holds Holds' holds most desk told failed count item _ desk' told' failed' limit (sessions.entered entry is) = record {
+next_row Holds Holds' holds most desk told failed count item _ desk' told' failed' limit (steps.entered entry is) = record {
   row = row_of item is.loaded (Some entry);
   numbered = refl;
   is = refl;
@@ -217,7 +217,7 @@ next_row Holds Holds' holds most desk told failed count item _ desk' told' faile
   tells_none = λ e. (cc);
   counted = is.counted;
 }
-next_row Holds Holds' holds most desk told failed count item _ desk' told' failed' limit (sessions.refused why is_search refusal left) = record {
+next_row Holds Holds' holds most desk told failed count item _ desk' told' failed' limit (steps.refused why is_search refusal left) = record {
   row = row_of item None (Some (SearchRefused (count + 1) why));
   numbered = refl;
   is = refl;
@@ -228,7 +228,7 @@ next_row Holds Holds' holds most desk told failed count item _ desk' told' faile
   tells_none = λ e. ap (λ k. k.commands) left.1;
   counted = counted_none failed failed' left.2;
 }
-next_row Holds Holds' holds most desk told failed count item _ desk' told' failed' limit (sessions.asked is_search left) = record {
+next_row Holds Holds' holds most desk told failed count item _ desk' told' failed' limit (steps.asked is_search left) = record {
   row = row_of item None None;
   numbered = refl;
   is = refl;
@@ -251,25 +251,25 @@ count_more failures more failed before after (inr most) counted = inr (counted.s
 
 module _ (Holds : List ℕ → List ℕ → Type 0) (options : Options) (searches : List (Option Prepared)) (script : List ℕ) (failed : ℕ) where
   -- The run after everything that was pending is settled.
-  run_settles : (desk : DeskState) (session new : Session) (position : Position) (failed' : ℕ) (rows pending : List Row)
-      → IsRunOf Holds options searches script failed desk session position failed' rows pending
-      → (options.readers ≡ 0 → IsAlone session.told.commands rows pending) → IsSettled searches session new
+  run_settles : (desk : DeskState) (progress new : Progress) (position : Position) (failed' : ℕ) (rows pending : List Row)
+      → IsRunOf Holds options searches script failed desk progress position failed' rows pending
+      → (options.readers ≡ 0 → IsAlone progress.told.commands rows pending) → IsSettled searches progress new
       → (rows' : List Row) × IsRunOf Holds options searches script failed desk new position failed' rows' []
-  run_settles desk session new position failed' rows pending run alone settled =
+  run_settles desk progress new position failed' rows pending run alone settled =
       let done =
-      settle_all Holds options.max_commands searches options.readers session.told.commands session.versions.items
-      (commands_of (rows ++ pending)) (published_in (rows ++ pending)) run.are_told rows pending (tally_of session.settled)
-      session.pending.items settled.entries (tally_of new.settled) settled.settles run.waiting run.are_pending refl refl run.tallied
+      settle_all Holds options.max_commands searches options.readers progress.told.commands progress.versions.items
+      (commands_of (rows ++ pending)) (published_in (rows ++ pending)) run.are_told rows pending (tally_of progress.settled)
+      progress.pending.items settled.entries (tally_of new.settled) settled.settles run.waiting run.are_pending refl refl run.tallied
       alone in
       let whole : (rows ++ done.new) ++ [] ≡ rows ++ done.new = append-nil (rows ++ done.new) in
-      let told : session.told.commands ≡ new.told.commands = ap (λ k. k.commands) (sym settled.told) in
+      let told : progress.told.commands ≡ new.told.commands = ap (λ k. k.commands) (sym settled.told) in
       let same_commands_now : commands_of (rows ++ pending) ≡ commands_of ((rows ++ done.new) ++ []) =
       sym (ap commands_of whole
-      ∙ same_after_commands Holds options.max_commands searches options.readers session.told.commands session.versions.items
+      ∙ same_after_commands Holds options.max_commands searches options.readers progress.told.commands progress.versions.items
       (commands_of (rows ++ pending)) (published_in (rows ++ pending)) run.are_told rows pending done.new done.same) in
       let same_published_now : published_in (rows ++ pending) ≡ published_in ((rows ++ done.new) ++ []) =
       sym (ap published_in whole
-      ∙ same_after_published Holds options.max_commands searches options.readers session.told.commands session.versions.items
+      ∙ same_after_published Holds options.max_commands searches options.readers progress.told.commands progress.versions.items
       (commands_of (rows ++ pending)) (published_in (rows ++ pending)) run.are_told rows pending done.new done.same) in
       let same_items_now : items_of (rows ++ pending) ≡ items_of ((rows ++ done.new) ++ []) =
       items_of-append rows pending ∙ ap (λ l. items_of rows ++ l) (same_items pending done.new done.same)
@@ -306,11 +306,11 @@ module _ (Holds : List ℕ → List ℕ → Type 0) (options : Options) (searche
               subst (λ t. IsTold t new.versions.items (commands_of ((rows ++ done.new) ++ [])) (published_in ((rows ++ done.new) ++ [])))
               told
               (subst (λ v.
-              IsTold session.told.commands v.items (commands_of ((rows ++ done.new) ++ []))
+              IsTold progress.told.commands v.items (commands_of ((rows ++ done.new) ++ []))
               (published_in ((rows ++ done.new) ++ []))) (sym settled.versions)
-              (subst (λ c. IsTold session.told.commands session.versions.items c (published_in ((rows ++ done.new) ++ [])))
+              (subst (λ c. IsTold progress.told.commands progress.versions.items c (published_in ((rows ++ done.new) ++ [])))
               same_commands_now
-              (subst (λ p. IsTold session.told.commands session.versions.items (commands_of (rows ++ pending)) p)
+              (subst (λ p. IsTold progress.told.commands progress.versions.items (commands_of (rows ++ pending)) p)
               same_published_now run.are_told)));
           count = settled.count ∙ run.count ∙ same_searches_now;
           accepted = run.accepted ∙ same_commands_now;
@@ -348,9 +348,9 @@ module _ (Holds : List ℕ → List ℕ → Type 0) (options : Options) (searche
           ∙ sym (append_assoc (items_of (rows ++ pending)) (row.numbered ∷ []) more)
           ∙ ap (λ l. l ++ more) (sym (items_of-append (rows ++ pending) (row ∷ [])) ∙ ap items_of (sym pushed))
 
-    run_pends : (desk : DeskState) (old : Session) (before : ℕ) (pending : List Row)
+    run_pends : (desk : DeskState) (old : Progress) (before : ℕ) (pending : List Row)
         → IsRunOf Holds options searches script failed desk old position before rows pending
-        → (desk' : DeskState) (after : ℕ) (new : Session) → Pends Holds' desk before old item desk' after new
+        → (desk' : DeskState) (after : ℕ) (new : Progress) → Pends Holds' desk before old item desk' after new
         → (row : Row) × IsRunOf Holds options searches script failed desk' new position' after rows (pending ++ row ∷ [])
         × (row.entry ≡ None → new.told.commands ≡ old.told.commands)
     run_pends desk old before pending run desk' after new step =
@@ -406,10 +406,10 @@ module _ (Holds : List ℕ → List ℕ → Type 0) (options : Options) (searche
         )
 
     -- The run after a sync, once nothing is pending.
-    run_syncs : (desk : DeskState) (session : Session) (failed' : ℕ)
-        → IsRunOf Holds options searches script failed desk session position failed' rows [] → is_sync item.item ≡ true
-        → IsRunOf Holds options searches script failed desk session position' failed' (rows ++ row_of item None None ∷ []) []
-    run_syncs desk session failed' run is =
+    run_syncs : (desk : DeskState) (progress : Progress) (failed' : ℕ)
+        → IsRunOf Holds options searches script failed desk progress position failed' rows [] → is_sync item.item ≡ true
+        → IsRunOf Holds options searches script failed desk progress position' failed' (rows ++ row_of item None None ∷ []) []
+    run_syncs desk progress failed' run is =
         let row : Row = row_of item None None in
         let whole : (rows ++ row ∷ []) ++ [] ≡ rows ++ row ∷ [] = append-nil (rows ++ row ∷ []) in
         let no_search : searches_of item.item ≡ 0 = sync_is_no_search item.item is in
@@ -441,14 +441,14 @@ module _ (Holds : List ℕ → List ℕ → Type 0) (options : Options) (searche
             searches = omega (arith, run.tallied.searches, count_searches-push rows row, no_search);
             published = run.tallied.published ∙ sym (published_last-push rows row);
             turned =
-                turned_push session.settled.lasts.items rows row session.settled.lasts.items run.tallied.turned
+                turned_push progress.settled.lasts.items rows row progress.settled.lasts.items run.tallied.turned
                 (quiet (λ number reader turn answer e. (cc)) refl);
             count = run.tallied.count;
             below = run.tallied.below;
           };
           are_told =
-              subst (λ c. IsTold session.told.commands session.versions.items c (published_in ((rows ++ row ∷ []) ++ []))) same_commands_now
-              (subst (λ p. IsTold session.told.commands session.versions.items (commands_of (rows ++ [])) p) same_published_now
+              subst (λ c. IsTold progress.told.commands progress.versions.items c (published_in ((rows ++ row ∷ []) ++ []))) same_commands_now
+              (subst (λ p. IsTold progress.told.commands progress.versions.items (commands_of (rows ++ [])) p) same_published_now
               run.are_told);
           count = run.count ∙ same_searches_now;
           accepted = run.accepted ∙ same_commands_now;
@@ -467,13 +467,13 @@ alone_one told rows (r ∷ pending) row is seen = cc
 
 -- A run goes on by the next item.
 pub run_goes_on : (Holds Holds' : List ℕ → List ℕ → Type 0) → ((path body : List ℕ) → Holds' path body → Holds path body)
-    → (options : Options) (searches : List (Option Prepared)) (script : List ℕ) (failed : ℕ) (desk : DeskState) (old : Session)
-    (position : Position) (before : ℕ) (item : Numbered) (position' : Position) (desk' : DeskState) (after : ℕ) (new : Session)
+    → (options : Options) (searches : List (Option Prepared)) (script : List ℕ) (failed : ℕ) (desk : DeskState) (old : Progress)
+    (position : Position) (before : ℕ) (item : Numbered) (position' : Position) (desk' : DeskState) (after : ℕ) (new : Progress)
     → IsRun Holds options searches script failed desk old position before → Takes position item position'
     → Advances Holds' searches options.readers desk before old item desk' after new
     → IsRun Holds options searches script failed desk' new position' after
 run_goes_on Holds Holds' holds options searches script failed desk old position before item position' desk' after new run takes
-    (sessions.synced is same_desk same_failed settled) =
+    (steps.synced is same_desk same_failed settled) =
     let done =
     run_settles Holds options searches script failed desk old new position before run.rows run.pending run.are
     (λ no_readers. alone_none old.told.commands run.rows run.pending (run.at_once no_readers)) settled in
@@ -488,7 +488,7 @@ run_goes_on Holds Holds' holds options searches script failed desk old position 
           (sym same_failed) next);
       at_once = λ no_readers. refl;
     }
-run_goes_on Holds Holds' holds options searches script failed desk old position before item position' desk' after new run takes (sessions.pended some step) =
+run_goes_on Holds Holds' holds options searches script failed desk old position before item position' desk' after new run takes (steps.pended some step) =
     let next =
     run_pends Holds options searches script failed Holds' holds position position' item takes run.rows desk old before run.pending
     run.are desk' after new step in
@@ -499,7 +499,7 @@ run_goes_on Holds Holds' holds options searches script failed desk old position 
       at_once = λ no_readers. absurd (some no_readers);
     }
 run_goes_on Holds Holds' holds options searches script failed desk old position before item position' desk' after new run takes
-    (sessions.settled mid step settled) =
+    (steps.settled mid step settled) =
     let next =
     run_pends Holds options searches script failed Holds' holds position position' item takes run.rows desk old before run.pending
     run.are desk' after mid step in
@@ -523,11 +523,11 @@ counted_items (row ∷ rows) = omega (arith, counted_items rows)
 
 -- At the script's end, once everything is settled, a run is legal.
 pub run_is_legal : (Holds : List ℕ → List ℕ → Type 0) (options : Options) (searches : List (Option Prepared)) (script : List ℕ) (failed : ℕ)
-    (desk : DeskState) (session : Session) (position : Position) (failed' : ℕ) (new : Session) → ArePrepared script searches
-    → IsRun Holds options searches script failed desk session position failed' → ItemsFrom position.line position.rest []
-    → IsSettled searches session new → IsLegal script options Holds failed failed' new.settled.entries.items
+    (desk : DeskState) (progress : Progress) (position : Position) (failed' : ℕ) (new : Progress) → ArePrepared script searches
+    → IsRun Holds options searches script failed desk progress position failed' → ItemsFrom position.line position.rest []
+    → IsSettled searches progress new → IsLegal script options Holds failed failed' new.settled.entries.items
 unfolding ArePaired
-run_is_legal Holds options searches script failed desk session position failed' new prepared run ended settled =
+run_is_legal Holds options searches script failed desk progress position failed' new prepared run ended settled =
     record {
       rows = rows;
       items = script_items;
@@ -542,8 +542,8 @@ run_is_legal Holds options searches script failed desk session position failed' 
   where
     done : (rows' : List Row) × IsRunOf Holds options searches script failed desk new position failed' rows' []
     done =
-        run_settles Holds options searches script failed desk session new position failed' run.rows run.pending run.are
-        (λ no_readers. alone_none session.told.commands run.rows run.pending (run.at_once no_readers)) settled
+        run_settles Holds options searches script failed desk progress new position failed' run.rows run.pending run.are
+        (λ no_readers. alone_none progress.told.commands run.rows run.pending (run.at_once no_readers)) settled
 
     rows : List Row
     rows = done.0

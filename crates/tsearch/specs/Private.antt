@@ -4,6 +4,6 @@ pub mod Items
 pub mod Searches
 pub mod Tallies
 pub mod Readers
-pub mod Sessions
+pub mod Progress
 pub mod Runs
 pub mod Lone

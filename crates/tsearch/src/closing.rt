@@ -54,7 +54,7 @@ pub fn close_search<R: Threads + Wait>(
     if let Some(found) = answer_of_reader(rt, asked, lasts, readers) {
         return found;
     }
-    match answer_of_first(rt, alloc, asked, lasts, reading) {
+    match answer_by_reader_zero(rt, alloc, asked, lasts, reading) {
         Some(found) => found,
         None => Entry::SearchRefused {
             search: asked.number,
@@ -132,7 +132,7 @@ fn is_published(versions: &[u32], version: u32) -> bool
 
 /// The answer of reader 0, from what was published last. `None` if the search was not prepared, if memory ran out, or
 /// if reader 0 has no turn left.
-fn answer_of_first<R: Wait>(
+fn answer_by_reader_zero<R: Wait>(
     rt: &R,
     alloc: Global,
     asked: OpenSearch<'_>,

@@ -9,11 +9,11 @@ ghost use Rattle.shared.specs.History.{known};
 ghost use Rattle.tsearch.specs.Legal.{IsLegal};
 ghost use Rattle.tsearch.specs.Private.Searches.{ArePrepared};
 ghost use Rattle.tsearch.specs.Private.Readers.{IsReader};
-ghost use Rattle.tsearch.specs.Private.Sessions.{Advances, IsKept, IsStart};
+ghost use Rattle.tsearch.specs.Private.Progress.{Advances, IsKept, IsStart};
 
+use crate::progress::{Progress, Step};
 use crate::reader::{Reader, at_rest};
 use crate::run::Options;
-use crate::session::{Session, Step};
 use crate::source::Source;
 use crate::transcript::Entry;
 use readers::Gate;
@@ -56,13 +56,13 @@ pub fn drive<'s, 'a: 's, E, R: Threads + Wait + Sync, S: Source, G: Gate>(
         × (S.holds source.old path body → S.holds source.new path body) }
     ensures counted { S.failed source.old ≤ S.failed source.new }
 {
-    let (mut session, mut readers) = start(plan, desk, readings)?;
+    let (mut progress, mut readers) = start(plan, desk, readings)?;
     let mut items = ScriptReader::new(plan.script);
     while let Some(item) = items.next_item() {
-        advance(scope, plan, desk, source, &mut session, &mut readers, item)?;
+        advance(scope, plan, desk, source, &mut progress, &mut readers, item)?;
     }
-    session.settle(plan.rt, plan.alloc, plan.searches, &mut readers)?;
-    let settled = session.settled;
+    progress.settle(plan.rt, plan.alloc, plan.searches, &mut readers)?;
+    let settled = progress.settled;
     Ok(settled.entries)
 }
 
@@ -71,12 +71,12 @@ fn start<'a, R: Wait, G>(
     plan: &Plan<'a, R, G>,
     desk: &mut Desk,
     readings: Vec<Reading>,
-) -> Result<(Session, Vec<Reader<'a>>), AllocError>
+) -> Result<(Progress, Vec<Reader<'a>>), AllocError>
     requires few { plan.now.options.readers ≤ 16 }
     requires desk { desk.old ≡ desk_state desk.old.opening plan.now.options.max_commands [] [] }
     requires readings { All (λ reading. reading ≡ known desk.old.opening []) readings.items }
     requires count { length readings.items ≡ plan.now.options.readers + 1 }
-    ensures session { IfOk result (λ started. IsStart desk.old.opening plan.now.options.readers started.0) }
+    ensures progress { IfOk result (λ started. IsStart desk.old.opening plan.now.options.readers started.0) }
     ensures readers { IfOk result (λ started. All (IsReader desk.old.opening plan.now.searches.now) started.1.items) }
     ensures count { IfOk result (λ started. length started.1.items ≡ plan.now.options.readers) }
     ensures desk { desk.new ≡ desk.old }
@@ -86,9 +86,9 @@ fn start<'a, R: Wait, G>(
     let Some(reading) = readings.pop() else {
         return Err(AllocError);
     };
-    let session = Session::new(plan.alloc, told, reading, plan.options.readers)?;
+    let progress = Progress::new(plan.alloc, told, reading, plan.options.readers)?;
     let readers = at_rest(plan.alloc, readings)?;
-    Ok((session, readers))
+    Ok((progress, readers))
 }
 
 /// Takes an item. A search is sent to its reader. Everything that is pending is settled at a sync, and after any
@@ -98,29 +98,29 @@ fn advance<'s, 'a: 's, E, R: Threads + Wait + Sync, S: Source, G: Gate>(
     plan: &Plan<'a, R, G>,
     desk: &mut Desk,
     source: &mut S,
-    session: &mut Session,
+    progress: &mut Progress,
     readers: &mut Vec<Reader<'a>>,
     item: Numbered<'_>,
 ) -> Result<(), AllocError>
-    requires searches { session.old.searches + 1 < 2 ^ 32 }
-    requires opening { (session.old.reading.opening ≡ session.old.told.opening) × (session.old.told.opening ≡ desk.old.opening) }
+    requires searches { progress.old.searches + 1 < 2 ^ 32 }
+    requires opening { (progress.old.reading.opening ≡ progress.old.told.opening) × (progress.old.told.opening ≡ desk.old.opening) }
     requires readers { All (IsReader desk.old.opening plan.now.searches.now) readers.old.items }
-    requires count { (length session.old.settled.lasts.items ≡ length readers.old.items + 1) × (length readers.old.items ≤ 16)
+    requires count { (length progress.old.settled.lasts.items ≡ length readers.old.items + 1) × (length readers.old.items ≤ 16)
         × (length readers.old.items ≡ plan.now.options.readers) }
-    requires few { session.old.settled.searches + length session.old.pending.items + 1 < 2 ^ 32 }
-    ensures ok { OnOk result (Advances (S.holds source.old) plan.now.searches.now plan.now.options.readers desk.old (S.failed source.old) session.old
-        (numbered_item item.entry.line (shown_item item.entry.item)) desk.new (S.failed source.new) session.new) }
-    ensures kept { OnOk result (IsKept desk.old session.old desk.new session.new) }
+    requires few { progress.old.settled.searches + length progress.old.pending.items + 1 < 2 ^ 32 }
+    ensures ok { OnOk result (Advances (S.holds source.old) plan.now.searches.now plan.now.options.readers desk.old (S.failed source.old) progress.old
+        (numbered_item item.entry.line (shown_item item.entry.item)) desk.new (S.failed source.new) progress.new) }
+    ensures kept { OnOk result (IsKept desk.old progress.old desk.new progress.new) }
     ensures readers { OnOk result (All (IsReader desk.old.opening plan.now.searches.now) readers.new.items) }
     ensures count { OnOk result (length readers.new.items ≡ length readers.old.items) }
     ensures same { (path body : List ℕ) → (S.holds source.new path body → S.holds source.old path body)
         × (S.holds source.old path body → S.holds source.new path body) }
     ensures counted { S.failed source.old ≤ S.failed source.new }
 {
-    let step = session.take(plan.rt, plan.alloc, desk, source, plan.searches, item)?;
+    let step = progress.take(plan.rt, plan.alloc, desk, source, plan.searches, item)?;
     send(scope, plan, readers, step);
-    if is_to_settle(step, plan.options.readers, session.waits) {
-        session.settle(plan.rt, plan.alloc, plan.searches, readers)?;
+    if is_to_settle(step, plan.options.readers, progress.waits) {
+        progress.settle(plan.rt, plan.alloc, plan.searches, readers)?;
     }
     Ok(())
 }

@@ -149,7 +149,7 @@ pub fn entry_of(line: u32, done: Result<u32, Reason>) -> Entry
     }
 }
 
-/// Publishes all accepted commands, and stores the receipt of the publish in `told`. Returns the version.
+/// Publishes all accepted commands, and keeps what the publish hands out in `told`. Returns the version.
 fn publish<R: Wait>(rt: &R, desk: &mut Desk, told: &mut Told) -> Result<u32, Reason>
     ensures ok { IfOk result (λ version. (version ≡ length desk.old.accepted) × (told.new ≡ known desk.old.opening desk.old.accepted)) }
     ensures err { IfErr result (λ reason. (reason ≡ Reason.OutOfMemory) × (told.new ≡ told.old)) }
@@ -186,7 +186,7 @@ pub enum Outcome {
     Sync,
 }
 
-/// Carries out an item at the desk, and stores the receipt of a publish in `told`. Searches and syncs are left to the
+/// Carries out an item at the desk, and keeps what a publish hands out in `told`. Searches and syncs are left to the
 /// caller.
 pub fn carry_out<R: Wait, S: Source>(
     rt: &R,

@@ -28,7 +28,7 @@ pub struct Settled {
 }
 
 impl Settled {
-    ghost use Rattle.tsearch.specs.Private.Sessions.{IsFresh};
+    ghost use Rattle.tsearch.specs.Private.Progress.{IsFresh};
 
     /// No entries, and `readers` readers, reader 0 included, that have answered nothing. An `Err` means that memory
     /// ran out.

@@ -2,18 +2,18 @@
 use Rattle.std.specs.Prelude.{ℕ, ◌+◌, ◌*◌, ◌≤◌, length, not, ◌==◌, List, [], ◌∷◌, ◌++◌, All, map, filter, Option, Some, None}
 use Rattle.std.specs.List.Sorted.{IsStrictlyIncreasing}
 use Rattle.index.specs.declared.slots.Slot.{Slot}
-use Rattle.index.specs.declared.slots.Entry.{Entry}
+use Rattle.index.specs.declared.slots.Occupant.{Occupant}
 use Rattle.index.specs.Documents.{Document, document}
 
--- the document with this number and entry, if there is an entry
-abbrev pub documents_of_slot : ℕ → Option Entry → List Document
+-- the document with this number and occupant, if there is an occupant
+abbrev pub documents_of_slot : ℕ → Option Occupant → List Document
 documents_of_slot number None = []
-documents_of_slot number (Some entry) = document number entry.name entry.held ∷ []
+documents_of_slot number (Some occupant) = document number occupant.name occupant.held ∷ []
 
 -- the documents in the slots
 unfoldable pub documents_in : List Slot → List Document
 documents_in [] = []
-documents_in (slot ∷ slots) = documents_of_slot slot.number slot.entry ++ documents_in slots
+documents_in (slot ∷ slots) = documents_of_slot slot.number slot.occupant ++ documents_in slots
 
 abbrev pub numbers_in : List Slot → List ℕ
 numbers_in slots = map (λ s. s.number) slots
@@ -27,9 +27,9 @@ pub record RiseTo (last : ℕ) (slots : List Slot) : Type 0 where
 abbrev pub FewAreEmpty : List Slot → Type 0
 FewAreEmpty slots = length slots ≤ 2 * length (documents_in slots) + 1
 
--- the name and the body of an entry
-abbrev pub texts_of : Entry → List ℕ × List ℕ
-texts_of entry = (entry.name, entry.held)
+-- the name and the body of an occupant
+abbrev pub texts_of : Occupant → List ℕ × List ℕ
+texts_of occupant = (occupant.name, occupant.held)
 
 -- the documents except the one with this number
 abbrev pub without_number : ℕ → List Document → List Document

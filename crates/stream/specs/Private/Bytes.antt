@@ -9,8 +9,8 @@ use Rattle.stream.specs.declared.body.Passed.{Passed}
 use Rattle.stream.specs.declared.body.Piece.{Piece}
 use Rattle.stream.specs.declared.body.Closing.{Closing}
 use Rattle.stream.specs.declared.body.Closing.TheVariants.{LineFeed, OtherByte, InputEnd}
-use Rattle.stream.specs.declared.body.Body.{Body}
-use Rattle.stream.specs.declared.body.Body.TheVariants.{Kept, Long, Lost}
+use Rattle.stream.specs.declared.body.PutBody.{PutBody}
+use Rattle.stream.specs.declared.body.PutBody.TheVariants.{Kept, Long, Lost}
 use Rattle.stream.specs.declared.body.PutBytes.{PutBytes}
 
 -- this many bytes, or fewer if the input ends first
@@ -46,10 +46,10 @@ Closes OtherByte bytes was left = (b : ℕ) × (bytes ≡ b ∷ []) × (b ≢ 10
 Closes InputEnd bytes was left = (bytes ≡ []) × OnSome was (IsAtEnd left)
 
 -- the byte at the front, if there is one
-abbrev pub IsFront : List ℕ → Closing → ℕ → Type 0
-IsFront shown LineFeed taken = take taken shown ≡ 10 ∷ []
-IsFront shown OtherByte taken = (b : ℕ) × (take taken shown ≡ b ∷ []) × (b ≢ 10)
-IsFront shown InputEnd taken = (taken ≡ 0) × (length shown ≡ 0)
+abbrev pub IsNextByte : List ℕ → Closing → ℕ → Type 0
+IsNextByte shown LineFeed taken = take taken shown ≡ 10 ∷ []
+IsNextByte shown OtherByte taken = (b : ℕ) × (take taken shown ≡ b ∷ []) × (b ≢ 10)
+IsNextByte shown InputEnd taken = (taken ≡ 0) × (length shown ≡ 0)
 
 abbrev pub Looks : Result (Option Closing) StreamError → List ℕ → Option (List ℕ) → Option (List ℕ) → Type 0
 Looks (Ok (Some closing)) bytes was left = Closes closing bytes was left
@@ -61,7 +61,7 @@ IsClosing (Ok closing) bytes was left = Closes closing bytes was left
 IsClosing (Err error) bytes was left = ⊤
 
 -- what is kept of a body of this size
-abbrev pub Holds : Body → ℕ → List ℕ → Type 0
+abbrev pub Holds : PutBody → ℕ → List ℕ → Type 0
 Holds (Kept body) size bytes = body.items ≡ bytes
 Holds Long size bytes = MAX_BODY < size
 Holds Lost size bytes = ⊤

@@ -7,7 +7,7 @@ use Rattle.trigram.specs.declared.analysis.Ends.{Ends}
 use Rattle.trigram.specs.declared.analysis.Analysis as program
 use Rattle.trigram.specs.declared.analysis.Analysis.TheVariants.{Known, Loose}
 use Rattle.trigram.specs.declared.texts.Side.{Side}
-use Rattle.trigram.specs.declared.texts.Side.TheVariants.{Front, Back}
+use Rattle.trigram.specs.declared.texts.Side.TheVariants.{Prefix, Suffix}
 use Rattle.trigram.specs.Texts.{Cut, ending, has_text}
 use Rattle.trigram.specs.Analysis.{Analysis, known, loose}
 
@@ -22,12 +22,12 @@ AreDistinct size (text ∷ texts) = (length text ≡ size) × (has_text texts te
 
 -- the cut at one end
 abbrev pub cut_at : Side → Cut
-cut_at Front = take
-cut_at Back = ending
+cut_at Prefix = take
+cut_at Suffix = ending
 
 -- the analysis that the program's loose ends mean
 abbrev pub ends_analysis : Ends → Analysis
-ends_analysis ends = loose ends.nullable (texts_of ends.fronts.items) (texts_of ends.backs.items) (is_met (formula_of ends.condition))
+ends_analysis ends = loose ends.nullable (texts_of ends.prefixes.items) (texts_of ends.suffixes.items) (is_met (formula_of ends.condition))
 
 -- the program's analysis as a plain value: texts for its vectors, and a test for its query
 abbrev pub shown_analysis : program.Analysis → Analysis

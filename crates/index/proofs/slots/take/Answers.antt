@@ -7,8 +7,8 @@ use Rattle.index.specs.Private.Slots.{texts_of, documents_in}
 use Rattle.index.proofs.SlotLemmas.{Others, document_at-absent, without-absent, document_at-here, documents_in-emptied, rising}
 use Rattle.index.proofs.slots.take.Goals as goal
 
-pub returns-in-None-clause-entry : goal.returns-in-None-clause-entry
-returns-in-None-clause-entry c =
+pub returns-in-None-clause-occupant : goal.returns-in-None-clause-occupant
+returns-in-None-clause-occupant c =
     sym (document_at-absent c.args.number c.args.slots.now.items
     (subst (Others c.args.number) c.deref.ensures.value c.in-None.ensures.none))
 
@@ -16,8 +16,8 @@ pub returns-in-None-clause-documents : goal.returns-in-None-clause-documents
 returns-in-None-clause-documents c =
     without-absent c.args.number c.args.slots.now.items (subst (Others c.args.number) c.deref.ensures.value c.in-None.ensures.none)
 
-pub returns-in-Some-clause-entry : goal.returns-in-Some-clause-entry
-returns-in-Some-clause-entry c =
+pub returns-in-Some-clause-occupant : goal.returns-in-Some-clause-occupant
+returns-in-Some-clause-occupant c =
     let slots = c.args.slots.now.items in
     let slot = c.index_mut-slot.result.now in
     let found =
@@ -39,12 +39,12 @@ returns-in-Some-clause-documents c =
     let read = c.index_mut-slot.ensures.value in
     let at = slice_get_read slots _ c.in-Some.place slot refl found.0 read in
     let number = ap (λ s. s.number) read ∙ found.1 slot in
-    ap (λ entry. documents_in (set slots c.in-Some.place (record { number = slot.number; entry = entry }))) c.take.ensures.after
+    ap (λ occupant. documents_in (set slots c.in-Some.place (record { number = slot.number; occupant = occupant }))) c.take.ensures.after
     ∙ documents_in-emptied c.args.number slots c.in-Some.place slot (rising c.requires.0 slots c.requires.1) at number
 
 pub returns-in-Some-clause-numbers : goal.returns-in-Some-clause-numbers
 returns-in-Some-clause-numbers c =
     let slots = c.args.slots.now.items in
     let slot = c.index_mut-slot.result.now in
-    map-set_same (λ s. s.number) slots c.in-Some.place (record { number = slot.number; entry = c.take.new.self }) slot
+    map-set_same (λ s. s.number) slots c.in-Some.place (record { number = slot.number; occupant = c.take.new.self }) slot
     (ap (λ s. s.number) c.index_mut-slot.ensures.value)

@@ -4,7 +4,7 @@ use Rattle.std.proofs.KnownBytes.{Consumes-nil, Consumes-kept}
 use Rattle.std.proofs.BufReadLemmas.{Consumes_shown}
 use Rattle.stream.specs.Private.Bytes.{Looks}
 use Rattle.stream.proofs.ErrLemmas.{at_err}
-use Rattle.stream.proofs.BodyLemmas.{closes_by_front}
+use Rattle.stream.proofs.BodyLemmas.{closes_by_next_byte}
 use Rattle.stream.proofs.body.look.Goals as goal
 
 pub returns-in_err-interrupted-in-Err : goal.returns-in_err-interrupted-in-Err
@@ -24,8 +24,8 @@ returns g c =
     let shown = c.in-Ok.shown.now in
     let rested = c.fill_buf.follows.lender-at-none in
     let filled = subst (FillKeeps _ (g.I.Read.remaining rested) (g.I.BufRead.consumable_len rested)) c.in-Ok.is c.fill_buf.follows.holds-at-none in
-    let front = c.front_of-front in
+    let next = c.next_byte_of-next in
     let moved =
-    Consumes_shown _ _ _ _ shown front.result.taken front.ensures.within c.in-Ok.ensures.front c.in-Ok.ensures.end filled.0 filled.1
+    Consumes_shown _ _ _ _ shown next.result.taken next.ensures.within c.in-Ok.ensures.front c.in-Ok.ensures.end filled.0 filled.1
     c.consume.ensures.bytes in
-    (take front.result.taken shown, moved.0, closes_by_front front.result.closing shown front.result.taken _ _ front.ensures.front moved.1)
+    (take next.result.taken shown, moved.0, closes_by_next_byte next.result.closing shown next.result.taken _ _ next.ensures.front moved.1)

@@ -8,11 +8,11 @@ use Rattle.trigram.proofs.analysis.both.Goals as goal
 
 pub returns-in_ok-texts-in-Known-right : goal.returns-in_ok-texts-in-Known-right
 returns-in_ok-texts-in-Known-right c =
-    let same : texts_of c.in_ok-texts-in-Known-right.texts.items ≡ joins (texts_of c.in-Known.fronts.items)
-    (texts_of c.in-Known-right.backs.items) =
+    let same : texts_of c.in_ok-texts-in-Known-right.texts.items ≡ joins (texts_of c.in-Known.prefixes.items)
+    (texts_of c.in-Known-right.suffixes.items) =
     grind arith in
     rw (c.in-Known.is, c.in-Known-right.is)
     (IfOk-weaker c.settle_known.result _ _ (λ analysis h.
     stands_same (settle_known (texts_of c.in_ok-texts-in-Known-right.texts.items))
-    (settle_known (joins (texts_of c.in-Known.fronts.items) (texts_of c.in-Known-right.backs.items))) analysis
+    (settle_known (joins (texts_of c.in-Known.prefixes.items) (texts_of c.in-Known-right.suffixes.items))) analysis
     (ap settle_known same) h) c.settle_known.ensures)

@@ -9,9 +9,9 @@ use Rattle.trigram.proofs.analysis.both_loose.Goals as goal
 pub returns : goal.returns
 returns c =
     IfOk-weaker c.settle_loose.result _ _ (λ ends h.
-    both_loose_stands c.args.left.nullable c.args.right.nullable _ (texts_of c.args.left.fronts.items)
-    (texts_of c.args.left.backs.items) (texts_of c.args.right.fronts.items) (texts_of c.args.right.backs.items)
-    (texts_of c.in_ok-fronts.fronts.items) (texts_of c.in_ok-backs.backs.items) (is_met (formula_of c.args.left.condition))
+    both_loose_stands c.args.left.nullable c.args.right.nullable _ (texts_of c.args.left.prefixes.items)
+    (texts_of c.args.left.suffixes.items) (texts_of c.args.right.prefixes.items) (texts_of c.args.right.suffixes.items)
+    (texts_of c.in_ok-prefixes.prefixes.items) (texts_of c.in_ok-suffixes.suffixes.items) (is_met (formula_of c.args.left.condition))
     (is_met (formula_of c.args.right.condition)) (is_met (formula_of c.in_ok-condition.condition)) ends (grind arith) (grind arith)
     (grind arith) (λ set.
     c.in_ok-condition.ensures.met set

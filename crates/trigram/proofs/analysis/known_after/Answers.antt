@@ -8,6 +8,6 @@ use Rattle.trigram.proofs.analysis.known_after.Goals as goal
 pub returns : goal.returns
 returns c =
     IfOk-weaker c.settle_loose.result _ _ (λ ends h.
-    known_after_stands (texts_of c.args.texts.items) (texts_of c.args.ends.fronts.items) (texts_of c.args.ends.backs.items)
-    (texts_of c.in_ok-fronts.fronts.items) (texts_of c.in_ok-backs.backs.items) c.args.ends.nullable _
+    known_after_stands (texts_of c.args.texts.items) (texts_of c.args.ends.prefixes.items) (texts_of c.args.ends.suffixes.items)
+    (texts_of c.in_ok-prefixes.prefixes.items) (texts_of c.in_ok-suffixes.suffixes.items) c.args.ends.nullable _
     (is_met (formula_of c.args.ends.condition)) ends (grind arith) (grind arith) (grind arith) h) c.settle_loose.ensures

@@ -8,18 +8,18 @@ use Rattle.tsearch.proofs.drive.drive.Goals as goal
 
 pub loop-item-init : goal.loop-item-init
 loop-item-init g c =
-    let started = c.in_ok-session.ensures in
-    let fresh = started.session in
+    let started = c.in_ok-progress.ensures in
+    let fresh = started.progress in
     let rest = ap (λ p. length p.rest) c.new-items.ensures in
     record {
       run =
           rw c.new-items.ensures
           (run_begins (g.S.Source.holds c.args.source.now) c.args.plan.now.options c.args.plan.now.searches.now
           c.args.plan.now.script.now (g.S.Source.failed c.args.source.now) c.args.desk.now.opening c.start.new.desk
-          c.in_ok-session.session (c.start.ensures.desk ∙ c.requires.desk) fresh);
+          c.in_ok-progress.progress (c.start.ensures.desk ∙ c.requires.desk) fresh);
       opening = (fresh.reading ∙ sym (ap (λ k. k.opening) fresh.told), ap (λ k. k.opening) fresh.told ∙ sym (ap (λ d. d.opening) c.start.ensures.desk));
       readers =
-          subst (λ o. All (IsReader o c.args.plan.now.searches.now) c.in_ok-session.readers.items)
+          subst (λ o. All (IsReader o c.args.plan.now.searches.now) c.in_ok-progress.readers.items)
           (sym (ap (λ d. d.opening) c.start.ensures.desk)) started.readers;
       count = (omega (arith, ap length fresh.settled.lasts, length-replicate (c.args.plan.now.options.readers + 1) (last 0 0), started.count), started.count);
       few = omega (arith, fresh.searches, rest, c.requires.script);
@@ -37,8 +37,8 @@ loop-item-preserved g c =
       run =
           run_goes_on (g.S.Source.holds c.args.source.now) (g.S.Source.holds c.loop-item.source) (λ path body. (old.held path body).0)
           c.args.plan.now.options c.args.plan.now.searches.now c.args.plan.now.script.now (g.S.Source.failed c.args.source.now)
-          c.loop-item.desk c.loop-item.session c.loop-item.items (g.S.Source.failed c.loop-item.source) _ c.next_item.new.self
-          c.advance.new.desk (g.S.Source.failed c.advance.new.source) c.advance.new.session old.run c.in-Some.ensures.item step.ok;
+          c.loop-item.desk c.loop-item.progress c.loop-item.items (g.S.Source.failed c.loop-item.source) _ c.next_item.new.self
+          c.advance.new.desk (g.S.Source.failed c.advance.new.source) c.advance.new.progress old.run c.in-Some.ensures.item step.ok;
       opening = (step.kept.reading, step.kept.told);
       readers = subst (λ o. All (IsReader o c.args.plan.now.searches.now) c.advance.new.readers.items) (sym step.kept.same) step.readers;
       count = (omega (arith, step.kept.lasts, step.count, old.count.0), step.count ∙ old.count.1);
@@ -56,7 +56,7 @@ loop-item-preserved g c =
 pub returns-clause-legal : goal.returns-clause-legal
 returns-clause-legal g c =
     run_is_legal (g.S.Source.holds c.args.source.now) c.args.plan.now.options c.args.plan.now.searches.now c.args.plan.now.script.now
-    (g.S.Source.failed c.args.source.now) c.loop-item.desk c.loop-item.session c.loop-item.items (g.S.Source.failed c.loop-item.source)
+    (g.S.Source.failed c.args.source.now) c.loop-item.desk c.loop-item.progress c.loop-item.items (g.S.Source.failed c.loop-item.source)
     c.settle.new.self c.requires.searches c.loop-item.invariant.run c.in_default.ensures.item c.in_ok-settle.ensures.ok
 
 pub returns-clause-same : goal.returns-clause-same

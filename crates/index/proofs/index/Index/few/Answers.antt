@@ -13,7 +13,7 @@ loop-number-preserved c =
     let is = c.self.invariant.is_state in
     let absent : document_at c.in-Some.number ds ≡ None =
     sym (ap (λ xs. document_at c.in-Some.number (documents_in xs)) c.deref.ensures.value)
-    ∙ (sym c.entry_at.ensures ∙ ap (option_map (λ e. texts_of e.now)) c.in_default.is) in
+    ∙ (sym c.occupant_at.ensures ∙ ap (option_map (λ e. texts_of e.now)) c.in_default.is) in
     record {
       passed =
           passed-more c.args.chosen.now.members c.loop-number.yielded c.loop-number.number-iterator c.next.new.self c.in-Some.number
@@ -29,17 +29,17 @@ pub loop-number-preserved-in_ok-insert : goal.loop-number-preserved-in_ok-insert
 loop-number-preserved-in_ok-insert c =
     let ds = stored c.self.inside.store in
     let is = c.self.invariant.is_state in
-    let entry = c.in-Some-entry_at.entry.now in
-    let at : document_at c.in-Some.number ds ≡ Some (entry.name, entry.held) =
+    let occupant = c.in-Some-occupant_at.occupant.now in
+    let at : document_at c.in-Some.number ds ≡ Some (occupant.name, occupant.held) =
     sym (ap (λ xs. document_at c.in-Some.number (documents_in xs)) c.deref.ensures.value)
-    ∙ (sym c.entry_at.ensures ∙ ap (option_map (λ e. texts_of e.now)) c.in-Some-entry_at.is) in
+    ∙ (sym c.occupant_at.ensures ∙ ap (option_map (λ e. texts_of e.now)) c.in-Some-occupant_at.is) in
     record {
       passed =
           passed-more c.args.chosen.now.members c.loop-number.yielded c.loop-number.number-iterator c.next.new.self c.in-Some.number
           c.loop-number.invariant.passed c.in-Some.ensures.steps;
       kept = λ q.
-          inserted c.loop-number.few c.insert.new.self entry.name c.in-Some.number c.in_ok-insert.ensures.updates.0 q
-          ∙ (ap (λ found. cond (bytes_eq entry.name q.now) (Some c.in-Some.number) found) (c.loop-number.invariant.kept q)
+          inserted c.loop-number.few c.insert.new.self occupant.name c.in-Some.number c.in_ok-insert.ensures.updates.0 q
+          ∙ (ap (λ found. cond (bytes_eq occupant.name q.now) (Some c.in-Some.number) found) (c.loop-number.invariant.kept q)
           ∙ few-more ds (numbered c.self.inside.version ds is) (named c.self.inside.version ds is) c.loop-number.yielded c.in-Some.number
-          entry.name entry.held at q.now);
+          occupant.name occupant.held at q.now);
     }

@@ -14,13 +14,13 @@ put_in-requires-clause-above c =
     let old = c.args.self.now in
     let last = c.requires.store.0 in
     let kept = c.requires.store.1 in
-    IsNew-above (stored old) last c.args.number c.args.entry.held c.trigrams.result.now old.sets kept.sets
+    IsNew-above (stored old) last c.args.number c.args.occupant.held c.trigrams.result.now old.sets kept.sets
     (numbers_at_most last old.slots.items kept.slots) c.requires.store.2 c.trigrams.ensures.trigrams
 
 pub returns-clause-documents : goal.returns-clause-documents
 returns-clause-documents c =
     ap documents_in c.push_reserved.ensures.items
-    ∙ documents_in-push c.args.self.now.slots.items (record { number = c.args.number; entry = Some c.args.entry })
+    ∙ documents_in-push c.args.self.now.slots.items (record { number = c.args.number; occupant = Some c.args.occupant })
 
 pub returns-clause-store : goal.returns-clause-store
 returns-clause-store c =
@@ -28,26 +28,26 @@ returns-clause-store c =
     let last = c.requires.store.0 in
     let kept = c.requires.store.1 in
     let above = c.requires.store.2 in
-    let d = document c.args.number c.args.entry.name c.args.entry.held in
+    let d = document c.args.number c.args.occupant.name c.args.occupant.held in
     let documents : documents_in c.push_reserved.new.self.items ≡ stored old ++ d ∷ [] =
     ap documents_in c.push_reserved.ensures.items
-    ∙ documents_in-push old.slots.items (record { number = c.args.number; entry = Some c.args.entry }) in
-    let size : length c.as_bytes.result.now ≡ length c.args.entry.held = ap length (c.as_bytes.ensures.bytes ∙ c.body.ensures) in
-    let bytes : body_bytes (documents_in c.push_reserved.new.self.items) ≡ body_bytes (stored old) + length c.args.entry.held =
+    ∙ documents_in-push old.slots.items (record { number = c.args.number; occupant = Some c.args.occupant }) in
+    let size : length c.as_bytes.result.now ≡ length c.args.occupant.held = ap length (c.as_bytes.ensures.bytes ∙ c.body.ensures) in
+    let bytes : body_bytes (documents_in c.push_reserved.new.self.items) ≡ body_bytes (stored old) + length c.args.occupant.held =
     ap body_bytes documents ∙ body_bytes-push (stored old) d in
     let more_slots : length c.push_reserved.new.self.items ≡ length old.slots.items + 1 =
-    ap length c.push_reserved.ensures.items ∙ length-append old.slots.items (record { number = c.args.number; entry = Some c.args.entry } ∷ []) in
+    ap length c.push_reserved.ensures.items ∙ length-append old.slots.items (record { number = c.args.number; occupant = Some c.args.occupant } ∷ []) in
     let more_documents : length (documents_in c.push_reserved.new.self.items) ≡ length (stored old) + 1 =
     ap length documents ∙ length-append (stored old) (d ∷ []) in
     let fresh = document_at-above c.args.number last (stored old) (numbers_at_most last old.slots.items kept.slots) above in
     record {
       slots =
           subst (RiseTo c.args.number) (sym c.push_reserved.ensures.items)
-          (RiseTo-push last old.slots.items (record { number = c.args.number; entry = Some c.args.entry }) kept.slots above);
+          (RiseTo-push last old.slots.items (record { number = c.args.number; occupant = Some c.args.occupant }) kept.slots above);
       few = omega (arith, more_slots, more_documents, kept.few);
       sets =
           subst (λ ds. AreSetsOf ds c.put_in.new.self) (sym documents)
-          (AreSetsOf-put (stored old) c.args.number c.args.entry.name c.args.entry.held c.trigrams.result.now old.sets c.put_in.new.self
+          (AreSetsOf-put (stored old) c.args.number c.args.occupant.name c.args.occupant.held c.trigrams.result.now old.sets c.put_in.new.self
           kept.sets fresh c.trigrams.ensures.trigrams c.put_in.ensures.live c.put_in.ensures.postings);
       bytes = omega (arith, size, bytes, kept.bytes);
     }

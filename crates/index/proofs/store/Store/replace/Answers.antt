@@ -16,5 +16,5 @@ returns-else-old-number-clause-documents c =
     c.requires.store.2 in
     let same = without-absent_number c.args.number (stored old) absent in
     c.put_in.ensures.documents
-    ∙ ap (λ ds. ds ++ document c.args.number c.args.entry.name c.args.entry.held ∷ [])
+    ∙ ap (λ ds. ds ++ document c.args.number c.args.occupant.name c.args.occupant.held ∷ [])
     (sym (ap (λ n. left_after n (stored old)) (c.in-Some.is ∙ ap Some c.if-old-number.false) ∙ same))

@@ -12,23 +12,24 @@ pub overflow_sub-self : goal.overflow_sub-self
 overflow_sub-self c =
     let old = c.args.self.now in
     let kept = c.requires.1 in
-    let size : length c.as_bytes.result.now ≡ length c.in-Some.entry.held = ap length (c.as_bytes.ensures.bytes ∙ c.body.ensures) in
+    let size : length c.as_bytes.result.now ≡ length c.in-Some.occupant.held = ap length (c.as_bytes.ensures.bytes ∙ c.body.ensures) in
     let bytes =
-    body_bytes-without c.args.number (stored old) c.in-Some.entry.name c.in-Some.entry.held
-    (Numbered-stored c.requires.0 old.slots.items kept.slots) (sym c.in-Some.ensures.entry) in
+    body_bytes-without c.args.number (stored old) c.in-Some.occupant.name c.in-Some.occupant.held
+    (Numbered-stored c.requires.0 old.slots.items kept.slots) (sym c.in-Some.ensures.occupant) in
     omega (arith, size, bytes, kept.bytes)
 
 pub returns-in-Some-clause-store : goal.returns-in-Some-clause-store
 returns-in-Some-clause-store c = λ last kept.
     let old = c.args.self.now in
-    let at = sym c.in-Some.ensures.entry in
-    let size : length c.as_bytes.result.now ≡ length c.in-Some.entry.held = ap length (c.as_bytes.ensures.bytes ∙ c.body.ensures) in
-    let bytes = body_bytes-without c.args.number (stored old) c.in-Some.entry.name c.in-Some.entry.held (Numbered-stored last old.slots.items kept.slots) at in
+    let at = sym c.in-Some.ensures.occupant in
+    let size : length c.as_bytes.result.now ≡ length c.in-Some.occupant.held = ap length (c.as_bytes.ensures.bytes ∙ c.body.ensures) in
+    let bytes = body_bytes-without c.args.number (stored old) c.in-Some.occupant.name c.in-Some.occupant.held
+    (Numbered-stored last old.slots.items kept.slots) at in
     let documents : documents_in c.compact.new.slots.items ≡ without_number c.args.number (stored old) =
     c.compact.ensures.documents ∙ c.take.ensures.documents in
     let left : body_bytes (documents_in c.compact.new.slots.items) ≡ body_bytes (without_number c.args.number (stored old)) = ap body_bytes documents in
     let sets =
-    AreSetsOf-take (stored old) c.args.number c.in-Some.entry.name c.in-Some.entry.held c.trigrams.result.now old.sets
+    AreSetsOf-take (stored old) c.args.number c.in-Some.occupant.name c.in-Some.occupant.held c.trigrams.result.now old.sets
     c.take_out.new.self kept.sets at c.trigrams.ensures.trigrams c.take_out.ensures.live c.take_out.ensures.postings in
     let counted : c.len.result ≡ length (documents_in c.take.new.slots.items) =
     c.len.ensures ∙ ap length sets.live ∙ length-map (without_number c.args.number (stored old)) (λ d. d.number)
@@ -43,7 +44,7 @@ returns-in-Some-clause-store c = λ last kept.
 pub returns-in_default-clause-store : goal.returns-in_default-clause-store
 returns-in_default-clause-store c = λ last kept.
     let old = c.args.self.now in
-    let absent = sym c.take.ensures.entry ∙ ap (option_map texts_of) c.in_default.is in
+    let absent = sym c.take.ensures.occupant ∙ ap (option_map texts_of) c.in_default.is in
     let documents : documents_in c.take.new.slots.items ≡ stored old = c.take.ensures.documents ∙ without-absent_number c.args.number (stored old) absent in
     let same_slots : length c.take.new.slots.items ≡ length old.slots.items =
     sym (length-map c.take.new.slots.items (λ s. s.number)) ∙ ap length c.take.ensures.numbers ∙ length-map old.slots.items (λ s. s.number) in

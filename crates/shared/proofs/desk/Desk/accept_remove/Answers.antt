@@ -1,6 +1,6 @@
 use Rattle.std.proofs.Common.{◌≡◌, ◌<◌, drop, sym, ap, subst, arith}
 use Rattle.index.specs.declared.command.Command.TheVariants.{Remove}
-use Rattle.shared.specs.declared.shelf.Edit.TheVariants as edit
+use Rattle.shared.specs.declared.shelf.Update.TheVariants as update
 use Rattle.shared.specs.Private.Shelf.{command_of}
 use Rattle.shared.specs.Desk.{HasRoom}
 use Rattle.shared.specs.Private.DeskParts.{accepted_of}
@@ -12,7 +12,7 @@ invariant_of-self-2 c =
     let i = c.self.inside in
     let w = i.writer in
     let w' = c.append.new.writer in
-    let new = edit.Remove c.in_ok-copy.field-0 in
+    let new = update.Remove c.in_ok-copy.field-0 in
     let room = subst HasRoom (sym c.self.view_is) c.requires in
     let few : i.accepted < i.limit = omega (arith, room, c.self.invariant.counted) in
     desk_goes_on w.desk.shown.value w'.desk.shown.value (drop w.behind w.log.items) (drop w'.behind w'.log.items) i.head i.front i.names
@@ -26,7 +26,7 @@ returns-clause-ok c =
     let i = c.self.inside in
     let w = i.writer in
     let w' = c.append.new.writer in
-    let new = edit.Remove c.in_ok-copy.field-0 in
+    let new = update.Remove c.in_ok-copy.field-0 in
     let is : command_of new ≡ Remove c.args.name.now = cc (c.in_ok-copy.ensures) in
     desk_with i.front i.limit w.desk.shown.value w'.desk.shown.value (drop w.behind w.log.items) (drop w'.behind w'.log.items) new
     (Remove c.args.name.now) c.args.self.now

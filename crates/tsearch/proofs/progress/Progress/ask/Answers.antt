@@ -1,11 +1,11 @@
 use Rattle.std.proofs.Common.{Some, None, refl}
-use Rattle.tsearch.specs.Private.Sessions as sessions
-use Rattle.tsearch.proofs.session.Session.ask.Goals as goal
+use Rattle.tsearch.specs.Private.Progress as steps
+use Rattle.tsearch.proofs.progress.Progress.ask.Goals as goal
 
 pub returns-in_ok-push_back-in-Some-Some : goal.returns-in_ok-push_back-in-Some-Some
 returns-in_ok-push_back-in-Some-Some c = record {
   entry = None;
-  is = sessions.asked;
+  is = steps.asked;
   no_sync = λ same. cc;
   pending = c.in_ok-push_back-in-Some-Some.ensures.items;
   searches = refl;
@@ -18,7 +18,7 @@ returns-in_ok-push_back-in-Some-Some c = record {
 pub returns-in_ok-push_back-in_default : goal.returns-in_ok-push_back-in_default
 returns-in_ok-push_back-in_default c = record {
   entry = Some _;
-  is = sessions.refused c.reason_of_refusal-reason.result c.reason_of_refusal-reason.ensures;
+  is = steps.refused c.reason_of_refusal-reason.result c.reason_of_refusal-reason.ensures;
   no_sync = λ same. cc;
   pending = c.in_ok-push_back-in_default.ensures.items;
   searches = refl;

@@ -5,9 +5,9 @@ use Rattle.search.specs.declared.pattern.Prepared.{Prepared}
 use Rattle.shared.specs.Desk.{DeskState}
 use Rattle.shared.specs.History.{Known, known}
 use Rattle.logbook.specs.Pages.{Book}
-use Rattle.tsearch.specs.declared.session.Session.{Session}
-use Rattle.tsearch.specs.declared.session.Step.{Step}
-use Rattle.tsearch.specs.declared.session.Step.TheVariants as step
+use Rattle.tsearch.specs.declared.progress.Progress.{Progress}
+use Rattle.tsearch.specs.declared.progress.Step.{Step}
+use Rattle.tsearch.specs.declared.progress.Step.TheVariants as step
 use Rattle.tsearch.specs.declared.settled.Settled.{Settled}
 use Rattle.tsearch.specs.declared.settled.Last.{Last}
 use Rattle.tsearch.specs.declared.transcript.Entry.{Entry}
@@ -29,13 +29,13 @@ pub record IsFresh (readers : ℕ) (settled : Settled) : Type 0 where
   pub lasts : settled.lasts.items ≡ replicate readers (last 0 0)
 
 -- A run before its first item: only version 0 was told of.
-pub record IsStart (opening : Book) (readers : ℕ) (session : Session) : Type 0 where
-  pub told : session.told ≡ known opening []
-  pub reading : session.reading.opening ≡ opening
-  pub versions : session.versions.items ≡ 0 ∷ []
-  pub searches : session.searches ≡ 0
-  pub pending : session.pending.items ≡ []
-  pub settled : IsFresh (readers + 1) session.settled
+pub record IsStart (opening : Book) (readers : ℕ) (progress : Progress) : Type 0 where
+  pub told : progress.told ≡ known opening []
+  pub reading : progress.reading.opening ≡ opening
+  pub versions : progress.versions.items ≡ 0 ∷ []
+  pub searches : progress.searches ≡ 0
+  pub pending : progress.pending.items ≡ []
+  pub settled : IsFresh (readers + 1) progress.settled
 
 -- What an item adds to the pending entries: its entry, or `None` if it is an open search.
 pub data IsPended (Holds : List ℕ → List ℕ → Type 0) (desk : DeskState) (told : Known) (failed number : ℕ) (item : Numbered) : Option Entry
@@ -53,8 +53,8 @@ abbrev pub AreListed : List ℕ → Option Entry → List ℕ → Type 0
 AreListed versions entry versions' = (version : ℕ) → Contains versions' version → Contains versions version ⊎ Contains (version_in entry) version
 
 -- One more item is pending.
-pub record Pends (Holds : List ℕ → List ℕ → Type 0) (desk : DeskState) (failed : ℕ) (old : Session) (item : Numbered) (desk' : DeskState)
-    (failed' : ℕ) (new : Session) : Type 0 where
+pub record Pends (Holds : List ℕ → List ℕ → Type 0) (desk : DeskState) (failed : ℕ) (old : Progress) (item : Numbered) (desk' : DeskState)
+    (failed' : ℕ) (new : Progress) : Type 0 where
   pub entry : Option Entry
   pub is : IsPended Holds desk old.told failed (old.searches + 1) item entry desk' new.told failed'
   pub pending : new.pending.items ≡ old.pending.items ++ entry ∷ []
@@ -68,7 +68,7 @@ pub data IsPendingSearch (number : ℕ) (item : Item) : Option Entry → Type 0 
   refused : (why : SearchReason) → IsReasonOfRefusal item why → IsPendingSearch number item (Some (SearchRefused number why))
   asked : IsPendingSearch number item None
 
-pub record IsAsked (old : Session) (item : Item) (next : Step) (new : Session) : Type 0 where
+pub record IsAsked (old : Progress) (item : Item) (next : Step) (new : Progress) : Type 0 where
   pub entry : Option Entry
   pub is : IsPendingSearch (old.searches + 1) item entry
   pub no_sync : next ≢ step.Sync
@@ -80,13 +80,13 @@ pub record IsAsked (old : Session) (item : Item) (next : Step) (new : Session) :
   pub reading : new.reading ≡ old.reading
 
 -- The item was taken. A sync leaves everything as it was.
-pub data IsStep (Holds : List ℕ → List ℕ → Type 0) (desk : DeskState) (failed : ℕ) (old : Session) (item : Numbered) (next : Step)
-    (desk' : DeskState) (failed' : ℕ) (new : Session) : Type 0 where
+pub data IsStep (Holds : List ℕ → List ℕ → Type 0) (desk : DeskState) (failed : ℕ) (old : Progress) (item : Numbered) (next : Step)
+    (desk' : DeskState) (failed' : ℕ) (new : Progress) : Type 0 where
   taken : next ≢ step.Sync → Pends Holds desk failed old item desk' failed' new → IsStep Holds desk failed old item next desk' failed' new
   left : next ≡ step.Sync → is_sync item.item ≡ true → desk' ≡ desk → failed' ≡ failed → new ≡ old → IsStep Holds desk failed old item next desk' failed' new
 
 -- What was pending first is settled: its entry as it is, or, if it is an open search, the entry that it is closed with.
-pub data SettlesNext (searches : List (Option Prepared)) (old : Session) (entry : Option Entry) (new : Session) : Type 0 where
+pub data SettlesNext (searches : List (Option Prepared)) (old : Progress) (entry : Option Entry) (new : Progress) : Type 0 where
   ready : (settled : Entry) → entry ≡ Some settled → new.settled.entries.items ≡ old.settled.entries.items ++ settled ∷ []
       → tally_of new.settled ≡ tally_with settled old.settled.lasts.items (tally_of old.settled) → SettlesNext searches old entry new
   closed : (settled : Entry) (lasts : List Last) → entry ≡ None → new.settled.entries.items ≡ old.settled.entries.items ++ settled ∷ []
@@ -94,7 +94,7 @@ pub data SettlesNext (searches : List (Option Prepared)) (old : Session) (entry 
       → tally_of new.settled ≡ tally_with settled lasts (tally_of old.settled) → SettlesNext searches old entry new
 
 -- Everything that was pending is settled.
-pub record IsSettled (searches : List (Option Prepared)) (old new : Session) : Type 0 where
+pub record IsSettled (searches : List (Option Prepared)) (old new : Progress) : Type 0 where
   pub entries : List Entry
   pub settles : Settles searches old.told.commands old.versions.items (tally_of old.settled) old.pending.items entries (tally_of new.settled)
   pub settled : new.settled.entries.items ≡ old.settled.entries.items ++ entries
@@ -105,15 +105,15 @@ pub record IsSettled (searches : List (Option Prepared)) (old new : Session) : T
 
 -- A run went on by one item. Without readers everything is then settled; with readers it can stay pending until a sync.
 pub data Advances (Holds : List ℕ → List ℕ → Type 0) (searches : List (Option Prepared)) (readers : ℕ) (desk : DeskState) (failed : ℕ)
-    (old : Session) (item : Numbered) (desk' : DeskState) (failed' : ℕ) (new : Session) : Type 0 where
+    (old : Progress) (item : Numbered) (desk' : DeskState) (failed' : ℕ) (new : Progress) : Type 0 where
   synced : is_sync item.item ≡ true → desk' ≡ desk → failed' ≡ failed → IsSettled searches old new
       → Advances Holds searches readers desk failed old item desk' failed' new
   pended : readers ≢ 0 → Pends Holds desk failed old item desk' failed' new → Advances Holds searches readers desk failed old item desk' failed' new
-  settled : (mid : Session) → Pends Holds desk failed old item desk' failed' mid → IsSettled searches mid new
+  settled : (mid : Progress) → Pends Holds desk failed old item desk' failed' mid → IsSettled searches mid new
       → Advances Holds searches readers desk failed old item desk' failed' new
 
 -- What holds from item to item: everything is of one opening, and each item adds one search at most.
-pub record IsKept (desk : DeskState) (old : Session) (desk' : DeskState) (new : Session) : Type 0 where
+pub record IsKept (desk : DeskState) (old : Progress) (desk' : DeskState) (new : Progress) : Type 0 where
   pub reading : new.reading.opening ≡ new.told.opening
   pub told : new.told.opening ≡ desk'.opening
   pub same : desk'.opening ≡ desk.opening

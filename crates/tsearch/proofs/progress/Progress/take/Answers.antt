@@ -1,7 +1,7 @@
 use Rattle.std.proofs.Common.{refl}
-use Rattle.tsearch.specs.Private.Sessions.{taken}
-use Rattle.tsearch.proofs.SessionLemmas.{entered_pends, asked_pends}
-use Rattle.tsearch.proofs.session.Session.take.Goals as goal
+use Rattle.tsearch.specs.Private.Progress.{taken}
+use Rattle.tsearch.proofs.ProgressLemmas.{entered_pends, asked_pends}
+use Rattle.tsearch.proofs.progress.Progress.take.Goals as goal
 
 pub returns-in_ok-push_back-in-Entry-clause-ok : goal.returns-in_ok-push_back-in-Entry-clause-ok
 returns-in_ok-push_back-in-Entry-clause-ok g c =

@@ -3,7 +3,7 @@
 ghost use Rattle.std.specs.Prelude.{◌≡◌, IfOk, IfErr, IfSome, IfNone, IsNone, map, string_bytes};
 ghost use Rattle.std.specs.Io.KnownBytes.{Appends};
 ghost use Rattle.cli.specs.CommandLine.{AreRefused, IsInLimits};
-ghost use Rattle.program.specs.Answer.{IsAnswer, IsFailure, IsFailureOfRun, IsRunOf};
+ghost use Rattle.program.specs.Response.{IsResponse, IsFailure, IsFailureOfRun, IsRunOf};
 
 use crate::disk::Disk;
 use crate::error::ProgramError;
@@ -20,7 +20,7 @@ use std::thread::Threads;
 use tsearch::run::run;
 use tsearch::{Gate, Options, Point};
 
-/// The status if an argument is refused, or the program has no answer or cannot write it.
+/// The status if an argument is refused, or the program has no response or cannot write it.
 const REFUSED: u8 = 2;
 
 /// Does what the arguments ask for and returns the status: that of the run or session (0, 1 or 2), 0 for the help, or
@@ -31,7 +31,7 @@ const REFUSED: u8 = 2;
 /// items come, and the help if the arguments ask for that. Afterwards the writer is returned; nothing else has been
 /// written to it. If the program cannot do this, it says why on standard error and returns no writer; a part may have
 /// been written. If standard error fails too, only the status shows it.
-#[tactic(auto, using(crate::proofs::AnswerLemmas::refused_have_none))]
+#[tactic(auto, using(crate::proofs::ResponseLemmas::refused_have_none))]
 pub fn respond<R: Eprint + Threads + Wait + Sync, D: Disk, I: Read + Drop, O: Write + Drop>(
     rt: &R,
     alloc: Global,
@@ -40,19 +40,19 @@ pub fn respond<R: Eprint + Threads + Wait + Sync, D: Disk, I: Read + Drop, O: Wr
     input: I,
     out: O,
 ) -> (u8, Option<O>)
-    ensures answered { IfSome result.1 (λ written. IsAnswer (map string_bytes arguments.now)
+    ensures responded { IfSome result.1 (λ written. IsResponse (map string_bytes arguments.now)
         (D.opens source.old.disk.now) (I.remaining input) source.old.failures source.new.failures
         (O.contents out) (O.contents written) result.0) }
     ensures failed { IfNone result.1 (result.0 ≡ 2) }
     ensures refused { AreRefused (map string_bytes arguments.now) → IsNone result.1 }
 {
-    match answer(rt, alloc, arguments, source, input, out) {
+    match response(rt, alloc, arguments, source, input, out) {
         Ok((status, written)) => (status, Some(written)),
         Err(error) => (report(rt, &error), None),
     }
 }
 
-/// Says on standard error why there is no answer, and returns the status for that, 2.
+/// Says on standard error why there is no response, and returns the status for that, 2.
 pub fn report<R: Eprint>(rt: &R, error: &ProgramError) -> u8
     ensures { result ≡ 2 }
 {
@@ -65,8 +65,8 @@ pub fn report<R: Eprint>(rt: &R, error: &ProgramError) -> u8
 }
 
 /// Does what the arguments ask for. Returns the status, and the writer with what was written.
-#[tactic(auto, using(crate::proofs::AnswerLemmas::run_fails, crate::proofs::AnswerLemmas::help_answers, crate::proofs::AnswerLemmas::help_fails))]
-fn answer<R: Threads + Wait + Sync, D: Disk, I: Read + Drop, O: Write + Drop>(
+#[tactic(auto, using(crate::proofs::ResponseLemmas::run_fails, crate::proofs::ResponseLemmas::help_responds, crate::proofs::ResponseLemmas::help_fails))]
+fn response<R: Threads + Wait + Sync, D: Disk, I: Read + Drop, O: Write + Drop>(
     rt: &R,
     alloc: Global,
     arguments: &[String],
@@ -74,8 +74,8 @@ fn answer<R: Threads + Wait + Sync, D: Disk, I: Read + Drop, O: Write + Drop>(
     input: I,
     out: O,
 ) -> Result<(u8, O), ProgramError>
-    ensures answered { IfOk result (λ answered. IsAnswer (map string_bytes arguments.now) (D.opens source.old.disk.now) (I.remaining input)
-        source.old.failures source.new.failures (O.contents out) (O.contents answered.1) answered.0) }
+    ensures responded { IfOk result (λ responded. IsResponse (map string_bytes arguments.now) (D.opens source.old.disk.now) (I.remaining input)
+        source.old.failures source.new.failures (O.contents out) (O.contents responded.1) responded.0) }
     ensures failed { IfErr result (IsFailure (map string_bytes arguments.now)) }
 {
     match read_arguments(alloc, arguments) {
@@ -89,7 +89,7 @@ fn answer<R: Threads + Wait + Sync, D: Disk, I: Read + Drop, O: Write + Drop>(
 }
 
 /// Writes the help. The status is 0.
-#[tactic(auto, using(crate::proofs::AnswerLemmas::written_and_kept))]
+#[tactic(auto, using(crate::proofs::ResponseLemmas::written_and_kept))]
 fn show_help<O: Write + Drop>(mut out: O) -> Result<(u8, O), ProgramError>
     ensures shown { IfOk result (λ shown. (shown.0 ≡ 0) × Appends (O.contents out) (O.contents shown.1) HELP.now) }
     ensures failed { IfErr result (λ error. error ≡ ProgramError.CannotWrite) }

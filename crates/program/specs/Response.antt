@@ -1,4 +1,4 @@
--- What the program answers to its arguments.
+-- What the program does in response to its arguments.
 use Rattle.std.specs.Prelude.{◌≡◌, ◌⊎◌, ℕ, List, [], Option, true, false, ⊤}
 use Rattle.std.specs.Io.KnownBytes.{Appends}
 use Rattle.cli.specs.CommandLine.{AskForHelp, IsRefusalOf, SpellSettings, faults_of}
@@ -43,13 +43,13 @@ pub record IsSessionOf (opens : List ℕ → Option (List ℕ) → Type 0) (inpu
 
 -- Arguments that spell settings lead to their run, or to their session if they ask for one, and arguments that ask for
 -- the help lead to the help and 0.
-pub data IsAnswer (arguments : List (List ℕ)) (opens : List ℕ → Option (List ℕ) → Type 0) (input : Option (List ℕ)) (failed failed' : ℕ)
+pub data IsResponse (arguments : List (List ℕ)) (opens : List ℕ → Option (List ℕ) → Type 0) (input : Option (List ℕ)) (failed failed' : ℕ)
     (old new : Option (List ℕ)) (status : ℕ) : Type 0 where
   ran : (settings : Settings) → SpellSettings arguments settings → settings.live ≡ false
-      → IsRunOf opens input failed failed' old new settings status → IsAnswer arguments opens input failed failed' old new status
+      → IsRunOf opens input failed failed' old new settings status → IsResponse arguments opens input failed failed' old new status
   served : (settings : Settings) → SpellSettings arguments settings → settings.live ≡ true
-      → IsSessionOf opens input failed failed' old new settings status → IsAnswer arguments opens input failed failed' old new status
-  helped : AskForHelp arguments → Appends old new HELP.now → status ≡ 0 → IsAnswer arguments opens input failed failed' old new status
+      → IsSessionOf opens input failed failed' old new settings status → IsResponse arguments opens input failed failed' old new status
+  helped : AskForHelp arguments → Appends old new HELP.now → status ≡ 0 → IsResponse arguments opens input failed failed' old new status
 
 -- The errors with which a run or a session can end.
 abbrev pub IsFailureOfRun : ProgramError → Type 0

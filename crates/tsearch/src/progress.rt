@@ -1,4 +1,4 @@
-//! A run, from item to item.
+//! How far a run is, from item to item.
 
 ghost use Rattle.std.specs.Prelude.{◌≡◌, ℕ, ◌+◌, ◌<◌, ◌^◌, List, [], ◌∷◌, ◌++◌, OnOk, IfOk, IfSome, Some, ◌≤◌, All, Contains, length};
 ghost use Rattle.index.specs.State.{state_of};
@@ -29,7 +29,7 @@ use std::thread::Threads;
 /// Entries are in the order of their items. An open search has no entry yet; it and the entries after it are pending
 /// until it is settled.
 #[derive(Drop)]
-pub struct Session {
+pub struct Progress {
     /// What was published last.
     pub told: Told,
     /// 0, and then the versions that were published, rising.
@@ -55,8 +55,8 @@ pub enum Step {
     Sync,
 }
 
-impl Session {
-    ghost use Rattle.tsearch.specs.Private.Sessions.{IsFresh, IsStep, IsSettled, IsAsked, AreListed, SettlesNext};
+impl Progress {
+    ghost use Rattle.tsearch.specs.Private.Progress.{IsFresh, IsStep, IsSettled, IsAsked, AreListed, SettlesNext};
     ghost use Rattle.tsearch.specs.Private.Readers.{IsReader};
 
     /// A run before its first item, with `readers` readers in addition to reader 0. An `Err` means that memory ran out.
@@ -65,13 +65,13 @@ impl Session {
         told: Told,
         reading: Reading,
         readers: u32,
-    ) -> Result<Session, AllocError>
+    ) -> Result<Progress, AllocError>
         requires { readers ≤ 16 }
-        ensures told { IfOk result (λ session. (session.told ≡ told) × (session.reading ≡ reading)) }
-        ensures empty { IfOk result (λ session. (session.versions.items ≡ 0 ∷ []) × (session.searches ≡ 0) × (session.pending.items ≡ [])) }
-        ensures settled { IfOk result (λ session. IsFresh (readers + 1) session.settled) }
+        ensures told { IfOk result (λ progress. (progress.told ≡ told) × (progress.reading ≡ reading)) }
+        ensures empty { IfOk result (λ progress. (progress.versions.items ≡ 0 ∷ []) × (progress.searches ≡ 0) × (progress.pending.items ≡ [])) }
+        ensures settled { IfOk result (λ progress. IsFresh (readers + 1) progress.settled) }
     {
-        Ok(Session {
+        Ok(Progress {
             told,
             versions: vec![in alloc; 0]?,
             searches: 0,

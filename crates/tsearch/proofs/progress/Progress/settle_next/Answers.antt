@@ -1,8 +1,8 @@
 use Rattle.std.proofs.Common.{◌+◌, ap, subst}
 use Rattle.std.proofs.lemmas.Result.{on_ok_weaker}
 use Rattle.tsearch.specs.Private.Tallies.{IsClosed}
-use Rattle.tsearch.proofs.SessionLemmas.{settled_ready, settled_closed}
-use Rattle.tsearch.proofs.session.Session.settle_next.Goals as goal
+use Rattle.tsearch.proofs.ProgressLemmas.{settled_ready, settled_closed}
+use Rattle.tsearch.proofs.progress.Progress.settle_next.Goals as goal
 
 pub returns-in-Some-clause-ok : goal.returns-in-Some-clause-ok
 returns-in-Some-clause-ok g c =

@@ -2,7 +2,7 @@ use Rattle.std.proofs.Common.{◌≡◌, ◌+◌, ◌<◌, ◌^◌, length}
 use Rattle.std.specs.Prelude.{All}
 use Rattle.tsearch.specs.Private.Readers.{IsReader}
 use Rattle.tsearch.proofs.LoopLemmas.{IsSettling}
-use Rattle.tsearch.proofs.session.Session.settle.Given as goal
+use Rattle.tsearch.proofs.progress.Progress.settle.Given as goal
 
 abbrev pub invariant-loop-entry : goal.invariant-loop-entry
 invariant-loop-entry g l = record {

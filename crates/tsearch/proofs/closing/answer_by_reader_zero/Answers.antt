@@ -1,6 +1,6 @@
 use Rattle.std.proofs.Common.{refl}
 use Rattle.tsearch.proofs.CloseLemmas.{closed_by_first}
-use Rattle.tsearch.proofs.closing.answer_of_first.Goals as goal
+use Rattle.tsearch.proofs.closing.answer_by_reader_zero.Goals as goal
 
 pub returns-clause-closed : goal.returns-clause-closed
 returns-clause-closed g c =

@@ -1,7 +1,7 @@
 use Rattle.std.proofs.Common.{◌∙◌, ◌+◌, refl, sym, ap, subst, arith, length, All}
 use Rattle.tsearch.specs.Private.Readers.{IsReader}
 use Rattle.tsearch.proofs.LoopLemmas.{settling_starts, settling_goes_on}
-use Rattle.tsearch.proofs.session.Session.settle.Goals as goal
+use Rattle.tsearch.proofs.progress.Progress.settle.Goals as goal
 
 pub loop-entry-init : goal.loop-entry-init
 loop-entry-init g c = record {
