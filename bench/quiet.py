@@ -6,6 +6,7 @@ takes over a fifth longer, the machine is busy: then the measurement waits, for 
 three times in all. Once a script has spent 90 seconds on waiting and on such measurements, it waits no more, and makes none
 again.
 """
+import statistics
 import time
 
 ALLOWED = 1.2
@@ -20,6 +21,7 @@ FIRST_LOOKS = 40
 _source = bytearray(COPIED)
 _target = bytearray(COPIED)
 _least = []
+_loops = []
 _busy = []
 _waited = [0.0]
 
@@ -47,6 +49,7 @@ def _look(times):
 
 def _is_quiet():
     now = _look(2)
+    _loops.append(now[0])
     _least[:] = map(min, zip(_least or _look(FIRST_LOOKS), now))
     return all(seconds <= ALLOWED * least for seconds, least in zip(now, _least))
 
@@ -82,8 +85,8 @@ def measured(what, measure):
 
 def told():
     """What to print after the measurements: the speed of the quiet machine, and what was measured on a busy one."""
-    loop, copy = _least
-    text = "the machine: a million additions in Python in %.0f ms, memory copied with %.1f GB/s" % (1000 * loop, COPIED / copy / 1e9)
+    times = 1000 * _least[0], 1000 * statistics.median(_loops), COPIED / _least[1] / 1e9
+    text = "the machine: a million additions in Python in %.0f ms at least and %.0f by the median, memory copied with %.1f GB/s at most" % times
     if not _busy:
         return text + "; it was quiet before and after each measurement"
     return text + "; it was busy at " + ", ".join(_busy)

@@ -2,15 +2,19 @@
 
 Prints the time from the script's first byte to the first publish, that of `cindex`, the resident memory, and for each
 pattern the lines found, the candidates, and the time of a search by tsearch and by the other tools, with their output in
-a file: the least and the median of five runs, in milliseconds. All use one thread except the second `rg`, which uses as
-many as it likes. Nothing is asserted.
+a file: the least and the median of five runs, in milliseconds. tsearch is a session that has all files; a run of it is a
+batch of copies of the search, from before they are sent until their last byte is in the file, divided by their number.
+The other tools are whole commands. All use one thread except the second `rg`, which uses as many as it likes. Nothing is
+asserted.
 """
 import os
 import re
 import shutil
 import statistics
+import subprocess
 import sys
 import tempfile
+import time
 
 sys.path.insert(0, os.path.dirname(os.path.abspath(__file__)))
 import corpus
@@ -18,6 +22,9 @@ import quiet
 import timed
 
 RUNS = 5
+# A run of tsearch takes at least this many seconds, or has this many copies of the search.
+LEAST_RUN = 0.2
+MOST_COPIES = 4096
 
 PATTERNS = [
     ("rare literal", "sched_setaffinity"),
@@ -77,30 +84,67 @@ def words_of(path):
     return [timed.PROGRAM, "--stats", "--readers", "0", "--max-commands", "1000000", path]
 
 
-def runs_of(target, search, count):
-    """The least and the median seconds of `count` copies of a search, and what the first one printed. Each run is next to one
-    without the search, since the machine's speed changes."""
-    plain, whole = script_with(target, [], "plain"), script_with(target, [search] * count)
-    pairs = [(timed.run(words_of(plain))["seconds"], timed.run(words_of(whole))) for _ in range(RUNS)]
-    least = min(run["seconds"] for _, run in pairs) - min(without for without, _ in pairs)
-    median = statistics.median(run["seconds"] - without for without, run in pairs)
-    return least, median, pairs[0][1]["output"]
+class Session:
+    """A session that has all files of a script. Its text goes to a file, which is emptied before each run."""
 
+    def __init__(self, target, script):
+        self.path = os.path.join(target, "answers")
+        self.size = {}
+        self.searches = 0
+        with open(self.path, "ab") as out:
+            words = [timed.PROGRAM, "--live", "--stats", "--max-commands", "1000000"]
+            self.process = subprocess.Popen(words, stdin=subprocess.PIPE, stdout=out)
+        with open(script, "rb") as items:
+            shutil.copyfileobj(items, self.process.stdin)
+        self.first("search zzqqxxyy")
 
-def search_times(target, search, base):
-    """The least and the median seconds of one search, measured with enough copies of it to be above the noise."""
-    count, most, wanted = 1, 4096, max(0.3, base / 2)
-    while True:
-        once = timed.run(words_of(script_with(target, [search] * count)))["seconds"] - base
-        if once < wanted and count < most:
-            count = min(most, max(2 * count, int(1.5 * count * wanted / max(once, wanted / 40))))
-            continue
-        least, median, output = runs_of(target, search, count)
-        if least > wanted / 4 or count == most:
-            break
-        count = min(most, 4 * count)
-    head = re.match(rb"search 1 version \d+ lines (\d+) candidates (\d+) of (\d+)", output)
-    return [max(seconds, 0) / count for seconds in (least, median)], head
+    def send(self, text):
+        os.truncate(self.path, 0)
+        self.process.stdin.write(text)
+        self.process.stdin.flush()
+
+    def wait(self, size):
+        """Waits until the file has this many bytes. The system tells its length without a wait."""
+        while os.stat(self.path).st_size < size:
+            if self.process.poll() is not None:
+                sys.exit("bench/trees.py: the session has ended")
+
+    def first(self, search):
+        """Searches once, notes how long the answer is apart from the search's number, and returns what its first line has."""
+        self.searches += 1
+        self.send(search.encode() + b"\n")
+        text, lines = b"", None
+        while lines is None or text.count(b"\n") <= lines:
+            self.wait(len(text) + 1)
+            time.sleep(0.02)
+            with open(self.path, "rb") as answers:
+                text = answers.read()
+            if b"\n" in text:
+                head = re.match(rb"search \d+ version \d+ lines (\d+) candidates (\d+) of (\d+)\n", text)
+                lines = int(head[1])
+        self.size[search] = len(text) - len(str(self.searches))
+        return head
+
+    def run(self, search, copies):
+        """The seconds of a batch of copies of a search."""
+        numbers = range(self.searches + 1, self.searches + copies + 1)
+        size = sum(self.size[search] + len(str(number)) for number in numbers)
+        self.searches += copies
+        items = (search.encode() + b"\n") * copies
+        start = time.perf_counter()
+        self.send(items)
+        self.wait(size)
+        return time.perf_counter() - start
+
+    def times(self, search):
+        """The seconds of one search in each of some runs."""
+        once = min(self.run(search, 1) for _ in range(3))
+        copies = max(1, min(MOST_COPIES, int(LEAST_RUN / once + 1)))
+        return [self.run(search, copies) / copies for _ in range(RUNS)]
+
+    def end(self):
+        self.process.stdin.close()
+        self.process.wait()
 
 
 def shown(seconds):
@@ -130,10 +174,10 @@ def others(files, env, pattern, name=None, glob=None, ignoring=()):
     return [shown(spent(words, env)) if shutil.which(words[0]) else "-" for words in commands]
 
 
-def row(target, files, env, base, what, search, pattern, name=None, glob=None, ignoring=()):
-    seconds, head = quiet.measured(search, lambda: search_times(target, search, base))
-    lines, candidates = (head[1].decode(), head[2].decode()) if head else ("?", "?")
-    ours = "%.2f / %.2f" % tuple(1000 * second for second in seconds)
+def row(session, files, env, what, search, pattern, name=None, glob=None, ignoring=()):
+    head = session.first(search)
+    ours = shown(quiet.measured(search, lambda: session.times(search)))
+    lines, candidates = head[1].decode(), head[2].decode()
     cells = [what, "`%s`" % (pattern if name is None else name + " " + pattern).replace("|", "\\|"), lines, candidates, ours]
     print("| " + " | ".join(cells + others(files, env, pattern, name, glob, ignoring)) + " |", flush=True)
 
@@ -144,24 +188,24 @@ def main():
     with tempfile.TemporaryDirectory() as target:
         taken = corpus.make(folder, target)
         print("files %(files)d, bytes %(bytes)d, refused %(refused)d, by load lines: %(loaded)s" % taken)
-        words = words_of(script_with(target, []))
-        empty = spent(words)
-        base = statistics.median(empty)
-        first = shown(empty)
-        speed, resident = taken["bytes"] / base / 1e6, timed.memory(words) / taken["bytes"]
-        print("to the first publish %s ms, %.1f MB/s, resident %.2f bytes a byte" % (first, speed, resident))
+        script = script_with(target, [])
+        seconds = spent(words_of(script))
+        speed, resident = taken["bytes"] / statistics.median(seconds) / 1e6, timed.memory(words_of(script)) / taken["bytes"]
+        print("to the first publish %s ms, %.1f MB/s, resident %.2f bytes a byte" % (shown(seconds), speed, resident))
         files = os.path.join(target, "files")
         env = dict(os.environ, CSEARCHINDEX=os.path.join(target, "csearchindex"), LC_ALL="C")
         if shutil.which("cindex"):
             print("cindex %s ms" % shown(quiet.measured("cindex", lambda: index_times(files, env))))
+        session = Session(target, script)
         print("| kind | pattern | lines | candidates | tsearch | csearch | rg -j1 | rg | grep -rE |\n|---|---|---|---|---|---|---|---|---|")
         for what, pattern in PATTERNS:
-            row(target, files, env, base, what, "search " + pattern, pattern)
-        row(target, files, env, base, "case counts", "search " + IGNORED[0], IGNORED[0])
+            row(session, files, env, what, "search " + pattern, pattern)
+        row(session, files, env, "case counts", "search " + IGNORED[0], IGNORED[0])
         for pattern in IGNORED:
-            row(target, files, env, base, "case ignored", "isearch " + pattern, pattern, ignoring=["-i"])
+            row(session, files, env, "case ignored", "isearch " + pattern, pattern, ignoring=["-i"])
         for name, glob, pattern in NAMED:
-            row(target, files, env, base, "by name", "searchin %s %s" % (name, pattern), pattern, name, glob)
+            row(session, files, env, "by name", "searchin %s %s" % (name, pattern), pattern, name, glob)
+        session.end()
         print(quiet.told())
 
 
