@@ -52,6 +52,7 @@ CASES = TOP / "tests/cases"
 EXAMPLES = TOP / "examples"
 ARCHITECTURE = TOP / "docs/architecture"
 README = TOP / "README"
+FIRST_WAY = "## A put, from the script to the index\n"
 EMBEDDING = "## Using the crates by themselves\n"
 READERS = ["0", "1", "2", "16"]
 SUFFIXES = {".script", ".args", ".run", ".setup", ".stdout", ".stdout-has", ".stderr", ".stderr-has", ".status"}
@@ -209,8 +210,9 @@ def lines_of_function(path, name):
 def compare_stops(text):
     """Compares each row of the ways of a put, a search and a session, which names files and functions, with the files."""
     rows = re.findall(r"^\| (`[\w/]+\.rt`(?:, `[\w/]+\.rt`)*) \| (`\w+`(?:, `\w+`)*) \|", text, re.MULTILINE)
-    if not rows:
-        raise Wrong("no row names a file and a function")
+    ways = text.split(FIRST_WAY)[1].split(EMBEDDING)[0]
+    if len(rows) != len(re.findall(r"^\| (?!file \|)", ways, re.MULTILINE)):
+        raise Wrong("a row of a way does not name a file and a function")
     for files, functions in rows:
         sources = [TOP / "crates" / path for path in re.findall(r"[\w/]+\.rt", files)]
         found = {name for path in sources if path.exists() for name in re.findall(r"\bfn (\w+)", path.read_text())}

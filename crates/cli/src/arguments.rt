@@ -100,7 +100,7 @@ fn readers_of_session(alloc: Global) -> Result<Error, AllocError>
     ensures kind { IfOk result (λ error. kind_of error ≡ ErrorKind.ArgumentConflict) }
 {
     let message = "the argument '--readers <N>' cannot be used with '--live' unless N is 0: \
-        a session answers each search in its place";
+        a session answers each search at once";
     command(alloc)?.error(ErrorKind::ArgumentConflict, message)
 }
 

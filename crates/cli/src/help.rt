@@ -2,37 +2,37 @@
 
 /// What `--help` and `-h` show. It ends with a line feed.
 pub const HELP: &str = "\
-Searches documents, line by line, by extended regular expressions, as a script tells it.
+Searches documents, line by line, by extended regular expressions, as a script says.
 
 Usage: tsearch [OPTIONS] [FILE]
 
 Arguments:
-  [FILE]  The script; without it standard input is read
+  [FILE]  The script [default: standard input]
 
 Options:
       --readers <N>       How many reader threads answer the searches, 0 to 16 [default: 2].
-                          With 0 each search is answered in its place. More readers help
-                          where many searches between two syncs match much, up to the
-                          number of processors
+                          With 0 each search is answered at once. More readers help, up to
+                          the number of processors, if there are many searches between two
+                          syncs and they find many lines
       --stats             Shows with each answer how many documents may have a match, judged by
                           their trigrams, and how many there are
       --max-commands <N>  How many puts, loads and removes are accepted, 1 to 1000000
                           [default: 65536, and 1000000 with --live]
       --live              Carries out each line as it arrives, and writes its output before waiting
                           for the next line. Each search is answered at once
-  -h, --help              Print help
+  -h, --help              Shows this help
 
 A script is a list of lines:
-  put NAME N          takes the next N bytes, and the line feed after them, as the document NAME
+  put NAME N          takes the next N bytes as the document NAME; a line feed follows them
   load NAME PATH      takes the file PATH as the document NAME
   remove NAME         removes the document NAME
   publish             lets searches see all puts, loads and removes so far
   search ERE          lists the lines with a match of the expression ERE
-  searchin NAMES ERE  does so in the documents whose names match the expression NAMES
+  searchin NAMES ERE  lists them only in documents whose names match the expression NAMES
   isearch ERE, isearchin NAMES ERE
                       do the same with the case of letters ignored in ERE
   sync                waits until the searches before it are answered
-  # REMARK            does nothing, and neither does an empty line
+  # COMMENT           does nothing, and neither does an empty line
 
 Names and NAMES have no space. An ERE is everything after its space. A document
 has at most 1048576 bytes, in lines of at most 16384 bytes, and no byte 0.

@@ -82,7 +82,7 @@ fn a_session_has_defaults_of_its_own(rt: HostRuntime) -> Result<(), Fail> {
 #[test]
 fn readers_of_a_session_are_refused_by_name(rt: HostRuntime) -> Result<(), Fail> {
     let begin =
-        "error: the argument '--readers <N>' cannot be used with '--live' unless N is 0: a session answers each search in its place\n";
+        "error: the argument '--readers <N>' cannot be used with '--live' unless N is 0: a session answers each search at once\n";
     assert_refused(&rt, rt.alloc(), &["--readers", "2", "--live"], begin)?;
     assert_refused(&rt, rt.alloc(), &["--live", "--readers=16", "a"], begin)?;
     let number = "error: invalid value '17' for '--readers <N>'";

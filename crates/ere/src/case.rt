@@ -6,8 +6,8 @@
 /// what `REG_ICASE` of POSIX.1-2017 XSH `regcomp` means in the C locale.
 #[derive(Clone, Copy, Debug, PartialEq, Eq)]
 pub enum Case {
-    /// It does: each byte stands only for itself.
+    /// Case counts: each byte stands only for itself.
     Exact,
-    /// It does not: a letter also stands for its other case.
+    /// Case is ignored: a letter also stands for its other case.
     Ignore,
 }

@@ -15,7 +15,8 @@ const PLAIN_ROUNDS: u64 = 32;
 /// `leads` says whether the tree is at the front: of the whole tree, or of the body of the star around it.
 ///
 /// A star (here a repeat without a greatest count) takes the steps of its body in each of its rounds. It takes one
-/// round if it is at the front, with nothing before it there but what can be empty, and its least count is below 2.
+/// round if it is at the front, with nothing before it there except parts that can be empty, and its least count is
+/// below 2.
 /// At the front of the whole tree it begins with all positions of the line, so there are no others to reach. At the
 /// front of another star's body it goes on only from what is new. Elsewhere a star takes few rounds if its body is
 /// plain, and otherwise a round for each byte. A star of a single set is one step anywhere. A repeat with a greatest

@@ -1,7 +1,7 @@
 //! The index: the documents that commands leave, and the sets by which they are found.
 
 ghost use Rattle.std.specs.Prelude.{◌≡◌, ℕ, List, ◌+◌, ◌^◌, ◌<◌, [], ◌∷◌, map, length, OnOk};
-ghost use Rattle.std.specs.Prelude.{OnErr, IfErr, IfOk, IfSome, IsSome, Option, option_map, filter, bytes_eq, if◌then◌else◌, Some};
+ghost use Rattle.std.specs.Prelude.{OnErr, IfErr, IfOk, IfSome, IsSome, IsOk, Option, option_map, filter, bytes_eq, if◌then◌else◌, Some};
 ghost use Rattle.std.specs.Ordering.{nat_cmp};
 ghost use Rattle.std.specs.Cmp.Lexicographic.{slice_cmp};
 ghost use Rattle.std.specs.BTreeMap.{IsUnchanged, IsOrdered, get, values};
@@ -144,11 +144,12 @@ impl Index {
     }
 
     /// Applies the `Remove` of this name. The limit on commands is that of `apply`. It takes no memory, and never
-    /// returns an `Err`. The type allows for one, after which the index would be as it was.
+    /// returns an `Err`, although its type is that of `apply_put`.
     pub fn remove(&mut self, name: &Name) -> Result<(), AllocError>
         requires { self.old.version + 1 < 2 ^ 32 }
         ensures ok { OnOk result (self.new ≡ applied (remove_command name.now) self.old) }
         ensures err { OnErr result (self.new ≡ self.old) }
+        ensures done { IsOk result }
     {
         if let Some(number) = self.numbers.remove(name) {
             self.store.take_out(number);
@@ -213,7 +214,7 @@ impl Index {
         &self.store.sets.live
     }
 
-    /// The numbers of the documents whose trigrams satisfy the query, rising. An `Err` means that memory ran out.
+    /// The numbers of the documents whose trigrams meet the query, rising. An `Err` means that memory ran out.
     pub fn candidates(&self, alloc: Global, query: &Query) -> Result<posting::List, AllocError>
         ensures { IfOk result (λ chosen. chosen.members
             ≡ map (λ d. d.number) (filter (meets (formula_of query.now)) self.now.documents)) }
@@ -222,7 +223,7 @@ impl Index {
         sets.postings.select(alloc, query, &sets.live)
     }
 
-    /// Those numbers of the list that some document has, in the order of the documents' names. For a list shorter than
+    /// The numbers of the list that belong to a document, in the order of the documents' names. For a list shorter than
     /// an eighth of the number of documents, the cost depends mainly on the length of the list. An `Err` means that
     /// memory ran out.
     pub fn chosen_by_name(

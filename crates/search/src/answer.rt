@@ -67,7 +67,7 @@ impl Answer {
         self.documents
     }
 
-    /// The number of candidates: the documents whose trigrams satisfy the condition of the pattern (Russ Cox, "Regular
+    /// The number of candidates: the documents whose trigrams meet the condition of the pattern (Russ Cox, "Regular
     /// Expression Matching with a Trigram Index", 2012). A name pattern has no effect on it.
     pub fn candidates(&self) -> u32
         ensures { result ≡ self.now.candidates }

@@ -21,7 +21,7 @@ use trigram::{Query, analyse};
 pub struct Prepared {
     pub(crate) tree: Ere,
     pub(crate) name_tree: Option<Ere>,
-    // The trigrams of every document with a hit satisfy it.
+    // The trigrams of every document with a hit meet it.
     pub(crate) query: Query,
     pub ghost limits: { IsWithinLimits (form tree) } by { IsWithinLimits-prop (form tree) },
     pub ghost name_limits: { ForSome name_tree (λ e. IsWithinLimits (form e)) } by { ForSome-prop name_tree },

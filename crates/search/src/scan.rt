@@ -12,7 +12,7 @@ use index::Index;
 use std::alloc::{AllocError, Global};
 
 /// Finds the lines that contain a match of the pattern, in the index's documents whose names match the name pattern,
-/// if there is one. It changes nothing, and matches only the lines of documents whose trigrams satisfy the condition
+/// if there is one. It changes nothing, and matches only the lines of documents whose trigrams meet the condition
 /// of the pattern. An `Err` means that memory ran out, or that a name or a body has too many handles.
 pub fn find(alloc: Global, index: &Index, prepared: &Prepared) -> Result<Answer, AllocError>
     ensures { IfOk result (λ answer. IsAnswerOf index.now (pattern_of prepared.now) answer) }

@@ -28,7 +28,7 @@ pub struct Taken<'p> {
     pub(crate) wanted: Vec<TakenDocument>,
 }
 
-/// Takes out of the index what a search needs: the documents whose trigrams satisfy the condition of the
+/// Takes out of the index what a search needs: the documents whose trigrams meet the condition of the
 /// pattern, and whose names match the name pattern, if there is one. No line is looked at. An `Err` means that
 /// memory ran out, or that a name or a body has too many handles.
 pub fn take<'p>(

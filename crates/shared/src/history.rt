@@ -38,7 +38,7 @@ impl Rule<Batch, u64> for Counted {
     ghost moves = { λ ask before after answer. Unit {0} };
 }
 
-// A caller gains nothing by a step.
+// A step tells its caller nothing.
 struct Nothing;
 
 impl Gain<Batch, u64> for Nothing {

@@ -1,4 +1,4 @@
-//! The analysis of a pattern into the query that every document with a matching line satisfies (Russ Cox,
+//! The analysis of a pattern into the query that every document with a matching line meets (Russ Cox,
 //! "Regular Expression Matching with a Trigram Index", 2012).
 #![tactic(auto)]
 

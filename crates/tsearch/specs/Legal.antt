@@ -42,7 +42,7 @@ pub data HasBody (most : ℕ) (state : State) (body : List ℕ) (line : ℕ) (en
 abbrev pub IsPut : ℕ → State → List ℕ → List ℕ → ℕ → Entry → Type 0
 IsPut most state name body line entry = IsNamed name line entry (HasBody most state body line entry)
 
--- A load asks the source once. It cannot load if the source failed; otherwise the source held the loaded bytes under the path.
+-- A load has one outcome: it cannot load, since the source failed, or the source held the loaded bytes under the path.
 pub data HasLoaded (Holds : List ℕ → List ℕ → Type 0) (most : ℕ) (state : State) (path : List ℕ) (loaded : Option (List ℕ)) (line : ℕ)
     (entry : Entry) : Type 0 where
   failed : loaded ≡ None → entry ≡ Refused line reason.CannotLoad → HasLoaded Holds most state path loaded line entry
