@@ -8,7 +8,6 @@ pub mod Tokens
 pub mod Spelling
 pub mod Limits
 pub mod Language
-pub mod Lines
 pub mod Faults
 pub mod Anchors
 pub mod Private

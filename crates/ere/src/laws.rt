@@ -4,18 +4,11 @@ ghost use Rattle.std.specs.Prelude.{◌≡◌, ◌↔◌, ℕ, Bool, None, ◌�
 ghost use Rattle.ere.specs.Anchors.{ForgetsSurroundings};
 ghost use Rattle.ere.specs.ByteSet.{has};
 ghost use Rattle.ere.specs.Language.{ContainsMatch, InLanguage};
-ghost use Rattle.ere.specs.Lines.{greatest_line};
 ghost use Rattle.ere.specs.Limits.{IsTreeOf, IsWithinLimits};
 ghost use Rattle.ere.specs.Spelling.{Spells};
 ghost use Rattle.ere.specs.Tree.{at_end, at_start, cat, empty, more, none, repeat, set, Tree};
 
 use crate::case::Case;
-use crate::tree::MAX_LINE;
-
-/// The program and the definitions have the same greatest length of a line.
-pub fn line_limit()
-    ensures { MAX_LINE ≡ greatest_line }
-{}
 
 /// With each `Case`, a text spells at most one tree, whatever the limit on open groups.
 pub fn one_tree()

@@ -22,4 +22,4 @@ pub use byte_set::ByteSet;
 pub use case::Case;
 pub use error::{EreError, EreErrorKind};
 pub use reader::{parse, parse_with};
-pub use tree::{Ere, MAX_LINE};
+pub use tree::Ere;

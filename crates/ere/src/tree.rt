@@ -6,9 +6,6 @@ ghost use Rattle.ere.specs.Tree.{form};
 
 use crate::byte_set::ByteSet;
 
-/// The greatest length of a line, in bytes.
-pub const MAX_LINE: usize = 16384;
-
 /// An extended regular expression as a tree. `docs/DEFINITIONS.md` says which texts each tree matches.
 #[derive(Clone, Debug, PartialEq, Eq, Drop)]
 pub enum Ere {

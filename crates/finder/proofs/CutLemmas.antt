@@ -14,7 +14,7 @@ use Rattle.regex_hir.specs.Find.{Match, find}
 use Rattle.regex_hir.proofs.FindLemmas.{IsFirst-of_first_between}
 use Rattle.ere.specs.Tree.{Tree}
 use Rattle.ere.specs.Language.{ContainsMatch}
-use Rattle.ere.specs.Lines.{lines_of, with_byte_in_front}
+use Rattle.lines.specs.Lines.{lines_of, with_byte_in_front}
 use Rattle.finder.specs.Translation.{StandsFor}
 use Rattle.regex_vm.specs.Found.{span}
 use Rattle.finder.specs.FirstLine.{line_feeds, IsWholeLines, EndsLine, HasNoFeed, IsLineStart, IsLineEnd, HasNoMatch, IsInside, IsFirstLine}

@@ -9,7 +9,7 @@ use Rattle.std.proofs.lemmas.Bool.Decides.{nat_tests}
 use Rattle.regex_hir.specs.Looks.{holds, holds_between}
 use Rattle.regex_hir.specs.declared.look.Look.TheVariants.{StartLf, EndLf}
 use Rattle.regex_hir.proofs.TextLemmas.{byte_before-zero, byte_before-add-one}
-use Rattle.ere.specs.Lines.{lines_of, with_byte_in_front}
+use Rattle.lines.specs.Lines.{lines_of, with_byte_in_front}
 use Rattle.finder.specs.Translation.{IsLineAt}
 use Rattle.finder.specs.FirstLine.{IsWholeLines, EndsLine}
 

@@ -3,7 +3,7 @@ use Rattle.std.specs.Prelude.{◌≡◌, ◌==◌, if◌then◌else◌, ℕ, suc
 use Rattle.std.specs.List.{AllByRecursion}
 use Rattle.ere.specs.Tree.{Tree}
 use Rattle.ere.specs.Language.{ContainsMatch}
-use Rattle.ere.specs.Lines.{lines_of}
+use Rattle.lines.specs.Lines.{lines_of}
 use Rattle.finder.specs.declared.finding.FirstLine.{FirstLine}
 
 -- The text is empty, or ends with a line feed: a line begins after it.

@@ -1,7 +1,7 @@
 //! The line of a position.
 
 ghost use Rattle.std.specs.Prelude.{◌≡◌, ◌≤◌, length, take};
-ghost use Rattle.ere.specs.Lines.{lines_of};
+ghost use Rattle.lines.specs.Lines.{lines_of};
 ghost use Rattle.finder.specs.FirstLine.{IsLineStart, IsLineEnd, IsWholeLines, line_feeds};
 
 use memchr::{memchr, memrchr};

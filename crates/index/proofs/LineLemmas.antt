@@ -5,7 +5,7 @@ use Rattle.std.specs.List.{list_any}
 use Rattle.std.proofs.lemmas.Bool.Decides.{nat_tests}
 use Rattle.std.proofs.lemmas.List.{length-take, length-drop, take_all}
 use Rattle.index.specs.Text.{has_byte_0, has_long_line}
-use Rattle.ere.specs.Lines.{lines_of, with_byte_in_front}
+use Rattle.lines.specs.Lines.{lines_of, with_byte_in_front}
 use Rattle.memchr.specs.Find.{IsFirstByte, is_byte, Nowhere, NoneBefore, Passes}
 
 -- The text up to its first line feed, which is at the place, is the first line.

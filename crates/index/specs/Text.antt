@@ -1,7 +1,7 @@
 -- What a name is, and what a body is (this program's choices).
 use Rattle.std.specs.Prelude.{◌≡◌, ℕ, ◌<◌, ◌≤◌, Bool, true, false, not, ◌&&◌, ◌==◌, nat_le, nat_lt, List, length}
 use Rattle.std.specs.List.{list_any}
-use Rattle.ere.specs.Lines.{lines_of, greatest_line}
+use Rattle.lines.specs.Lines.{lines_of, greatest_line}
 use Rattle.index.specs.declared.error.NameError.{NameError}
 use Rattle.index.specs.declared.error.NameError.TheVariants as name_error
 use Rattle.index.specs.declared.error.BodyErrorKind.{BodyErrorKind}

@@ -4,7 +4,7 @@ ghost use Rattle.std.specs.Prelude.{◌≡◌, IfOk, IfErr, IfSome, IfNone};
 ghost use Rattle.index.specs.Text.{IsBody, IsBodyFault, has_byte_0, has_long_line};
 
 use crate::error::{BodyError, BodyErrorKind};
-use ere::MAX_LINE;
+use lines::MAX_LINE;
 use memchr::memchr;
 use std::alloc::Global;
 use std::marker::Model;
@@ -12,7 +12,7 @@ use std::marker::Model;
 /// The greatest length of a body, in bytes.
 pub const MAX_BODY: usize = 1048576;
 
-/// The text of a document: at most 1,048,576 bytes, none of them 0, in lines of at most `ere::MAX_LINE`
+/// The text of a document: at most 1,048,576 bytes, none of them 0, in lines of at most `lines::MAX_LINE`
 /// bytes (this program's choice). A line ends at a line feed; a last part without one is a line if it is
 /// not empty.
 ///

@@ -24,7 +24,7 @@ pub enum BodyErrorKind {
     TooLong,
     /// A byte is 0.
     NotText,
-    /// A line has over `ere::MAX_LINE` bytes, not counting its line feed.
+    /// A line has over `lines::MAX_LINE` bytes, not counting its line feed.
     LineTooLong,
 }
 

@@ -23,7 +23,8 @@ use crate::positions::Positions;
 use crate::walk::advance;
 use crate::words::BITS;
 pub use crate::words::{WORDS, step};
-use ere::{Ere, MAX_LINE};
+use ere::Ere;
+use lines::MAX_LINE;
 
 /// The number of words in a set of positions of a line that is neither short nor long. Each set is filled with
 /// zeros when it is made, which takes less time for fewer words.

@@ -7,7 +7,8 @@ ghost use Rattle.matcher.specs.PositionSets.{has_position};
 ghost use Rattle.matcher.specs.Private.Bounds.{IsBounded};
 ghost use Rattle.matcher.specs.Private.Moving.{passes, arrives, flood, IsPassing, IsPassingFrom};
 
-use ere::{ByteSet, MAX_LINE};
+use ere::ByteSet;
+use lines::MAX_LINE;
 use std::simd::prelude::*;
 
 /// How many positions a word holds.

@@ -1,7 +1,8 @@
 //! Lines that contain a match, and lines that contain none.
 
 use crate::fixtures::{built, halves, signed};
-use ere::{ByteSet, Ere, EreError, MAX_LINE, parse};
+use ere::{ByteSet, Ere, EreError, parse};
+use lines::MAX_LINE;
 use matcher::{WORDS, matches, step};
 use std::alloc::{AllocError, Global};
 use std::process::Abort;

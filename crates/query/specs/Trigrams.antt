@@ -3,7 +3,7 @@
 use Rattle.std.specs.Prelude.{ℕ, ◌+◌, ◌*◌, Bool, true, false, ◌&&◌, ◌||◌, ◌==◌, IsTrue, ◌↔◌, List, [], ◌∷◌, Contains}
 use Rattle.std.specs.List.{list_any}
 use Rattle.std.specs.List.Sorted.{IsStrictlyIncreasing}
-use Rattle.ere.specs.Lines.{lines_of}
+use Rattle.lines.specs.Lines.{lines_of}
 
 -- a set of trigrams
 abbrev pub TrigramSet : Type 0

@@ -15,7 +15,7 @@ use Rattle.std.specs.declared.cmp.Ordering.TheVariants.{Less}
 use Rattle.std.proofs.lemmas.Bool.Decides.{nat_tests}
 use Rattle.std.proofs.lemmas.Option.{slice_get_within, get_or_from_slice_get}
 use Rattle.ere.specs.Language.{ContainsMatch}
-use Rattle.ere.specs.Lines.{lines_of}
+use Rattle.lines.specs.Lines.{lines_of}
 use Rattle.query.specs.Trigrams.{trigrams_of_body}
 use Rattle.trigram.specs.Analysis.{condition}
 use Rattle.trigram.proofs.LawLemmas.{matching_line}

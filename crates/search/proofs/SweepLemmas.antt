@@ -5,7 +5,7 @@ use Rattle.std.specs.List.{AllByRecursion}
 use Rattle.std.proofs.lemmas.List.{append-nil, drop_all}
 use Rattle.ere.specs.Tree.{Tree}
 use Rattle.ere.specs.Language.{ContainsMatch}
-use Rattle.ere.specs.Lines.{lines_of}
+use Rattle.lines.specs.Lines.{lines_of}
 use Rattle.finder.specs.FirstLine.{IsFirstLine, IsInside}
 use Rattle.finder.specs.declared.finding.FirstLine.{FirstLine}
 use Rattle.index.proofs.LineLemmas.{rest-after}

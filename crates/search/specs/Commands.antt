@@ -1,7 +1,7 @@
 -- What a pattern asks for in the documents that commands leave.
 use Rattle.std.specs.Prelude.{◌≡◌, ◌-◌, ◌<◌, List, Some, slice_get, IfSome}
 use Rattle.ere.specs.Language.{ContainsMatch}
-use Rattle.ere.specs.Lines.{lines_of}
+use Rattle.lines.specs.Lines.{lines_of}
 use Rattle.index.specs.declared.command.Command.{Command}
 use Rattle.index.specs.Documents.{Document, IsDocument}
 use Rattle.search.specs.Pattern.{Pattern}

@@ -4,7 +4,7 @@
 pub mod answer;
 mod documents;
 pub mod laws;
-mod lines;
+mod matching;
 mod names;
 pub mod pattern;
 pub mod scan;

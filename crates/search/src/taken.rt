@@ -6,7 +6,7 @@ ghost use Rattle.search.specs.Taken.{IsTakenOf};
 
 use crate::answer::Answer;
 use crate::documents::{TakenDocument, documents_with};
-use crate::lines::scan_documents;
+use crate::matching::scan_documents;
 use crate::names::named;
 use crate::pattern::Prepared;
 use crate::watch::{NoWatch, Watch};

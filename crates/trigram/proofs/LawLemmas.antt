@@ -12,7 +12,7 @@ use Rattle.ere.specs.Tree.{Tree, Trees}
 use Rattle.ere.specs.Tree as tree
 use Rattle.ere.specs.Limits.{IsProper, AreProper}
 use Rattle.ere.proofs.Words.{WordSet, IsWord, IsWordOfEach, IsWordOfSome, IsWord-from_language, IsWord-from_without_anchors, without_anchors-from_word}
-use Rattle.ere.specs.Lines.{lines_of}
+use Rattle.lines.specs.Lines.{lines_of}
 use Rattle.query.specs.Trigrams.{TrigramSet, trigram_of, front_trigram, holds_front, trigrams_of_text, trigrams_of_body, has_all_trigrams}
 use Rattle.trigram.specs.Texts.{Texts, has_text, with_text, with_texts, distinct}
 use Rattle.trigram.specs.Analysis.{Analysis, known, loose, either, both, repeated, bytes_in, one_byte, just_empty, analysis_of, both_all}

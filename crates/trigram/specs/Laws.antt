@@ -4,7 +4,7 @@ use Rattle.ere.specs.Tree.{Tree}
 use Rattle.ere.specs.Limits.{IsProper}
 use Rattle.ere.specs.Language.{InLanguage, ContainsMatch}
 use Rattle.ere.specs.Anchors.{without_anchors}
-use Rattle.ere.specs.Lines.{lines_of}
+use Rattle.lines.specs.Lines.{lines_of}
 use Rattle.query.specs.Trigrams.{TrigramSet, trigrams_of_text, trigrams_of_body, has_all_trigrams}
 use Rattle.trigram.specs.Texts.{Texts, has_text, distinct}
 use Rattle.trigram.specs.Analysis.{known, analysis_of, Condition}

@@ -2,7 +2,7 @@
 use Rattle.std.specs.Prelude.{◌≡◌, ℕ, suc, List, [], ◌∷◌, ◌++◌, Some, IfSome}
 use Rattle.ere.specs.Tree.{Tree}
 use Rattle.ere.specs.Language.{ContainsMatch}
-use Rattle.ere.specs.Lines.{lines_of}
+use Rattle.lines.specs.Lines.{lines_of}
 use Rattle.index.specs.Documents.{Document, document_at}
 use Rattle.search.specs.Pattern.{Pattern}
 use Rattle.search.specs.Scan.{Hit}

@@ -1,11 +1,11 @@
 use Rattle.std.proofs.Common.{◌≡◌, ◌+◌, ◌≤◌, ◌++◌, false, List, length}
-use Rattle.ere.specs.Lines.{lines_of}
+use Rattle.lines.specs.Lines.{lines_of}
 use Rattle.ere.specs.Tree.{form}
 use Rattle.index.specs.Text.{has_long_line}
 use Rattle.search.specs.Scan.{Hit}
 use Rattle.search.specs.Hits.{hits_of}
 use Rattle.search.specs.Private.Selects.{HasMatch, Adds, Selects, numbered, lines_of_document}
-use Rattle.search.proofs.lines.scan_lines.Given as goal
+use Rattle.search.proofs.matching.scan_lines.Given as goal
 
 abbrev pub invariant-loop-end : goal.invariant-loop-end
 invariant-loop-end l = record {

@@ -4,7 +4,7 @@ use Rattle.ere.specs.Tree.{form}
 use Rattle.finder.specs.StarHeight.{star_height}
 use Rattle.search.specs.Private.Ways.{bytes_in}
 use Rattle.search.proofs.FewLemmas.{bytes_in-more}
-use Rattle.search.proofs.lines.few_documents.Goals as goal
+use Rattle.search.proofs.matching.few_documents.Goals as goal
 
 pub loop-at-init : goal.loop-at-init
 loop-at-init c = record { left = refl; at = omega arith }

@@ -5,7 +5,7 @@ use Rattle.ere.specs.Tree.{form}
 use Rattle.search.specs.Hits.{hit_of, hits_of}
 use Rattle.search.specs.Private.Selects.{HasMatch, found}
 use Rattle.search.proofs.SelectsLemmas.{Adds-skip, Adds-keep}
-use Rattle.search.proofs.lines.scan_line.Goals as goal
+use Rattle.search.proofs.matching.scan_line.Goals as goal
 
 pub returns-then-not-matches : goal.returns-then-not-matches
 returns-then-not-matches c =

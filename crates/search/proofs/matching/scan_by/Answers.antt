@@ -5,7 +5,7 @@ use Rattle.search.specs.Hits.{hits_of}
 use Rattle.search.specs.Private.Selects.{Adds, HasMatch, lines_of_document}
 use Rattle.search.specs.Private.Documents.{lines_of_taken}
 use Rattle.search.proofs.ScanLemmas.{lines-step, lines-end}
-use Rattle.search.proofs.lines.scan_by.Goals as goal
+use Rattle.search.proofs.matching.scan_by.Goals as goal
 
 pub loop-document-init : goal.loop-document-init
 loop-document-init g c = record {

@@ -6,7 +6,7 @@ use Rattle.search.specs.Hits.{hits_of}
 use Rattle.search.specs.Private.Selects.{Adds, HasMatch, Selects}
 use Rattle.search.specs.Private.Documents.{lines_of_taken}
 use Rattle.search.specs.Private.Ways.{Finds}
-use Rattle.search.proofs.lines.scan_by.Given as goal
+use Rattle.search.proofs.matching.scan_by.Given as goal
 
 abbrev pub invariant-loop-document : goal.invariant-loop-document
 invariant-loop-document g l = record {

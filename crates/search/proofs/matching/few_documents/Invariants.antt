@@ -1,6 +1,6 @@
 use Rattle.std.proofs.Common.{◌≡◌, ◌+◌, ◌≤◌, take, length}
 use Rattle.search.specs.Private.Ways.{byte_limit, bytes_in}
-use Rattle.search.proofs.lines.few_documents.Given as goal
+use Rattle.search.proofs.matching.few_documents.Given as goal
 
 abbrev pub invariant-loop-at : goal.invariant-loop-at
 invariant-loop-at l = record {

@@ -5,7 +5,7 @@ use Rattle.ere.specs.Tree.{form}
 use Rattle.search.specs.Hits.{hits_of}
 use Rattle.search.specs.Private.Selects.{HasMatch}
 use Rattle.search.proofs.LineLemmas.{length-first, length-last, short-rest, room-rest, step, last, ended}
-use Rattle.search.proofs.lines.scan_lines.Goals as goal
+use Rattle.search.proofs.matching.scan_lines.Goals as goal
 
 pub scan_line-requires-clause-short : goal.scan_line-requires-clause-short
 scan_line-requires-clause-short c = length-first c.loop-end.rest.now c.in-Some.end c.loop-end.invariant.short c.in-Some.ensures

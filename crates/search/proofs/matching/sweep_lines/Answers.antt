@@ -3,7 +3,7 @@ use Rattle.std.proofs.lemmas.List.{map-append}
 use Rattle.search.specs.Hits.{hit_of, hits_of}
 use Rattle.search.specs.Private.Selects.{found}
 use Rattle.search.proofs.SweepLemmas.{sweep_on, sweep_last, sweep_end, room_left}
-use Rattle.search.proofs.lines.sweep_lines.Goals as goal
+use Rattle.search.proofs.matching.sweep_lines.Goals as goal
 
 pub returns-then-first-rest-clause-hits : goal.returns-then-first-rest-clause-hits
 returns-then-first-rest-clause-hits c =

@@ -1,11 +1,11 @@
 use Rattle.std.proofs.Common.{◌+◌, ◌≤◌, ◌++◌, List, length}
-use Rattle.ere.specs.Lines.{lines_of}
+use Rattle.lines.specs.Lines.{lines_of}
 use Rattle.ere.specs.Tree.{Tree}
 use Rattle.finder.specs.Patterns.{IsFinderOf}
 use Rattle.search.specs.Scan.{Hit}
 use Rattle.search.specs.Hits.{hits_of}
 use Rattle.search.specs.Private.Selects.{Adds, HasMatch, Selects, numbered, lines_of_document}
-use Rattle.search.proofs.lines.sweep_lines.Given as goal
+use Rattle.search.proofs.matching.sweep_lines.Given as goal
 
 abbrev pub invariant-loop-first : goal.invariant-loop-first
 invariant-loop-first l = record {

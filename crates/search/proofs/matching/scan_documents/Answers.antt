@@ -5,7 +5,7 @@ use Rattle.search.specs.Hits.{hits_of}
 use Rattle.search.specs.Private.Selects.{Adds, HasMatch}
 use Rattle.search.specs.Private.Documents.{lines_of_taken}
 use Rattle.search.proofs.ScanLemmas.{two-parts}
-use Rattle.search.proofs.lines.scan_documents.Goals as goal
+use Rattle.search.proofs.matching.scan_documents.Goals as goal
 
 pub returns : goal.returns
 returns g c =

@@ -1,7 +1,7 @@
 use Rattle.std.proofs.lemmas.Result.{on_ok_weaker}
 use Rattle.ere.specs.Tree.{form}
 use Rattle.search.proofs.WayLemmas.{finder_of, finds_by}
-use Rattle.search.proofs.lines.scan_body.Goals as goal
+use Rattle.search.proofs.matching.scan_body.Goals as goal
 
 pub returns-in-FromMatchToMatch-clause-hits : goal.returns-in-FromMatchToMatch-clause-hits
 returns-in-FromMatchToMatch-clause-hits c =

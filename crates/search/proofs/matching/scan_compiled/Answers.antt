@@ -5,7 +5,7 @@ use Rattle.search.specs.Hits.{hits_of}
 use Rattle.search.specs.Private.Selects.{HasMatch}
 use Rattle.search.specs.Private.Documents.{lines_of_taken}
 use Rattle.search.proofs.ScanLemmas.{no-lines}
-use Rattle.search.proofs.lines.scan_compiled.Goals as goal
+use Rattle.search.proofs.matching.scan_compiled.Goals as goal
 
 pub returns-then-is_empty : goal.returns-then-is_empty
 returns-then-is_empty g c =
