@@ -6,7 +6,7 @@ some of these files:
 
     NAME.script       the script, on standard input, or as FILE where an argument is {script}
     NAME.args         the arguments, one a line
-    NAME.run          a bash script that is run instead, with the paths PROGRAM and SCRIPT, and READERS
+    NAME.run          a bash script that is run instead, with the paths PROGRAM and SCRIPT, the top TOP of the repository, and READERS
     NAME.setup        a bash script that is run before, in the case's own new folder
     NAME.stdout       what must be written to standard output; no file: nothing
     NAME.stdout-has   instead, lines each of which must be somewhere in it
@@ -31,7 +31,9 @@ The command must write the lines below it, and nothing to standard error. Lines 
 up to the first answer, and those after the prompt `> ` of the client, which an empty line ends. There must be a command of each
 way: with the script on standard input, a session, and the client.
 
-Usage: tests/run.py [NAME..]   The last line counts: N passed, M failed.
+With --compiled, the cases run on the program that is compiled with checks, with no readers and as sessions, and nothing else runs.
+
+Usage: tests/run.py [--compiled] [NAME..]   The last line counts: N passed, M failed.
 """
 
 import concurrent.futures
@@ -47,14 +49,15 @@ import tempfile
 from counted import Counted
 
 TOP = pathlib.Path(__file__).resolve().parent.parent
-PROGRAM = TOP / "crates/program/out/program"
+COMPILED = "--compiled" in sys.argv[1:]
+PROGRAM = TOP / ("out/compiled/tsearch" if COMPILED else "crates/program/out/program")
 CASES = TOP / "tests/cases"
 EXAMPLES = TOP / "examples"
 ARCHITECTURE = TOP / "docs/architecture"
 README = TOP / "README"
 FIRST_WAY = "## A put, from the script to the index\n"
 EMBEDDING = "## Using the crates by themselves\n"
-READERS = ["0", "1", "2", "16"]
+READERS = ["0"] if COMPILED else ["0", "1", "2", "16"]
 SUFFIXES = {".script", ".args", ".run", ".setup", ".stdout", ".stdout-has", ".stderr", ".stderr-has", ".status"}
 LIVE = "--live"
 SECONDS = 120
@@ -131,15 +134,11 @@ def write_command(path, text):
 
 
 def make_live_program(folder):
-    """Makes a program that runs the built one as a session. Seen from its path, docs/ and examples/ are where they
-    are for the built program."""
-    program = folder / PROGRAM.relative_to(TOP)
-    program.parent.mkdir(parents=True)
+    """Makes a program that runs the built one as a session."""
+    program = folder / "tsearch"
     write_command(program, f'#!/bin/sh\nexec "{PROGRAM}" {LIVE} "$@"\n')
     # so that a case can run the program as another user too
     folder.chmod(0o755)
-    for name in ("docs", "examples"):
-        (folder / name).symlink_to(TOP / name)
     return program
 
 
@@ -149,7 +148,7 @@ def run_once(base, readers):
     own_run = base.with_suffix(".run")
     setup = base.with_suffix(".setup")
     with tempfile.TemporaryDirectory() as folder, tempfile.TemporaryDirectory() as other:
-        env = dict(os.environ, PROGRAM=str(PROGRAM), SCRIPT=str(script), READERS=readers or "", LC_ALL="C")
+        env = dict(os.environ, PROGRAM=str(PROGRAM), SCRIPT=str(script), TOP=str(TOP), READERS=readers or "", LC_ALL="C")
         if readers == LIVE:
             env.update(PROGRAM=str(make_live_program(pathlib.Path(other))), READERS="0")
         if setup.exists():
@@ -293,6 +292,20 @@ def compare_readme(base):
             compare_command(folder, command, lines)
 
 
+def compare_failed_check(base):
+    """The program that is compiled with checks takes a check that fails, which is an illegal instruction, as its end."""
+    wanted = (2, "", "tsearch: a check failed, so the program ends here; this is a bug")
+    with subprocess.Popen([str(PROGRAM), LIVE], stdin=subprocess.PIPE, stdout=subprocess.PIPE, stderr=subprocess.PIPE) as process:
+        process.stdin.write(b"search x\n")
+        process.stdin.flush()
+        process.stdout.readline()
+        process.send_signal(signal.SIGILL)
+        stdout, stderr = process.communicate(timeout=SECONDS)
+    got = (process.returncode, stdout.decode(), stderr.decode().partition(" (")[0])
+    if got != wanted:
+        raise Wrong(f"{base.name}: {got}, and should be {wanted}")
+
+
 def cases_of_folders():
     """The cases of all folders, as paths without a suffix."""
     files = [path for path in CASES.rglob("*") if path.is_file()]
@@ -321,11 +334,14 @@ def fault_of(job):
 
 def main():
     if not PROGRAM.exists():
-        sys.exit("tests/run.py: build the program first: ./tsearch --help")
+        sys.exit(f"tests/run.py: build the program first: ./tsearch {'--help' if COMPILED else '--prove'}")
     examples = sorted(path.with_suffix("") for path in EXAMPLES.glob("*.script"))
     jobs = [(run_case, base) for base in cases_of_folders()] + [(run_example, base) for base in examples]
-    jobs += [(compare_architecture, ARCHITECTURE), (compare_readme, README)]
-    wanted = sys.argv[1:]
+    if COMPILED:
+        jobs.append((compare_failed_check, CASES / "failed_check"))
+    else:
+        jobs += [(compare_architecture, ARCHITECTURE), (compare_readme, README)]
+    wanted = [word for word in sys.argv[1:] if word != "--compiled"]
     missing = sorted(set(wanted) - {base.name for _, base in jobs})
     if missing:
         sys.exit(f"tests/run.py: no such case: {', '.join(missing)}")
