@@ -9,9 +9,7 @@ ghost use Rattle.ere.specs.declared.case.Case.TheVariants.{Exact};
 ghost use Rattle.search.specs.Pattern.{Pattern, IsPatternOf};
 ghost use Rattle.search.specs.Scan.{IsAnswerOf};
 
-use crate::fixtures::{
-    Kept, MANY_STARS, Pieces, answer_text, built, document, index_built, index_of, text_of_answer,
-};
+use crate::fixtures::{Kept, Pieces, answer_text, built, document, index_of, text_of_answer};
 use ere::EreErrorKind;
 use index::{Body, Command, Index, Name};
 use search::{Answer, Prepared, find};
@@ -243,25 +241,6 @@ fn expect_within(rt: &impl Abort, alloc: Global, index: &Index) -> Result<(), Fa
 fn names_as_lines(rt: HostRuntime) -> Result<(), Fail> {
     let index = index_of(&rt, rt.alloc(), b"a.c x\ny\nx|a.h x")?;
     expect_within(&rt, rt.alloc(), &index)
-}
-
-const LONG_NAMES: Pieces<'static> = &[(b"a", 200), (b"c x|", 1), (b"a", 200), (b"b x", 1)];
-
-const LONG_NAME_FOUND: Pieces<'static> = &[
-    (b"search 7 version 2 lines 1\n", 1),
-    (b"a", 200),
-    (b"b:1:x\n", 1),
-];
-
-/// Thirty stars, each inside the next one and after a letter. Name by name, each of them doubles the time, so the
-/// test ends only if the pattern is compiled.
-#[test]
-fn names_in_many_stars(rt: HostRuntime) -> Result<(), Fail> {
-    let index = index_built(&rt, rt.alloc(), LONG_NAMES)?;
-    let pattern = built(rt.alloc(), MANY_STARS)?;
-    let want = built(rt.alloc(), LONG_NAME_FOUND)?;
-    assert!(rt; is_within(rt.alloc(), &index, &[&pattern, b"x", &want])?);
-    Ok(())
 }
 
 /// Why the pattern is refused, if it is.

@@ -10,15 +10,6 @@ use std::test::Fail;
 /// Pieces of a text, each with the number of its copies.
 pub(crate) type Pieces<'a> = &'a [(&'a [u8], usize)];
 
-/// The pieces of a pattern of thirty stars, each inside the next one and after a letter.
-pub(crate) const MANY_STARS: Pieces<'static> = &[
-    (b"^(aa)*", 1),
-    (b"(a", 30),
-    (b"a*", 1),
-    (b")*", 30),
-    (b"b$", 1),
-];
-
 /// A document of this name and body.
 pub(crate) fn document(alloc: Global, name: &[u8], body: &[u8]) -> Result<(Name, Body), Fail> {
     Ok((
@@ -82,22 +73,8 @@ pub(crate) fn index_of(rt: &impl Abort, alloc: Global, commands: &[u8]) -> Resul
     Ok(index)
 }
 
-/// An index of the commands of these pieces.
-pub(crate) fn index_built(
-    rt: &impl Abort,
-    alloc: Global,
-    pieces: Pieces<'_>,
-) -> Result<Index, Fail> {
-    let commands = built(alloc, pieces)?;
-    index_of(rt, alloc, &commands)
-}
-
 /// Appends the piece `times` times.
-pub(crate) fn append_times(
-    text: &mut Vec<u8>,
-    piece: &[u8],
-    times: usize,
-) -> Result<(), AllocError> {
+fn append_times(text: &mut Vec<u8>, piece: &[u8], times: usize) -> Result<(), AllocError> {
     for _ in 0..times {
         text.extend_from_slice(piece)?;
     }

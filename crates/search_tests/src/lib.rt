@@ -9,8 +9,6 @@ mod answers;
 #[cfg(test)]
 mod documents;
 #[cfg(test)]
-mod fast_search;
-#[cfg(test)]
 mod fixtures;
 #[cfg(test)]
 mod lists;

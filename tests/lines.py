@@ -1,0 +1,172 @@
+#!/usr/bin/env python3
+"""The lines that patterns find in a body, by each way in which lines are found.
+
+Each row of tests/lines.rows is searched three times: as it is, so line by line; with stars inside stars that match nothing,
+so by the engine from the first byte on; and after a document with many copies of the body, so by the engine after many
+lines were found one by one. The rows below, which are too long for a file, are searched as they are.
+
+Usage: tests/lines.py   The last line counts: N passed, M failed.
+"""
+
+import codecs
+import pathlib
+import re
+import subprocess
+import sys
+
+from counted import Counted
+
+TOP = pathlib.Path(__file__).resolve().parent.parent
+PROGRAM = TOP / "crates/program/out/program"
+ROWS = TOP / "tests/lines.rows"
+SECONDS = 60
+
+# Appended to a pattern, it leaves the matches as they are and adds stars inside stars, for which the engine searches from
+# the first byte on if the pattern is not too large for it.
+FOR_THE_ENGINE = b"(((zz)*y)*){0}"
+# More bytes of candidates than are looked at line by line.
+MANY_BYTES = 65_536
+MIB = 1_048_576
+
+
+def bytes_of(field):
+    return codecs.decode(field, "unicode_escape").encode("latin-1")
+
+
+def rows_of_file():
+    for line in ROWS.read_text().split("\n"):
+        if line and not line.startswith("#"):
+            yield tuple(bytes_of(field) for field in line.split("\t"))
+
+
+def put(name, body):
+    return b"put %s %d\n%s\n" % (name, len(body), body)
+
+
+def searched(documents, patterns):
+    """A part of a script: these documents and no others, and a search for each pattern."""
+    puts = [put(name, body) for name, body in documents]
+    removes = [b"remove %s\n" % name for name, _ in documents]
+    return b"".join([*puts, b"publish\n", *(b"search %s\n" % pattern for pattern in patterns), *removes])
+
+
+def run(script):
+    """What the program answers to each search of the script: a list of the lines found."""
+    done = subprocess.run(
+        [PROGRAM, "--readers", "0", "--max-commands", "1000000"], input=script, stdout=subprocess.PIPE, timeout=SECONDS, check=False
+    )
+    lines, answers = iter(done.stdout.split(b"\n")), []
+    for line in lines:
+        found = re.fullmatch(rb"search \d+ version \d+ lines (\d+)", line)
+        if found:
+            answers.append([next(lines) for _ in range(int(found[1]))])
+    return answers
+
+
+def copies_of(body):
+    """Many copies of a body, together more bytes than are looked at line by line."""
+    line = body + b"\n"
+    return line * (MANY_BYTES // len(line) + 1)
+
+
+def ways_of(row):
+    """The three ways of a row: what it is called, the documents, and the pattern."""
+    body, pattern, _ = row
+    yield "line by line", [(b"f", body)], pattern
+    yield "by the engine", [(b"f", body)], pattern + FOR_THE_ENGINE
+    yield "after many lines", [(b"f", body), (b"a", copies_of(body))], pattern
+
+
+def faults_of_rows():
+    """What is wrong with the rows of the file: None for each way that finds what it should."""
+    tried = [(row, *way) for row in rows_of_file() for way in ways_of(row)]
+    answers = run(b"".join(searched(documents, [pattern]) for _, _, documents, pattern in tried))
+    if len(answers) != len(tried):
+        yield f"{len(answers)} searches of {len(tried)} have an answer"
+        return
+    for (row, what, _, pattern), answer in zip(tried, answers):
+        hits = b"".join(line + b"\n" for line in answer if line.startswith(b"f:"))
+        yield None if hits == row[2] else f"{pattern!r} over {row[0]!r} {what}: {hits!r}, and should be {row[2]!r}"
+
+
+def many_stars():
+    """Thirty stars, each inside the next one. Line by line, each of them doubles the time, so the search ends only if the
+    pattern is compiled."""
+    pattern = b"^(aa)*" + b"(a" * 30 + b"a*" + b")*" * 30 + b"b$"
+    yield [(b"f", b"a" * 1000 + b"c\n" + b"a" * 1000 + b"b")], pattern, [b"f:2:" + b"a" * 1000 + b"b"]
+    names = [(b"a" * 200 + b"c", b"x"), (b"a" * 200 + b"b", b"x")]
+    yield names, (pattern, b"x"), [b"a" * 200 + b"b:1:x"]
+
+
+def large_counts_over_long_lines():
+    """Large counts inside stars over a megabyte of long lines. By the engine they take over a minute, so the search ends only
+    if the pattern is found too large and the search goes line by line."""
+    body = (b"a" * 16_000 + b"\n") * 62 + b"abcde\n"
+    yield [(b"f", body)], b"((([ab]{0,255}){15}c)*d)*e", [b"f:63:abcde"]
+
+
+def patterns_about_the_greatest_size():
+    """The largest pattern of its kind that is compiled has 627 sets and its c. Patterns with one set less, one more and two
+    more find their lines too, with and without a last line feed."""
+    body = b"".join(b"a" * count + b"c\n" for count in range(610, 650))
+    for last, least in ((116, 626), (117, 627), (118, 628), (119, 629)):
+        hits = [b"f:%d:%sc" % (count - 609, b"a" * count) for count in range(least, 650)]
+        for text in (body, body[:-1]):
+            yield [(b"f", text)], b"[ab]{255}[ab]{255}[ab]{%d}c" % last, hits
+
+
+def several_hits_in_each_of_many_documents():
+    """The first of many documents are looked at line by line, and the others by the engine."""
+    body = b"needle\n" + b"straw\n" * 100 + b"needles\n\nin needles"
+    names = [b"d%d" % number for number in range(10, 90)]
+    hits = [line % name for name in names for line in (b"%s:1:needle", b"%s:102:needles", b"%s:104:in needles")]
+    for pattern in (b"needle", b"^(in )?n.*d", b"n[aeiou]{2}dle" + FOR_THE_ENGINE):
+        yield [(name, body) for name in names], pattern, hits
+
+
+def a_megabyte_of_line_feeds():
+    """Each line is a hit."""
+    for pattern in (b"^$", b"x*"):
+        yield [(b"f", b"\n" * MIB)], pattern, [b"f:%d:" % (line + 1) for line in range(MIB)]
+
+
+def a_megabyte_with_few_hits():
+    """Only the first and the last line can be hits. The last one has no line feed. One pattern is too large to be compiled."""
+    body = b"hay\n" + b"straw\n" * 174_657 + b"a" * 629 + b"c"
+    yield [(b"f", body)], b"^hay$", [b"f:1:hay"]
+    for pattern in (b"ac", b"c$", b"^a+c", b"[ab]{255}[ab]{255}[ab]{118}c"):
+        yield [(b"f", body)], pattern, [b"f:174659:" + b"a" * 629 + b"c"]
+
+
+LONG_ROWS = [
+    many_stars,
+    large_counts_over_long_lines,
+    patterns_about_the_greatest_size,
+    several_hits_in_each_of_many_documents,
+    a_megabyte_of_line_feeds,
+    a_megabyte_with_few_hits,
+]
+
+
+def fault_of(what, documents, pattern, hits):
+    name, pattern = pattern if isinstance(pattern, tuple) else (None, pattern)
+    search = b"search %s\n" % pattern if name is None else b"searchin %s %s\n" % (name, pattern)
+    script = b"".join(put(*document) for document in documents) + b"publish\n" + search
+    try:
+        answers = run(script)
+    except subprocess.TimeoutExpired:
+        return f"{what}: {pattern[:80]!r} did not end"
+    return None if answers == [hits] else f"{what}: {pattern[:80]!r} finds other lines"
+
+
+def main():
+    if not PROGRAM.exists():
+        sys.exit("tests/lines.py: build the program first: ./tsearch --prove")
+    counted = Counted()
+    counted.judge(faults_of_rows())
+    counted.judge(fault_of(rows.__name__, *row) for rows in LONG_ROWS for row in rows())
+    counted.end()
+
+
+if __name__ == "__main__":
+    main()
