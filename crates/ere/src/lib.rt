@@ -9,7 +9,7 @@ mod byte_set;
 mod case;
 mod classes;
 mod error;
-pub mod laws;
+mod laws;
 mod letters;
 mod limits;
 mod parts;
@@ -21,5 +21,10 @@ mod tree;
 pub use byte_set::ByteSet;
 pub use case::Case;
 pub use error::{EreError, EreErrorKind};
+pub use laws::{
+    anchored_set, one_tree, only_the_empty_word, star_unrolls, surroundings_are_forgotten,
+    tree_within_limits,
+};
+pub use limits::MAX_LEAVES;
 pub use reader::{parse, parse_with};
 pub use tree::Ere;

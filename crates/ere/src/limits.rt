@@ -1,6 +1,6 @@
 //! The sizes of trees, and their limits.
 
-ghost use Rattle.std.specs.Prelude.{◌≡◌, ◌+◌, ◌*◌, ◌≤◌, ◌↔◌, IfSome, IsTrue, map, min};
+ghost use Rattle.std.specs.Prelude.{◌≡◌, ◌+◌, ◌*◌, ◌≤◌, ◌↔◌, IfSome, IsTrue, map, min, nat_le};
 ghost use Rattle.ere.specs.Limits.{height, highest, leaves, leaves_in, copies_counted, AreProper, HasTwo, IsProper, IsWithinLimits};
 ghost use Rattle.ere.specs.Tree.{form, trees_of};
 
@@ -20,10 +20,13 @@ impl Ere {
     pub fn within_limits(&self) -> bool
         ensures { IsTrue result ↔ IsWithinLimits (form self.now) }
     {
-        is_proper(self) && capped_height(self) <= MAX_HEIGHT && capped_leaves(self) <= MAX_LEAVES
+        // The height comes first, so no call goes deeper into a tree of any height than the limit.
+        is_low(self, MAX_HEIGHT) && is_proper(self) && capped_leaves(self) <= MAX_LEAVES
     }
 }
 
+/// Whether the tree is proper: each `Cat` and `Alt` has at least two members, and no `Repeat` has a least count above
+/// its greatest.
 #[cycle(proper)]
 fn is_proper(tree: &Ere) -> bool
     ensures { IsTrue result ↔ IsProper (form tree.now) }
@@ -39,6 +42,7 @@ fn is_proper(tree: &Ere) -> bool
     }
 }
 
+/// Whether all members are proper.
 #[cycle(proper)]
 fn are_proper(members: &[Ere]) -> bool
     ensures { IsTrue result ↔ AreProper (trees_of (map form members.now)) }
@@ -50,6 +54,7 @@ fn are_proper(members: &[Ere]) -> bool
     proper
 }
 
+/// Whether the least count is not above the greatest.
 fn is_ordered(least: u8, greatest: Option<u8>) -> bool
     ensures { IsTrue result ↔ IfSome greatest (λ most. least ≤ most) }
 {
@@ -59,31 +64,35 @@ fn is_ordered(least: u8, greatest: Option<u8>) -> bool
     }
 }
 
-/// The tree's height, or 65 if it is greater.
+/// Whether the tree's height is at most `most`. The calls nest no deeper than that.
 #[cycle(height)]
-pub fn capped_height(tree: &Ere) -> u8
-    ensures { result ≡ min (height (form tree.now)) 65 }
+fn is_low(tree: &Ere, most: u8) -> bool
+    ensures { result ≡ nat_le (height (form tree.now)) most }
 {
+    if most == 0 {
+        return false;
+    }
     match tree {
-        Ere::Empty => 1,
-        Ere::Set(_) => 1,
-        Ere::Start => 1,
-        Ere::End => 1,
-        Ere::Cat(members) => capped_highest(members).min(64) + 1,
-        Ere::Alt(members) => capped_highest(members).min(64) + 1,
-        Ere::Repeat(body, _, _) => capped_height(body).min(64) + 1,
+        Ere::Empty => true,
+        Ere::Set(_) => true,
+        Ere::Start => true,
+        Ere::End => true,
+        Ere::Cat(members) => are_low(members, most - 1),
+        Ere::Alt(members) => are_low(members, most - 1),
+        Ere::Repeat(body, _, _) => is_low(body, most - 1),
     }
 }
 
+/// Whether the height of each member is at most `most`.
 #[cycle(height)]
-fn capped_highest(members: &[Ere]) -> u8
-    ensures { result ≡ min (highest (trees_of (map form members.now))) 65 }
+fn are_low(members: &[Ere], most: u8) -> bool
+    ensures { result ≡ nat_le (highest (trees_of (map form members.now))) most }
 {
-    let mut most: u8 = 0;
+    let mut low = true;
     for i in (0..members.len()).rev() {
-        most = most.max(capped_height(&members[i]));
+        low = low && is_low(&members[i], most);
     }
-    most
+    low
 }
 
 /// The number of the tree's leaves (as in `Ere::within_limits`), or 4,097 if there are more.
@@ -104,6 +113,7 @@ pub fn capped_leaves(tree: &Ere) -> u32
     }
 }
 
+/// The number of all members' leaves, or 4,097 if there are more.
 #[cycle(leaves)]
 fn capped_leaves_in(members: &[Ere]) -> u32
     ensures { result ≡ min (leaves_in (trees_of (map form members.now))) 4097 }
@@ -115,6 +125,7 @@ fn capped_leaves_in(members: &[Ere]) -> u32
     sum
 }
 
+/// How many times a repeat counts the leaves of its body.
 fn counted(least: u8, greatest: Option<u8>) -> u32
     ensures counted { result ≡ copies_counted least greatest }
     ensures within { result ≤ 255 }

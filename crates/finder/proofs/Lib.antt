@@ -5,4 +5,3 @@ pub mod ClassLemmas
 pub mod LineLemmas
 pub mod MatchLemmas
 pub mod CutLemmas
-pub mod HeightLemmas

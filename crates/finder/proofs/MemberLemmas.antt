@@ -1,20 +1,15 @@
 -- The members of a list, and the patterns that stand for them.
-use Rattle.std.proofs.Common.{◌≡◌, ℕ, ◌+◌, ◌<◌, ◌≤◌, List, [], ◌∷◌, ◌++◌, length, map, drop, get_or, refl, sym, ap, subst, ◌∙◌, append_assoc}
+use Rattle.std.proofs.Common.{◌≡◌, ℕ, ◌+◌, ◌<◌, ◌≤◌, List, [], ◌∷◌, ◌++◌, length, map, drop, get_or, refl, sym, ap, subst, append_assoc}
 use Rattle.std.proofs.Math.ListN.{drop_of_length-le}
-use Rattle.std.proofs.lemmas.List.{at_drop_more}
 use Rattle.regex_hir.specs.Re.{Re}
 use Rattle.ere.specs.declared.tree.Ere.{Ere}
-use Rattle.ere.specs.Tree.{form, trees_of, none}
+use Rattle.ere.specs.Tree.{form, trees_of}
+use Rattle.matcher.proofs.MemberLemmas.{trees_at}
 use Rattle.finder.specs.Translation.{StandsFor, StandForEach}
 
 pub nothing_left : (members : List Ere) (k : ℕ) → length members ≤ k → StandForEach (trees_of (map form (drop k members))) []
 unfolding StandForEach
 nothing_left members k high = rw (drop_of_length-le members high) tt
-
-pub trees_at : (members : List Ere) (k : ℕ) (member : Ere) → k < length members → member ≡ get_or members k member
-    → trees_of (map form (drop k members)) ≡ trees_of (map form (member ∷ drop (k + 1) members))
-trees_at members k member low e =
-    at_drop_more (λ ms. trees_of (map form ms)) members k member low ∙ ap (λ m. trees_of (map form (m ∷ drop (k + 1) members))) (sym e)
 
 -- one member, and then the others
 pub next_member : (members : List Ere) (k : ℕ) (member : Ere) (re : Re) (done more : List Re) → k < length members
@@ -30,6 +25,3 @@ next_member members k member re done more low e one so_far rest =
 pub map-push : {A B : Type 0} (f : A → B) (xs : List A) (x : A) → map f (xs ++ x ∷ []) ≡ map f xs ++ f x ∷ []
 map-push f [] x = refl
 map-push f (y ∷ xs) x = ap (λ t. f y ∷ t) (map-push f xs x)
-
-pub no_trees : (members : List Ere) (k : ℕ) → length members ≤ k → trees_of (map form (drop k members)) ≡ none
-no_trees members k high = ap (λ ms. trees_of (map form ms)) (drop_of_length-le members high)

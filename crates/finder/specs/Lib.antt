@@ -1,4 +1,3 @@
 pub mod Translation
-pub mod StarHeight
 pub mod FirstLine
 pub mod Patterns

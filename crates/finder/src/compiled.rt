@@ -3,9 +3,10 @@
 ghost use Rattle.std.specs.Prelude.{IfOk, IfSome};
 ghost use Rattle.ere.specs.Tree.{form};
 
-use crate::steps::steps_of;
 use crate::translate::pattern_for;
-use ere::Ere;
+use ere::{Ere, MAX_LEAVES};
+use lines::MAX_LINE;
+use matcher::steps_of;
 use regex_compile::Error;
 use regex_meta::Program;
 use std::alloc::{AllocError, Global};
@@ -22,7 +23,7 @@ const MOST_TABLES_WHATEVER: usize = 1 << 30;
 
 /// The most steps, each over a whole line, that the matcher may take for a tree that is not compiled. They are the
 /// steps of a star that is not at the front and has eight sets in its body, plus those of the largest tree around it.
-const MOST_STEPS: u64 = 8 * 16_384 + 4_096;
+const MOST_STEPS: u64 = 8 * MAX_LINE as u64 + MAX_LEAVES as u64;
 
 /// A pattern compiled for the engine.
 pub struct Compiled {
@@ -48,7 +49,7 @@ impl Compiled {
         ensures { IfOk result (λ o. IfSome o (IsCompiledFrom (form tree.now))) }
     {
         let pattern = pattern_for(alloc, tree)?;
-        let most = if steps_of(tree, true) > MOST_STEPS {
+        let most = if steps_of(tree) > MOST_STEPS {
             MOST_TABLES_WHATEVER
         } else {
             MOST_TABLES

@@ -81,7 +81,7 @@ impl<'p> Finder<'p> {
     }
 }
 
-// Where the engine's first match starts.
+/// Where the engine's first match starts.
 fn first_match(searcher: &mut Searcher<'_>, text: &[u8]) -> Option<usize>
     ensures same { searcher.new.program.now ≡ searcher.old.program.now }
     ensures found { MatchOption result (find (pattern_of searcher.old.program.now) text.now 0 ≡ None)

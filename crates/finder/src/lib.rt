@@ -9,10 +9,7 @@
 mod compiled;
 mod finding;
 mod line;
-mod star_height;
-mod steps;
 mod translate;
 
 pub use compiled::Compiled;
 pub use finding::{Finder, FirstLine};
-pub use star_height::has_star_height;

@@ -40,7 +40,7 @@ pub fn lines_before(text: &[u8], start: usize) -> usize
     line_feeds(&text[..start])
 }
 
-// How many line feeds are in the text.
+/// How many line feeds are in the text.
 fn line_feeds(text: &[u8]) -> usize
     ensures { result ≡ line_feeds text.now }
 {
@@ -54,7 +54,7 @@ fn line_feeds(text: &[u8]) -> usize
     count + line_feeds_of_block(rest) as usize
 }
 
-// How many line feeds are in these bytes, which are at most one block.
+/// How many line feeds are in these bytes, which are at most one block.
 #[tactic(auto, unfolding(crate::specs::FirstLine::line_feeds))]
 fn line_feeds_of_block(block: &[u8]) -> u8
     requires { length block.now ≤ BLOCK }

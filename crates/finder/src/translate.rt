@@ -31,7 +31,7 @@ pub fn pattern_for(alloc: Global, tree: &Ere) -> Result<Hir, AllocError>
     }
 }
 
-// The patterns for the members, in their order.
+/// The patterns for the members, in their order.
 #[cycle(translate)]
 fn patterns_for(alloc: Global, members: &[Ere]) -> Result<Vec<Hir>, AllocError>
     ensures { IfOk result (λ hirs. StandForEach (trees_of (map form members.now)) (map meaning hirs.items)) }
@@ -43,8 +43,8 @@ fn patterns_for(alloc: Global, members: &[Ere]) -> Result<Vec<Hir>, AllocError>
     Ok(hirs)
 }
 
-// The pattern for `least` copies of the body or more. A star of a star becomes one star, since each further star
-// would make the pattern larger and its searches slower.
+/// The pattern for `least` copies of the body or more. A star of a star becomes one star, since each further star
+/// would make the pattern larger and its searches slower.
 #[cycle(translate)]
 fn starred(alloc: Global, body: &Ere, least: u8) -> Result<Hir, AllocError>
     ensures { IfOk result (λ hir. StandsFor (repeat (form body.now) least None) (meaning hir)) }
@@ -59,7 +59,7 @@ fn starred(alloc: Global, body: &Ere, least: u8) -> Result<Hir, AllocError>
     copies(alloc, body, least, None)
 }
 
-// The pattern for `least` to `most` copies of the body.
+/// The pattern for `least` to `most` copies of the body.
 #[cycle(translate)]
 fn bounded(alloc: Global, body: &Ere, least: u8, most: u8) -> Result<Hir, AllocError>
     ensures { IfOk result (λ hir. StandsFor (repeat (form body.now) least (Some most)) (meaning hir)) }
@@ -71,7 +71,7 @@ fn bounded(alloc: Global, body: &Ere, least: u8, most: u8) -> Result<Hir, AllocE
     copies(alloc, body, least, Some(most as u32))
 }
 
-// The engine's repetition of the body's pattern.
+/// The engine's repetition of the body's pattern.
 #[cycle(translate)]
 fn copies(alloc: Global, body: &Ere, least: u8, most: Option<u32>) -> Result<Hir, AllocError>
     requires { IfSome most (λ greatest. least ≤ greatest) }
@@ -86,7 +86,7 @@ fn copies(alloc: Global, body: &Ere, least: u8, most: Option<u32>) -> Result<Hir
     })
 }
 
-// The engine's class for the bytes of a set.
+/// The engine's class for the bytes of a set.
 fn class_of(alloc: Global, set: &ByteSet) -> Result<Class, AllocError>
     ensures { IfOk result (λ class. (b : ℕ) → in_ranges class.ranges.items b ≡ has set.now b) }
 {

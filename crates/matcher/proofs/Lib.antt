@@ -8,3 +8,5 @@ pub mod Meaning
 pub mod Walks
 pub mod Rounds
 pub mod Longer
+pub mod MemberLemmas
+pub mod HeightLemmas

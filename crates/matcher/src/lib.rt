@@ -9,8 +9,15 @@ mod one_word;
 mod plain;
 mod position_set;
 mod positions;
+mod star_height;
+mod steps;
+mod trees;
 mod walk;
 mod words;
+
+pub use star_height::has_star_height;
+pub use steps::steps_of;
+pub use words::{WORDS, step};
 
 ghost use Rattle.std.specs.Prelude.{◌≤◌, ◌<◌, ◌↔◌, IsTrue, length};
 ghost use Rattle.ere.specs.Limits.{IsWithinLimits};
@@ -22,7 +29,6 @@ use crate::position_set::PositionSet;
 use crate::positions::Positions;
 use crate::walk::advance;
 use crate::words::BITS;
-pub use crate::words::{WORDS, step};
 use ere::Ere;
 use lines::MAX_LINE;
 

@@ -4,6 +4,7 @@ ghost use Rattle.std.specs.Prelude.{IsTrue, All};
 ghost use Rattle.ere.specs.Tree.{form};
 ghost use Rattle.matcher.specs.Private.Longer.{HoldsInLonger};
 
+use crate::trees::is_set;
 use ere::Ere;
 
 /// Whether a tree has no `$`, and no star (a repeat without a greatest count) except of a single set. Without a `$`,
@@ -35,12 +36,4 @@ fn are_plain(members: &[Ere]) -> bool
         }
     }
     true
-}
-
-/// Whether the tree is one set.
-fn is_set(tree: &Ere) -> bool {
-    match tree {
-        Ere::Set(_members) => true,
-        _ => false,
-    }
 }

@@ -9,6 +9,7 @@ ghost use Rattle.matcher.specs.Private.Rounds.{EndsRounds, GoesOn, IsWidened, Ke
 
 use crate::plain::is_plain;
 use crate::position_set::PositionSet;
+use crate::trees::{can_be_empty, joins_words};
 use crate::words::BITS;
 use ere::Ere;
 
@@ -468,28 +469,5 @@ fn widen<S: PositionSet>(body: &Ere, line: &[u8], here: &mut S, known: &mut S)
         if !has_new {
             return;
         }
-    }
-}
-
-/// `true` only if the empty word is a word of the tree. `false` is allowed for such a tree too.
-fn can_be_empty(tree: &Ere) -> bool
-    ensures { IsTrue result → (line : List ℕ) (place : ℕ) → Spans line (form tree.now) place place }
-{
-    match tree {
-        Ere::Empty => true,
-        Ere::Repeat(_body, least, _greatest) => *least == 0,
-        _ => false,
-    }
-}
-
-/// `true` only if two words of the tree, one after the other, are always a word of it. It is `true` for a repeat
-/// without a greatest count.
-fn joins_words(tree: &Ere) -> bool
-    ensures { IsTrue result → (line : List ℕ) (start middle end : ℕ) → Spans line (form tree.now) start middle
-        → Spans line (form tree.now) middle end → Spans line (form tree.now) start end }
-{
-    match tree {
-        Ere::Repeat(_body, _least, greatest) => greatest.is_none(),
-        _ => false,
     }
 }

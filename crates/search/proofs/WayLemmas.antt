@@ -2,7 +2,7 @@
 use Rattle.std.proofs.Common.{◌≡◌, ◌<◌, Option, Some, None, IfSome, subst}
 use Rattle.ere.specs.Tree.{Tree}
 use Rattle.finder.specs.Patterns.{IsFinderOf, IsCompiledFrom}
-use Rattle.finder.specs.StarHeight.{star_height}
+use Rattle.matcher.specs.StarHeight.{star_height}
 use Rattle.finder.specs.declared.finding.Finder.{Finder}
 use Rattle.finder.specs.declared.compiled.Compiled.{Compiled}
 use Rattle.search.specs.declared.way.Way.{Way}

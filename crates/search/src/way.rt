@@ -3,11 +3,12 @@
 ghost use Rattle.std.specs.Prelude.{◌≡◌, IfOk, IfSome, nat_le};
 ghost use Rattle.ere.specs.Tree.{form};
 ghost use Rattle.finder.specs.Patterns.{IsCompiledFrom};
-ghost use Rattle.finder.specs.StarHeight.{star_height};
+ghost use Rattle.matcher.specs.StarHeight.{star_height};
 ghost use Rattle.search.specs.Private.Ways.{Finds, IsDecided};
 
 use ere::Ere;
-use finder::{Compiled, Finder, has_star_height};
+use finder::{Compiled, Finder};
+use matcher::has_star_height;
 use std::alloc::{AllocError, Global};
 
 /// How the lines that contain a match of a tree are found. Both ways find the same lines.

@@ -2,7 +2,7 @@
 use Rattle.std.specs.Prelude.{◌≡◌, ℕ, ◌+◌, ◌<◌, ◌≤◌, List, Option, Some, None, length, map, sum, take}
 use Rattle.ere.specs.Tree.{Tree}
 use Rattle.finder.specs.Patterns.{IsFinderOf}
-use Rattle.finder.specs.StarHeight.{star_height}
+use Rattle.matcher.specs.StarHeight.{star_height}
 use Rattle.finder.specs.declared.compiled.Compiled.{Compiled}
 use Rattle.search.specs.declared.documents.TakenDocument.{TakenDocument}
 use Rattle.search.specs.declared.way.Way.{Way}

@@ -1,7 +1,7 @@
 use Rattle.std.proofs.Common.{◌≡◌, ◌<◌, length, take, refl, ap, arith}
 use Rattle.std.proofs.lemmas.Bool.Decides.{nat_tests}
 use Rattle.ere.specs.Tree.{form}
-use Rattle.finder.specs.StarHeight.{star_height}
+use Rattle.matcher.specs.StarHeight.{star_height}
 use Rattle.search.specs.Private.Ways.{bytes_in}
 use Rattle.search.proofs.FewLemmas.{bytes_in-more}
 use Rattle.search.proofs.matching.few_documents.Goals as goal

@@ -1,7 +1,7 @@
 use Rattle.std.proofs.Common.{◌<◌, arith}
 use Rattle.std.proofs.lemmas.Bool.Decides.{nat_tests}
 use Rattle.ere.specs.Tree.{form}
-use Rattle.finder.specs.StarHeight.{star_height}
+use Rattle.matcher.specs.StarHeight.{star_height}
 use Rattle.search.proofs.WayLemmas.{finds_by, finds_line_by_line, compiled_from, decided_by, decided_flat, decided_none}
 use Rattle.search.proofs.way.way_by.Goals as goal
 

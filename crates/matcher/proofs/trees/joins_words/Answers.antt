@@ -2,7 +2,7 @@ use Rattle.std.proofs.Common.{ap, ◌∙◌}
 use Rattle.ere.specs.Tree.{form}
 use Rattle.ere.proofs.Forms.{form-Repeat}
 use Rattle.matcher.proofs.Walks.{joins_if}
-use Rattle.matcher.proofs.walk.joins_words.Goals as goal
+use Rattle.matcher.proofs.trees.joins_words.Goals as goal
 
 pub returns-in-Repeat : goal.returns-in-Repeat
 returns-in-Repeat c =

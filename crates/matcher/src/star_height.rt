@@ -2,8 +2,9 @@
 
 ghost use Rattle.std.specs.Prelude.{◌≡◌, ◌<◌, map, nat_le};
 ghost use Rattle.ere.specs.Tree.{form, trees_of};
-ghost use Rattle.finder.specs.StarHeight.{star_height, greatest_height, is_set};
+ghost use Rattle.matcher.specs.StarHeight.{star_height, greatest_height};
 
+use crate::trees::is_set;
 use ere::Ere;
 
 /// Whether the tree's star height is at least `least`: whether `least` repeats without a greatest count are
@@ -24,7 +25,7 @@ pub fn has_star_height(tree: &Ere, least: u32) -> bool
         Ere::Alt(members) => some_has_star_height(members.as_slice(), least),
         Ere::Repeat(body, _, greatest) => match greatest {
             None => {
-                if is_one_set(body) {
+                if is_set(body) {
                     return false;
                 }
                 has_star_height(body, least - 1)
@@ -34,7 +35,7 @@ pub fn has_star_height(tree: &Ere, least: u32) -> bool
     }
 }
 
-// Whether the star height of some member is at least this.
+/// Whether the star height of some member is at least this.
 #[cycle(heights)]
 fn some_has_star_height(members: &[Ere], least: u32) -> bool
     requires { 0 < least }
@@ -46,19 +47,4 @@ fn some_has_star_height(members: &[Ere], least: u32) -> bool
         }
     }
     false
-}
-
-/// Whether the tree is a single set.
-pub fn is_one_set(tree: &Ere) -> bool
-    ensures { result ≡ is_set (form tree.now) }
-{
-    match tree {
-        Ere::Empty => false,
-        Ere::Set(_) => true,
-        Ere::Start => false,
-        Ere::End => false,
-        Ere::Cat(_) => false,
-        Ere::Alt(_) => false,
-        Ere::Repeat(_, _, _) => false,
-    }
 }

@@ -4,8 +4,8 @@ use Rattle.std.proofs.Common.{refl, sym, ap, ◌∙◌, arith}
 use Rattle.std.proofs.lemmas.Bool.Decides.{nat_tests}
 use Rattle.ere.specs.declared.tree.Ere.{Ere}
 use Rattle.ere.specs.Tree.{form, trees_of, Tree, empty, set, at_start, at_end, cat, alt, repeat, Trees}
-use Rattle.finder.specs.StarHeight.{star_height, greatest_height, is_set}
-use Rattle.finder.proofs.MemberLemmas.{trees_at, no_trees}
+use Rattle.matcher.specs.StarHeight.{star_height, greatest_height, is_set}
+use Rattle.matcher.proofs.MemberLemmas.{trees_at, no_trees}
 
 pub none_needed : (least height : ℕ) → least ≡ 0 → true ≡ nat_le least height
 none_needed least height e = let low : least ≤ height = omega arith in grind (arith, nat_tests)

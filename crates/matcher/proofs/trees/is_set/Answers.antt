@@ -1,7 +1,7 @@
 use Rattle.std.proofs.Common.{refl, ap, ◌∙◌}
 use Rattle.ere.specs.Tree.{form}
 use Rattle.ere.proofs.Forms.{form-Empty, form-Set, form-Start, form-End, form-Cat, form-Alt, form-Repeat}
-use Rattle.finder.proofs.star_height.is_one_set.Goals as goal
+use Rattle.matcher.proofs.trees.is_set.Goals as goal
 
 pub returns-in-Empty : goal.returns-in-Empty
 returns-in-Empty c = rw (ap form c.in-Empty.is ∙ form-Empty) refl

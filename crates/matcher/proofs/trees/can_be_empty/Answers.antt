@@ -3,7 +3,7 @@ use Rattle.std.proofs.lemmas.Bool.Decides.{nat_tests}
 use Rattle.ere.specs.Tree.{form}
 use Rattle.ere.proofs.Forms.{form-Empty, form-Repeat}
 use Rattle.matcher.proofs.Rounds.{empty_empty, empty_if}
-use Rattle.matcher.proofs.walk.can_be_empty.Goals as goal
+use Rattle.matcher.proofs.trees.can_be_empty.Goals as goal
 
 pub returns-in-Empty : goal.returns-in-Empty
 returns-in-Empty c = λ held line place. rw (ap form c.in-Empty.is ∙ form-Empty) (empty_empty line place)

@@ -1,10 +1,10 @@
 use Rattle.std.proofs.Common.{◌≡◌, ◌-◌, true, false, nat_le, ap, sym, ◌∙◌}
 use Rattle.ere.specs.Tree.{form}
 use Rattle.ere.proofs.Forms.{form-Empty, form-Set, form-Start, form-End, form-Cat, form-Alt, form-Repeat}
-use Rattle.finder.specs.StarHeight.{star_height, is_set}
-use Rattle.finder.proofs.HeightLemmas.{below, empty_height, set_height, start_height, end_height, cat_height, alt_height, bounded_height}
-use Rattle.finder.proofs.HeightLemmas.{set_star_height, star_height_more, one_less, member_passed, member_found, no_member_left}
-use Rattle.finder.proofs.star_height.+heights.Goals as goal
+use Rattle.matcher.specs.StarHeight.{star_height, is_set}
+use Rattle.matcher.proofs.HeightLemmas.{below, empty_height, set_height, start_height, end_height, cat_height, alt_height, bounded_height}
+use Rattle.matcher.proofs.HeightLemmas.{set_star_height, star_height_more, one_less, member_passed, member_found, no_member_left}
+use Rattle.matcher.proofs.star_height.+heights.Goals as goal
 
 pub has_star_height-returns-in-Empty : goal.has_star_height-returns-in-Empty
 has_star_height-returns-in-Empty t c = rw (ap form c.in-Empty.is ∙ form-Empty) (below c.args.least _ c.if-least-eq0.false empty_height)
@@ -27,17 +27,17 @@ has_star_height-returns-in-Alt t c =
     rw (ap form c.in-Alt.is ∙ form-Alt c.in-Alt.members, alt_height _)
     (rw (← c.as_slice-in-Alt.ensures.value) c.some_has_star_height-in-Alt.ensures)
 
-pub has_star_height-returns-then-is_one_set : goal.has_star_height-returns-then-is_one_set
-has_star_height-returns-then-is_one_set t c =
+pub has_star_height-returns-then-is_set : goal.has_star_height-returns-then-is_set
+has_star_height-returns-then-is_set t c =
     let body = form c.in-Repeat.body.value in
-    let held : is_set body ≡ true = sym (c.is_one_set.ensures ∙ ap (λ b. is_set (form b)) c.deref.ensures) ∙ c.if-is_one_set.true in
+    let held : is_set body ≡ true = sym (c.is_set.ensures ∙ ap (λ b. is_set (form b)) c.deref.ensures) ∙ c.if-is_set.true in
     rw (ap form c.in-Repeat.is ∙ form-Repeat c.in-Repeat.body c.in-Repeat.field-1 c.in-Repeat.greatest, c.in-None.is)
     (below c.args.least _ c.if-least-eq0.false (set_star_height body c.in-Repeat.field-1 held))
 
-pub has_star_height-returns-else-is_one_set : goal.has_star_height-returns-else-is_one_set
-has_star_height-returns-else-is_one_set t c =
+pub has_star_height-returns-else-is_set : goal.has_star_height-returns-else-is_set
+has_star_height-returns-else-is_set t c =
     let body = form c.in-Repeat.body.value in
-    let other : is_set body ≡ false = sym (c.is_one_set.ensures ∙ ap (λ b. is_set (form b)) c.deref.ensures) ∙ c.if-is_one_set.false in
+    let other : is_set body ≡ false = sym (c.is_set.ensures ∙ ap (λ b. is_set (form b)) c.deref.ensures) ∙ c.if-is_set.false in
     rw (ap form c.in-Repeat.is ∙ form-Repeat c.in-Repeat.body c.in-Repeat.field-1 c.in-Repeat.greatest, c.in-None.is)
     (c.has_star_height.ensures
     ∙ (ap (λ b. nat_le (c.args.least - 1) (star_height (form b))) c.deref-in-None.ensures
