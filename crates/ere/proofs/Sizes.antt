@@ -1,6 +1,6 @@
 -- Sizes and properness of the trees of a program's trees, variant by variant.
 use Rattle.std.proofs.Common.{◌≡◌, ℕ, ◌+◌, ◌-◌, ◌*◌, ◌<◌, ◌≤◌, ◌↔◌, Bool, true, false, leb, IsTrue, List, [], ◌∷◌, length, get_or, drop}
-use Rattle.std.proofs.Common.{map, max, min, Option, Some, None, IfSome, refl, sym, ap, ◌∙◌, arith}
+use Rattle.std.proofs.Common.{map, max, min, nat_le, Option, Some, None, IfSome, refl, sym, ap, ◌∙◌, arith}
 use Rattle.std.proofs.Math.Nat.{mul-le-mul_left}
 use native.Mathlib.Decide.{dec_le}
 use Rattle.std.proofs.lemmas.List.{at_drop_more, at_drop_all}
@@ -10,7 +10,7 @@ use Rattle.std.specs.declared.vec.Vec.{Vec}
 use Rattle.std.specs.declared.boxed.Box.{Box}
 use Rattle.ere.specs.declared.tree.Ere.{Ere}
 use Rattle.ere.specs.declared.tree.Ere.TheVariants.{Empty, Set, Start, End, Cat, Alt, Repeat}
-use Rattle.ere.specs.Tree.{Tree, Trees, none, more, trees_of, form}
+use Rattle.ere.specs.Tree.{Tree, empty, set, at_start, at_end, cat, alt, repeat, Trees, none, more, trees_of, form}
 use Rattle.ere.proofs.Forms.{form-Empty, form-Set, form-Start, form-End, form-Cat, form-Alt, form-Repeat}
 use Rattle.ere.specs.Limits.{height, highest, leaves, leaves_in, copies_counted, AreProper, HasTwo, IsProper}
 
@@ -191,3 +191,52 @@ proper-more tree trees first rest one others held = (λ t. (one.0 held, others.0
 pub improper-more : (tree : Tree) (trees : Trees) (first : Bool) → IsTrue first ↔ IsProper tree → first ≡ false → IsTrue first ↔ AreProper (more tree trees)
 unfolding AreProper
 improper-more tree trees first one failed = (λ t. absurd (cc), λ p. one.1 p.0)
+
+pub height-positive : (tree : Tree) → 0 < height tree
+unfolding height
+height-positive empty = omega arith
+height-positive (set members) = omega arith
+height-positive at_start = omega arith
+height-positive at_end = omega arith
+height-positive (cat members) = omega arith
+height-positive (alt members) = omega arith
+height-positive (repeat body least greatest) = omega arith
+
+pub never_low : (height most : ℕ) → 0 < height → most ≡ 0 → false ≡ nat_le height most
+never_low height most some e = let high : most < height = omega arith in grind (arith, nat_tests)
+
+pub leaf_low : (height most : ℕ) → height ≡ 1 → (most ≡ 0 → ⊥) → true ≡ nat_le height most
+leaf_low height most e some = let low : height ≤ most = omega (arith, some, e) in grind (arith, nat_tests)
+
+-- what is inside a tree must be lower by one
+pub inside_low : (inside whole most : ℕ) → whole ≡ inside + 1 → (most ≡ 0 → ⊥) → nat_le inside (most - 1) ≡ nat_le whole most
+inside_low inside whole most e some = go (nat_le whole most) refl
+  where
+    go : (t : Bool) → nat_le whole most ≡ t → nat_le inside (most - 1) ≡ t
+    go true is = let low : whole ≤ most = grind (arith, nat_tests) in let less : inside ≤ most - 1 = omega (arith, e) in grind (arith, nat_tests)
+    go false is = let high : most < whole = grind (arith, nat_tests) in let more : most - 1 < inside = omega (arith, e, some) in grind (arith, nat_tests)
+
+-- one more member, which is low
+pub member_low : (one others most : ℕ) (low next : Bool) → next ≡ nat_le one most → next ≡ true → low ≡ nat_le others most
+    → low ≡ nat_le (max one others) most
+member_low one others most low next e held is = is ∙ go (nat_le others most) refl
+  where
+    below : one ≤ most
+    below = let test : nat_le one most ≡ true = sym e ∙ held in grind (arith, nat_tests)
+
+    go : (t : Bool) → nat_le others most ≡ t → t ≡ nat_le (max one others) most
+    go true h = let rest : others ≤ most = grind (arith, nat_tests) in let all : max one others ≤ most = omega (arith, below, rest) in grind (arith, nat_tests)
+    go false h = let rest : most < others = grind (arith, nat_tests) in let some : most < max one others = omega (arith, rest) in grind (arith, nat_tests)
+
+-- one more member, which is too high
+pub member_high : (one others most : ℕ) (next : Bool) → next ≡ nat_le one most → next ≡ false → next ≡ nat_le (max one others) most
+member_high one others most next e not =
+    let test : nat_le one most ≡ false = sym e ∙ not in
+    let above : most < one = grind (arith, nat_tests) in
+    let some : most < max one others = omega (arith, above) in
+    let whole : nat_le (max one others) most ≡ false = grind (arith, nat_tests) in
+    not ∙ sym whole
+
+-- nothing is low
+pub nothing_low : (most : ℕ) → true ≡ nat_le 0 most
+nothing_low most = let low : 0 ≤ most = omega arith in grind (arith, nat_tests)

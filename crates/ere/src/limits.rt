@@ -90,7 +90,7 @@ fn are_low(members: &[Ere], most: u8) -> bool
 {
     let mut low = true;
     for i in (0..members.len()).rev() {
-        low = low && is_low(&members[i], most);
+        low = is_low(&members[i], most) && low;
     }
     low
 }

@@ -5,6 +5,9 @@ ghost use Rattle.query.specs.Trigrams.{trigram_of};
 
 use std::marker::Model;
 
+/// How many trigrams there are: the number of each is below this.
+pub const TRIGRAMS: u32 = 16_777_216;
+
 /// Three consecutive bytes of a text.
 ///
 /// Contracts see it as its number.
@@ -15,12 +18,13 @@ pub struct Trigram {
 
 impl Model for Trigram {
     ghost use Rattle.std.specs.Prelude.{ℕ, ◌<◌};
+    ghost use Rattle.query.specs.declared.number.TheConstants.{TRIGRAMS};
 
     ghost Value = { ℕ };
 
     ghost view = { λ t. t.value };
 
-    ghost invariant = { λ t. t.value < 16777216 };
+    ghost invariant = { λ t. t.value < TRIGRAMS };
 
     ghost inverse = { λ number. record { value = number } };
 }

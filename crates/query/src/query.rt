@@ -50,6 +50,7 @@ pub fn copied(alloc: Global, query: &Query) -> Result<Query, AllocError>
     }
 }
 
+/// Copies of the queries, equal to them.
 #[cycle(copied)]
 fn all_copied(alloc: Global, members: &[Query]) -> Result<Vec<Query>, AllocError>
     ensures { IfOk result (λ copies. map formula_of copies.items ≡ map formula_of members.now) }
@@ -61,6 +62,7 @@ fn all_copied(alloc: Global, members: &[Query]) -> Result<Vec<Query>, AllocError
     Ok(copies)
 }
 
+/// Whether two queries are built alike.
 #[cycle(same)]
 fn is_same(left: &Query, right: &Query) -> bool
     ensures { IsTrue result → formula_of left.now ≡ formula_of right.now }
@@ -75,6 +77,7 @@ fn is_same(left: &Query, right: &Query) -> bool
     }
 }
 
+/// Whether the queries are built alike, each like the one in its place.
 #[cycle(same)]
 fn are_same(ones: &[Query], others: &[Query]) -> bool
     ensures { IsTrue result → map formula_of ones.now ≡ map formula_of others.now }
@@ -101,6 +104,7 @@ pub fn simplify(alloc: Global, query: Query) -> Result<Query, AllocError>
     simplified(alloc, &query)
 }
 
+/// Does what `simplify` does, to a query that stays.
 #[cycle(simplified)]
 fn simplified(alloc: Global, query: &Query) -> Result<Query, AllocError>
     ensures { IfOk result (λ plain. IsSimplification (formula_of query.now) (formula_of plain)) }
@@ -114,6 +118,7 @@ fn simplified(alloc: Global, query: &Query) -> Result<Query, AllocError>
     }
 }
 
+/// The simplified members, joined.
 #[cycle(simplified)]
 fn all_simplified(
     alloc: Global,
@@ -162,6 +167,7 @@ pub fn join(
     Ok(compound(connective, members))
 }
 
+/// The constant that adds nothing when it is joined.
 fn idle(connective: Connective) -> bool
     ensures { result ≡ idle connective }
 {
@@ -171,12 +177,14 @@ fn idle(connective: Connective) -> bool
     }
 }
 
+/// The constant of this truth.
 fn constant(met: bool) -> Query
     ensures { constant_of (formula_of result) ≡ Some met }
 {
     if met { Query::Any } else { Query::None }
 }
 
+/// The truth of a constant.
 fn constant_of(query: &Query) -> Option<bool>
     ensures { result ≡ constant_of (formula_of query.now) }
 {
@@ -189,6 +197,7 @@ fn constant_of(query: &Query) -> Option<bool>
     }
 }
 
+/// Whether the query is an `And` or an `Or`, as the connective says.
 fn is_of(connective: Connective, query: &Query) -> bool
     ensures { result ≡ is_of connective (formula_of query.now) }
 {
@@ -201,6 +210,7 @@ fn is_of(connective: Connective, query: &Query) -> bool
     }
 }
 
+/// The members of a query of this connective; any other query is the only member.
 fn members_of(alloc: Global, connective: Connective, query: Query) -> Result<Vec<Query>, AllocError>
     requires { IsReduced (formula_of query) }
     ensures { IfOk result (λ members. AreMembersOf connective (formula_of query) (map formula_of members.items)) }
@@ -219,6 +229,7 @@ fn members_of(alloc: Global, connective: Connective, query: Query) -> Result<Vec
     }
 }
 
+/// Adds further members.
 fn take_in(
     connective: Connective,
     members: &mut Vec<Query>,
@@ -234,6 +245,7 @@ fn take_in(
     Ok(())
 }
 
+/// Adds one member, unless it is repeated.
 fn add(connective: Connective, members: &mut Vec<Query>, member: Query) -> Result<(), AllocError>
     requires old { AreReducedParts (is_of connective) (formulas_of (map formula_of members.old.items)) }
     requires further { AreReducedParts (is_of connective) (formulas_of (formula_of member ∷ [])) }
@@ -246,6 +258,7 @@ fn add(connective: Connective, members: &mut Vec<Query>, member: Query) -> Resul
     Ok(())
 }
 
+/// Whether the member is left out of a conjunction, as it equals one of the last members.
 fn is_repeated(connective: Connective, members: &[Query], member: &Query) -> bool
     ensures { IsTrue result → AddsNothing connective (map formula_of members.now) (formula_of member.now) }
 {
@@ -262,6 +275,7 @@ fn is_repeated(connective: Connective, members: &[Query], member: &Query) -> boo
     }
 }
 
+/// The query of these members; a single one is the query itself.
 fn compound(connective: Connective, mut members: Vec<Query>) -> Query
     requires parts { AreReducedParts (is_of connective) (formulas_of (map formula_of members.items)) }
     requires some { 0 < length members.items }

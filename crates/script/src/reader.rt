@@ -26,12 +26,13 @@ pub struct ScriptReader<'a> {
 impl<'a> Model for ScriptReader<'a> {
     ghost use Rattle.std.specs.Prelude.{◌+◌, ◌≤◌, length};
     ghost use Rattle.script.specs.Position.{Position};
+    ghost use Rattle.script.specs.declared.reader.TheConstants.{MAX_SCRIPT};
 
     ghost Value = { Position };
 
     ghost view = { λ r. record { line = r.line; rest = r.rest.now } };
 
-    ghost invariant = { λ r. r.line + length r.rest.now ≤ 67108865 };
+    ghost invariant = { λ r. r.line + length r.rest.now ≤ MAX_SCRIPT + 1 };
 }
 
 impl<'a> ScriptReader<'a> {
@@ -93,10 +94,10 @@ struct TakenItem<'a> {
 
 /// Skips the empty lines and comments at the front.
 fn skip_blank(text: &[u8], line: u32) -> Start<'_>
-    requires { line + length text.now ≤ 67108865 }
+    requires { line + length text.now ≤ MAX_SCRIPT + 1 }
     ensures same { (items : List NumberedItem) → ItemsFrom result.line result.text.now items → ItemsFrom line text.now items }
     ensures not_blank { (first rest : List ℕ) → BeginsWithLine result.text.now first rest → IsFalse (is_blank first) }
-    ensures room { result.line + length result.text.now ≤ 67108865 }
+    ensures room { result.line + length result.text.now ≤ MAX_SCRIPT + 1 }
     ensures shorter { length result.text.now ≤ length text.now }
 {
     let mut start = Start { text, line };
@@ -110,6 +111,7 @@ fn skip_blank(text: &[u8], line: u32) -> Start<'_>
     start
 }
 
+/// Whether a line is blank: empty, or a comment.
 pub fn is_blank_line(line: &[u8]) -> bool
     ensures { result ≡ is_blank line.now }
 {
@@ -121,7 +123,7 @@ pub fn is_blank_line(line: &[u8]) -> bool
 
 /// What follows the first line.
 fn after_line<'a>(start: Start<'a>, first: CutLine<'a>) -> Start<'a>
-    requires room { start.line + length start.text.now ≤ 67108865 }
+    requires room { start.line + length start.text.now ≤ MAX_SCRIPT + 1 }
     requires some { 0 < length start.text.now }
     requires line { CutsLine start.text.now first.line.now (option_map (λ rest. rest.now) first.rest) }
     ensures { FollowsLine start.entry.line start.entry.text.now first.entry.line.now result.line result.text.now }
@@ -134,7 +136,7 @@ fn after_line<'a>(start: Start<'a>, first: CutLine<'a>) -> Start<'a>
 
 /// Takes the item at the front of a text whose first line is not blank.
 fn take_item(start: Start<'_>) -> TakenItem<'_>
-    requires room { start.line + length start.text.now ≤ 67108865 }
+    requires room { start.line + length start.text.now ≤ MAX_SCRIPT + 1 }
     requires some { 0 < length start.text.now }
     requires not_blank { (first rest : List ℕ) → BeginsWithLine start.text.now first rest → IsFalse (is_blank first) }
     ensures { TakesFrom start.entry.line start.entry.text.now (shown_item result.item) result.after.line result.after.text.now }
@@ -161,6 +163,7 @@ pub fn item_of<'a>(keyword: &'a [u8], others: Option<&'a [u8]>) -> Item<'a>
     }
 }
 
+/// The item of a line that is a keyword alone.
 fn item_of_keyword(keyword: &[u8]) -> Item<'_>
     ensures { shown_item result ≡ item_of_keyword keyword.now }
 {
@@ -183,6 +186,7 @@ fn item_of_keyword(keyword: &[u8]) -> Item<'_>
     }
 }
 
+/// The item of a line with a keyword, a space and more after it.
 fn item_of_keyword_and_others<'a>(keyword: &[u8], others: &'a [u8]) -> Item<'a>
     ensures { shown_item result ≡ item_of_keyword_and_others keyword.now others.now }
 {
@@ -209,6 +213,7 @@ fn item_of_keyword_and_others<'a>(keyword: &[u8], others: &'a [u8]) -> Item<'a>
     }
 }
 
+/// A `searchin` or `isearchin`, from what follows the space after its keyword.
 fn search_in(case: Case, fields: &[u8]) -> Item<'_>
     ensures { shown_item result ≡ search_in_of case (fields_of fields.now).first (fields_of fields.now).others }
 {
@@ -222,6 +227,7 @@ fn search_in(case: Case, fields: &[u8]) -> Item<'_>
     }
 }
 
+/// A `load`, from what follows the space after its keyword.
 fn load(fields: &[u8]) -> Item<'_>
     ensures { shown_item result ≡ load_of (fields_of fields.now).first (fields_of fields.now).others }
 {
@@ -234,7 +240,9 @@ fn load(fields: &[u8]) -> Item<'_>
 /// The name and the size of a put.
 #[derive(Clone, Copy, Debug)]
 pub struct Header<'a> {
+    /// The name, not checked yet.
     pub name: &'a [u8],
+    /// How many bytes the body has.
     pub size: usize,
 }
 
@@ -251,6 +259,7 @@ fn put_header(fields: &[u8]) -> Option<Header<'_>>
     })
 }
 
+/// The name and the size of a put, from what follows the space after `put`, if there is one.
 pub fn header_in(others: Option<&[u8]>) -> Option<Header<'_>>
     ensures { MatchOption result
         (LacksHeader (option_map (λ rest. rest.now) others.entry))
@@ -264,7 +273,7 @@ pub fn header_in(others: Option<&[u8]>) -> Option<Header<'_>>
 
 /// Takes a put: the keyword of the first line is `put`.
 fn take_put<'a>(start: Start<'a>, first: CutLine<'a>, others: Option<&'a [u8]>) -> TakenItem<'a>
-    requires room { start.line + length start.text.now ≤ 67108865 }
+    requires room { start.line + length start.text.now ≤ MAX_SCRIPT + 1 }
     requires some { 0 < length start.text.now }
     requires line { CutsLine start.text.now first.line.now (option_map (λ rest. rest.now) first.rest) }
     requires fields { fields_of first.line.now ≡ shown_fields (codes "put") (option_map (λ rest. rest.now) others) }
@@ -298,7 +307,7 @@ fn take_put<'a>(start: Start<'a>, first: CutLine<'a>, others: Option<&'a [u8]>) 
 
 /// Takes the body of a put whose bytes are all there.
 fn take_body<'a>(start: Start<'a>, header: Header<'a>, left: &'a [u8]) -> TakenItem<'a>
-    requires room { start.line + length start.text.now ≤ 67108865 }
+    requires room { start.line + length start.text.now ≤ MAX_SCRIPT + 1 }
     requires line { (line : List ℕ) × (start.text.now ≡ line ++ 10 ∷ left.now) × IsPutLine line header.name.now header.size }
     requires size { header.size ≤ length left.now }
     ensures { TakesFrom start.entry.line start.entry.text.now (shown_item result.item) result.after.line result.after.text.now }
