@@ -19,8 +19,9 @@ import trigrams
 METER = r"""//! The time of either way of finding the lines of a file, and the last line that is found.
 #![tactic(auto)]
 
-use ere::{Ere, MAX_LINE, parse};
+use ere::{Ere, parse};
 use finder::{Compiled, Finder};
+use lines::MAX_LINE;
 use matcher::matches;
 use std::alloc::{AllocError, Global};
 use std::env::{self, Env};
@@ -116,7 +117,7 @@ HARD = [
 class Meter:
     def __init__(self, folder):
         self.path = os.path.join(folder, "text")
-        self.program = trigrams.build(folder, METER, ["ere", "finder", "matcher"])
+        self.program = trigrams.build(folder, METER, ["ere", "finder", "lines", "matcher"])
 
     def run(self, way, text, pattern, rounds=1):
         """The seconds of a round, and the last line that was found, or why none was looked for."""

@@ -1,6 +1,6 @@
 """How fast `matches` is, a line at a time: python3 bench/matching.py FOLDER [CHECKOUT..].
 
-Writes a small program over the crates `ere` and `matcher` into a temporary folder, has `rt` build it, which takes a few
+Writes a small program over the crates `ere`, `lines` and `matcher` into a temporary folder, has `rt` build it, which takes a few
 minutes, and runs it on lines of the folder's files, next to `grep -E`. If checkouts of the repository are named, it does so
 for the crates of each, in one run: for example one from before a change and one from after it.
 """
@@ -20,7 +20,8 @@ ROOT = trigrams.ROOT
 METER = r"""//! The time of `matches` over the lines of a file.
 #![tactic(auto)]
 
-use ere::{Ere, MAX_LINE, parse};
+use ere::{Ere, parse};
+use lines::MAX_LINE;
 use matcher::matches;
 use std::env::{self, Env};
 use std::fs;
@@ -64,8 +65,8 @@ fn hits(tree: &Ere, lines: &[&[u8]]) -> u64 {
 
 
 def build(root, folder, source=METER):
-    """The path of a program of this source over the crates `ere` and `matcher` of a checkout."""
-    return trigrams.build(folder, source, ["ere", "matcher"], root)
+    """The path of a program of this source over the crates `ere`, `lines` and `matcher` of a checkout."""
+    return trigrams.build(folder, source, ["ere", "lines", "matcher"], root)
 
 
 def seconds_of(program, path, pattern):

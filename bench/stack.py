@@ -2,7 +2,7 @@
 
 For several kinds of trees of height 64, and for lines up to the greatest length: the least `ulimit -s` with which the
 program answers, less that for a tree of one set. In brackets the same for the program that Rattle's own compiler makes,
-whose frames are larger. It builds a small program of its own over the crates `ere` and `matcher`, in a few minutes.
+whose frames are larger. It builds a small program of its own over the crates `ere`, `lines` and `matcher`, in a few minutes.
 """
 import os
 import shutil
@@ -17,7 +17,8 @@ import matching
 METER = r"""//! Whether a line of this many bytes contains a match.
 #![tactic(auto)]
 
-use ere::{Ere, MAX_LINE, parse};
+use ere::{Ere, parse};
+use lines::MAX_LINE;
 use matcher::matches;
 use std::env::{self, Env};
 use std::io;

@@ -15,10 +15,6 @@ mod trees;
 mod walk;
 mod words;
 
-pub use star_height::has_star_height;
-pub use steps::steps_of;
-pub use words::{WORDS, step};
-
 ghost use Rattle.std.specs.Prelude.{◌≤◌, ◌<◌, ◌↔◌, IsTrue, length};
 ghost use Rattle.ere.specs.Limits.{IsWithinLimits};
 ghost use Rattle.ere.specs.Language.{ContainsMatch};
@@ -31,6 +27,9 @@ use crate::walk::advance;
 use crate::words::BITS;
 use ere::Ere;
 use lines::MAX_LINE;
+pub use star_height::has_star_height;
+pub use steps::steps_of;
+pub use words::{WORDS, step};
 
 /// The number of words in a set of positions of a line that is neither short nor long. Each set is filled with
 /// zeros when it is made, which takes less time for fewer words.
