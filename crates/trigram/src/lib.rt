@@ -3,8 +3,12 @@
 #![tactic(auto)]
 
 mod analysis;
-pub mod laws;
+mod laws;
 mod texts;
 
 pub use analysis::analyse;
+pub use laws::{
+    known_texts_are_the_words, matching_line_meets_condition, sets_have_each_text_once,
+    trigrams_are_held,
+};
 pub use query::{Query, Trigram, simplify, trigrams_of};
