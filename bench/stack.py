@@ -12,6 +12,7 @@ import tempfile
 
 sys.path.insert(0, os.path.dirname(os.path.abspath(__file__)))
 import matching
+import trigrams
 
 # The program reads the words PATTERN LENGTH. The line is LENGTH bytes `a`.
 METER = r"""//! Whether a line of this many bytes contains a match.
@@ -82,9 +83,9 @@ def least(program, pattern, length):
     return high
 
 
-def build_both(root, folder):
-    """The paths of the program as LLVM makes it, and as Rattle's own compiler does."""
-    built = matching.build(root, folder, METER)
+def build_both(root, folder, source=METER, used=("ere", "lines", "matcher")):
+    """The paths of a program of this source over these crates as LLVM makes it, and as Rattle's own compiler does."""
+    built = trigrams.build(folder, source, used, root)
     copy = built + ".llvm"
     shutil.copy(built, copy)
     subprocess.run(["rt", "run", "--backend", "rattle"], cwd=os.path.dirname(os.path.dirname(built)), capture_output=True, check=True)

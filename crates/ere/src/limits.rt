@@ -17,6 +17,8 @@ impl Ere {
     /// members, no `Repeat` has a least count above its greatest, the height is at most 64, and there are at most
     /// 4,096 leaves. A `Repeat` counts each leaf of its body as often as its greatest count, or its least if it has no
     /// greatest, but at least once. (The limits are this program's choice.)
+    ///
+    /// It looks no deeper into a tree than the greatest height, so it takes little stack whatever the height.
     pub fn within_limits(&self) -> bool
         ensures { IsTrue result ↔ IsWithinLimits (form self.now) }
     {

@@ -7,6 +7,10 @@ ghost use Rattle.ere.specs.Tree.{form};
 use crate::byte_set::ByteSet;
 
 /// An extended regular expression as a tree. `docs/DEFINITIONS.md` says which texts each tree matches.
+///
+/// A tree can be higher than the limits allow. To drop it, to clone it and to compare it, calls nest as deep as it is
+/// high. By measurement (`bench/levels.py`) each level takes at most 128 bytes of stack to drop or compare, and 448 to
+/// clone, so 2 MiB of stack bear 16,000 levels, or 4,600 that are cloned.
 #[derive(Clone, Debug, PartialEq, Eq, Drop)]
 pub enum Ere {
     /// The empty text.

@@ -8,6 +8,10 @@ use crate::number::Trigram;
 use std::alloc::{AllocError, Global};
 
 /// A condition on a set of trigrams.
+///
+/// A query can be of any height. To drop it, to clone it and to compare it, calls nest as deep as it is high. By
+/// measurement (`bench/levels.py`) each level takes 80 bytes of stack to drop or compare, and 240 to clone. `copied`
+/// takes 352, and `simplify` 528, so 2 MiB of stack bear 3,900 levels that are simplified.
 #[derive(Clone, Debug, PartialEq, Eq, Drop)]
 pub enum Query {
     /// Every set meets it.
@@ -34,7 +38,8 @@ pub enum Connective {
 /// A new conjunct is compared with at most this many members: the last ones before it.
 const NEIGHBOURS: usize = 64;
 
-/// A copy of the query, equal to it.
+/// A copy of the query, equal to it. Calls nest as deep as the query is high (see `Query` for how much stack that
+/// takes).
 ///
 /// An `Err` means that memory ran out.
 #[cycle(copied)]
@@ -96,6 +101,8 @@ fn are_same(ones: &[Query], others: &[Query]) -> bool
 /// A plain query that exactly the same sets of trigrams meet. A query is plain if it is `Any` or `None`, or if it
 /// contains neither, each `And` and `Or` in it has at least two members, no `And` is directly in an `And`, and no
 /// `Or` is directly in an `Or`.
+///
+/// Calls nest as deep as the query is high (see `Query` for how much stack that takes).
 ///
 /// An `Err` means that memory ran out. The query that was passed in is dropped in either case.
 pub fn simplify(alloc: Global, query: Query) -> Result<Query, AllocError>
