@@ -1,5 +1,7 @@
 -- The table that pages and lists make.
-use Rattle.std.proofs.Common.{◌≡◌, ◌≢◌, ℕ, zero, suc, ◌+◌, ◌-◌, ◌^◌, ◌<◌, ◌≤◌, List, [], ◌⊎◌, inl, inr, length, get_or, set, refl, sym, ap}
+use mathlib.Core.Path.{fun_ext}
+use Rattle.std.proofs.Common.{◌≡◌, ◌≢◌, ℕ, zero, suc, ◌+◌, ◌-◌, ◌^◌, ◌<◌, ◌≤◌, List, [], ◌⊎◌, inl, inr, length, get_or, map, set, refl, sym, ap}
+use Rattle.std.specs.List.{range_with_len}
 use Rattle.std.proofs.Common.{◌∙◌, subst, arith, add-one}
 use Rattle.std.specs.declared.alloc.Global.{Global}
 use Rattle.std.specs.declared.vec.Vec.{Vec}
@@ -24,6 +26,13 @@ pub set_of-past : (pages : List (Vec ℕ Global)) (lists : List Owned) (t : ℕ)
 unfolding table_of
 set_of-past pages lists t past =
     get_or_past _ t no_numbers (omega (arith, length-map-range_with_len (λ s. set_in_slot lists (slot_of pages s)) 0 trigram_count))
+
+-- pages with the same slots make the same table
+pub table_of-same : (pages pages' : List (Vec ℕ Global)) (lists : List Owned) → ((t : ℕ) → slot_of pages' t ≡ slot_of pages t)
+    → table_of pages' lists ≡ table_of pages lists
+unfolding table_of
+table_of-same pages pages' lists same =
+    ap (λ sets. map sets (range_with_len 0 trigram_count)) (fun_ext (λ t. ap (set_in_slot lists) (same t)))
 
 -- a relation between the sets in the slots of two tables holds between the sets of the tables
 pub tables_relate : (R : ListValue → ListValue → Type 0) (pages pages' : List (Vec ℕ Global)) (lists lists' : List Owned)

@@ -1,6 +1,7 @@
 //! Where the list of each trigram is.
 
-ghost use Rattle.std.specs.Prelude.{◌≡◌, ◌≢◌, ℕ, ◌+◌, ◌<◌, if◌then◌else◌, ◌==◌, IfOk, OnOk};
+ghost use Rattle.std.specs.Prelude.{◌≡◌, ◌≢◌, ℕ, ◌+◌, ◌<◌, if◌then◌else◌, ◌==◌, [], slice_index, IfOk, OnOk};
+ghost use Rattle.std.specs.Vec.{vec_capacity};
 ghost use Rattle.posting.specs.ListValue.{HasRoom};
 ghost use Rattle.posting.specs.Postings.{no_numbers};
 ghost use Rattle.posting.specs.Private.Pages.{IsSound, HasSlot, set_in_slot, slot_of, trigram_count};
@@ -106,5 +107,42 @@ pub(crate) fn drop_list(pages: &mut Vec<Vec<u32>>, lists: &mut Vec<Owned>, trigr
     set_slot(pages, trigram, 0);
     if let Some(moved) = lists.get(place) {
         set_slot(pages, moved.trigram, slot as u32);
+    }
+}
+
+/// Gives back memory that is not needed once less than a quarter of the room for lists is used: the rest of this room,
+/// and the pages without a list. If there is no list, no memory is kept. All sets stay as they are.
+///
+/// What cannot be given back, since memory for a smaller copy is refused, is kept.
+pub(crate) fn give_back(pages: &mut Vec<Vec<u32>>, lists: &mut Vec<Owned>)
+    requires { IsSound pages.old.items lists.old.items }
+    ensures slots { (t : ℕ) → slot_of pages.new.items t ≡ slot_of pages.old.items t }
+    ensures lists { lists.new.items ≡ lists.old.items }
+    ensures none { lists.old.items ≡ [] → (vec_capacity pages.new ≡ 0) × (vec_capacity lists.new ≡ 0) }
+{
+    if lists.is_empty() {
+        *pages = Vec::new(*pages.allocator());
+        lists.shrink_to_fit();
+    } else if lists.len() < lists.capacity() / 4 {
+        lists.shrink_to_fit();
+        free_pages(pages);
+    }
+}
+
+// Frees the pages without a list.
+fn free_pages(pages: &mut Vec<Vec<u32>>)
+    ensures { (t : ℕ) → slot_of pages.new.items t ≡ slot_of pages.old.items t }
+{
+    for page in 0..pages.len() {
+        free_page(&mut pages[page]);
+    }
+}
+
+// Frees the slots of a page, if none of them leads to a list.
+fn free_page(slots: &mut Vec<u32>)
+    ensures { (place : ℕ) → slice_index slots.new.items place ≡ slice_index slots.old.items place }
+{
+    if slots.iter().all(|slot| *slot == 0) {
+        *slots = Vec::new(*slots.allocator());
     }
 }

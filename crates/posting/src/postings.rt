@@ -89,6 +89,7 @@ impl Postings {
         for trigram in trigrams {
             self.remove(*trigram, number);
         }
+        self.give_back();
     }
 
     /// `prepare` for trigrams that are kept as gaps. An `Err` means the same.
@@ -123,6 +124,7 @@ impl Postings {
         for trigram in kept.iter() {
             self.remove(trigram, number);
         }
+        self.give_back();
     }
 
     /// The numbers of `live` whose trigrams meet the query. The trigrams of a number are those whose sets have it.
@@ -170,8 +172,17 @@ impl Postings {
             owned.list.remove(number);
             if owned.list.is_empty() {
                 pages::drop_list(&mut self.pages, &mut self.lists, trigram);
+            } else {
+                owned.list.give_back();
             }
         }
+    }
+
+    // Gives back memory that the sets do not need.
+    fn give_back(&mut self)
+        ensures { self.new ≡ self.old }
+    {
+        pages::give_back(&mut self.pages, &mut self.lists);
     }
 
     // The list of a trigram, if it has one.

@@ -41,8 +41,8 @@ returns-else-is_empty-clause-at c =
     c.index_mut-owned.result.now there c.index_mut-owned.ensures.value) in
     ap (λ s. s.members)
     (set_of-written c.self.inside.pages.items c.self.inside.lists.items c.args.trigram (c.slot-slot.result - 1)
-    (record { trigram = c.index_mut-owned.result.now.trigram; list = c.remove.new.self }) there)
-    ∙ c.remove.ensures.members ∙ ap (λ s. without c.args.number s.members) (sym was)
+    (record { trigram = c.index_mut-owned.result.now.trigram; list = c.give_back.new.self }) there)
+    ∙ c.give_back.ensures ∙ c.remove.ensures.members ∙ ap (λ s. without c.args.number s.members) (sym was)
 
 pub returns-else-is_empty-clause-others : goal.returns-else-is_empty-clause-others
 returns-else-is_empty-clause-others c = λ t other.
@@ -51,7 +51,7 @@ returns-else-is_empty-clause-others c = λ t other.
     record { sound = c.self.invariant; below = c.slot-slot.ensures.bound; slot = omega arith } in
     rw (← c.self.view_is)
     (set_of-kept c.self.inside.pages.items c.self.inside.lists.items c.args.trigram (c.slot-slot.result - 1)
-    (record { trigram = c.index_mut-owned.result.now.trigram; list = c.remove.new.self }) there t other)
+    (record { trigram = c.index_mut-owned.result.now.trigram; list = c.give_back.new.self }) there t other)
 
 pub returns-else-slot-gt0-clause-at : goal.returns-else-slot-gt0-clause-at
 returns-else-slot-gt0-clause-at c =
@@ -71,8 +71,8 @@ returns-else-is_empty-clause-empty c = λ none.
     record { sound = c.self.invariant; below = c.slot-slot.ensures.bound; slot = omega arith } in
     let written =
     set_of-written c.self.inside.pages.items c.self.inside.lists.items c.args.trigram (c.slot-slot.result - 1)
-    (record { trigram = c.index_mut-owned.result.now.trigram; list = c.remove.new.self }) there in
-    absurd (false≢true (sym c.if-is_empty.false ∙ c.is_empty.ensures.empty.1 (sym (ap (λ s. s.members) written) ∙ none)))
+    (record { trigram = c.index_mut-owned.result.now.trigram; list = c.give_back.new.self }) there in
+    absurd (false≢true (sym c.if-is_empty.false ∙ c.is_empty.ensures.empty.1 (sym c.give_back.ensures ∙ sym (ap (λ s. s.members) written) ∙ none)))
 
 pub returns-else-slot-gt0-clause-empty : goal.returns-else-slot-gt0-clause-empty
 returns-else-slot-gt0-clause-empty c = λ _.

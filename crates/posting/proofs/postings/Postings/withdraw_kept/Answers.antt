@@ -22,9 +22,11 @@ loop-trigram-preserved c = record {
 pub returns-clause-sets : goal.returns-clause-sets
 returns-clause-sets c =
     let all = passed-all c.args.kept.now c.loop-trigram.yielded c.loop-trigram.trigram-iterator c.loop-trigram.invariant.passed c.in-None.ensures.steps.0 in
-    subst (λ ts. WithdrawsNumber c.args.self.now c.loop-trigram.self ts c.args.number) (sym all) c.loop-trigram.invariant.changed.sets
+    rw c.give_back.ensures
+    (subst (λ ts. WithdrawsNumber c.args.self.now c.loop-trigram.self ts c.args.number) (sym all) c.loop-trigram.invariant.changed.sets)
 
 pub returns-clause-empty : goal.returns-clause-empty
 returns-clause-empty c =
     let all = passed-all c.args.kept.now c.loop-trigram.yielded c.loop-trigram.trigram-iterator c.loop-trigram.invariant.passed c.in-None.ensures.steps.0 in
-    subst (GivesBack c.loop-trigram.self) (sym all) c.loop-trigram.invariant.changed.empty
+    rw c.give_back.ensures
+    (subst (GivesBack c.loop-trigram.self) (sym all) c.loop-trigram.invariant.changed.empty)
