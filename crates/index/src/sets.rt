@@ -45,6 +45,7 @@ impl Sets {
             ≡ (holds self.old.postings trigram n && not (has trigrams.now trigram && n == number)) }
     {
         self.live.remove(number);
+        self.live.give_back();
         self.postings.withdraw_kept(number, trigrams);
     }
 

@@ -66,6 +66,17 @@ pub(crate) fn compact(slots: &mut Vec<Slot>, documents: usize)
     }
 }
 
+/// Gives back the room for slots that is not used, once less than a quarter of all room is used. The slots stay.
+///
+/// If memory for a smaller copy is refused, the room is kept.
+pub(crate) fn give_back(slots: &mut Vec<Slot>)
+    ensures { slots.new.items ≡ slots.old.items }
+{
+    if slots.len() < slots.capacity() / 4 {
+        slots.shrink_to_fit();
+    }
+}
+
 // The place of the slot with this number, if there is one.
 fn place_of(slots: &[Slot], number: u32) -> Option<usize>
     requires { (last : ℕ) × RiseTo last slots.now }

@@ -8,7 +8,7 @@ ghost use Rattle.index.specs.Private.Slots.{without_number};
 ghost use Rattle.index.specs.Private.Store.{stored, IsStore, HasPlaceFor, left_after};
 
 use crate::sets::Sets;
-use crate::slots::{Occupant, Slot, compact, take};
+use crate::slots::{Occupant, Slot, compact, give_back, take};
 use posting::Trigrams;
 use std::alloc::{AllocError, Global};
 
@@ -46,7 +46,8 @@ impl Store {
         self.sets.make_room(number, trigrams)
     }
 
-    /// Takes out the document with this number, if there is one, and drops it. This takes no memory.
+    /// Takes out the document with this number, if there is one, and drops it. This takes no memory, and gives back what
+    /// the other documents do not need; room that was made may go with it.
     pub(crate) fn take_out(&mut self, number: u32)
         requires { (last : ℕ) × IsStore last self.old }
         ensures documents { stored self.new ≡ without_number number (stored self.old) }
@@ -56,6 +57,7 @@ impl Store {
             self.sets.take_out(number, occupant.held.trigrams());
             self.held_bytes -= occupant.held.body().as_bytes().len() as u64;
             compact(&mut self.slots, self.sets.live.len());
+            give_back(&mut self.slots);
         }
     }
 

@@ -18,7 +18,9 @@ use std::marker::Model;
 /// A set of numbers for each trigram.
 ///
 /// A set takes memory only while it has a number or was prepared for one. A page for each 1,024 trigrams says
-/// where their sets are. A page stays once it is made; all pages together take at most 64 MiB.
+/// where their sets are; all pages together take at most 64 MiB. `withdraw` gives memory back: that of a set that is
+/// empty afterwards, room of which less than a quarter is used, and with the room for sets also the pages that no set
+/// needs.
 ///
 /// Contracts see it as a table of sets by the trigrams' numbers. A set has its numbers, and room for some more:
 /// `prepare` makes the room, and `add` uses it.
@@ -55,7 +57,7 @@ impl Postings {
     /// sets keep their numbers.
     ///
     /// An `Err` means that memory ran out. Some sets may then have room already. A `withdraw` from these sets frees
-    /// the room of those that are empty; the others keep it.
+    /// the room of those that are empty, and may free that of the others.
     pub fn prepare(&mut self, number: u32, trigrams: &[Trigram]) -> Result<(), AllocError>
         ensures sets { SameSets self.old self.new }
         ensures room { KeepsRoom self.old self.new }
@@ -81,7 +83,8 @@ impl Postings {
     }
 
     /// Takes the number out of the sets of these trigrams. A set that does not have it keeps its numbers. The memory
-    /// and the room of a set that is empty afterwards are freed. This needs no more memory.
+    /// and the room of a set that is empty afterwards are freed, and these sets may lose room that was made for them.
+    /// This needs no more memory, and gives back what the other sets do not need.
     pub fn withdraw(&mut self, number: u32, trigrams: &[Trigram])
         ensures sets { WithdrawsNumber self.old self.new trigrams.now number }
         ensures empty { GivesBack self.new trigrams.now }

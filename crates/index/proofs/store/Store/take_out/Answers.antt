@@ -2,7 +2,7 @@ use Rattle.std.proofs.Common.{◌≡◌, sym, ◌∙◌, ap, subst, arith, lengt
 use Rattle.std.specs.Prelude.{option_map}
 use Rattle.std.proofs.lemmas.List.{length-map}
 use Rattle.index.specs.State.{body_bytes}
-use Rattle.index.specs.Private.Slots.{documents_in, texts_of, without_number}
+use Rattle.index.specs.Private.Slots.{documents_in, texts_of, without_number, RiseTo, FewAreEmpty}
 use Rattle.index.specs.Private.Sets.{AreSetsOf}
 use Rattle.index.specs.Private.Store.{stored}
 use Rattle.index.proofs.StoredLemmas.{Numbered-stored, AreSetsOf-take, body_bytes-without, without-absent_number, RiseTo-same}
@@ -25,9 +25,9 @@ returns-in-Some-clause-store c = λ last kept.
     let size : length c.as_bytes.result.now ≡ length c.in-Some.occupant.held = ap length (c.as_bytes.ensures.bytes ∙ c.body.ensures) in
     let bytes = body_bytes-without c.args.number (stored old) c.in-Some.occupant.name c.in-Some.occupant.held
     (Numbered-stored last old.slots.items kept.slots) at in
-    let documents : documents_in c.compact.new.slots.items ≡ without_number c.args.number (stored old) =
-    c.compact.ensures.documents ∙ c.take.ensures.documents in
-    let left : body_bytes (documents_in c.compact.new.slots.items) ≡ body_bytes (without_number c.args.number (stored old)) = ap body_bytes documents in
+    let documents : documents_in c.give_back.new.slots.items ≡ without_number c.args.number (stored old) =
+    ap documents_in c.give_back.ensures ∙ c.compact.ensures.documents ∙ c.take.ensures.documents in
+    let left : body_bytes (documents_in c.give_back.new.slots.items) ≡ body_bytes (without_number c.args.number (stored old)) = ap body_bytes documents in
     let sets =
     AreSetsOf-take (stored old) c.args.number c.in-Some.occupant.name c.in-Some.occupant.held c.trigrams.result.now old.sets
     c.take_out.new.self kept.sets at c.trigrams.ensures.trigrams c.take_out.ensures.live c.take_out.ensures.postings in
@@ -35,8 +35,10 @@ returns-in-Some-clause-store c = λ last kept.
     c.len.ensures ∙ ap length sets.live ∙ length-map (without_number c.args.number (stored old)) (λ d. d.number)
     ∙ ap length (sym c.take.ensures.documents) in
     record {
-      slots = c.compact.ensures.numbers last (RiseTo-same last old.slots.items c.take.new.slots.items c.take.ensures.numbers kept.slots);
-      few = c.compact.ensures.few counted;
+      slots =
+          subst (RiseTo last) (sym c.give_back.ensures)
+          (c.compact.ensures.numbers last (RiseTo-same last old.slots.items c.take.new.slots.items c.take.ensures.numbers kept.slots));
+      few = subst FewAreEmpty (sym c.give_back.ensures) (c.compact.ensures.few counted);
       sets = subst (λ ds. AreSetsOf ds c.take_out.new.self) (sym documents) sets;
       bytes = omega (arith, size, bytes, left, kept.bytes);
     }
