@@ -23,7 +23,7 @@ pub(crate) fn first_number(bytes: &[u8], before: u32) -> (u32, &[u8])
     (before + gap, rest)
 }
 
-// The number in the first groups, and the bytes after them.
+/// The number in the first groups, and the bytes after them.
 fn first_gap(bytes: &[u8]) -> (u32, &[u8])
     ensures gap { (more gap : ℕ) (rest : List ℕ) → gap < limit more → gap < 2 ^ 32
         → bytes.now ≡ groups more gap ++ rest → (result.0 ≡ gap) × (result.1.now ≡ rest) }
@@ -61,7 +61,7 @@ pub(crate) fn pass(bytes: &[u8], before: u32, number: u32) -> (&[u8], u32)
     (rest, at)
 }
 
-// Passes some of the numbers if the first one is below this one: a whole block at once if all of it is below.
+/// Passes some of the numbers if the first one is below this one: a whole block at once if all of it is below.
 fn step(bytes: &[u8], before: u32, number: u32) -> Option<(&[u8], u32)>
     requires spelled { IsSpelled before bytes.now }
     requires some { 0 < length bytes.now }
@@ -80,7 +80,7 @@ fn step(bytes: &[u8], before: u32, number: u32) -> Option<(&[u8], u32)>
     Some(pass_few(after, next, number))
 }
 
-// Passes the first numbers below this one, but only a few.
+/// Passes the first numbers below this one, but only a few.
 fn pass_few(bytes: &[u8], before: u32, number: u32) -> (&[u8], u32)
     requires { IsSpelled before bytes.now }
     ensures passed { IsPassed before bytes.now number result.1 result.0.now }
@@ -117,7 +117,7 @@ pub(crate) fn seek(bytes: &[u8], last: u32, number: u32) -> (&[u8], u32)
     }
 }
 
-// The same, looked for from the end.
+/// The same, looked for from the end.
 fn pass_back(bytes: &[u8], last: u32, number: u32) -> (&[u8], u32)
     requires spelled { IsSpelled 0 bytes.now }
     requires last { last ≡ last_of 0 (numbers_after 0 bytes.now) }
@@ -138,8 +138,8 @@ fn pass_back(bytes: &[u8], last: u32, number: u32) -> (&[u8], u32)
     (bytes, at)
 }
 
-// Leaves out some of the last numbers if the last one is not below this one: a whole block at once if none of it is
-// below.
+/// Leaves out some of the last numbers if the last one is not below this one: a whole block at once if none of it is
+/// below.
 fn step_back(bytes: &[u8], last: u32, number: u32) -> Option<(&[u8], u32)>
     requires spelled { IsSpelled 0 bytes.now }
     requires last { last ≡ last_of 0 (numbers_after 0 bytes.now) }
@@ -159,7 +159,7 @@ fn step_back(bytes: &[u8], last: u32, number: u32) -> Option<(&[u8], u32)>
     Some(cut_few(front, before, number))
 }
 
-// Leaves out the last numbers that are not below this one, but only a few.
+/// Leaves out the last numbers that are not below this one, but only a few.
 fn cut_few(bytes: &[u8], last: u32, number: u32) -> (&[u8], u32)
     requires spelled { IsSpelled 0 bytes.now }
     requires last { last ≡ last_of 0 (numbers_after 0 bytes.now) }
@@ -182,7 +182,7 @@ fn cut_few(bytes: &[u8], last: u32, number: u32) -> (&[u8], u32)
     (front, at)
 }
 
-// Leaves out the last number.
+/// Leaves out the last number.
 fn cut_number(bytes: &[u8], last: u32) -> (&[u8], u32)
     requires spelled { IsSpelled 0 bytes.now }
     requires last { last ≡ last_of 0 (numbers_after 0 bytes.now) }
@@ -195,8 +195,8 @@ fn cut_number(bytes: &[u8], last: u32) -> (&[u8], u32)
     (&bytes[..place], last - gap)
 }
 
-// Leaves out all but the first byte of the last block, if each byte of the block ends a number. Each byte that is
-// left out is then a whole number.
+/// Leaves out all but the first byte of the last block, if each byte of the block ends a number. Each byte that is
+/// left out is then a whole number.
 fn cut_block(bytes: &[u8], last: u32) -> Option<(&[u8], u32)>
     requires spelled { IsSpelled 0 bytes.now }
     requires last { last ≡ last_of 0 (numbers_after 0 bytes.now) }
@@ -211,7 +211,7 @@ fn cut_block(bytes: &[u8], last: u32) -> Option<(&[u8], u32)>
     Some((&bytes[..bytes.len() - BLOCK + 1], before))
 }
 
-// Where the last number begins: after the second-to-last byte that ends a number, or at 0 if there is none.
+/// Where the last number begins: after the second-to-last byte that ends a number, or at 0 if there is none.
 fn last_place(bytes: &[u8]) -> usize
     requires { 0 < length bytes.now }
     ensures { IsLastPlace bytes.now result }
@@ -226,7 +226,7 @@ fn last_place(bytes: &[u8]) -> usize
     0
 }
 
-// The sum of the bytes of the first block, if each of them ends a number.
+/// The sum of the bytes of the first block, if each of them ends a number.
 fn sum_of_block(bytes: &[u8]) -> Option<u32>
     ensures { IfSome result (λ total. IsBlock bytes.now total) }
 {

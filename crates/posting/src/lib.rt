@@ -3,11 +3,11 @@
 #![tactic(auto)]
 
 mod gaps;
-pub mod list;
+mod list;
 mod pages;
-pub mod postings;
-pub mod trigrams;
+mod postings;
+mod trigrams;
 
 pub use list::{List, Lookup, Numbers};
 pub use postings::Postings;
-pub use trigrams::Trigrams;
+pub use trigrams::{Trigrams, TrigramsIterator};

@@ -10,7 +10,7 @@ use crate::list::List;
 use query::Trigram;
 use std::alloc::AllocError;
 
-// How many trigrams have their slots on a page.
+/// How many trigrams have their slots on a page.
 const PAGE: usize = 1024;
 
 /// A list of numbers, and the trigram whose list it is.
@@ -35,7 +35,7 @@ pub(crate) fn slot(pages: &[Vec<u32>], trigram: Trigram) -> usize
     }
 }
 
-// Makes the page of a trigram, if there is none, with no list for its trigrams.
+/// Makes the page of a trigram, if there is none, with no list for its trigrams.
 fn make_page(pages: &mut Vec<Vec<u32>>, trigram: Trigram) -> Result<(), AllocError>
     ensures slots { (t : ℕ) → slot_of pages.new.items t ≡ slot_of pages.old.items t }
     ensures ok { OnOk result (HasSlot pages.new.items trigram) }
@@ -129,7 +129,7 @@ pub(crate) fn give_back(pages: &mut Vec<Vec<u32>>, lists: &mut Vec<Owned>)
     }
 }
 
-// Frees the pages without a list.
+/// Frees the pages without a list.
 fn free_pages(pages: &mut Vec<Vec<u32>>)
     ensures { (t : ℕ) → slot_of pages.new.items t ≡ slot_of pages.old.items t }
 {
@@ -138,7 +138,7 @@ fn free_pages(pages: &mut Vec<Vec<u32>>)
     }
 }
 
-// Frees the slots of a page, if none of them leads to a list.
+/// Frees the slots of a page, if none of them leads to a list.
 fn free_page(slots: &mut Vec<u32>)
     ensures { (place : ℕ) → slice_index slots.new.items place ≡ slice_index slots.old.items place }
 {

@@ -181,14 +181,14 @@ impl Postings {
         }
     }
 
-    // Gives back memory that the sets do not need.
+    /// Gives back memory that the sets do not need.
     fn give_back(&mut self)
         ensures { self.new ≡ self.old }
     {
         pages::give_back(&mut self.pages, &mut self.lists);
     }
 
-    // The list of a trigram, if it has one.
+    /// The list of a trigram, if it has one.
     fn list(&self, trigram: Trigram) -> Option<&List>
         ensures some { IfSome result (λ list. list.now ≡ set_of self.now trigram) }
         ensures none { IfNone result ((set_of self.now trigram).members ≡ []) }
@@ -199,7 +199,7 @@ impl Postings {
         }
     }
 
-    // The numbers of `within` that meet the query.
+    /// The numbers of `within` that meet the query.
     #[cycle(narrow)]
     fn narrow(&self, alloc: Global, query: &Query, within: &List) -> Result<List, AllocError>
         ensures { IfOk result (λ chosen. chosen.members
@@ -215,8 +215,8 @@ impl Postings {
         }
     }
 
-    // The numbers of `within` that meet the query, and perhaps numbers outside `within`. So the result for many
-    // members is intersected with `within` only once.
+    /// The numbers of `within` that meet the query, and perhaps numbers outside `within`. So the result for many
+    /// members is intersected with `within` only once.
     #[cycle(narrow)]
     fn collect(&self, alloc: Global, query: &Query, within: &List) -> Result<List, AllocError>
         ensures { IfOk result (λ found. Finds self.now (formula_of query.now) within.now.members found.members) }
@@ -233,7 +233,7 @@ impl Postings {
         }
     }
 
-    // The member that the fewest numbers can meet comes first, so the longer lists are examined in few places.
+    /// The member that the fewest numbers can meet comes first, so the longer lists are examined in few places.
     #[cycle(narrow)]
     fn collect_all(
         &self,
@@ -277,7 +277,7 @@ impl Postings {
         union_of(alloc, &lists)
     }
 
-    // At most this many numbers meet the query.
+    /// At most this many numbers meet the query.
     #[cycle(most)]
     fn most(&self, query: &Query) -> usize {
         match query {
@@ -295,7 +295,7 @@ impl Postings {
         }
     }
 
-    // The place of the member that the fewest numbers can meet (the first such), and how many can meet it at most.
+    /// The place of the member that the fewest numbers can meet (the first such), and how many can meet it at most.
     #[cycle(most)]
     fn fewest(&self, members: &[Query]) -> (usize, usize) {
         let mut first = 0;
