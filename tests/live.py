@@ -275,11 +275,32 @@ def client_that_reads_slowly():
         time.sleep(0.3)
         text = b""
         while len(text) < len(wanted):
-            text += session.read(2_000)
+            more = session.read(2_000)
+            if not more:
+                raise Wrong(f"the output ended after {len(text)} bytes of {len(wanted)}")
+            text += more
             if len(text) % 7 == 0:
                 time.sleep(0.01)
         same("the slow answer", text, wanted)
         session.ask(b"search ^0*5$\n", b"search 2 version 1 lines 1\nbig:6:000000000000005\n")
+        session.end(0)
+
+
+def large_answer_leaves_memory_level():
+    """The text of an answer of 20 MB is freed once it is written."""
+    lines = b"\n" * MEBIBYTE
+    with Session() as session:
+        session.send(b"put a %d\n%s\nput b %d\n%s\npublish\n" % (MEBIBYTE, lines, MEBIBYTE, lines))
+        session.ask(b"search x\n", b"search 1 version 2 lines 0\n")
+        early = session.memory("VmRSS")
+        session.send(b"search ^\n")
+        session.expect(b"search 2 version 2 lines %d\n" % (2 * MEBIBYTE))
+        for name in b"a", b"b":
+            session.expect(b"".join(b"%s:%d:\n" % (name, line) for line in range(1, MEBIBYTE + 1)))
+        session.ask(b"search x\n", b"search 3 version 2 lines 0\n")
+        late = session.memory("VmRSS")
+        if late - early > 8 * MEBIBYTE:
+            raise Wrong(f"{early} bytes before the answer, and {late} after the next item")
         session.end(0)
 
 
@@ -483,6 +504,7 @@ TESTS = [
     input_cut_at_every_byte,
     replacements_leave_memory_level,
     client_that_reads_slowly,
+    large_answer_leaves_memory_level,
     client_that_goes_away,
     session_from_a_fifo,
     options_of_a_session,

@@ -1,0 +1,284 @@
+#!/usr/bin/env python3
+"""Runs scripts and sessions with more of everything than 65,536, 100,000 and 2^20: items, commands, searches, publishes, documents, lines,
+hits, and reads of a line or a body.
+
+Each test makes a script and the text that must be written for it, and names the ways in which it is run: with a number of readers or as a
+session. What comes in many reads is sent through a pipe that gives the program one byte for each read. As many tests run at once as
+there are processors.
+
+Usage: tests/sizes.py [NAME..]   The last line counts: N passed, M failed.
+"""
+
+import concurrent.futures
+import fcntl
+import os
+import pathlib
+import subprocess
+import sys
+import tempfile
+import threading
+
+from counted import Counted
+
+TOP = pathlib.Path(__file__).resolve().parent.parent
+PROGRAM = TOP / "crates/program/out/program"
+SECONDS = 300
+
+# Above 65,536; above 100,000; above 2^20 = 1,048,576.
+OVER_16_BITS, OVER_100_000, OVER_20_BITS = 70_000, 110_000, 1_100_000
+GREATEST_BODY = 1_048_576
+ALONE, ONE_READER, TWO_READERS, SESSION = ["--readers", "0"], ["--readers", "1"], ["--readers", "2"], ["--live"]
+MANY_COMMANDS = ["--max-commands", "1000000"]
+
+
+class Wrong(Exception):
+    """A script did not come out as it should."""
+
+
+class Case:
+    """A script, the text that must be written for it, the ways in which it is run, and its status. With `pieces`, only
+    sessions run it, and each read gives them one byte of these before the script."""
+
+    def __init__(self, script, wanted, ways, status=0, pieces=b""):
+        self.script = script
+        self.wanted = wanted
+        self.ways = ways
+        self.status = status
+        self.pieces = pieces
+
+
+def put(name, body):
+    return b"put %s %d\n%s\n" % (name, len(body), body)
+
+
+def answers(count, version, hits, first=1):
+    """The texts of searches with the same hits."""
+    lines = b"".join(hit + b"\n" for hit in hits)
+    return b"".join(b"search %d version %d lines %d\n%s" % (number, version, len(hits), lines) for number in range(first, first + count))
+
+
+def puts_before_a_publish():
+    count = OVER_100_000
+    script = b"".join(put(b"a", b"%d" % number) for number in range(count)) + b"publish\nsearch .\n"
+    return Case(script, answers(1, count, [b"a:1:%d" % (count - 1)]), [MANY_COMMANDS + ALONE, MANY_COMMANDS + TWO_READERS, SESSION])
+
+
+def all_commands_there_are():
+    count = 1_000_000
+    script = b"put a 1\nx\n" * count + b"publish\nsearch x\nput a 1\ny\npublish\nsearch x\n"
+    full = b"line %d refused: full\n" % (2 * count + 3)
+    return Case(script, answers(1, count, [b"a:1:x"]) + full + answers(1, count, [b"a:1:x"], 2), [MANY_COMMANDS + SESSION], 2)
+
+
+def publishes_of_a_put():
+    count = OVER_100_000
+    script = b"".join(put(b"a", b"%d" % number) + b"publish\n" for number in range(count)) + b"search .\n"
+    return Case(script, answers(1, count, [b"a:1:%d" % (count - 1)]), [MANY_COMMANDS + ALONE, SESSION])
+
+
+def publishes_of_nothing():
+    return Case(b"put a 1\nx\n" + b"publish\n" * OVER_20_BITS + b"search x\n", answers(1, 1, [b"a:1:x"]), [TWO_READERS, SESSION])
+
+
+def documents():
+    count = OVER_100_000
+    names = sorted(b"f%d" % number for number in range(count))
+    script = b"".join(put(b"f%d" % number, b"text %d" % number) for number in range(count)) + b"publish\nsearch ^text\nsearch xt 77777$\n"
+    hits = [b"%s:1:text %s" % (name, name[1:]) for name in names]
+    wanted = answers(1, count, hits) + answers(1, count, [b"f77777:1:text 77777"], 2)
+    return Case(script, wanted, [MANY_COMMANDS + ALONE, MANY_COMMANDS + TWO_READERS, SESSION])
+
+
+def removes():
+    count = OVER_16_BITS
+    puts = b"".join(b"put f%d 1\nx\n" % number for number in range(count))
+    script = puts + b"publish\n" + b"".join(b"remove f%d\n" % number for number in reversed(range(1, count))) + b"publish\nsearch x\n"
+    return Case(script, answers(1, 2 * count - 1, [b"f0:1:x"]), [MANY_COMMANDS + ALONE, SESSION])
+
+
+def loads():
+    count = OVER_100_000
+    script = b"load a examples/tree/README\n" * count + b"load a nothing/here\n" * count + b"publish\nsearch NULL at the end\n"
+    refused = b"".join(b"line %d refused: cannot load\n" % line for line in range(count + 1, 2 * count + 1))
+    return Case(script, refused + answers(1, count, []), [MANY_COMMANDS + ALONE, SESSION], 2)
+
+
+def searches_of_a_script():
+    count = OVER_100_000
+    return Case(b"put a 1\nx\npublish\n" + b"search x\n" * count, answers(count, 1, [b"a:1:x"]), [ALONE, ONE_READER, TWO_READERS])
+
+
+def searches_of_a_session():
+    count = OVER_20_BITS
+    return Case(b"put a 1\nx\npublish\n" + b"search x\n" * count, answers(count, 1, [b"a:1:x"]), [SESSION])
+
+
+def searches_within_names():
+    count = OVER_16_BITS
+    script = b"put a 1\nX\npublish\n" + b"searchin a X\nisearch x\nisearchin b x\n" * (count // 3 + 1)
+    texts = [b"search %%d version 1 lines %s\n" % lines for lines in (b"1\na:1:X", b"1\na:1:X", b"0")]
+    wanted = b"".join(texts[number % 3] % (number + 1) for number in range(count // 3 * 3 + 3))
+    return Case(script, wanted, [ALONE, TWO_READERS, SESSION])
+
+
+def searches_that_are_refused():
+    count = OVER_100_000
+    wanted = b"".join(b"search %d refused: group not closed at 0\n" % number for number in range(1, count + 1))
+    return Case(b"search (\n" * count, wanted, [ALONE, TWO_READERS, SESSION], 2)
+
+
+def syncs():
+    return Case(b"put a 1\nx\npublish\n" + b"sync\n" * OVER_20_BITS + b"search x\n", answers(1, 1, [b"a:1:x"]), [TWO_READERS, SESSION])
+
+
+def comments_and_empty_lines():
+    count = OVER_20_BITS
+    wanted = b"line %d refused: bad line\n" % (2 * count + 1)
+    return Case(b"# comment\n\n" * count + b"what\n", wanted, [ALONE, SESSION], 2)
+
+
+def lines_that_are_refused():
+    count = OVER_20_BITS
+    wanted = b"".join(b"line %d refused: bad line\n" % line for line in range(1, count + 1))
+    return Case(b"what\n" * count, wanted, [ALONE, SESSION], 2)
+
+
+def body_of_line_feeds():
+    """Its lines are counted for the items after it, and as lines of a document."""
+    script = put(b"a", b"\n" * GREATEST_BODY) + b"what\npublish\nsearch .\nput b 70002\n" + b"\n" * 70_001 + b"x\npublish\nsearch x\nwhat\n"
+    wanted = b"line %d refused: bad line\n" % (GREATEST_BODY + 3) + answers(1, 1, []) + answers(1, 2, [b"b:70002:x"], 2)
+    wanted += b"line %d refused: bad line\n" % (GREATEST_BODY + 70_011)
+    return Case(script, wanted, [ALONE, TWO_READERS, SESSION], 2)
+
+
+def lines_of_an_answer():
+    half = OVER_20_BITS // 2
+    hits = [b"%s:%d:" % (name, line) for name in (b"a", b"b") for line in range(1, half + 1)]
+    script = put(b"a", b"\n" * half) + put(b"b", b"\n" * half) + b"publish\nsearch ^\nsearch ^$\n"
+    return Case(script, answers(2, 2, hits), [ALONE, TWO_READERS, SESSION])
+
+
+def reads_of_a_line():
+    """A comment and an item that come in more than 2^20 reads each, and an item after them."""
+    line = b"#" + b"x" * OVER_20_BITS + b"\nsearch " + b"y" * OVER_20_BITS + b"\n"
+    wanted = b"search 1 refused: pattern too long at 1024\nsearch 2 version 0 lines 0\n"
+    return Case(b"search x\n", wanted, [SESSION], 2, line)
+
+
+def reads_of_a_body():
+    """The longest body and one that is too long, in one read for each byte, and items after them."""
+    line = b"x" * 15 + b"\n"
+    count = GREATEST_BODY // len(line)
+    pieces = put(b"a", line * count) + put(b"b", line * 70_000)
+    script = put(b"a", line) + b"publish\nsearch x{15}\n"
+    refused = b"line %d refused: body too long\n" % (count + 3)
+    return Case(script, refused + answers(1, 2, [b"a:1:" + line[:-1]]), [SESSION], 2, pieces)
+
+
+CASES = [
+    reads_of_a_line,
+    reads_of_a_body,
+    searches_of_a_session,
+    lines_of_an_answer,
+    documents,
+    puts_before_a_publish,
+    all_commands_there_are,
+    publishes_of_a_put,
+    publishes_of_nothing,
+    removes,
+    loads,
+    searches_of_a_script,
+    searches_within_names,
+    searches_that_are_refused,
+    syncs,
+    comments_and_empty_lines,
+    lines_that_are_refused,
+    body_of_line_feeds,
+]
+
+
+def difference(got, wanted):
+    """Where two texts differ, with what follows there."""
+    at = next((at for at, pair in enumerate(zip(got, wanted)) if pair[0] != pair[1]), min(len(got), len(wanted)))
+    start = max(at - 40, 0)
+    return f"at byte {at} of {len(got)} is {got[start : at + 80]!r}, and should be {wanted[start : at + 80]!r}"
+
+
+def send(descriptor, pieces, script):
+    """Sends each byte of the pieces by itself, and then the script."""
+    try:
+        for at in range(len(pieces)):
+            os.write(descriptor, pieces[at : at + 1])
+        while script:
+            script = script[os.write(descriptor, script) :]
+    except BrokenPipeError:
+        pass  # the session has ended, which its status shows
+    finally:
+        os.close(descriptor)
+
+
+def run_in_pieces(case, words):
+    """Runs a session over a pipe on which no read gives more than one write."""
+    taken, given = os.pipe2(os.O_DIRECT | os.O_CLOEXEC)
+    fcntl.fcntl(given, fcntl.F_SETPIPE_SZ, 1_048_576)
+    with subprocess.Popen([str(PROGRAM), *words], cwd=TOP, stdin=taken, stdout=subprocess.PIPE, stderr=subprocess.PIPE) as process:
+        os.close(taken)
+        sender = threading.Thread(target=send, args=(given, case.pieces, case.script))
+        sender.start()
+        try:
+            stdout, stderr = process.communicate(timeout=SECONDS)
+        except subprocess.TimeoutExpired:
+            process.kill()
+            raise
+        finally:
+            sender.join()
+    return process.returncode, stdout, stderr
+
+
+def run_whole(case, words):
+    with tempfile.TemporaryFile() as script:
+        script.write(case.script)
+        script.seek(0)
+        done = subprocess.run([str(PROGRAM), *words], cwd=TOP, stdin=script, capture_output=True, check=False, timeout=SECONDS)
+    return done.returncode, done.stdout, done.stderr
+
+
+def check(test, words, case):
+    """What is wrong with a run of a case, or None."""
+    try:
+        status, stdout, stderr = run_in_pieces(case, words) if case.pieces else run_whole(case, words)
+    except subprocess.TimeoutExpired:
+        return f"did not end in {SECONDS} seconds"
+    if stderr:
+        return f"standard error is {stderr[:200]!r}"
+    if stdout != case.wanted:
+        return difference(stdout, case.wanted)
+    return None if status == case.status else f"the status is {status}, and should be {case.status}"
+
+
+def faults_of(test):
+    """For each way of a test, what is wrong, or None."""
+    case = test()
+    faults = []
+    for words in case.ways:
+        fault = check(test, words, case)
+        faults.append(f"{test.__name__} with {' '.join(words)}: {fault}" if fault else None)
+    return faults
+
+
+def main():
+    if not PROGRAM.exists():
+        sys.exit("tests/sizes.py: build the program first: ./tsearch --help")
+    wanted = sys.argv[1:]
+    missing = sorted(set(wanted) - {test.__name__ for test in CASES})
+    if missing:
+        sys.exit(f"tests/sizes.py: no such test: {', '.join(missing)}")
+    counted = Counted()
+    with concurrent.futures.ThreadPoolExecutor(os.cpu_count()) as pool:
+        for faults in pool.map(faults_of, [test for test in CASES if not wanted or test.__name__ in wanted]):
+            counted.judge(faults)
+    counted.end()
+
+
+if __name__ == "__main__":
+    main()
