@@ -1,0 +1,534 @@
+#!/usr/bin/env python3
+"""Compares the work and the memory of N and of 4N items, documents, lines and the like, and counts what must be done once.
+
+Work is counted in instructions, by `valgrind --tool=cachegrind`, and memory in requests, in the bytes that they ask for, in the most that
+is in use at once, and in what is in use when the last text is written. A library of a few lines, which the command cc builds and which is
+loaded before the C library, counts these. All runs have one thread, so every count is the same each time.
+
+GROWTHS has what may grow. Each row is run with N and with 4N, and what the rest of the script takes by itself is taken off. What is left
+may grow to 4.8 times, or to what the row says: work that is quadratic grows to 16 times. CHECKS has exact counts: how often a body is
+copied, a document analysed, a pattern compiled, a line matched and a text written. As many runs go on at once as there are processors.
+
+Usage: tests/growth.py [--show] [NAME..]   The last line counts: N passed, M failed. --show prints all counts.
+"""
+
+import collections
+import concurrent.futures
+import functools
+import os
+import pathlib
+import random
+import re
+import subprocess
+import sys
+import tempfile
+
+from counted import Counted
+
+TOP = pathlib.Path(__file__).resolve().parent.parent
+PROGRAM = TOP / "crates/program/out/program"
+SECONDS = 300
+SCRIPT, SESSION = "script", "session"
+WORDS = {SCRIPT: ["--readers", "0", "--max-commands", "1000000"], SESSION: ["--live"]}
+BOTH = (SCRIPT, SESSION)
+MOST = 4.8
+# What grows with a logarithm, or not at all.
+LEVEL = 2
+# What is counted, and how much of it is so little that it does not matter how it grew.
+COUNTS = [("instructions", 200_000), ("requests for memory", 100), ("bytes requested", 65_536), ("bytes in use at once", 65_536)]
+
+COUNTING = r"""
+#include <dlfcn.h>
+#include <malloc.h>
+#include <stddef.h>
+#include <stdio.h>
+#include <stdlib.h>
+#include <sys/syscall.h>
+#include <unistd.h>
+extern void *__libc_malloc(size_t), *__libc_realloc(void *, size_t);
+extern void __libc_free(void *);
+static long requests, bytes, large, writes, used, most, held, least;
+static void count(size_t size) {
+    if (!least) least = getenv("LEAST") ? atol(getenv("LEAST")) : -1;
+    requests++;
+    bytes += size;
+    if (least > 0 && size >= (size_t)least) large++;
+}
+static void uses(long more) { used += more; if (used > most) most = used; }
+void *malloc(size_t size) {
+    count(size);
+    void *made = __libc_malloc(size);
+    if (made) uses(malloc_usable_size(made));
+    return made;
+}
+void *realloc(void *old, size_t size) {
+    count(size);
+    long before = old ? malloc_usable_size(old) : 0;
+    void *made = __libc_realloc(old, size);
+    if (made) uses((long)malloc_usable_size(made) - before);
+    return made;
+}
+void free(void *old) {
+    if (old) used -= malloc_usable_size(old);
+    __libc_free(old);
+}
+ssize_t write(int file, const void *from, size_t size) {
+    if (file == 1) { writes++; held = used; }
+    return syscall(SYS_write, file, from, size);
+}
+__attribute__((destructor)) static void tell(void) {
+    dprintf(2, "counts %ld %ld %ld %ld %ld %ld\n", requests, bytes, most, held, large, writes);
+}
+void _exit(int status) { tell(); syscall(SYS_exit_group, status); __builtin_unreachable(); }
+"""
+
+
+# What a run has taken: the requests for memory and their bytes, the most bytes in use at once, those in use when the last text was
+# written, the requests of at least so many bytes, how often text was written, the status, and the text.
+Memory = collections.namedtuple("Memory", "requests bytes most held large writes status text")
+
+
+class Runs:
+    """Runs of the program with counts. No run is made twice."""
+
+    def __init__(self, folder):
+        self.folder = pathlib.Path(folder)
+        library = self.folder / "counting.so"
+        subprocess.run(["cc", "-O2", "-shared", "-fPIC", "-x", "c", "-", "-o", library], input=COUNTING, text=True, check=True)
+        self.library = library
+        self.instructions = functools.lru_cache(None)(self.count_instructions)
+        self.memory = functools.lru_cache(None)(self.count_memory)
+
+    def run(self, command, script, env=None):
+        with tempfile.TemporaryFile(dir=self.folder) as file, tempfile.TemporaryFile(dir=self.folder) as text:
+            file.write(script)
+            file.seek(0)
+            done = subprocess.run(command, cwd=TOP, stdin=file, stdout=text, stderr=subprocess.PIPE, env=env, check=False, timeout=SECONDS)
+            text.seek(0)
+            return done.returncode, done.stderr.decode(), text.read()
+
+    def count_instructions(self, way, script):
+        """How many instructions a run executes."""
+        tool = ["valgrind", "--tool=cachegrind", "--cache-sim=no", "--cachegrind-out-file=/dev/null"]
+        _, messages, _ = self.run([*tool, str(PROGRAM), *WORDS[way]], script)
+        return int(re.search(r"I +refs: +([\d,]+)", messages)[1].replace(",", ""))
+
+    def count_memory(self, way, script, least=0):
+        """What memory a run takes, and how often it writes."""
+        env = dict(os.environ, LD_PRELOAD=str(self.library), LEAST=str(least))
+        status, messages, text = self.run([str(PROGRAM), *WORDS[way]], script, env)
+        return Memory(*map(int, re.search(r"counts ([\d ]+)", messages)[1].split()), status, text)
+
+
+def put(name, body):
+    return b"put %s %d\n%s\n" % (name, len(body), body)
+
+
+def each(text, count, first=0):
+    """A text for each number; its `#` is the number."""
+    return b"".join(text.replace(b"#", b"%d" % number) for number in range(first, first + count))
+
+
+def documents(count):
+    """Documents with the same trigrams, but for every sixteenth part, which has others, and for four that have some of their own."""
+    bodies = [b"one abcd two defg", b"one abcd two defg three hijk"]
+    made = [put(b"f%d" % number, bodies[number % 16 == 0]) for number in range(count)]
+    for at in range(4):
+        made[count * at // 4] = put(b"f%d" % (count * at // 4), b"one abcd two defg four uvwxyz")
+    return b"".join(made)
+
+
+SMALL = put(b"a", b"hello world") + b"publish\n"
+
+
+def published(count):
+    """Documents in both copies of the index, with nothing pending."""
+    return documents(count) + b"publish\n" * 3
+
+
+# What may grow: functions of N that give a script that is not counted, and one that takes more.
+
+
+def after(first, second):
+    """For what comes after a script."""
+    return first, first + second
+
+
+def new_documents(n):
+    return after(b"", documents(n) + b"publish\n")
+
+
+def documents_in_both_copies(n):
+    return after(b"", documents(n) + b"publish\n" * 3 + b"search x\n")
+
+
+def replacements_of_a_document(n):
+    return after(SMALL, each(b"put a 11\nhello world\n", n) + b"publish\n")
+
+
+def replacements_that_are_published(n):
+    return after(SMALL, each(b"put a 11\nhello world\npublish\n", n))
+
+
+def loads_of_a_file(n):
+    return after(SMALL, b"load a examples/tree/README\n" * n + b"publish\n")
+
+
+def loads_that_fail(n):
+    return after(SMALL, b"load a nothing/here\n" * n)
+
+
+def removes_of_nothing(n):
+    return after(SMALL, each(b"remove f#\n", n))
+
+
+def removes_from_the_end(n):
+    return after(published(n), b"".join(b"remove f%d\n" % number for number in reversed(range(n))) + b"publish\n")
+
+
+def puts_and_removes(n):
+    return after(SMALL, b"put f 11\nhello world\nremove f\n" * n + b"publish\n")
+
+
+def publishes_of_nothing(n):
+    return after(SMALL, b"publish\n" * n)
+
+
+def searches(n):
+    return after(SMALL, b"search o w\n" * n)
+
+
+def searches_without_a_candidate(n):
+    return after(SMALL, b"search xyz\n" * n)
+
+
+def searches_in_names(n):
+    return after(SMALL, b"searchin ^a o w\n" * n)
+
+
+def searches_without_case(n):
+    return after(SMALL, b"isearch O W\n" * n)
+
+
+def searches_that_are_refused(n):
+    return after(SMALL, b"search (\n" * n)
+
+
+def syncs(n):
+    return after(SMALL, b"sync\n" * n)
+
+
+def comments(n):
+    return after(SMALL, b"# a comment\n\n" * n)
+
+
+def lines_of_no_known_form(n):
+    return after(SMALL, b"what\n" * n)
+
+
+def items_of_each_kind(n):
+    return after(SMALL, b"put b 3\nabc\nload c nothing/here\nremove b\npublish\nsearch o w\nsearchin a o\nisearch O\nsync\n#\nwhat\n" * n)
+
+
+def length_of_a_comment(n):
+    return after(SMALL, b"#" + b"x" * n + b"\n")
+
+
+def length_of_a_body(n):
+    return after(b"", put(b"a", b"some text\n" * n))
+
+
+def different_trigrams_of_a_body(n):
+    chance = random.Random(1)
+    return after(b"", put(b"a", b"".join(bytes(chance.choices(range(33, 127), k=9)) + b"\n" for _ in range(n))))
+
+
+def length_of_a_searched_body(n):
+    return after(put(b"a", b"some text\n" * n) + b"publish\n", b"search e.*z\n")
+
+
+def lines_searched_one_by_one(n):
+    return after(put(b"a", b"some text\n" * n) + b"publish\n", b"search e.*z\n" * 20)
+
+
+def length_of_a_searched_line(n):
+    return after(put(b"a", b"x" * n) + b"publish\n", b"search x.*z\n" * 20)
+
+
+def length_of_a_body_that_is_no_candidate(n):
+    return after(put(b"a", b"some text\n" * n) + b"publish\n", b"search xyz\n" * 10)
+
+
+def hits(n):
+    return after(put(b"a", b"some text\n" * n) + b"publish\n", b"search t\n")
+
+
+def documents_with_hits(n):
+    return after(published(n), b"search abcd\n")
+
+
+def documents_whose_names_are_matched(n):
+    return after(published(n), b"searchin 7$ abcd\n")
+
+
+def candidates_that_are_few(n):
+    return after(published(n), b"search uvwxyz\n" * 10)
+
+
+def few_candidates_with_common_trigrams(n):
+    return after(published(n), b"search abcd.*defg.*uvwxyz\n" * 10)
+
+
+def union_of_lists(n):
+    return after(published(n), b"searchin ^$ hijk|uvwx\n" * 10)
+
+
+def intersection_of_lists(n):
+    return after(published(n), b"searchin ^$ abcd.*hijk\n" * 10)
+
+
+def documents_while_the_first_is_replaced(n):
+    return after(published(n), (put(b"f0", b"one abcd two defg") + b"publish\n") * 2)
+
+
+def documents_while_the_last_is_replaced(n):
+    return after(published(n), put(b"f%d" % (n - 1), b"one abcd two defg") * 20 + b"publish\n")
+
+
+def documents_while_some_are_replaced(n):
+    return after(published(n), b"".join(put(b"f%d" % (n * at // 16), b"one abcd two defg") for at in range(16)) + b"publish\n")
+
+
+def documents_while_some_are_removed(n):
+    return after(published(n), b"".join(b"remove f%d\n" % (n * at // 16) for at in range(16)) + b"publish\n")
+
+
+def members_of_a_union(n):
+    """A thousand documents, each with one of N texts, and searches for all texts. The same searches come first, when there are no
+    documents."""
+    letters = b"abcdefghijklmnopqrstuvwxyz"
+    texts = [bytes([letters[number // 26], 48 + number % 10, letters[number % 26]]) for number in range(n)]
+    puts = b"".join(put(b"f%d" % number, texts[number % n]) for number in range(1024)) + b"publish\n"
+    asked = b"searchin ^$ %s\n" % b"|".join(texts) * 10
+    return asked + puts, puts + asked
+
+
+def stars_inside_stars(n):
+    return after(put(b"a", b"a" * 60) + b"publish\n", b"search %s%s$\n" % (b"(a" * n, b")*" * n))
+
+
+def stars_inside_stars_for_names(n):
+    return after(put(b"a" * 60, b"x") + b"publish\n", b"searchin ^%s%sb x\n" % (b"(a" * n, b")*" * n))
+
+
+# A function of N, the N, in which ways it is run, and to how many times the work and the memory of 4N may grow.
+Row = collections.namedtuple("Row", "growth n ways work memory", defaults=(BOTH, MOST, MOST))
+
+GROWTHS = [
+    Row(new_documents, 500),
+    Row(documents_in_both_copies, 500, (SESSION,)),
+    Row(replacements_of_a_document, 1000),
+    Row(replacements_that_are_published, 500),
+    Row(loads_of_a_file, 500),
+    Row(loads_that_fail, 500),
+    Row(removes_of_nothing, 1000),
+    Row(removes_from_the_end, 500),
+    Row(puts_and_removes, 500),
+    Row(publishes_of_nothing, 1000),
+    Row(searches, 500),
+    Row(searches_without_a_candidate, 500),
+    Row(searches_in_names, 500),
+    Row(searches_without_case, 500),
+    Row(searches_that_are_refused, 1000),
+    Row(syncs, 2000),
+    Row(comments, 2000),
+    Row(lines_of_no_known_form, 2000),
+    Row(items_of_each_kind, 200),
+    Row(length_of_a_comment, 1_000_000),
+    Row(length_of_a_body, 10_000),
+    Row(different_trigrams_of_a_body, 2_000, (SESSION,)),
+    Row(length_of_a_searched_body, 10_000, (SESSION,)),
+    Row(lines_searched_one_by_one, 200, (SESSION,)),
+    Row(length_of_a_searched_line, 1_500, (SESSION,)),
+    Row(length_of_a_body_that_is_no_candidate, 10_000, (SESSION,), LEVEL, LEVEL),
+    Row(hits, 10_000),
+    Row(documents_with_hits, 500),
+    Row(documents_whose_names_are_matched, 500, (SESSION,)),
+    Row(candidates_that_are_few, 1000, (SESSION,), LEVEL, LEVEL),
+    Row(few_candidates_with_common_trigrams, 1000, (SESSION,), LEVEL, LEVEL),
+    Row(union_of_lists, 1000, (SESSION,)),
+    Row(intersection_of_lists, 1000, (SESSION,)),
+    Row(members_of_a_union, 48, (SESSION,), 1.5),
+    Row(documents_while_the_first_is_replaced, 1000, (SESSION,), LEVEL, LEVEL),
+    Row(documents_while_the_last_is_replaced, 1000, (SESSION,), LEVEL, LEVEL),
+    Row(documents_while_some_are_replaced, 1000, (SESSION,)),
+    Row(documents_while_some_are_removed, 1000, (SESSION,)),
+    Row(stars_inside_stars, 4, (SESSION,), 8, 8),
+    Row(stars_inside_stars_for_names, 4, (SESSION,), 8, 8),
+]
+
+
+def counts_of(runs, growth, n, way):
+    """What the second script of a row takes beyond the first: instructions, requests, bytes, and bytes in use at once."""
+    base, whole = growth(n)
+    less, more = runs.memory(way, base), runs.memory(way, whole)
+    instructions = runs.instructions(way, whole) - runs.instructions(way, base)
+    return instructions, more.requests - less.requests, more.bytes - less.bytes, more.most - less.most
+
+
+def show_growth(name, way, small, large):
+    ratios = ["%.2f" % (after / before) if before > 0 else "-" for before, after in zip(small, large)]
+    print("%-40s %-8s %s  %s  %s" % (name, way, small, large, " ".join(ratios)), flush=True)
+
+
+def faults_of_growth(runs, row, way, show):
+    """For each count of a row, what is wrong, or None."""
+    growth, n, most = row.growth, row.n, (row.work, row.memory, row.memory, row.memory)
+    small, large = counts_of(runs, growth, n, way), counts_of(runs, growth, 4 * n, way)
+    if show:
+        show_growth(growth.__name__, way, small, large)
+    faults = []
+    for (what, few), times, fewer, more in zip(COUNTS, most, small, large):
+        told = f"{growth.__name__} as a {way}: {fewer} {what} with {n}, and {more} with {4 * n}"
+        faults.append(told if more > max(few, times * fewer) else None)
+    return faults
+
+
+# What is done once. Each check gives what it counts, the count, and the least and the greatest that it may be.
+
+
+def copies_of_a_body(runs):
+    """Requests for memory of at least a body's length: a session keeps the body where it was read. A run reads its script first, into
+    memory that grows, and a load has its own room."""
+    body = b"x\n" * 500_000
+    path = runs.folder / "body"
+    path.write_bytes(body)
+    later = b"publish\n" * 3 + b"search y\nsearch x.*y\n" + put(b"a", b"") + b"publish\n" * 2
+    yield "copies of a put's body in a session", runs.memory(SESSION, put(b"a", body) + later, len(body)).large, 1, 1
+    load = b"load a %s\n" % bytes(path)
+    for way in BOTH:
+        yield f"copies of a load's body in a {way}", runs.memory(way, load + later, len(body)).large, 1, 1
+    last = runs.memory(SESSION, put(b"a", body) + later + b"search y\n").held
+    yield "bytes in use after the body is replaced", last, 0, len(body) // 2
+
+
+def documents_are_analysed_once(runs):
+    """The trigrams of a body are found when it is put, and not again for each copy of the index."""
+    chance = random.Random(1)
+    body = b"".join(bytes(chance.choices(range(97, 105), k=9)) + b"\n" for _ in range(50_000))
+    for way in BOTH:
+        nothing, pending, shown = (runs.instructions(way, script) for script in (b"", put(b"a", body), put(b"a", body) + b"publish\n" * 3))
+        yield f"instructions of three publishes in a {way}", shown - pending, 0, (pending - nothing) // 4
+
+
+def trigrams_that_are_kept(runs):
+    """Twenty documents take the bytes of their bodies and of the gaps between their trigrams, and little more."""
+    chance = random.Random(1)
+    for length in 45, 75, 100, 140:
+        bodies = [b"\n".join(bytes(chance.choices(range(33, 255), k=60)) for _ in range(length)) for _ in range(40)]
+        scripts = [b"".join(put(b"f%d" % number, body) for number, body in enumerate(bodies[:count])) + b"search y\n" for count in (20, 40)]
+        least = sum(len(body) + bytes_of_gaps(body) for body in bodies[20:])
+        few, many = (runs.memory(SESSION, script).held for script in scripts)
+        yield f"bytes of 20 documents with {length} lines", many - few, least, least + 20 * 400
+
+
+def bytes_of_gaps(body):
+    """How many bytes the gaps between a body's trigrams take, in groups of seven bits."""
+    lines = body.split(b"\n")
+    numbers = sorted({int.from_bytes(line[at : at + 3], "big") for line in lines for at in range(len(line) - 2)})
+    return sum(max((after - before).bit_length() + 6, 7) // 7 for before, after in zip([0] + numbers, numbers))
+
+
+def names_that_are_kept(runs):
+    """A document that is replaced keeps the memory of its name."""
+    puts = b"".join(put(b"n" * 240 + b"%d" % number, b"x") for number in range(1000))
+    once, twice = (runs.memory(SESSION, (puts + b"publish\n" * 3) * times + b"search y\n").held for times in (1, 2))
+    yield "bytes more after 1,000 names of 240 bytes are replaced", twice - once, -once, 120_000
+
+
+def patterns_are_compiled_once(runs):
+    """A pattern is compiled for the first large body, not again for the next, and not at all if no document is left."""
+    large = [b"".join(put(b"f%d" % number, b"some text\n" * 2000) for number in range(count)) + b"publish\n" * 3 for count in (1, 4)]
+
+    def requests(first, search):
+        return runs.memory(SESSION, first + search).requests - runs.memory(SESSION, first).requests
+
+    one, four = (requests(first, b"search [a-z]*q$\n") for first in large)
+    yield "requests of a search of four documents", four, one // 2, one + 10
+    for search in b"search [a-z]*xyz\n", b"searchin b$ [a-z]*q$\n", b"searchin ((a*|b)*|c)*b$ [a-z]*xyz\n":
+        yield f"requests of {search.decode().strip()}", requests(large[0], search), 0, one // 2
+
+
+def lines_are_matched_once(runs):
+    """A hit takes one request for memory, and a byte that is only looked at less than one instruction."""
+    few, many = (runs.memory(SESSION, hits(count)[1]).requests for count in (10_000, 40_000))
+    yield "requests for 30,000 hits", many - few, 0, 33_000
+    few, many = (counts_of(runs, length_of_a_searched_body, count, SESSION)[0] for count in (10_000, 90_000))
+    yield "instructions for 800,000 bytes that are searched", many - few, 0, 720_000
+
+
+def texts_are_written_once(runs):
+    """A session writes each text by itself and at once, however long it is; a run writes all in large pieces."""
+    texts = SMALL + b"search o w\nwhat\nput a 1\nx\npublish\nremove b\n" * 1000
+    long = put(b"a", b"\n" * 500_000) + b"publish\nsearch ^\n"
+    yield "writes of a session with 3,000 texts", runs.memory(SESSION, texts).writes, 3000, 3000
+    yield "writes of a session with a text of 4.9 MB", runs.memory(SESSION, long).writes, 1, 1
+    made = runs.memory(SCRIPT, texts)
+    yield "writes of a run with 3,000 texts", made.writes, 1, len(made.text) // 8192 + 2
+
+
+def publishes_of_nothing_hold_nothing(runs):
+    few, many = (runs.memory(SESSION, SMALL + b"publish\n" * count + b"search y\n").held for count in (1_000, 20_000))
+    yield "bytes in use after 20,000 publishes", many, 0, few
+
+
+CHECKS = [
+    copies_of_a_body,
+    documents_are_analysed_once,
+    trigrams_that_are_kept,
+    names_that_are_kept,
+    patterns_are_compiled_once,
+    lines_are_matched_once,
+    texts_are_written_once,
+    publishes_of_nothing_hold_nothing,
+]
+
+
+def faults_of_check(runs, check, show):
+    """For each count of a check, what is wrong, or None."""
+    faults = []
+    for what, count, least, most in check(runs):
+        if show:
+            print("%-60s %d, from %d to %d" % (what, count, least, most), flush=True)
+        faults.append(None if least <= count <= most else f"{check.__name__}: {count} {what}; it should be from {least} to {most}")
+    return faults
+
+
+def faults_in_time(runs, show, named, find, *words):
+    """What is wrong by `find`, or that a run has not ended."""
+    try:
+        return find(runs, *words, show)
+    except subprocess.TimeoutExpired:
+        return [f"{named.__name__}: a run did not end in {SECONDS} seconds"]
+
+
+def main():
+    show = "--show" in sys.argv[1:]
+    wanted = [word for word in sys.argv[1:] if word != "--show"]
+    known = [row.growth for row in GROWTHS] + CHECKS
+    missing = sorted(set(wanted) - {it.__name__ for it in known})
+    if missing or not PROGRAM.exists():
+        sys.exit(f"tests/growth.py: no such name: {', '.join(missing)}" if missing else "tests/growth.py: build the program first: ./tsearch --help")
+    counted = Counted()
+    with tempfile.TemporaryDirectory() as folder, concurrent.futures.ThreadPoolExecutor(os.cpu_count()) as pool:
+        runs = Runs(folder)
+        jobs = [(row.growth, faults_of_growth, row, way) for row in GROWTHS for way in row.ways]
+        jobs += [(check, faults_of_check, check) for check in CHECKS]
+        jobs = [job for job in jobs if not wanted or job[0].__name__ in wanted]
+        for faults in pool.map(lambda job: faults_in_time(runs, show, *job), jobs):
+            counted.judge(faults)
+    counted.end()
+
+
+if __name__ == "__main__":
+    main()
