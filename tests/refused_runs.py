@@ -7,7 +7,8 @@ No run says that a reader has no place, since there are as many places as reader
 requests. With readers, the requests of two threads come in a different order each time, so these runs are repeated.
 
 Then a body is searched that is so large that the pattern is compiled, which takes some hundreds of requests in a row. If one of
-them is refused, the body is searched line by line and the answer stays the same; with stars inside stars the search is refused.
+them is refused, the body is searched line by line and the answer stays the same; with stars inside stars, in the pattern or in the
+name pattern, the search is refused.
 
 Finally, large requests are refused and small ones are not. It is then known which item gets no memory, and so what must
 be written: a put, a load or a search with no room is refused with its line or number, and the next item is carried out.
@@ -37,15 +38,15 @@ NO_READERS, TWO_READERS, SESSION = ["--readers", "0"], ["--readers", "2"], ["--l
 # How often each request is refused.
 TIMES = [(NO_READERS, 1), (TWO_READERS, 5), (SESSION, 1)]
 
-# A body that is too large to be matched line by line, and searches of it, with the outcome if there is no memory to compile
-# them.
+# A body that is too large to be matched line by line, and searches of it, with the outcome if there is no memory to compile the pattern,
+# or in the last search the name pattern, and how many requests that takes at least.
 LARGE = b"".join(b"line %d of the body, int x = 0x%08x;\n" % (number, number * 7919) for number in range(450))
 SEARCHES = {
-    b"search line 44[0-3] .* 0x00": "the same",
-    b"isearch LINE 44[0-3] .* 0X00": "the same",
-    b"search ((a*|b)*|c)*0x0034[0-3]": "the search refused",
+    b"search line 44[0-3] .* 0x00": ("the same", 400),
+    b"isearch LINE 44[0-3] .* 0X00": ("the same", 400),
+    b"search ((a*|b)*|c)*0x0034[0-3]": ("the search refused", 400),
+    b"searchin ((a*|b)*|c)*b$ 0x0034[0-3]": ("the search refused", 200),
 }
-IN_A_ROW = 400
 
 # Requests of at least this many bytes are large: those for a body of LONG, for a hit of each line of MANY, and for the texts below.
 LARGE_REQUEST = 500_000
@@ -121,6 +122,8 @@ def each_request(library, words):
 def each_request_of_a_search(library, search):
     """Refuses each request of a search of the large body in turn. Returns the outcomes in order."""
     word, _, pattern = search.partition(b" ")
+    if word == b"searchin":
+        pattern = pattern.partition(b" ")[2]
     flags = re.IGNORECASE if word == b"isearch" else 0
     lines = [b"b:%d:%s\n" % (number, line) for number, line in enumerate(LARGE.split(b"\n"), 1) if re.search(pattern, line, flags)]
     wanted = b"search 1 version 1 lines %d\n%s" % (len(lines), b"".join(lines))
@@ -178,12 +181,12 @@ def main():
             outcomes = collections.Counter(what for what, _ in seen)
             print("%s: %s" % (" ".join(words), ", ".join("%s %d" % pair for pair in sorted(outcomes.items()))))
             counted.judge(fault for _, fault in seen)
-        for search, wanted in SEARCHES.items():
+        for search, (wanted, least) in SEARCHES.items():
             seen = each_request_of_a_search(library, search)
             length, what = max((len(list(group)), what) for what, group in itertools.groupby(seen))
             print("%s: %s, %d of them in a row" % (search.decode(), wanted, length))
             counted.judge("%s: a wrong outcome" % search.decode() if it == "wrong" else None for it in seen)
-            short = what != wanted or length < IN_A_ROW
+            short = what != wanted or length < least
             counted.judge(["%s: %d times %s in a row" % (search.decode(), length, what) if short else None])
         counted.judge(fault_of_no_room(library, *case) for case in runs_of_no_room(folder))
     counted.end()
