@@ -3,15 +3,17 @@
 
 Each byte is left out, doubled, and replaced by each byte of a list or, with --all, by each other byte. Each run must end within ten
 seconds with one of the program's statuses and no message, and its text must be legal by transcripts.py. If a change makes a pattern
-that is not plain, the text is not judged. This takes a few minutes, with --all about ten times as long, so it is not part of ./test.
+that is not plain, the text is not judged. As many scripts run at once as there are processors. With --every only each Nth script is run,
+as ./test does; with --all there are about ten times as many.
 
-Usage: tests/changed_scripts.py [--all] [NAME..]   The last line counts: N passed, M failed.
+Usage: tests/changed_scripts.py [--all] [--every N] [NAME..]   The last line counts: N passed, M failed.
 """
 
+import argparse
 import collections
+import concurrent.futures
 import os
 import subprocess
-import sys
 
 import transcripts
 from check_transcripts import PROGRAM, TOP
@@ -68,16 +70,25 @@ def judge(script, readers):
         return "not judged, since a pattern is not plain", None
 
 
+def fault_of(name, what, script, readers):
+    judged, fault = judge(script, readers)
+    return judged, "%s, %s: %s" % (name, what, fault) if fault else None
+
+
 def main():
-    words = sys.argv[1:]
+    words = argparse.ArgumentParser(description="Judges runs of changed examples.")
+    words.add_argument("--all", action="store_true")
+    words.add_argument("--every", type=int, default=1)
+    words.add_argument("names", nargs="*")
+    given = words.parse_args()
     counts, counted = collections.Counter(), Counted()
-    for path in sorted(TOP.glob("examples/*.script")):
-        if set(words) - {"--all"} and path.stem not in words:
-            continue
-        for number, (what, script) in enumerate(changed(path.read_bytes(), "--all" in words)):
-            judged, fault = judge(script, (0, 2)[number % 2])
+    paths = [path for path in sorted(TOP.glob("examples/*.script")) if not given.names or path.stem in given.names]
+    scripts = [(path.name, *change) for path in paths for change in changed(path.read_bytes(), given.all)]
+    with concurrent.futures.ThreadPoolExecutor(os.cpu_count()) as pool:
+        chosen = scripts[:: given.every]
+        for judged, fault in pool.map(lambda job: fault_of(*job[1], (0, 2)[job[0] % 2]), enumerate(chosen)):
             counts[judged] += 1
-            counted.judge(["%s, %s: %s" % (path.name, what, fault) if fault else None])
+            counted.judge([fault])
     print(", ".join("%d %s" % (count, what) for what, count in counts.items()))
     counted.end()
 

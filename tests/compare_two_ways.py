@@ -4,20 +4,20 @@
 Each pattern is searched, with its case or with case ignored, in two documents with the same lines: a small one, which is
 matched line by line, and one that repeats them and is so large that the pattern is compiled and searched from match to
 match. (Patterns that are too large to compile, and those with stars inside stars, are searched in one way in both.)
-Both ways implement one contract, so any difference ends the comparison with status 1.
+Both ways implement one contract, so any difference is a fault. As many runs go on at once as there are processors.
 
-Usage: tests/compare_two_ways.py [--patterns N] [--lines N] [--seed N]
+Usage: tests/compare_two_ways.py [--patterns N] [--lines N] [--seed N]   The last line counts: N passed, M failed.
 """
 
 import argparse
-import pathlib
+import concurrent.futures
+import os
 import random
 import re
 import subprocess
-import sys
 
-sys.path.insert(0, str(pathlib.Path(__file__).resolve().parent))
 import compare_with_grep as grep
+from counted import Counted
 
 # This many bytes of the first candidates are matched line by line.
 FEW_BYTES = 8192
@@ -71,25 +71,32 @@ def compare(chance, patterns, lines):
     return [pattern for pattern, found in searched if differs(found, len(texts), times)], len(searched)
 
 
+def compare_some(seed, number, patterns, lines):
+    """The same as `compare`, for so many patterns and lines that a seed and a number give."""
+    chance = random.Random(f"{seed} {number}")
+    source = grep.Patterns(chance)
+    return compare(chance, [source.alternatives(chance.randint(0, 3))[0] for _ in range(patterns)], lines)
+
+
 def main():
     words = argparse.ArgumentParser(description="Compares the two ways of finding lines.")
     words.add_argument("--patterns", type=int, default=5000)
     words.add_argument("--lines", type=int, default=300)
     words.add_argument("--seed", type=int, default=1)
     given = words.parse_args()
-    chance = random.Random(given.seed)
-    source = grep.Patterns(chance)
-    searched, left = 0, given.patterns
-    while left > 0:
-        count = min(left, SEARCHES_OF_A_RUN)
-        patterns = [source.alternatives(chance.randint(0, 3))[0] for _ in range(count)]
-        different, done = compare(chance, patterns, given.lines)
-        for pattern in different:
-            print("the two ways differ: %r" % pattern)
-        if different:
-            sys.exit(1)
-        searched, left = searched + done, left - count
-    print("%d patterns searched by both ways, no difference" % searched)
+    counted, refused = Counted(), 0
+    with concurrent.futures.ThreadPoolExecutor(os.cpu_count()) as pool:
+        starts = range(0, given.patterns, SEARCHES_OF_A_RUN)
+        counts = [min(SEARCHES_OF_A_RUN, given.patterns - start) for start in starts]
+        jobs = [pool.submit(compare_some, given.seed, number, count, given.lines) for number, count in enumerate(counts)]
+        for count, job in zip(counts, jobs):
+            different, searched = job.result()
+            counted.passes(searched - len(different))
+            refused += count - searched
+            for pattern in different:
+                counted.fails("the two ways differ: %r" % pattern)
+    print("%d patterns, of which %d were not searched" % (given.patterns, refused))
+    counted.end()
 
 
 if __name__ == "__main__":

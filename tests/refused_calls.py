@@ -6,12 +6,14 @@ say that memory ran out and nothing else, give back what it was given, and leave
 its work. The program writes the same text whatever is refused, unless something is wrong.
 
 The toolchain's tests cannot refuse a request, so this is not part of `rt ci`. `rt` proves and builds the program in a folder of
-its own, in a few minutes, with what it keeps of crates that are proved already. A library of a few lines, which the command cc
+its own, with what it keeps of crates that are proved already. A library of a few lines, which the command cc
 builds and which is loaded before the C library, counts the requests. The last line counts: N passed, M failed.
 
-Usage: tests/refused_calls.py
+Usage: tests/refused_calls.py [--every N]   With --every, only each Nth request is refused.
 """
 
+import argparse
+import concurrent.futures
 import os
 import subprocess
 import tempfile
@@ -31,15 +33,22 @@ def run(folder, program, refused):
     return (done.returncode, done.stdout), int(done.stderr.split()[-1])
 
 
+def fault_of(folder, program, refused):
+    """What is wrong with the run whose request with this number is refused, or None."""
+    result, _ = run(folder, program, refused)
+    return None if result == (0, WANTED) else "request %d refused: %r" % (refused, result)
+
+
 def main():
+    every = argparse.ArgumentParser(description="Refuses each request for memory of calls in turn.")
+    every.add_argument("--every", type=int, default=1)
+    every = every.parse_args().every
     counted = Counted()
-    with tempfile.TemporaryDirectory() as folder:
+    with tempfile.TemporaryDirectory() as folder, concurrent.futures.ThreadPoolExecutor(os.cpu_count()) as pool:
         program = copies.build_program(os.path.join(folder, "copy"), "refused_calls", USES, WANTED)
         subprocess.run(["cc", "-O2", "-shared", "-fPIC", "-x", "c", "-", "-o", os.path.join(folder, "counting.so")], input=COUNTING, text=True, check=True)
         _, requests = run(folder, program, 0)
-        for refused in range(requests + 1):
-            result, _ = run(folder, program, refused)
-            counted.judge([None if result == (0, WANTED) else "request %d refused: %r" % (refused, result)])
+        counted.judge(pool.map(lambda refused: fault_of(folder, program, refused), range(0, requests + 1, every)))
     counted.end()
 
 

@@ -4,20 +4,23 @@
 The script puts a small document and one of 19 KB, and searches them line by line, by the compiled pattern, with stars inside
 stars, and with a pattern that is too large to be compiled. With the Nth request refused, each search's answer is the same or
 `refused: out of memory`, each other line does its work or is refused with the same words, or the program says that memory ran
-out. Anything else makes the status 1. A library of a few lines, which the command cc builds and which is loaded
+out. Anything else is a fault. A library of a few lines, which the command cc builds and which is loaded
 before the C library, counts the requests. A program that may start threads ends by `_exit`, so the count is printed there too.
 With LEAST in its environment, the library counts only requests of at least that many bytes, and refuses the first REFUSED of them.
 
-Usage: tests/refused_memory.py
+Usage: tests/refused_memory.py [--every N]   The last line counts: N passed, M failed. With --every, only each Nth request is refused.
 """
 
+import argparse
 import collections
+import concurrent.futures
 import os
 import pathlib
 import re
 import subprocess
-import sys
 import tempfile
+
+from counted import Counted
 
 PROGRAM = pathlib.Path(__file__).resolve().parent.parent / "crates" / "program" / "out" / "program"
 
@@ -84,20 +87,28 @@ def outcome(want, status, output, messages):
     return "a search refused" if all(re.fullmatch(MEMORY, answer) for answer in given) else None
 
 
+def fault_of(folder, want, refused):
+    """What became of the run whose request with this number is refused, and what is wrong, or None."""
+    status, output, messages, _ = run(folder, refused)
+    what = outcome(want, status, output, messages)
+    told = "request %d refused: status %d, %r, %r" % (refused, status, messages, output[:500])
+    return what, None if what else told
+
+
 def main():
-    counts = collections.Counter()
-    with tempfile.TemporaryDirectory() as folder:
+    every = argparse.ArgumentParser(description="Refuses each request for memory of a run in turn.")
+    every.add_argument("--every", type=int, default=1)
+    every = every.parse_args().every
+    counts, counted = collections.Counter(), Counted()
+    with tempfile.TemporaryDirectory() as folder, concurrent.futures.ThreadPoolExecutor(os.cpu_count()) as pool:
         pathlib.Path(folder, "script").write_bytes(script())
         subprocess.run(["cc", "-O2", "-shared", "-fPIC", "-x", "c", "-", "-o", os.path.join(folder, "counting.so")], input=COUNTING, text=True, check=True)
         _, want, _, requests = run(folder, 0)
-        for refused in range(1, requests + 1):
-            status, output, messages, _ = run(folder, refused)
-            what = outcome(want, status, output, messages)
+        for what, fault in pool.map(lambda refused: fault_of(folder, want, refused), range(1, requests + 1, every)):
             counts[what] += 1
-            if what is None:
-                print("request %d refused: status %d, %r, %r" % (refused, status, messages, output[:500]))
-    print("%d requests refused in turn: %s" % (requests, ", ".join("%s %d" % pair for pair in sorted(counts.items(), key=str))))
-    sys.exit(1 if counts[None] else 0)
+            counted.judge([fault])
+    print("%d requests refused in turn: %s" % (sum(counts.values()), ", ".join("%s %d" % pair for pair in sorted(counts.items(), key=str))))
+    counted.end()
 
 
 if __name__ == "__main__":

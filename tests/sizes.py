@@ -36,8 +36,8 @@ class Wrong(Exception):
 
 
 class Case:
-    """A script, the text that must be written for it, the ways in which it is run, and its status. With `pieces`, only
-    sessions run it, and each read gives them one byte of these before the script."""
+    """A script, the text that must be written for it, the ways in which it is run, and its status. Before the script come the
+    pieces, of which each read gives one byte."""
 
     def __init__(self, script, wanted, ways, status=0, pieces=b""):
         self.script = script
@@ -159,10 +159,10 @@ def lines_of_an_answer():
 
 
 def reads_of_a_line():
-    """A comment and an item that come in more than 2^20 reads each, and an item after them."""
+    """A comment and an item that come in more than 2^20 reads each, and an item after them. A run reads its script in as many."""
     line = b"#" + b"x" * OVER_20_BITS + b"\nsearch " + b"y" * OVER_20_BITS + b"\n"
     wanted = b"search 1 refused: pattern too long at 1024\nsearch 2 version 0 lines 0\n"
-    return Case(b"search x\n", wanted, [SESSION], 2, line)
+    return Case(b"search x\n", wanted, [SESSION, ALONE], 2, line)
 
 
 def reads_of_a_body():
