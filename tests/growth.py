@@ -38,7 +38,6 @@ LEVEL = 2
 COUNTS = [("instructions", 200_000), ("requests for memory", 100), ("bytes requested", 65_536), ("bytes in use at once", 65_536)]
 
 COUNTING = r"""
-#include <dlfcn.h>
 #include <malloc.h>
 #include <stddef.h>
 #include <stdio.h>
@@ -84,8 +83,12 @@ void _exit(int status) { tell(); syscall(SYS_exit_group, status); __builtin_unre
 
 
 # What a run has taken: the requests for memory and their bytes, the most bytes in use at once, those in use when the last text was
-# written, the requests of at least so many bytes, how often text was written, the status, and the text.
-Memory = collections.namedtuple("Memory", "requests bytes most held large writes status text")
+# written, the requests of at least so many bytes, how often text was written, and the text.
+Memory = collections.namedtuple("Memory", "requests bytes most held large writes text")
+
+
+class Wrong(Exception):
+    """A run did not do what its script says, so its counts say nothing."""
 
 
 class Runs:
@@ -100,24 +103,28 @@ class Runs:
         self.memory = functools.lru_cache(None)(self.count_memory)
 
     def run(self, command, script, env=None):
+        """Runs a command over a script, and returns what it writes to standard error and to standard output."""
         with tempfile.TemporaryFile(dir=self.folder) as file, tempfile.TemporaryFile(dir=self.folder) as text:
             file.write(script)
             file.seek(0)
             done = subprocess.run(command, cwd=TOP, stdin=file, stdout=text, stderr=subprocess.PIPE, env=env, check=False, timeout=SECONDS)
             text.seek(0)
-            return done.returncode, done.stderr.decode(), text.read()
+            messages, written = done.stderr.decode(), text.read()
+        if done.returncode not in (0, 1, 2) or "tsearch: " in messages or b"out of memory" in written:
+            raise Wrong(f"{command} ends with status {done.returncode}, {messages[-300:]!r}")
+        return messages, written
 
     def count_instructions(self, way, script):
         """How many instructions a run executes."""
         tool = ["valgrind", "--tool=cachegrind", "--cache-sim=no", "--cachegrind-out-file=/dev/null"]
-        _, messages, _ = self.run([*tool, str(PROGRAM), *WORDS[way]], script)
+        messages, _ = self.run([*tool, str(PROGRAM), *WORDS[way]], script)
         return int(re.search(r"I +refs: +([\d,]+)", messages)[1].replace(",", ""))
 
     def count_memory(self, way, script, least=0):
         """What memory a run takes, and how often it writes."""
         env = dict(os.environ, LD_PRELOAD=str(self.library), LEAST=str(least))
-        status, messages, text = self.run([str(PROGRAM), *WORDS[way]], script, env)
-        return Memory(*map(int, re.search(r"counts ([\d ]+)", messages)[1].split()), status, text)
+        messages, text = self.run([str(PROGRAM), *WORDS[way]], script, env)
+        return Memory(*map(int, re.search(r"counts ([\d ]+)", messages)[1].split()), text)
 
 
 def put(name, body):
@@ -505,11 +512,13 @@ def faults_of_check(runs, check, show):
 
 
 def faults_in_time(runs, show, named, find, *words):
-    """What is wrong by `find`, or that a run has not ended."""
+    """What is wrong by `find`, or that a run has not ended or has failed."""
     try:
         return find(runs, *words, show)
     except subprocess.TimeoutExpired:
         return [f"{named.__name__}: a run did not end in {SECONDS} seconds"]
+    except Wrong as wrong:
+        return [f"{named.__name__}: {wrong}"]
 
 
 def main():
