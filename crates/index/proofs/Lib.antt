@@ -7,4 +7,5 @@ pub mod SlotLemmas
 pub mod StoredLemmas
 pub mod ApplyLemmas
 pub mod OrderLemmas
+mod ChosenLemmas
 pub mod IndexLemmas

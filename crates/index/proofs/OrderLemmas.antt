@@ -10,20 +10,17 @@ use Rattle.std.proofs.Math.Path.{fun_ext}
 use Rattle.query.specs.Query.{Formula, is_met}
 use Rattle.posting.specs.ListValue.{has}
 use Rattle.posting.specs.Postings.{trigrams_with}
-use Rattle.posting.proofs.Laws.{has-append}
 use Rattle.std.specs.Ordering.{nat_cmp}
-use Rattle.std.specs.Cmp.{on_total}
 use Rattle.std.specs.Cmp.Lexicographic.{slice_cmp, nat_list_cmp_total, texts_ties}
 use Rattle.std.specs.List.Sorted.{IsStrictlySortedBy}
 use Rattle.std.specs.Map.{keys_of, values_of}
 use Rattle.std.specs.BTreeMap.{BTreeMap, get, IsOrdered, is_at, values}
 use Rattle.std.proofs.lemmas.Map.Entries.{place_from_lookup, btree_map_get_place}
 use Rattle.std.proofs.lemmas.Option.{slice_get_within, get_or_from_slice_get}
-use denote.Bor.{Bor}
 use Rattle.index.specs.declared.sets.Sets.{Sets}
 use Rattle.index.specs.Documents.{Document, document, document_at, number_of, meets, IsInNameOrder, RisesByName}
 use Rattle.index.specs.Private.Sets.{AreSetsOf, trigrams_shown}
-use Rattle.index.specs.Private.Few.{by_bytes, kept_if}
+use Rattle.index.specs.Private.Chosen.{numbered_document, document_numbered, documents_numbered}
 use Rattle.index.proofs.DocumentLemmas.{same_name, bytes_eq-refl}
 use Rattle.index.proofs.PutLemmas.{Contains-cons, Contains-head, Contains-tail, Contains-number_of}
 use Rattle.index.proofs.StoredLemmas.{Numbered, document_at-found_in, same_bool}
@@ -65,56 +62,47 @@ filter_same p q (d ∷ ds) each =
     let rest = filter_same p q ds (λ x there. each x (Contains-tail d ds x there)) in
     ap (λ t. cond t (d ∷ filter p ds) (filter p ds)) (each d (Contains-head d ds)) ∙ ap (λ xs. cond (q d) (d ∷ xs) xs) rest
 
--- ---- entries of a map by names
+-- ---- entries of the map from names to numbers
 
 abbrev body_of : Option (List ℕ × List ℕ) → List ℕ
 body_of None = []
 body_of (Some d) = d.1
 
-kept_number : (test : ℕ → Bool) (found : Option ℕ) (number : ℕ) → kept_if test found ≡ Some number → (found ≡ Some number) × (test number ≡ true)
-kept_number test None number e = cc
-kept_number test (Some m) number e = go (test m) refl e
-  where
-    go : (t : Bool) → test m ≡ t → cond t (Some m) None ≡ Some number → (Some m ≡ Some number) × (test number ≡ true)
-    go true passes h = let same : m ≡ number = cc in (h, subst (λ n. test n ≡ true) same passes)
-    go false passes h = cc
-
 Contains-slice_get : (documents : List Document) (i : ℕ) (d : Document) → slice_get documents i ≡ Some d → Contains documents d
 Contains-slice_get documents i d e = (i, slice_get_within documents i d e, get_or_from_slice_get documents i d d e)
 
-module _ {K : Type 0} (name_in : K → List ℕ) where
-  -- the document of an entry
-  abbrev shown : List Document → K × ℕ → Document
-  shown documents entry = document entry.1 (name_in entry.0) (body_of (document_at entry.1 documents))
+-- the document of an entry
+abbrev shown : List Document → List ℕ × ℕ → Document
+shown documents entry = document entry.1 entry.0 (body_of (document_at entry.1 documents))
 
-  rises-shown : (documents : List Document) (entries : List (K × ℕ))
-      → IsStrictlySortedBy (λ x y. slice_cmp nat_cmp (name_in x) (name_in y)) (keys_of entries)
-      → RisesByName (map (shown documents) entries)
-  unfolding IsStrictlySortedBy
-  rises-shown documents [] sorted = tt
-  rises-shown documents (entry ∷ entries) sorted = (above entries sorted.0, rises-shown documents entries sorted.1)
-    where
-      above : (es : List (K × ℕ)) → AllByRecursion (λ k. slice_cmp nat_cmp (name_in entry.0) (name_in k) ≡ Less) (keys_of es)
-          → AllByRecursion (λ n. slice_cmp nat_cmp (name_in entry.0) n ≡ Less) (map (λ d. d.name) (map (shown documents) es))
-      above [] h = tt
-      above (e ∷ es) h = (h.0, above es h.1)
+rises-shown : (documents : List Document) (entries : List (List ℕ × ℕ)) → IsStrictlySortedBy (slice_cmp nat_cmp) (keys_of entries)
+    → RisesByName (map (shown documents) entries)
+unfolding IsStrictlySortedBy
+rises-shown documents [] sorted = tt
+rises-shown documents (entry ∷ entries) sorted = (above entries sorted.0, rises-shown documents entries sorted.1)
+  where
+    above : (es : List (List ℕ × ℕ)) → AllByRecursion (λ k. slice_cmp nat_cmp entry.0 k ≡ Less) (keys_of es)
+        → AllByRecursion (λ n. slice_cmp nat_cmp entry.0 n ≡ Less) (map (λ d. d.name) (map (shown documents) es))
+    above [] h = tt
+    above (e ∷ es) h = (h.0, above es h.1)
 
-  numbers-shown : (documents : List Document) (entries : List (K × ℕ)) → values_of entries ≡ map (λ d. d.number) (map (shown documents) entries)
-  numbers-shown documents [] = refl
-  numbers-shown documents (entry ∷ entries) = ap (λ xs. entry.1 ∷ xs) (numbers-shown documents entries)
+numbers-shown : (documents : List Document) (entries : List (List ℕ × ℕ)) → values_of entries ≡ map (λ d. d.number) (map (shown documents) entries)
+numbers-shown documents [] = refl
+numbers-shown documents (entry ∷ entries) = ap (λ xs. entry.1 ∷ xs) (numbers-shown documents entries)
 
-  slice_get-shown : (documents : List Document) (entries : List (K × ℕ)) (i : ℕ) (entry : K × ℕ) → slice_get entries i ≡ Some entry
-      → slice_get (map (shown documents) entries) i ≡ Some (shown documents entry)
-  slice_get-shown documents [] i entry e = cc
-  slice_get-shown documents (first ∷ entries) zero entry e = let same : first ≡ entry = cc in ap (λ x. Some (shown documents x)) same
-  slice_get-shown documents (first ∷ entries) (suc i) entry e = slice_get-shown documents entries i entry e
+slice_get-shown : (documents : List Document) (entries : List (List ℕ × ℕ)) (i : ℕ) (entry : List ℕ × ℕ) → slice_get entries i ≡ Some entry
+    → slice_get (map (shown documents) entries) i ≡ Some (shown documents entry)
+slice_get-shown documents [] i entry e = cc
+slice_get-shown documents (first ∷ entries) zero entry e = let same : first ≡ entry = cc in ap (λ x. Some (shown documents x)) same
+slice_get-shown documents (first ∷ entries) (suc i) entry e = slice_get-shown documents entries i entry e
 
-  -- the entry at the place of a document that is shown
-  shown-Contains : (documents : List Document) (entries : List (K × ℕ)) (d : Document) (k : ℕ) → k < length (map (shown documents) entries)
-      → get_or (map (shown documents) entries) k d ≡ d → (entry : K × ℕ) × (slice_get entries k ≡ Some entry) × (shown documents entry ≡ d)
-  shown-Contains documents [] d k below e = absurd (omega arith)
-  shown-Contains documents (entry ∷ entries) d zero below e = (entry, refl, e)
-  shown-Contains documents (entry ∷ entries) d (suc k) below e = shown-Contains documents entries d k (omega arith) e
+-- the entry at the place of a document that is shown
+shown-Contains : (documents : List Document) (entries : List (List ℕ × ℕ)) (d : Document) (k : ℕ) → k < length (map (shown documents) entries)
+    → get_or (map (shown documents) entries) k d ≡ d
+    → (entry : List ℕ × ℕ) × (slice_get entries k ≡ Some entry) × (shown documents entry ≡ d)
+shown-Contains documents [] d k below e = absurd (omega arith)
+shown-Contains documents (entry ∷ entries) d zero below e = (entry, refl, e)
+shown-Contains documents (entry ∷ entries) d (suc k) below e = shown-Contains documents entries d k (omega arith) e
 
 -- what a filter keeps
 pub filter-Contains : (p : Document → Bool) (ds : List Document) (d : Document) → Contains (filter p ds) d → Contains ds d × (p d ≡ true)
@@ -171,188 +159,73 @@ numbers-filter test (d ∷ ds) = go (test d.number) (numbers-filter test ds)
     go true e = ap (λ xs. d.number ∷ xs) e
     go false e = e
 
-module _ (ds : List Document) (numbered : Numbered ds) (named : Named ds) {K : Type 0} (name_in : K → List ℕ) (key : List ℕ → K)
-    (is_key : (name : List ℕ) → name_in (key name) ≡ name) (test : ℕ → Bool) (numbers : BTreeMap K ℕ)
-    (kept : (k : K) → get (λ x y. slice_cmp nat_cmp (name_in x) (name_in y)) numbers k ≡ kept_if test (number_of (name_in k) ds))
-    (ordered : IsOrdered (λ x y. slice_cmp nat_cmp (name_in x) (name_in y)) numbers) where
-  abbrev chosen : List Document
-  chosen = filter (λ d. test d.number) ds
-
-  there : (entry : K × ℕ) (k : ℕ) → slice_get numbers.entries k ≡ Some entry → Contains chosen (shown name_in ds entry)
+module _ (ds : List Document) (numbered : Numbered ds) (named : Named ds) (numbers : BTreeMap (List ℕ) ℕ)
+    (kept : (name : List ℕ) → get (slice_cmp nat_cmp) numbers name ≡ number_of name ds) (ordered : IsOrdered (slice_cmp nat_cmp) numbers) where
+  there : (entry : List ℕ × ℕ) (k : ℕ) → slice_get numbers.entries k ≡ Some entry → Contains ds (shown ds entry)
   there entry k e =
-      let found : get (λ x y. slice_cmp nat_cmp (name_in x) (name_in y)) numbers entry.0 ≡ Some entry.1 =
-      btree_map_get_place (on_total name_in nat_list_cmp_total) numbers k entry.0 entry.1 ordered e in
-      let passes = kept_number test (number_of (name_in entry.0) ds) entry.1 (sym (kept entry.0) ∙ found) in
-      let put = Contains-number_of ds (name_in entry.0) entry.1 passes.0 in
-      let body : body_of (document_at entry.1 ds) ≡ put.0 = ap body_of (document_at-Contains ds numbered (document entry.1 (name_in entry.0) put.0) put.1) in
-      subst (λ b. Contains chosen (document entry.1 (name_in entry.0) b)) (sym body)
-      (Contains-filter (λ d. test d.number) ds (document entry.1 (name_in entry.0) put.0) put.1 passes.1)
+      let found : get (slice_cmp nat_cmp) numbers entry.0 ≡ Some entry.1 =
+      btree_map_get_place nat_list_cmp_total numbers k entry.0 entry.1 ordered e in
+      let put = Contains-number_of ds entry.0 entry.1 (sym (kept entry.0) ∙ found) in
+      let body : body_of (document_at entry.1 ds) ≡ put.0 = ap body_of (document_at-Contains ds numbered (document entry.1 entry.0 put.0) put.1) in
+      subst (λ b. Contains ds (document entry.1 entry.0 b)) (sym body) put.1
 
-  back : (d : Document) → Contains chosen d → Contains (map (shown name_in ds) numbers.entries) d
-  back d h =
-      let at = filter-Contains (λ x. test x.number) ds d h in
-      let k = key d.name in
-      let found : get (λ x y. slice_cmp nat_cmp (name_in x) (name_in y)) numbers k ≡ Some d.number =
-      kept k
-      ∙ (ap (λ n. kept_if test (number_of n ds)) (is_key d.name)
-      ∙ (ap (kept_if test) (number_of-Contains ds named d at.0) ∙ ap (λ t. cond t (Some d.number) None) at.1)) in
-      let place = place_from_lookup (is_at (λ x. slice_cmp nat_cmp (name_in k) (name_in x))) numbers.entries d.number found in
-      let same : name_in k ≡ name_in place.1 = same_name (name_in k) (name_in place.1) (texts_ties (name_in k) (name_in place.1) ∙ place.3) in
-      let name : d.name ≡ name_in place.1 = sym (is_key d.name) ∙ same in
-      let body : body_of (document_at d.number ds) ≡ d.body = ap body_of (document_at-Contains ds numbered d at.0) in
-      let put = slice_get-shown name_in ds numbers.entries place.0 (place.1, d.number) place.2 in
-      Contains-slice_get (map (shown name_in ds) numbers.entries) place.0 d
+  back : (d : Document) → Contains ds d → Contains (map (shown ds) numbers.entries) d
+  back d at =
+      let found : get (slice_cmp nat_cmp) numbers d.name ≡ Some d.number = kept d.name ∙ number_of-Contains ds named d at in
+      let place = place_from_lookup (is_at (slice_cmp nat_cmp d.name)) numbers.entries d.number found in
+      let name : d.name ≡ place.1 = same_name d.name place.1 (texts_ties d.name place.1 ∙ place.3) in
+      let body : body_of (document_at d.number ds) ≡ d.body = ap body_of (document_at-Contains ds numbered d at) in
+      let put = slice_get-shown ds numbers.entries place.0 (place.1, d.number) place.2 in
+      Contains-slice_get (map (shown ds) numbers.entries) place.0 d
       (put
       ∙ (ap (λ n. Some (document d.number n (body_of (document_at d.number ds)))) (sym name)
       ∙ ap (λ b. Some (document d.number d.name b)) body))
 
-  in_order : IsInNameOrder chosen (map (shown name_in ds) numbers.entries)
-  in_order = record {
-    rises = rises-shown name_in ds numbers.entries ordered;
-    same = λ d. (
-      λ h. (let at = shown-Contains name_in ds numbers.entries d h.0 h.1 h.2 in subst (λ x. Contains chosen x) at.2 (there at.0 h.0 at.1)),
-      λ h. back d h,
-    );
-  }
+  pub all_by_name : (all : List Document) × IsInNameOrder ds all × (values numbers ≡ map (λ d. d.number) all)
+  all_by_name = (
+    map (shown ds) numbers.entries,
+    record {
+      rises = rises-shown ds numbers.entries ordered;
+      same = λ d. (
+        λ h. (let at = shown-Contains ds numbers.entries d h.0 h.1 h.2 in subst (λ x. Contains ds x) at.2 (there at.0 h.0 at.1)),
+        λ h. back d h,
+      );
+    },
+    numbers-shown ds numbers.entries,
+  )
 
-  pub chosen_in_order : (items : List ℕ) → items ≡ values numbers
-      → (ordered_documents : List Document) × IsInNameOrder chosen ordered_documents × (items ≡ map (λ d. d.number) ordered_documents)
-  chosen_in_order items e = (map (shown name_in ds) numbers.entries, in_order, e ∙ numbers-shown name_in ds numbers.entries)
+-- ---- the documents that have the numbers of a list
 
--- the documents of a map whose keys are references to their names
-pub few_in_order : (ds : List Document) → Numbered ds → Named ds → (test : ℕ → Bool) (few : BTreeMap (Bor (List ℕ)) ℕ)
-    → ((name : Bor (List ℕ)) → get by_bytes few name ≡ kept_if test (number_of name.now ds)) → IsOrdered by_bytes few → (items : List ℕ)
-    → items ≡ values few
-    → (ordered : List Document) × IsInNameOrder (filter (λ d. test d.number) ds) ordered × (items ≡ map (λ d. d.number) ordered)
-few_in_order ds numbered named test few kept ordered items e =
-    chosen_in_order ds numbered named (λ k. k.now) (λ name. record { ref_ptr = (0, 0); now = name }) (λ name. refl) test few kept ordered
-    items e
-
-kept_all : (found : Option ℕ) → found ≡ kept_if (λ _. true) found
-kept_all None = refl
-kept_all (Some number) = refl
-
-filter_all : (ds : List Document) → filter (λ d. true) ds ≡ ds
-filter_all [] = refl
-filter_all (d ∷ ds) = ap (λ xs. d ∷ xs) (filter_all ds)
-
-by_name : (ds : List Document) → Numbered ds → Named ds → (numbers : BTreeMap (List ℕ) ℕ)
-    → ((name : List ℕ) → get (slice_cmp nat_cmp) numbers name ≡ number_of name ds) → IsOrdered (slice_cmp nat_cmp) numbers
-    → (items : List ℕ) → items ≡ values numbers
-    → (ordered : List Document) × IsInNameOrder ds ordered × (items ≡ map (λ d. d.number) ordered)
-by_name ds numbered named numbers kept ordered items e =
-    subst (λ xs. (ordered_documents : List Document) × IsInNameOrder xs ordered_documents × (items ≡ map (λ d. d.number) ordered_documents))
-    (filter_all ds)
-    (chosen_in_order ds numbered named (λ k. k) (λ name. name) (λ name. refl) (λ _. true) numbers
-    (λ name. kept name ∙ kept_all (number_of name ds)) ordered items e)
+pub documents_numbered-numbers : (ds chosen : List Document) → Numbered ds → ((d : Document) → Contains chosen d → Contains ds d)
+    → documents_numbered ds (map (λ d. d.number) chosen) ≡ chosen
+documents_numbered-numbers ds [] numbered each = refl
+documents_numbered-numbers ds (d ∷ chosen) numbered each =
+    let here : document_numbered ds d.number ≡ d ∷ [] =
+    ap (numbered_document d.number) (document_at-Contains ds numbered d (each d (Contains-head d chosen))) in
+    rw (here, documents_numbered-numbers ds chosen numbered (λ x h. each x (Contains-tail d chosen x h))) refl
 
 -- the documents that pass the test, chosen from all documents in the order of their names
-pub among_by_name : (ds : List Document) → Numbered ds → Named ds → (test : ℕ → Bool) (numbers : BTreeMap (List ℕ) ℕ)
+pub many_in_order : (ds : List Document) → Numbered ds → Named ds → (test : ℕ → Bool) (numbers : BTreeMap (List ℕ) ℕ)
     → ((name : List ℕ) → get (slice_cmp nat_cmp) numbers name ≡ number_of name ds) → IsOrdered (slice_cmp nat_cmp) numbers
-    → (items : List ℕ) → items ≡ filter test (values numbers)
-    → (ordered : List Document) × IsInNameOrder (filter (λ d. test d.number) ds) ordered × (items ≡ map (λ d. d.number) ordered)
-among_by_name ds numbered named test numbers kept ordered items e =
-    let all = by_name ds numbered named numbers kept ordered (values numbers) refl in (
-      filter (λ d. test d.number) all.0,
-      record {
-        rises = rises-filter (λ d. test d.number) all.0 all.1.rises;
-        same = λ d. (
-          λ h. (let at = filter-Contains (λ x. test x.number) all.0 d h in Contains-filter (λ x. test x.number) ds d ((all.1.same d).0 at.0) at.1),
-          λ h. (let at = filter-Contains (λ x. test x.number) ds d h in Contains-filter (λ x. test x.number) all.0 d ((all.1.same d).1 at.0) at.1),
-        );
-      },
-      e ∙ (ap (filter test) all.2 ∙ numbers-filter test all.0),
-    )
-
--- a number that is found by its name is that of a document
-named_is_shown : (ds : List Document) → Numbered ds → (name : List ℕ) (number : ℕ) → number_of name ds ≡ Some number → document_at number ds ≡ None → ⊥
-named_is_shown ds numbered name number found absent =
-    let at = Contains-number_of ds name number found in
-    clash (name, at.0) (sym (document_at-Contains ds numbered (document number name at.0) at.1) ∙ absent)
-  where
-    clash : (d : List ℕ × List ℕ) → Some d ≡ None → ⊥
-    clash d e = cc
-
--- ---- putting one more document into the map of the chosen ones
-
--- some numbers of a list are done, and then one more
-pub passed-more : (all done left new : List ℕ) (number : ℕ) → all ≡ done ++ left → left ≡ number ∷ new → all ≡ (done ++ number ∷ []) ++ new
-passed-more all done left new number e h = e ∙ (ap (λ xs. done ++ xs) h ∙ sym (append_assoc done (number ∷ []) new))
-
-has-more : (done : List ℕ) (number m : ℕ) (t : Bool) → (number == m) ≡ t → has (done ++ number ∷ []) m ≡ (has done m || t)
-has-more done number m t e = has-append done (number ∷ []) m ∙ ap (λ b. has done m || b) (or_none (number == m) ∙ e)
-  where
-    or_none : (a : Bool) → (a || false) ≡ a
-    or_none true = refl
-    or_none false = refl
+    → IsInNameOrder (filter (λ d. test d.number) ds) (documents_numbered ds (filter test (values numbers)))
+many_in_order ds numbered named test numbers kept ordered =
+    let all = all_by_name ds numbered named numbers kept ordered in
+    let passed = filter (λ d. test d.number) all.0 in
+    let are : documents_numbered ds (filter test (values numbers)) ≡ passed =
+    ap (documents_numbered ds) (ap (filter test) all.2 ∙ numbers-filter test all.0)
+    ∙ documents_numbered-numbers ds passed numbered
+    (λ d h. (all.1.same d).0 (filter-Contains (λ x. test x.number) all.0 d h).0) in
+    subst (λ xs. IsInNameOrder (filter (λ d. test d.number) ds) xs) (sym are) (record {
+      rises = rises-filter (λ d. test d.number) all.0 all.1.rises;
+      same = λ d. (
+        λ h. (let at = filter-Contains (λ x. test x.number) all.0 d h in Contains-filter (λ x. test x.number) ds d ((all.1.same d).0 at.0) at.1),
+        λ h. (let at = filter-Contains (λ x. test x.number) ds d h in Contains-filter (λ x. test x.number) all.0 d ((all.1.same d).1 at.0) at.1),
+      );
+    })
 
 or_yes : (a : Bool) → (a || true) ≡ true
 or_yes true = refl
 or_yes false = refl
-
-or_no : (a : Bool) → (a || false) ≡ a
-or_no true = refl
-or_no false = refl
-
--- no document with this name has the number
-not_named : (ds : List Document) (numbered : Numbered ds) (named : Named ds) (number : ℕ) (q : List ℕ) (m : ℕ)
-    → (number_of q ds ≡ Some number → ⊥) → number_of q ds ≡ Some m → (t : Bool) → (number == m) ≡ t → t ≡ false
-not_named ds numbered named number q m other e false h = refl
-not_named ds numbered named number q m other e true h =
-    let same : m ≡ number = grind (arith, nat_tests) in
-    absurd (other (e ∙ ap Some same))
-
-kept-other : (ds : List Document) (numbered : Numbered ds) (named : Named ds) (done : List ℕ) (number : ℕ) (q : List ℕ)
-    → (number_of q ds ≡ Some number → ⊥) → kept_if (has done) (number_of q ds) ≡ kept_if (has (done ++ number ∷ [])) (number_of q ds)
-kept-other ds numbered named done number q other = go (number_of q ds) refl
-  where
-    go : (found : Option ℕ) → number_of q ds ≡ found → kept_if (has done) found ≡ kept_if (has (done ++ number ∷ [])) found
-    go None e = refl
-    go (Some m) e =
-        let apart : (number == m) ≡ false = not_named ds numbered named number q m other e (number == m) refl in
-        ap (λ t. cond t (Some m) None) (sym (has-more done number m false apart ∙ or_no (has done m)))
-
--- a number that no document has changes nothing
-pub few-skip : (ds : List Document) (numbered : Numbered ds) (named : Named ds) (done : List ℕ) (number : ℕ) → document_at number ds ≡ None
-    → (q : List ℕ) → kept_if (has done) (number_of q ds) ≡ kept_if (has (done ++ number ∷ [])) (number_of q ds)
-few-skip ds numbered named done number absent q = kept-other ds numbered named done number q (λ found. named_is_shown ds numbered q number found absent)
-
--- the number of a document goes in under the document's name
-pub few-more : (ds : List Document) (numbered : Numbered ds) (named : Named ds) (done : List ℕ) (number : ℕ) (name body : List ℕ)
-    → document_at number ds ≡ Some (name, body) → (q : List ℕ)
-    → cond (bytes_eq name q) (Some number) (kept_if (has done) (number_of q ds)) ≡ kept_if (has (done ++ number ∷ [])) (number_of q ds)
-few-more ds numbered named done number name body at q = go (bytes_eq name q) refl
-  where
-    name_or : Option (List ℕ × List ℕ) → List ℕ
-    name_or None = []
-    name_or (Some d) = d.0
-
-    number_is : number_of name ds ≡ Some number
-    number_is =
-        let d = document_at-found_in number ds (name, body) at in
-        let named_as : d.0.name ≡ name = ap name_or (sym (document_at-Contains ds numbered d.0 d.1) ∙ (ap (λ n. document_at n ds) d.2 ∙ at)) in
-        ap (λ n. number_of n ds) (sym named_as) ∙ (number_of-Contains ds named d.0 d.1 ∙ ap Some d.2)
-
-    name_at : (q : List ℕ) → number_of q ds ≡ Some number → name ≡ q
-    name_at q found =
-        let mine = Contains-number_of ds q number found in
-        ap name_or (sym at ∙ document_at-Contains ds numbered (document number q mine.0) mine.1)
-
-    go : (t : Bool) → bytes_eq name q ≡ t → cond t (Some number) (kept_if (has done) (number_of q ds)) ≡ kept_if (has (done ++ number ∷ [])) (number_of q ds)
-    go true same =
-        let is : number_of q ds ≡ Some number = ap (λ n. number_of n ds) (sym (same_name name q same)) ∙ number_is in
-        let here : (number == number) ≡ true = grind (arith, nat_tests) in
-        let passes : has (done ++ number ∷ []) number ≡ true = has-more done number number true here ∙ or_yes (has done number) in
-        sym (ap (kept_if (has (done ++ number ∷ []))) is ∙ ap (λ t. cond t (Some number) None) passes)
-    go false other =
-        kept-other ds numbered named done number q
-        (λ found. false≢true (sym other ∙ subst (λ n. bytes_eq name n ≡ true) (name_at q found) (bytes_eq-refl name)))
-
--- what `insert` of a name ensures
-pub inserted : (old new : BTreeMap (Bor (List ℕ)) ℕ) (name : List ℕ) (number : ℕ)
-    → ((q : Bor (List ℕ)) → get by_bytes new q ≡ cond (is_at (λ k. slice_cmp nat_cmp name k.now) q) (Some number) (get by_bytes old q))
-    → (q : Bor (List ℕ)) → get by_bytes new q ≡ cond (bytes_eq name q.now) (Some number) (get by_bytes old q)
-inserted old new name number updates q = updates q ∙ ap (λ t. cond t (Some number) (get by_bytes old q)) (sym (texts_ties name q.now))
 
 -- ---- candidates
 

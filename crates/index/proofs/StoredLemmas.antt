@@ -82,7 +82,7 @@ numbers_at_most last slots rises =
 
 -- ---- documents by their numbers
 
-document_at-none : (number : ℕ) (ds : List Document) → All (λ d. d.number ≢ number) ds → document_at number ds ≡ None
+pub document_at-none : (number : ℕ) (ds : List Document) → All (λ d. d.number ≢ number) ds → document_at number ds ≡ None
 unfolding document_at
 document_at-none number [] others = refl
 document_at-none number (d ∷ ds) others =

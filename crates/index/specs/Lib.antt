@@ -1,4 +1,5 @@
 pub mod Text
 pub mod Documents
 pub mod State
+pub mod Shared
 pub mod Private

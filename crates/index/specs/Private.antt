@@ -3,4 +3,4 @@ pub mod Analysis
 pub mod Slots
 pub mod Sets
 pub mod Store
-pub mod Few
+pub mod Chosen

@@ -1,20 +1,23 @@
 //! The index: the documents that commands leave, and the sets by which they are found.
 
-ghost use Rattle.std.specs.Prelude.{◌≡◌, ℕ, List, ◌+◌, ◌^◌, ◌<◌, [], ◌∷◌, map, length, OnOk};
+ghost use Rattle.std.specs.Prelude.{◌≡◌, ℕ, List, ◌+◌, ◌^◌, ◌<◌, [], ◌∷◌, ◌++◌, map, length, OnOk};
 ghost use Rattle.std.specs.Prelude.{OnErr, IfErr, IfOk, IfSome, IsSome, IsOk, Option, option_map, filter, bytes_eq, if◌then◌else◌, Some};
 ghost use Rattle.std.specs.Ordering.{nat_cmp};
 ghost use Rattle.std.specs.Cmp.Lexicographic.{slice_cmp};
-ghost use Rattle.std.specs.BTreeMap.{IsUnchanged, IsOrdered, get, values};
+ghost use Rattle.std.specs.BTreeMap.{IsUnchanged, get};
+ghost use Rattle.std.specs.List.Sorted.{IsStrictlyIncreasing};
 ghost use Rattle.index.specs.declared.command.Command.TheVariants.{Put as put_command, Remove as remove_command};
 ghost use Rattle.query.specs.Query.{formula_of};
 ghost use Rattle.posting.specs.ListValue.{has};
 ghost use Rattle.index.specs.Text.{IsName, IsBody};
-ghost use Rattle.index.specs.Documents.{Document, document_at, number_of, meets, IsInNameOrder};
+ghost use Rattle.index.specs.Documents.{document_at, number_of, meets, IsInNameOrder};
 ghost use Rattle.index.specs.State.{applied, state_of, body_bytes, IsState};
-ghost use Rattle.index.specs.Private.Few.{AreFew, by_bytes};
+ghost use Rattle.index.specs.Shared.{documents_shared};
+ghost use Rattle.index.specs.Private.Chosen.{document_numbered, documents_numbered};
 
 use crate::body::Body;
 use crate::command::Command;
+use crate::document::SharedDocument;
 use crate::error::{ApplyError, HeldError};
 use crate::held::{Held, trigrams_in};
 use crate::name::Name;
@@ -25,8 +28,8 @@ use std::alloc::{AllocError, Global};
 use std::collections::BTreeMap;
 use std::marker::Model;
 
-/// A list that is shorter than the number of documents divided by this is sorted by name. For a longer list, all
-/// documents are gone through in the order of their names.
+/// The documents of a list that is shorter than the number of documents divided by this are sorted by name. For a
+/// longer list, all documents are gone through in the order of their names.
 const FEW: usize = 8;
 
 /// The documents that commands leave.
@@ -190,16 +193,6 @@ impl Index {
         }
     }
 
-    /// The shared body of the document with this number, if there is one.
-    pub fn held(&self, number: u32) -> Option<&Held>
-        ensures { option_map (λ h. h.now) result ≡ option_map (λ d. d.1) (document_at number self.now.documents) }
-    {
-        match occupant_at(&self.store.slots, number) {
-            Some(occupant) => Some(&occupant.held),
-            None => None,
-        }
-    }
-
     /// The number of the document with this name, if there is one.
     pub fn number(&self, name: &Name) -> Option<u32>
         ensures { result ≡ number_of name.now self.now.documents }
@@ -223,37 +216,89 @@ impl Index {
         sets.postings.select(alloc, query, &sets.live)
     }
 
-    /// The numbers of the list that belong to a document, in the order of the documents' names. For a list shorter than
-    /// an eighth of the number of documents, the cost depends mainly on the length of the list. An `Err` means that
-    /// memory ran out.
-    pub fn chosen_by_name(
+    /// The documents whose numbers are in the list, in the order of their names. A number that no document has is left
+    /// out. For a list shorter than an eighth of the number of documents, the cost depends mainly on the length of the
+    /// list. An `Err` means that memory ran out, or that a name or a body has too many handles.
+    pub fn chosen_documents(
         &self,
         alloc: Global,
         chosen: &posting::List,
-    ) -> Result<Vec<u32>, AllocError>
+    ) -> Result<Vec<SharedDocument>, AllocError>
         ensures state { IsState self.now }
-        ensures chosen { IfOk result (λ numbers. (ordered : List Document)
-            × IsInNameOrder (filter (λ d. has chosen.now.members d.number) self.now.documents) ordered
-            × (numbers.items ≡ map (λ d. d.number) ordered)) }
+        ensures chosen { IfOk result (λ shared. IsInNameOrder (filter (λ d. has chosen.now.members d.number) self.now.documents)
+            (documents_shared shared.items)) }
     {
         if chosen.len() < self.numbers.len() / FEW {
-            numbers_of(&self.few(alloc, chosen)?, alloc)
+            self.few(alloc, chosen)
         } else {
-            numbers_among(&self.numbers, alloc, chosen)
+            self.many(alloc, chosen)
         }
     }
 
-    // Those numbers of the list that some document has, by the documents' names.
-    fn few(&self, alloc: Global, chosen: &posting::List) -> Result<BTreeMap<&Name, u32>, AllocError>
-        ensures { IfOk result (λ few. AreFew chosen.now.members self.now.documents few) }
+    // The documents whose numbers are in the list: each is looked up, and then they are sorted by name.
+    fn few(
+        &self,
+        alloc: Global,
+        chosen: &posting::List,
+    ) -> Result<Vec<SharedDocument>, AllocError>
+        ensures { IfOk result (λ shared. IsInNameOrder (filter (λ d. has chosen.now.members d.number) self.now.documents)
+            (documents_shared shared.items)) }
     {
-        let mut few = BTreeMap::new(alloc);
-        for number in chosen.numbers() {
-            if let Some(occupant) = occupant_at(&self.store.slots, number) {
-                few.insert(&occupant.name, number)?;
+        let _ = &self.version;
+        let mut shared = self.numbered(alloc, chosen)?;
+        shared.sort_unstable_by(|one, other| one.name.cmp(&other.name));
+        Ok(shared)
+    }
+
+    // The documents whose numbers are in the list, in the order of their numbers.
+    fn numbered(
+        &self,
+        alloc: Global,
+        chosen: &posting::List,
+    ) -> Result<Vec<SharedDocument>, AllocError>
+        ensures documents { IfOk result (λ shared. documents_shared shared.items ≡ documents_numbered self.now.documents chosen.now.members) }
+        ensures rising { IsStrictlyIncreasing chosen.now.members }
+    {
+        let numbers = chosen.numbers();
+        let mut shared = Vec::with_capacity(alloc, chosen.len())?;
+        for number in numbers {
+            self.add(number, &mut shared)?;
+        }
+        Ok(shared)
+    }
+
+    // The documents whose numbers are in the list, found among all documents in the order of their names.
+    fn many(
+        &self,
+        alloc: Global,
+        chosen: &posting::List,
+    ) -> Result<Vec<SharedDocument>, AllocError>
+        ensures { IfOk result (λ shared. IsInNameOrder (filter (λ d. has chosen.now.members d.number) self.now.documents)
+            (documents_shared shared.items)) }
+    {
+        let among = chosen.lookup(alloc)?;
+        let mut shared = Vec::with_capacity(alloc, chosen.len())?;
+        for number in self.numbers.values() {
+            if among.has(*number) {
+                self.add(*number, &mut shared)?;
             }
         }
-        Ok(few)
+        Ok(shared)
+    }
+
+    // Adds the document with this number, if there is one.
+    fn add(&self, number: u32, shared: &mut Vec<SharedDocument>) -> Result<(), AllocError>
+        ensures { OnOk result (documents_shared shared.new.items
+            ≡ documents_shared shared.old.items ++ document_numbered self.now.documents number) }
+    {
+        if let Some(occupant) = occupant_at(&self.store.slots, number) {
+            shared.push(SharedDocument {
+                number,
+                name: occupant.name.share()?,
+                held: occupant.held.share()?,
+            })?;
+        }
+        Ok(())
     }
 }
 
@@ -272,8 +317,8 @@ fn shared_name(numbers: &BTreeMap<Name, u32>, name: &Name) -> Result<Name, Alloc
     ensures { IfOk result (λ shared. shared ≡ name.now) }
 {
     match numbers.get_key_value(name) {
-        Some((kept, _)) => kept.copy(),
-        None => name.copy(),
+        Some((kept, _)) => kept.share(),
+        None => name.share(),
     }
 }
 
@@ -290,7 +335,7 @@ fn enter(
     ensures err { OnErr result (IsUnchanged numbers.old numbers.new) }
 {
     let _bytes = name.as_bytes();
-    let key = name.copy()?;
+    let key = name.share()?;
     Ok(numbers.insert(key, number)?)
 }
 
@@ -310,29 +355,4 @@ fn leave(numbers: &mut BTreeMap<Name, u32>, name: &Name, gone: Option<u32>)
             }
         }
     }
-}
-
-// The numbers of the names, in the order of the names.
-fn numbers_of(few: &BTreeMap<&Name, u32>, alloc: Global) -> Result<Vec<u32>, AllocError>
-    ensures numbers { IfOk result (λ v. v.items ≡ values few.now) }
-    ensures ordered { IsOrdered by_bytes few.now }
-{
-    few.values().copied().collect(alloc)
-}
-
-// The numbers of the names that are also in the list, in the order of the names.
-fn numbers_among(
-    numbers: &BTreeMap<Name, u32>,
-    alloc: Global,
-    chosen: &posting::List,
-) -> Result<Vec<u32>, AllocError>
-    ensures numbers { IfOk result (λ v. v.items ≡ filter (has chosen.now.members) (values numbers.now)) }
-    ensures ordered { IsOrdered (slice_cmp nat_cmp) numbers.now }
-{
-    let values = numbers.values();
-    let among = chosen.lookup(alloc)?;
-    values
-        .copied()
-        .filter(|number| among.has(*number))
-        .collect(alloc)
 }

@@ -6,6 +6,7 @@
 
 mod body;
 mod command;
+mod document;
 mod error;
 mod held;
 mod index;
@@ -17,6 +18,7 @@ mod store;
 
 pub use body::{Body, MAX_BODY};
 pub use command::Command;
+pub use document::SharedDocument;
 pub use error::{ApplyError, BodyError, BodyErrorKind, HeldError, NameError};
 pub use held::Held;
 pub use index::Index;

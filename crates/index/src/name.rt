@@ -111,7 +111,7 @@ impl Name {
     }
 
     /// Another handle to the same name, with no memory of its own. An `Err` means that the name has too many handles.
-    pub fn copy(&self) -> Result<Name, AllocError>
+    pub fn share(&self) -> Result<Name, AllocError>
         ensures { IfOk result (λ name. name ≡ self.now) }
     {
         let bytes = self.bytes.clone()?;

@@ -5,7 +5,7 @@
 pub enum Point {
     /// The search begins: nothing has been looked at yet.
     Begin,
-    /// The documents are taken, and their lines are matched next. What is published can change meanwhile.
+    /// The candidates are taken, and their names and lines are matched next. What is published can change meanwhile.
     Matching,
     /// The search has its answer, or is refused.
     Done,

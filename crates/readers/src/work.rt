@@ -88,7 +88,7 @@ fn search_at(searches: &[Option<Prepared>], search: u32) -> Option<&Prepared>
     searches.get(at as usize)?.as_ref()
 }
 
-// Takes, calls the gate, and matches. While lines are matched, both copies of the index can change.
+// Takes, calls the gate, and matches. While names and lines are matched, both copies of the index can change.
 fn answer<G: Gate>(
     alloc: Global,
     reading: &mut Reading,

@@ -1,7 +1,7 @@
 -- The lines of documents, and the scan of all of them.
 use Rattle.std.proofs.Common.{◌≡◌, ℕ, zero, suc, ◌+◌, ◌-◌, ◌<◌, ◌≤◌, ◌⊎◌, inl, inr, List, [], ◌∷◌, ◌++◌, map, length, length-drop, drop}
 use Rattle.std.proofs.Common.{take, get_or, Some, Contains, IfSome, refl, sym, ◌∙◌, ap, subst, arith}
-use Rattle.std.specs.Prelude.{slice_get, flat_map}
+use Rattle.std.specs.Prelude.{◌↔◌, slice_get, flat_map}
 use Rattle.std.proofs.Math.Seq.{drop-cons}
 use Rattle.std.proofs.Math.ListN.{drop_of_length-le}
 use Rattle.std.proofs.lemmas.List.{append-nil, take-append-drop, take_all}
@@ -25,7 +25,6 @@ use Rattle.index.proofs.PutLemmas.{Contains-cons, Contains-head, Contains-tail}
 use Rattle.search.specs.Pattern.{Pattern}
 use Rattle.search.specs.Scan.{Hit, IsHit, hit_cmp, IsScanOf, candidates_of}
 use Rattle.search.specs.Private.Selects.{found, numbered, lines_of_document, Selects, done, Adds, HasMatch}
-use Rattle.search.specs.Taken.{IsWanted, AreWanted}
 use Rattle.index.proofs.OrderLemmas.{filter-Contains, Contains-filter}
 use Rattle.search.proofs.SelectsLemmas.{sorted-Selects, Contains-kept, kept-Contains, Selects-append, Selects-after, Adds-none}
 
@@ -225,6 +224,17 @@ no-lines Has lines [] old e = Adds-none Has [] old done
 no-lines Has lines (x ∷ xs) old e = absurd (omega arith)
 
 -- ---- the scan
+
+-- The pattern asks to look at the lines of this document: it is a candidate, and its name, taken as a line, contains
+-- a match of the name pattern, where there is one.
+pub record IsWanted (state : State) (pattern : Pattern) (d : Document) : Type 0 where
+  pub candidate : Contains (candidates_of state pattern.tree) d
+  pub name_hit : IfSome pattern.name_tree (λ tree. ContainsMatch tree d.name)
+
+-- those documents, each once, rising by name
+pub record AreWanted (state : State) (pattern : Pattern) (wanted : List Document) : Type 0 where
+  pub rises : RisesByName wanted
+  pub exact : (d : Document) → Contains wanted d ↔ IsWanted state pattern d
 
 -- a document with a hit is a candidate
 candidate : (s : State) (pattern : Pattern) (d : Document) (i : ℕ) (text : List ℕ) → Contains s.documents d

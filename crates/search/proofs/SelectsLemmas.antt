@@ -42,19 +42,12 @@ pub Selects-all : {X : Type 0} (Has : X → Type 0) (xs : List X) → ((x : X) �
 Selects-all Has [] each = done
 Selects-all Has (x ∷ xs) each = keep (each x) (Selects-all Has xs each)
 
--- what is kept of the values `f x` of a list: they are the values of some members, which are what is kept of the list itself
-pub record Kept {X Y : Type 0} (f : X → Y) (Has : Y → Type 0) (xs : List X) (kept : List Y) : Type 0 where
-  pub from : List X
-  pub are : kept ≡ map f from
-  pub selected : Selects (λ x. Has (f x)) xs from
-
-pub Selects-map : {X Y : Type 0} (f : X → Y) (Has : Y → Type 0) (xs : List X) (kept : List Y) → Selects Has (map f xs) kept → Kept f Has xs kept
-Selects-map f Has [] _ done = record { from = []; are = refl; selected = done }
-Selects-map f Has (x ∷ xs) _ (keep {all = _} {kept} h r) =
-    let rest = Selects-map f Has xs kept r in
-    record { from = x ∷ rest.from; are = ap (λ ys. f x ∷ ys) rest.are; selected = keep h rest.selected }
-Selects-map f Has (x ∷ xs) kept (skip h r) =
-    let rest = Selects-map f Has xs kept r in record { from = rest.from; are = rest.are; selected = skip h rest.selected }
+-- what is kept of the values `f x` of a list
+pub Selects-map : {X Y : Type 0} (f : X → Y) (Has : Y → Type 0) {xs kept : List X} → Selects (λ x. Has (f x)) xs kept
+    → Selects Has (map f xs) (map f kept)
+Selects-map f Has done = done
+Selects-map f Has (keep h r) = keep h (Selects-map f Has r)
+Selects-map f Has (skip h r) = skip h (Selects-map f Has r)
 
 -- what holds for each member holds for each that is kept
 pub All-Selects : {X : Type 0} {Has : X → Type 0} {all kept : List X} (P : X → Type 0) → Selects Has all kept → AllByRecursion P all → AllByRecursion P kept

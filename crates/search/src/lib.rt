@@ -2,7 +2,6 @@
 #![tactic(auto)]
 
 pub mod answer;
-mod documents;
 pub mod laws;
 mod matching;
 mod names;

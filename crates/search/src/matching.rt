@@ -11,12 +11,11 @@ ghost use Rattle.search.specs.Private.Documents.{lines_of_taken};
 ghost use Rattle.search.specs.Private.Ways.{Finds, AreFew};
 
 use crate::answer::Hit;
-use crate::documents::TakenDocument;
 use crate::watch::Watch;
 use crate::way::{Way, compile, nests_stars, way_by};
 use ere::Ere;
 use finder::Finder;
-use index::{Body, Name};
+use index::{Body, Name, SharedDocument};
 use lines::MAX_LINE;
 use matcher::matches;
 use memchr::memchr;
@@ -32,7 +31,7 @@ const FEW_BYTES: usize = 8192;
 pub fn scan_documents<W: Watch>(
     alloc: Global,
     tree: &Ere,
-    documents: &[TakenDocument],
+    documents: &[SharedDocument],
     watch: &mut W,
 ) -> Result<Vec<Hit>, AllocError>
     requires { IsWithinLimits (form tree.now) }
@@ -48,7 +47,7 @@ pub fn scan_documents<W: Watch>(
 // Returns how many documents these are.
 fn scan_few<W: Watch>(
     tree: &Ere,
-    documents: &[TakenDocument],
+    documents: &[SharedDocument],
     hits: &mut Vec<Hit>,
     watch: &mut W,
 ) -> Result<usize, AllocError>
@@ -65,7 +64,7 @@ fn scan_few<W: Watch>(
 
 // How many documents, from the first on, are so small together that their lines are looked at one by one: 0 if the
 // tree has stars inside stars. No answer depends on it.
-fn few_documents(tree: &Ere, documents: &[TakenDocument]) -> usize
+fn few_documents(tree: &Ere, documents: &[SharedDocument]) -> usize
     ensures { AreFew (form tree.now) documents.now result }
 {
     if nests_stars(tree) {
@@ -83,7 +82,7 @@ fn few_documents(tree: &Ere, documents: &[TakenDocument]) -> usize
 }
 
 // The length of the document's body, in bytes.
-fn body_size(document: &TakenDocument) -> usize
+fn body_size(document: &SharedDocument) -> usize
     ensures { result ≡ length document.now.held }
 {
     document.held.body().as_bytes().len()
@@ -93,7 +92,7 @@ fn body_size(document: &TakenDocument) -> usize
 // the pattern is not compiled.
 fn scan_compiled<W: Watch>(
     tree: &Ere,
-    documents: &[TakenDocument],
+    documents: &[SharedDocument],
     hits: &mut Vec<Hit>,
     watch: &mut W,
 ) -> Result<(), AllocError>
@@ -114,7 +113,7 @@ fn scan_compiled<W: Watch>(
 fn scan_by<W: Watch>(
     tree: &Ere,
     way: &mut Way<'_>,
-    documents: &[TakenDocument],
+    documents: &[SharedDocument],
     hits: &mut Vec<Hit>,
     watch: &mut W,
 ) -> Result<(), AllocError>
@@ -168,7 +167,7 @@ fn sweep_lines(
     while let Some(first) = finder.first_line(rest) {
         line += first.before as u32;
         let hit = Hit {
-            name: name.copy()?,
+            name: name.share()?,
             line,
             text: Vec::from_slice(alloc, &rest[first.start..first.end])?,
         };
@@ -225,7 +224,7 @@ fn scan_line(
         return Ok(());
     }
     let hit = Hit {
-        name: name.copy()?,
+        name: name.share()?,
         line,
         text: Vec::from_slice(alloc, text)?,
     };

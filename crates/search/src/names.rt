@@ -11,77 +11,62 @@ ghost use Rattle.search.specs.Private.Ways.{Finds};
 use crate::pattern::Prepared;
 use crate::way::{Way, compile, nests_stars, way_by};
 use ere::Ere;
-use index::{Index, Name};
+use index::{Name, SharedDocument};
 use matcher::matches;
 use std::alloc::{AllocError, Global};
 
-/// Those of the numbers whose documents' names, each taken as a line, contain a match of the name pattern, in the
-/// same order. If there is no name pattern, these are all of the numbers. An `Err` means that memory ran out.
-pub fn named(
+/// Those of the documents whose names, each taken as a line, contain a match of the name pattern, in the same order.
+/// If there is no name pattern, these are all of the documents. An `Err` means that memory ran out.
+pub(crate) fn named(
     alloc: Global,
-    index: &Index,
     prepared: &Prepared,
-    numbers: Vec<u32>,
-) -> Result<Vec<u32>, AllocError>
-    ensures { IfOk result (λ kept. Selects (IsNamedFor index.now.documents (pattern_of prepared.now)) numbers.items kept.items) }
+    documents: Vec<SharedDocument>,
+) -> Result<Vec<SharedDocument>, AllocError>
+    ensures { IfOk result (λ kept. Selects (IsNamedFor (pattern_of prepared.now)) documents.items kept.items) }
 {
     match &prepared.name_tree {
-        None => Ok(numbers),
-        Some(tree) => with_names(alloc, index, tree, numbers.as_slice()),
+        None => Ok(documents),
+        Some(tree) => with_names(alloc, tree, documents),
     }
 }
 
-// Those of the numbers whose documents' names contain a match of the tree.
+// Those of the documents whose names contain a match of the tree.
 fn with_names(
     alloc: Global,
-    index: &Index,
     tree: &Ere,
-    numbers: &[u32],
-) -> Result<Vec<u32>, AllocError>
+    documents: Vec<SharedDocument>,
+) -> Result<Vec<SharedDocument>, AllocError>
     requires { IsWithinLimits (form tree.now) }
-    ensures { IfOk result (λ kept. Selects (IsNamed index.now.documents (form tree.now)) numbers.now kept.items) }
+    ensures { IfOk result (λ kept. Selects (IsNamed (form tree.now)) documents.items kept.items) }
 {
-    if numbers.is_empty() || !nests_stars(tree) {
+    if documents.is_empty() || !nests_stars(tree) {
         // Names are short, so compiling the pattern does not pay.
         let mut way = Way::LineByLine;
-        return with_names_by(alloc, index, tree, &mut way, numbers);
+        return with_names_by(alloc, tree, &mut way, documents);
     }
     let compiled = compile(alloc, tree)?;
     let mut way = way_by(alloc, tree, &compiled)?;
-    with_names_by(alloc, index, tree, &mut way, numbers)
+    with_names_by(alloc, tree, &mut way, documents)
 }
 
+// The same by this way. A document whose name does not match is dropped.
 fn with_names_by(
     alloc: Global,
-    index: &Index,
     tree: &Ere,
     way: &mut Way<'_>,
-    numbers: &[u32],
-) -> Result<Vec<u32>, AllocError>
+    documents: Vec<SharedDocument>,
+) -> Result<Vec<SharedDocument>, AllocError>
     requires limits { IsWithinLimits (form tree.now) }
     requires way { Finds (form tree.now) way.old }
-    ensures { IfOk result (λ kept. Selects (IsNamed index.now.documents (form tree.now)) numbers.now kept.items) }
+    ensures { IfOk result (λ kept. Selects (IsNamed (form tree.now)) documents.items kept.items) }
 {
     let mut kept = Vec::new(alloc);
-    for number in numbers {
-        if is_named(index, tree, way, *number) {
-            kept.push(*number)?;
+    for document in documents {
+        if matches_name(tree, way, &document.name) {
+            kept.push(document)?;
         }
     }
     Ok(kept)
-}
-
-// Whether there is a document with this number, and its name matches.
-fn is_named(index: &Index, tree: &Ere, way: &mut Way<'_>, number: u32) -> bool
-    requires limits { IsWithinLimits (form tree.now) }
-    requires way { Finds (form tree.now) way.old }
-    ensures way { Finds (form tree.now) way.new }
-    ensures named { IsTrue result ↔ IsNamed index.now.documents (form tree.now) number }
-{
-    match index.document(number) {
-        Some((name, _)) => matches_name(tree, way, name),
-        None => false,
-    }
 }
 
 // Whether the name, taken as a line, contains a match.

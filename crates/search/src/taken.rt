@@ -1,21 +1,20 @@
-//! What a search takes out of an index, so that the lines can be matched without the index.
+//! What a search takes out of an index, so that names and lines can be matched without the index.
 
 ghost use Rattle.std.specs.Prelude.{IfOk};
 ghost use Rattle.search.specs.Prepared.{pattern_of};
 ghost use Rattle.search.specs.Taken.{IsTakenOf};
 
 use crate::answer::Answer;
-use crate::documents::{TakenDocument, documents_with};
 use crate::matching::scan_documents;
 use crate::names::named;
 use crate::pattern::Prepared;
 use crate::watch::{NoWatch, Watch};
-use index::Index;
+use index::{Index, SharedDocument};
 use std::alloc::{AllocError, Global};
 
-/// What a search has taken out of an index: the version, the counts, and the documents whose lines are to be
-/// matched. It does not borrow the index, which can change or be dropped while the lines are matched. Names and
-/// bodies are shared, so it takes only a few words of memory for each document.
+/// What a search has taken out of an index: the version, the counts, and all candidates. It does not borrow the
+/// index, which can change or be dropped while names and lines are matched. Names and bodies are shared, so it takes
+/// only a few words of memory for each candidate.
 ///
 /// `IsTakenOf` says from which state of the index, and for which pattern, it was taken.
 #[derive(Drop)]
@@ -23,14 +22,14 @@ pub struct Taken<'p> {
     pub(crate) prepared: &'p Prepared,
     pub(crate) version: u32,
     pub(crate) documents: u32,
-    pub(crate) candidates: u32,
+    // The number of candidates.
+    pub(crate) count: u32,
     // In the order of their names.
-    pub(crate) wanted: Vec<TakenDocument>,
+    pub(crate) candidates: Vec<SharedDocument>,
 }
 
-/// Takes out of the index what a search needs: the documents whose trigrams meet the condition of the
-/// pattern, and whose names match the name pattern, if there is one. No line is looked at. An `Err` means that
-/// memory ran out, or that a name or a body has too many handles.
+/// Takes out of the index what a search needs: the documents whose trigrams meet the condition of the pattern. No name
+/// and no line is looked at. An `Err` means that memory ran out, or that a name or a body has too many handles.
 pub fn take<'p>(
     alloc: Global,
     index: &Index,
@@ -38,16 +37,14 @@ pub fn take<'p>(
 ) -> Result<Taken<'p>, AllocError>
     ensures { IfOk result (IsTakenOf index.now (pattern_of prepared.now)) }
 {
-    let candidates = index.candidates(alloc, &prepared.query)?;
-    let numbers = index.chosen_by_name(alloc, &candidates)?;
-    let kept = named(alloc, index, prepared, numbers)?;
-    let wanted = documents_with(alloc, index, kept.as_slice())?;
+    let numbers = index.candidates(alloc, &prepared.query)?;
+    let candidates = index.chosen_documents(alloc, &numbers)?;
     Ok(Taken {
         prepared,
         version: index.version(),
         documents: index.documents(),
-        candidates: candidates.len() as u32,
-        wanted,
+        count: numbers.len() as u32,
+        candidates,
     })
 }
 
@@ -58,9 +55,9 @@ impl Taken<'_> {
     ghost use Rattle.search.specs.Scan.{IsAnswerOf};
     ghost use Rattle.search.specs.Taken.{IsTakenOf};
 
-    /// Matches the lines, and returns the answer for the pattern in the state that the index had when the documents
-    /// were taken. An `Err` means that memory ran out, or that a name has too many handles. What was taken is dropped
-    /// in either case.
+    /// Matches the names and then the lines, and returns the answer for the pattern in the state that the index had
+    /// when the candidates were taken. An `Err` means that memory ran out, or that a name has too many handles. What
+    /// was taken is dropped in either case.
     pub fn answer(self, alloc: Global) -> Result<Answer, AllocError>
         ensures { IfOk result (λ answer. (state : State) (pattern : Pattern) → IsTakenOf state pattern self.entry → IsAnswerOf state pattern answer) }
     {
@@ -75,12 +72,13 @@ impl Taken<'_> {
     ) -> Result<Answer, AllocError>
         ensures { IfOk result (λ answer. (state : State) (pattern : Pattern) → IsTakenOf state pattern self.entry → IsAnswerOf state pattern answer) }
     {
-        let hits = scan_documents(alloc, &self.prepared.tree, self.wanted.as_slice(), watch)?;
+        let kept = named(alloc, self.prepared, self.candidates)?;
+        let hits = scan_documents(alloc, &self.prepared.tree, kept.as_slice(), watch)?;
         Ok(Answer {
             version: self.version,
             hits,
             documents: self.documents,
-            candidates: self.candidates,
+            candidates: self.count,
         })
     }
 }

@@ -67,12 +67,12 @@ const RISING_NAMES: [(&[u8], &[u8]); 4] = [
     (b"~", b"\x80"),
 ];
 
-/// Whether the first name is below the second, and is equal to its copy.
+/// Whether the first name is below the second, and is equal to another handle to it.
 fn rises(alloc: Global, low: &[u8], high: &[u8]) -> Result<bool, Fail> {
     let low = Name::new(alloc, low)?;
     let high = Name::new(alloc, high)?;
-    let copy = low.copy()?;
-    Ok(low < high && copy == low)
+    let shared = low.share()?;
+    Ok(low < high && shared == low)
 }
 
 #[test]
@@ -215,10 +215,10 @@ fn index_of_one(
 
 /// Whether document 1 has the name and a body of these bytes, and is the only one.
 fn holds_one(index: &Index, name: &Name, bytes: &[u8]) -> bool {
-    match index.held(1) {
-        Some(held) => {
+    match index.document(1) {
+        Some((_, body)) => {
             index.number(name) == Some(1)
-                && held.body().as_bytes() == bytes
+                && body.as_bytes() == bytes
                 && index.held_bytes() == bytes.len() as u64
         }
         None => false,
@@ -228,7 +228,7 @@ fn holds_one(index: &Index, name: &Name, bytes: &[u8]) -> bool {
 /// Whether nothing is left of document 1 once its name is removed.
 fn holds_none(rt: &impl Abort, index: &mut Index, name: &Name) -> Result<bool, AllocError> {
     leave(rt, index, name)?;
-    Ok(index.number(name).is_none() && index.held(1).is_none() && index.held_bytes() == 0)
+    Ok(index.number(name).is_none() && index.document(1).is_none() && index.held_bytes() == 0)
 }
 
 /// Whether a document that is in two indexes stays in one of them when it is removed from the other.

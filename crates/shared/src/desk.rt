@@ -155,7 +155,7 @@ impl Desk {
         ensures ok { OnOk result (self.new ≡ with_command (put_command name.now held.now) self.old) }
         ensures err { OnErr result (self.new ≡ self.old) }
     {
-        let update = Update::Put(name.copy()?, held.share()?);
+        let update = Update::Put(name.share()?, held.share()?);
         let added = self.names.add(name)?;
         match append(&mut self.writer, Operation::Change(update)) {
             Ok(()) => {
@@ -195,7 +195,7 @@ impl Desk {
         ensures ok { OnOk result (self.new ≡ with_command (remove_command name.now) self.old) }
         ensures err { OnErr result (self.new ≡ self.old) }
     {
-        let update = Update::Remove(name.copy()?);
+        let update = Update::Remove(name.share()?);
         append(&mut self.writer, Operation::Change(update))?;
         self.names.remove(name);
         self.accepted += 1;

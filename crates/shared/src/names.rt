@@ -34,7 +34,7 @@ impl Names {
         ensures ok { IfOk result (λ added. (other : List ℕ) → has_name self.new other ≡ (bytes_eq name.now other || has_name self.old other)) }
         ensures err { OnErr result (self.new ≡ self.old) }
     {
-        Ok(self.names.insert(name.copy()?)?)
+        Ok(self.names.insert(name.share()?)?)
     }
 
     pub(crate) fn remove(&mut self, name: &Name)

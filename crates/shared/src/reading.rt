@@ -79,7 +79,8 @@ impl Reading {
         self.front.version()
     }
 
-    /// Enters what is published, once, takes what a search needs, and leaves. No line is looked at. It never waits.
+    /// Enters what is published, once, takes what a search needs, and leaves. No name and no line is looked at. It never
+    /// waits.
     ///
     /// `OutOfMemory` means that memory ran out, and `NoEntry` that the desk was closed.
     pub fn take<'p>(
@@ -102,8 +103,8 @@ impl Reading {
         Ok(taken?)
     }
 
-    /// Searches what is published: it takes what it needs, and then matches the lines. It never waits. The errors are
-    /// those of `take`.
+    /// Searches what is published: it takes what it needs, and then matches names and lines. It never waits. The errors
+    /// are those of `take`.
     pub fn search(&mut self, alloc: Global, prepared: &Prepared) -> Result<Answer, SearchError>
         ensures opening { self.new.opening ≡ self.old.opening }
         ensures seen { IsPrefix self.old.commands self.new.commands }

@@ -25,10 +25,14 @@ impl Flag {
         self.raised.store(1, Ordering::SeqCst);
     }
 
+    pub(crate) fn is_raised(&self) -> bool {
+        self.raised.load(Ordering::SeqCst) != 0
+    }
+
     /// Returns once the flag is raised, or after `LOOKS` looks at it.
     pub(crate) fn wait(&self) {
         for _ in 0..LOOKS {
-            if self.raised.load(Ordering::SeqCst) != 0 {
+            if self.is_raised() {
                 return;
             }
         }
@@ -87,6 +91,33 @@ impl Gate for HeldMatching {
         if search == 1 && point == Point::Matching {
             self.matching.raise();
             self.released.wait();
+        }
+    }
+}
+
+/// Signals that search 1 is about to match, and that it is done. It holds no worker.
+#[derive(Drop)]
+pub(crate) struct Signals {
+    pub(crate) matching: Flag,
+    pub(crate) done: Flag,
+}
+
+impl Signals {
+    pub(crate) fn new() -> Signals {
+        Signals {
+            matching: Flag::new(),
+            done: Flag::new(),
+        }
+    }
+}
+
+impl Gate for Signals {
+    fn turn(&self, search: u32, point: Point) {
+        if search == 1 && point == Point::Matching {
+            self.matching.raise();
+        }
+        if search == 1 && point == Point::Done {
+            self.done.raise();
         }
     }
 }

@@ -14,6 +14,8 @@ mod gates;
 #[cfg(test)]
 mod matching;
 #[cfg(test)]
+mod name_matching;
+#[cfg(test)]
 mod service;
 #[cfg(test)]
 mod torn;

@@ -1,9 +1,9 @@
 -- The lines of documents, one after another, and those of them that a search keeps.
-use Rattle.std.specs.Prelude.{◌≡◌, ℕ, suc, List, [], ◌∷◌, ◌++◌, Some, IfSome}
+use Rattle.std.specs.Prelude.{◌≡◌, ℕ, suc, List, [], ◌∷◌, ◌++◌, IfSome}
 use Rattle.ere.specs.Tree.{Tree}
 use Rattle.ere.specs.Language.{ContainsMatch}
 use Rattle.lines.specs.Lines.{lines_of}
-use Rattle.index.specs.Documents.{Document, document_at}
+use Rattle.index.specs.declared.document.SharedDocument.{SharedDocument}
 use Rattle.search.specs.Pattern.{Pattern}
 use Rattle.search.specs.Scan.{Hit}
 
@@ -35,12 +35,10 @@ pub record Adds (Has : Hit → Type 0) (all old new : List Hit) : Type 0 where
 abbrev pub HasMatch : Tree → Hit → Type 0
 HasMatch tree f = ContainsMatch tree f.text
 
--- There is a document with this number, and its name, taken as a line, contains a match of the tree.
-pub record IsNamed (documents : List Document) (tree : Tree) (number : ℕ) : Type 0 where
-  pub document : List ℕ × List ℕ
-  pub there : document_at number documents ≡ Some document
-  pub name_hit : ContainsMatch tree document.0
+-- The document's name, taken as a line, contains a match of the tree.
+abbrev pub IsNamed : Tree → SharedDocument → Type 0
+IsNamed tree document = ContainsMatch tree document.name
 
 -- the same for the name tree of a pattern, if it has one
-abbrev pub IsNamedFor : List Document → Pattern → ℕ → Type 0
-IsNamedFor documents pattern number = IfSome pattern.name_tree (λ tree. IsNamed documents tree number)
+abbrev pub IsNamedFor : Pattern → SharedDocument → Type 0
+IsNamedFor pattern document = IfSome pattern.name_tree (λ tree. IsNamed tree document)

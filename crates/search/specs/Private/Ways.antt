@@ -4,7 +4,7 @@ use Rattle.ere.specs.Tree.{Tree}
 use Rattle.finder.specs.Patterns.{IsFinderOf}
 use Rattle.matcher.specs.StarHeight.{star_height}
 use Rattle.finder.specs.declared.compiled.Compiled.{Compiled}
-use Rattle.search.specs.declared.documents.TakenDocument.{TakenDocument}
+use Rattle.index.specs.declared.document.SharedDocument.{SharedDocument}
 use Rattle.search.specs.declared.way.Way.{Way}
 use Rattle.search.specs.declared.way.Way.TheVariants.{FromMatchToMatch, LineByLine}
 
@@ -24,12 +24,12 @@ abbrev pub byte_limit : ℕ
 byte_limit = 8192
 
 -- the bytes of the documents' bodies
-abbrev pub bytes_in : List TakenDocument → ℕ
+abbrev pub bytes_in : List SharedDocument → ℕ
 bytes_in documents = sum (map (λ d. length d.held) documents)
 
 -- How many documents, from the first on, go line by line: none for a tree with stars inside stars, and for any other
 -- tree as many as fit in the limit on bytes together.
-pub record AreFew (tree : Tree) (documents : List TakenDocument) (few : ℕ) : Type 0 where
+pub record AreFew (tree : Tree) (documents : List SharedDocument) (few : ℕ) : Type 0 where
   pub some : few ≤ length documents
   pub nested : 2 ≤ star_height tree → few ≡ 0
   pub within : bytes_in (take few documents) ≤ byte_limit

@@ -7,4 +7,4 @@ pub returns-in-Some : goal.returns-in-Some
 returns-in-Some c =
     let same = c.in-Some.ensures.same_key in
     let kept = c.in-Some.kept.now in
-    IfOk-weaker c.copy.result (λ n. n ≡ kept) (λ n. n ≡ c.args.name.now) (λ n e. e ∙ alike c.args.name.now kept same) c.copy.ensures
+    IfOk-weaker c.share.result (λ n. n ≡ kept) (λ n. n ≡ c.args.name.now) (λ n e. e ∙ alike c.args.name.now kept same) c.share.ensures

@@ -18,8 +18,8 @@ returns c =
     let name = c.args.name.now in
     let line = c.args.line in
     let text = c.in_ok-from_slice.field-0.items in
-    let is : found c.in_ok-copy.field-0 line text ≡ found name line c.args.text.now =
-    ap (λ n. found n line text) c.in_ok-copy.ensures ∙ ap (λ t. found name line t) c.in_ok-from_slice.ensures.items in
+    let is : found c.in_ok-share.field-0 line text ≡ found name line c.args.text.now =
+    ap (λ n. found n line text) c.in_ok-share.ensures ∙ ap (λ t. found name line t) c.in_ok-from_slice.ensures.items in
     let grown : hits_of c.push.new.self.items ≡ hits_of old ++ found name line c.args.text.now ∷ [] =
     ap hits_of c.in_ok-push.ensures.items ∙ (map-append hit_of old _ ∙ ap (λ f. hits_of old ++ f ∷ []) is) in
     Adds-keep (HasMatch (form c.args.tree.now)) (found name line c.args.text.now) (hits_of old) (hits_of c.push.new.self.items)

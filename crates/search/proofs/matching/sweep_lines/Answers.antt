@@ -11,8 +11,8 @@ returns-then-first-rest-clause-hits c =
     let name = c.args.name.now in
     let line = c.loop-first.line + c.in-Some.first.before in
     let text = take (c.in-Some.first.end - c.in-Some.first.start) (drop c.in-Some.first.start c.loop-first.rest.now) in
-    let is : found c.in_ok-copy.field-0 line c.in_ok-from_slice.field-0.items ≡ found name line text =
-    ap (λ n. found n line c.in_ok-from_slice.field-0.items) c.in_ok-copy.ensures
+    let is : found c.in_ok-share.field-0 line c.in_ok-from_slice.field-0.items ≡ found name line text =
+    ap (λ n. found n line c.in_ok-from_slice.field-0.items) c.in_ok-share.ensures
     ∙ ap (λ t. found name line t) c.in_ok-from_slice.ensures.items in
     let grown : hits_of c.push.new.self.items ≡ hits_of old ++ found name line text ∷ [] =
     ap hits_of c.in_ok-push.ensures.items ∙ (map-append hit_of old _ ∙ ap (λ f. hits_of old ++ f ∷ []) is) in
@@ -27,8 +27,8 @@ loop-first-preserved c =
     let name = c.args.name.now in
     let line = c.loop-first.line + c.in-Some.first.before in
     let text = take (c.in-Some.first.end - c.in-Some.first.start) (drop c.in-Some.first.start c.loop-first.rest.now) in
-    let is : found c.in_ok-copy.field-0 line c.in_ok-from_slice.field-0.items ≡ found name line text =
-    ap (λ n. found n line c.in_ok-from_slice.field-0.items) c.in_ok-copy.ensures
+    let is : found c.in_ok-share.field-0 line c.in_ok-from_slice.field-0.items ≡ found name line text =
+    ap (λ n. found n line c.in_ok-from_slice.field-0.items) c.in_ok-share.ensures
     ∙ ap (λ t. found name line t) c.in_ok-from_slice.ensures.items in
     let grown : hits_of c.push.new.self.items ≡ hits_of old ++ found name line text ∷ [] =
     ap hits_of c.in_ok-push.ensures.items ∙ (map-append hit_of old _ ∙ ap (λ f. hits_of old ++ f ∷ []) is) in

@@ -1,11 +1,9 @@
-use Rattle.std.proofs.Common.{◌∙◌, refl, sym, subst, ap, arith}
-use Rattle.std.specs.Prelude.{flat_map}
+use Rattle.std.proofs.Common.{◌∙◌, refl, arith}
 use Rattle.query.specs.Query.{formula_of}
 use Rattle.index.proofs.StoredLemmas.{Numbered-rise}
+use Rattle.index.specs.Shared.{documents_shared}
 use Rattle.search.specs.Prepared.{pattern_of}
-use Rattle.search.specs.Taken.{AreWanted}
-use Rattle.search.specs.Private.Documents.{shown_at}
-use Rattle.search.proofs.CandidateLemmas.{counted, fewer, wanted_are}
+use Rattle.search.proofs.CandidateLemmas.{counted, fewer, candidates_in_order}
 use Rattle.search.proofs.taken.take.Goals as goal
 
 pub overflow_cast-result : goal.overflow_cast-result
@@ -14,7 +12,7 @@ overflow_cast-result c =
       arith,
       c.len.ensures,
       c.documents.ensures,
-      fewer c.args.index.now (formula_of c.args.prepared.now.query) c.in_ok-candidates.candidates.members c.in_ok-candidates.ensures,
+      fewer c.args.index.now (formula_of c.args.prepared.now.query) c.in_ok-numbers.numbers.members c.in_ok-numbers.ensures,
     )
 
 pub returns : goal.returns
@@ -23,17 +21,13 @@ returns c =
     let prepared = c.args.prepared.now in
     let pattern = pattern_of prepared in
     let formula = formula_of prepared.query in
-    let members = c.in_ok-candidates.candidates.members in
-    let chosen = c.in_ok-numbers.ensures.chosen in
-    let rise = Numbered-rise state.documents c.version.ensures.state.rise in
-    let taken = c.in_ok-wanted.ensures ∙ ap (λ ns. flat_map (shown_at state.documents) ns) c.as_slice.ensures.value in
+    let members = c.in_ok-numbers.numbers.members in
     record {
       prepared = refl;
       version = c.version.ensures.version;
       documents = c.documents.ensures;
-      candidates = c.len.ensures ∙ counted state pattern formula prepared.filter members c.in_ok-candidates.ensures;
-      wanted =
-          subst (λ ds. AreWanted state pattern ds) (sym taken)
-          (wanted_are state pattern formula rise prepared.filter members c.in_ok-candidates.ensures chosen.0 chosen.1
-          c.in_ok-numbers.numbers.items c.in_ok-kept.kept.items chosen.2 c.in_ok-kept.ensures);
+      count = c.len.ensures ∙ counted state pattern formula prepared.filter members c.in_ok-numbers.ensures;
+      candidates =
+          candidates_in_order state pattern formula (Numbered-rise state.documents c.version.ensures.state.rise) prepared.filter members
+          c.in_ok-numbers.ensures (documents_shared c.in_ok-candidates.candidates.items) c.in_ok-candidates.ensures;
     }

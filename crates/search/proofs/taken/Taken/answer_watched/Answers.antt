@@ -1,25 +1,28 @@
-use Rattle.std.proofs.Common.{◌∙◌, ap, map, subst}
+use Rattle.std.proofs.Common.{◌∙◌, ap, subst}
 use Rattle.std.specs.Prelude.{flat_map}
+use Rattle.index.specs.Shared.{documents_shared}
 use Rattle.search.specs.Hits.{hits_of}
-use Rattle.search.specs.Private.Selects.{Selects, HasMatch}
-use Rattle.search.specs.Taken.{shown}
+use Rattle.search.specs.Private.Selects.{Selects, HasMatch, IsNamedFor}
 use Rattle.search.specs.Private.Documents.{lines_of_taken}
 use Rattle.search.proofs.ScanLemmas.{IsScanOf-wanted}
-use Rattle.search.proofs.TakenLemmas.{lines-shown}
+use Rattle.search.proofs.CandidateLemmas.{wanted_are}
+use Rattle.search.proofs.TakenLemmas.{lines-shared}
 use Rattle.search.proofs.taken.Taken.answer_watched.Goals as goal
 
 pub returns : goal.returns
 returns g c = λ state pattern of.
     let hits = hits_of c.in_ok-hits.hits.items in
-    let taken = c.args.self.wanted.items in
-    let lines = ap (λ ts. flat_map lines_of_taken ts) c.as_slice.ensures.value ∙ lines-shown taken in
-    let kept =
+    let taken = c.args.self.candidates.items in
+    let kept = c.in_ok-kept.kept.items in
+    let named = subst (λ p. Selects (IsNamedFor p) taken kept) of.prepared c.in_ok-kept.ensures in
+    let lines = ap (λ ds. flat_map lines_of_taken ds) c.as_slice.ensures.value ∙ lines-shared kept in
+    let found =
     subst (λ all. Selects (HasMatch pattern.tree) all hits) lines
     (subst (λ p. Selects (HasMatch p.tree) (flat_map lines_of_taken c.as_slice.result.now) hits) of.prepared c.in_ok-hits.ensures)
     in
     record {
       version = of.version;
-      hits = IsScanOf-wanted state pattern (map shown taken) hits of.wanted kept;
+      hits = IsScanOf-wanted state pattern (documents_shared kept) hits (wanted_are state pattern taken kept of.candidates named) found;
       documents = of.documents;
-      candidates = of.candidates;
+      candidates = of.count;
     }

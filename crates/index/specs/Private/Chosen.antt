@@ -1,0 +1,15 @@
+-- The documents that have the numbers of a list.
+use Rattle.std.specs.Prelude.{ℕ, List, [], ◌∷◌, Option, Some, None, flat_map}
+use Rattle.index.specs.Documents.{Document, document, document_at}
+
+-- the document with a number, if there is one
+abbrev pub numbered_document : ℕ → Option (List ℕ × List ℕ) → List Document
+numbered_document number None = []
+numbered_document number (Some d) = document number d.0 d.1 ∷ []
+
+abbrev pub document_numbered : List Document → ℕ → List Document
+document_numbered documents number = numbered_document number (document_at number documents)
+
+-- in the order of the numbers
+abbrev pub documents_numbered : List Document → List ℕ → List Document
+documents_numbered documents numbers = flat_map (document_numbered documents) numbers
