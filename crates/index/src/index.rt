@@ -1,7 +1,7 @@
 //! The index: the documents that commands leave, and the sets by which they are found.
 
 ghost use Rattle.std.specs.Prelude.{◌≡◌, ℕ, List, ◌+◌, ◌^◌, ◌<◌, [], ◌∷◌, ◌++◌, map, length, OnOk};
-ghost use Rattle.std.specs.Prelude.{OnErr, IfErr, IfOk, IfSome, IsSome, IsOk, Option, option_map, filter, bytes_eq, if◌then◌else◌, Some};
+ghost use Rattle.std.specs.Prelude.{OnErr, IfErr, IfOk, IsSome, IsOk, Option, option_map, filter, bytes_eq, if◌then◌else◌, Some};
 ghost use Rattle.std.specs.Ordering.{nat_cmp};
 ghost use Rattle.std.specs.Cmp.Lexicographic.{slice_cmp};
 ghost use Rattle.std.specs.BTreeMap.{IsUnchanged, get};
@@ -9,7 +9,7 @@ ghost use Rattle.std.specs.List.Sorted.{IsStrictlyIncreasing};
 ghost use Rattle.index.specs.declared.command.Command.TheVariants.{Put as put_command, Remove as remove_command};
 ghost use Rattle.query.specs.Query.{formula_of};
 ghost use Rattle.posting.specs.ListValue.{has};
-ghost use Rattle.index.specs.Text.{IsName, IsBody};
+ghost use Rattle.index.specs.Text.{IsName};
 ghost use Rattle.index.specs.Documents.{document_at, number_of, meets, IsInNameOrder};
 ghost use Rattle.index.specs.State.{applied, state_of, body_bytes, IsState};
 ghost use Rattle.index.specs.Shared.{documents_shared};
@@ -224,8 +224,7 @@ impl Index {
         alloc: Global,
         chosen: &posting::List,
     ) -> Result<Vec<SharedDocument>, AllocError>
-        ensures state { IsState self.now }
-        ensures chosen { IfOk result (λ shared. IsInNameOrder (filter (λ d. has chosen.now.members d.number) self.now.documents)
+        ensures { IfOk result (λ shared. IsInNameOrder (filter (λ d. has chosen.now.members d.number) self.now.documents)
             (documents_shared shared.items)) }
     {
         if chosen.len() < self.numbers.len() / FEW {

@@ -11,7 +11,9 @@ use std::alloc::{AllocError, Global};
 /// The numbers of the documents, and for each trigram those of the documents whose body has it.
 #[derive(Drop)]
 pub(crate) struct Sets {
+    /// The numbers of the documents.
     pub(crate) live: List,
+    /// For each trigram, the numbers of the documents whose body has it.
     pub(crate) postings: Postings,
 }
 

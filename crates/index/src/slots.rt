@@ -12,14 +12,18 @@ use crate::name::Name;
 /// The name and the body of a document.
 #[derive(Drop)]
 pub(crate) struct Occupant {
+    /// The name.
     pub(crate) name: Name,
+    /// The body, with its trigrams.
     pub(crate) held: Held,
 }
 
 /// The slot of a document. It stays, empty, when the document is removed, so that a removal need not move the others.
 #[derive(Drop)]
 pub(crate) struct Slot {
+    /// The number of the document.
     pub(crate) number: u32,
+    /// The document, unless it was removed.
     pub(crate) occupant: Option<Occupant>,
 }
 

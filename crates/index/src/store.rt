@@ -15,10 +15,11 @@ use std::alloc::{AllocError, Global};
 /// The documents of an index, with their sets.
 #[derive(Drop)]
 pub(crate) struct Store {
-    // rising by their numbers
+    /// The slots of the documents, rising by their numbers.
     pub(crate) slots: Vec<Slot>,
+    /// The sets by which they are found.
     pub(crate) sets: Sets,
-    // the total length of all bodies, in bytes
+    /// The total length of all bodies, in bytes.
     pub(crate) held_bytes: u64,
 }
 

@@ -25,9 +25,13 @@ pub struct Hit {
 /// Contracts see it as its version, its hits, the number of documents, and the number of candidates.
 #[derive(Debug, Drop)]
 pub struct Answer {
+    /// The version that was searched.
     pub(crate) version: u32,
+    /// The lines that contain a match, in order.
     pub(crate) hits: Vec<Hit>,
+    /// The number of documents that the index had.
     pub(crate) documents: u32,
+    /// The number of candidates among them.
     pub(crate) candidates: u32,
 }
 

@@ -19,9 +19,11 @@ use trigram::{Query, analyse};
 /// A search never changes it, so one value can serve many searches at a time.
 #[derive(Debug, Drop)]
 pub struct Prepared {
+    /// The tree of the pattern.
     pub(crate) tree: Ere,
+    /// The tree of the name pattern, if there is one.
     pub(crate) name_tree: Option<Ere>,
-    // The trigrams of every document with a hit meet it.
+    /// The condition of the pattern: the trigrams of every document with a hit meet it.
     pub(crate) query: Query,
     pub ghost limits: { IsWithinLimits (form tree) } by { IsWithinLimits-prop (form tree) },
     pub ghost name_limits: { ForSome name_tree (λ e. IsWithinLimits (form e)) } by { ForSome-prop name_tree },

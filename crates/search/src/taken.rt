@@ -19,12 +19,15 @@ use std::alloc::{AllocError, Global};
 /// `IsTakenOf` says from which state of the index, and for which pattern, it was taken.
 #[derive(Drop)]
 pub struct Taken<'p> {
+    /// The patterns to be matched.
     pub(crate) prepared: &'p Prepared,
+    /// The version of the index.
     pub(crate) version: u32,
+    /// The number of documents that it had.
     pub(crate) documents: u32,
-    // The number of candidates.
+    /// The number of candidates.
     pub(crate) count: u32,
-    // In the order of their names.
+    /// The candidates, in the order of their names.
     pub(crate) candidates: Vec<SharedDocument>,
 }
 

@@ -10,10 +10,10 @@ use std::thread;
 use std::thread::Threads;
 
 /// How many documents have names that are slow to match.
-const SLOW_NAMES: u32 = 250;
+const SLOW_NAMES: u32 = 30;
 
 /// How many documents are published while names are matched.
-const PUBLISHES: u32 = 200;
+const PUBLISHES: u32 = 30;
 
 /// A name pattern that takes milliseconds for each of the slow names. It matches none of them.
 const SLOW_PATTERN: &[u8] = b"x(a|([ab]?){255}{15}c|d$)*e";
