@@ -1,7 +1,7 @@
 //! Names, bodies, and the documents and candidates of an index.
 
 use crate::fixtures::{Pieces, apply, built, document, index_of, lists};
-use index::{Body, BodyErrorKind, Command, Held, Index, Name, NameError};
+use index::{Body, BodyErrorKind, Command, Held, Index, Name, NameError, SharedDocument};
 use query::{Query, Trigram};
 use std::alloc::{AllocError, Global};
 use std::process::Abort;
@@ -401,6 +401,41 @@ fn one_of(alloc: Global, step: u8) -> Result<Query, AllocError> {
         }
     }
     Ok(Query::Or(members))
+}
+
+/// Whether the names of the documents rise strictly.
+fn names_rise(documents: &[SharedDocument]) -> bool {
+    let mut last: Option<&Name> = None;
+    for document in documents {
+        if let Some(name) = last {
+            if *name >= document.name {
+                return false;
+            }
+        }
+        last = Some(&document.name);
+    }
+    true
+}
+
+/// Whether every `step`-th document comes out, this many of them, and in the order of their names.
+fn come_in_order(
+    alloc: Global,
+    index: &Index,
+    step: u8,
+    count: usize,
+) -> Result<bool, AllocError> {
+    let numbers = index.candidates(alloc, &one_of(alloc, step)?)?;
+    let documents = index.chosen_documents(alloc, &numbers)?;
+    Ok(documents.len() == count && names_rise(&documents))
+}
+
+/// Fewer than an eighth of 200 documents, and more. Their names do not rise with their numbers.
+#[test]
+fn documents_come_in_the_order_of_their_names(rt: HostRuntime) -> Result<(), Fail> {
+    let index = many(&rt, rt.alloc())?;
+    assert!(rt; come_in_order(rt.alloc(), &index, 13, 16)?);
+    assert!(rt; come_in_order(rt.alloc(), &index, 4, 50)?);
+    Ok(())
 }
 
 /// The queries of these steps; for 0 the query that every document meets.

@@ -1,1 +1,42 @@
+use Rattle.std.proofs.Common.{◌≡◌, ◌++◌, ◌∷◌, length, sym, ◌∙◌, subst, ap, arith}
+use Rattle.std.specs.Vec.Iter.{into_iter_items}
+use Rattle.std.proofs.lemmas.Bool.{false≢true}
+use Rattle.std.proofs.lemmas.List.{nil_from_length}
+use Rattle.ere.specs.Tree.{form}
+use Rattle.search.specs.Private.Selects.{Selects, IsNamed}
+use Rattle.search.proofs.NameLemmas.{keeps_one, keeps_none, keeps_end}
 use Rattle.search.proofs.names.with_names_by.Goals as goal
+
+pub loop-document-preserved : goal.loop-document-preserved
+loop-document-preserved c =
+    let at = c.loop-document in
+    let steps : into_iter_items at.document-iterator ≡ c.in-Some.document ∷ into_iter_items c.next.new.self = c.in-Some.ensures.steps.0 in
+    record {
+      so_far =
+          keeps_none (IsNamed (form c.args.tree.now)) (into_iter_items c.into_iter-document-iterator.result) at.kept.items
+          (into_iter_items at.document-iterator) (into_iter_items c.next.new.self) c.in-Some.document steps at.invariant.so_far
+          (λ h. false≢true (sym c.if-matches_name.false ∙ c.matches_name.ensures.matches.1 h));
+      len = (let gone = c.in-Some.ensures.steps.1 in let short = ap length steps in omega (arith, at.invariant.len));
+      way = c.matches_name.ensures.way;
+    }
+
+pub loop-document-preserved-in-Continue-1 : goal.loop-document-preserved-in-Continue-1
+loop-document-preserved-in-Continue-1 c =
+    let at = c.loop-document in
+    let steps : into_iter_items at.document-iterator ≡ c.in-Some.document ∷ into_iter_items c.next.new.self = c.in-Some.ensures.steps.0 in
+    record {
+      so_far =
+          keeps_one (IsNamed (form c.args.tree.now)) (into_iter_items c.into_iter-document-iterator.result) at.kept.items
+          (into_iter_items at.document-iterator) (into_iter_items c.next.new.self) c.in-Some.document steps at.invariant.so_far
+          c.push.new.self.items (c.matches_name.ensures.matches.0 c.if-matches_name.true) c.in_ok-push.ensures.items;
+      len = (let gone = c.in-Some.ensures.steps.1 in let short = ap length steps in omega (arith, at.invariant.len));
+      way = c.matches_name.ensures.way;
+    }
+
+pub returns : goal.returns
+returns c =
+    let at = c.loop-document in
+    let none = nil_from_length (into_iter_items at.document-iterator) (sym at.invariant.len ∙ c.in-None.ensures.steps.0) in
+    subst (λ all. Selects (IsNamed (form c.args.tree.now)) all at.kept.items) c.into_iter-document-iterator.ensures.into_iter_gives.0
+    (keeps_end (IsNamed (form c.args.tree.now)) (into_iter_items c.into_iter-document-iterator.result) at.kept.items
+    (into_iter_items at.document-iterator) none at.invariant.so_far)
