@@ -47,7 +47,7 @@ impl Report {
     ghost use Rattle.readers.specs.Report.{IsReport};
     ghost use Rattle.readers.specs.Private.Giving.{Gives};
 
-    // Answers one more search. A refused search adds no answer.
+    /// Answers one more search. A refused search adds no answer.
     fn add<G: Gate>(&mut self, alloc: Global, searches: &[Option<Prepared>], gate: &G, search: u32)
         ensures { (before : Known) → IsReport searches.now before self.old → IsReport searches.now before self.new }
     {
@@ -62,7 +62,7 @@ impl Report {
         }
     }
 
-    // Adds an answer. It is dropped if there is no memory for it, or if its turn would not fit in 32 bits.
+    /// Adds an answer. It is dropped if there is no memory for it, or if its turn would not fit in 32 bits.
     fn give(&mut self, search: u32, answer: Answer)
         ensures { Gives search answer self.old self.new }
     {
@@ -80,7 +80,7 @@ impl Report {
     }
 }
 
-// The search with this number.
+/// The search with this number.
 fn search_at(searches: &[Option<Prepared>], search: u32) -> Option<&Prepared>
     ensures { IfSome result (λ prepared. (0 < search) × (slice_get searches.now (search - 1) ≡ Some (Some prepared.now))) }
 {
@@ -88,7 +88,7 @@ fn search_at(searches: &[Option<Prepared>], search: u32) -> Option<&Prepared>
     searches.get(at as usize)?.as_ref()
 }
 
-// Takes, calls the gate, and matches. While names and lines are matched, both copies of the index can change.
+/// Takes, calls the gate, and matches. While names and lines are matched, both copies of the index can change.
 fn answer<G: Gate>(
     alloc: Global,
     reading: &mut Reading,

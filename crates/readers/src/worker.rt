@@ -16,7 +16,7 @@ use std::snapshot::Snapshot;
 use std::sync::Wait;
 use std::thread::{Promise, PromisedHandle, Scope, Threads};
 
-// What the thread's report is about: the searches that it answers, and what its reading knew at the start.
+/// What the thread's report is about: the searches that it answers, and what its reading knew at the start.
 #[derive(Drop)]
 struct Kept<'a> {
     searches: &'a [Option<Prepared>],

@@ -1,19 +1,24 @@
 //! The desk: it accepts commands, and publishes them.
 
-ghost use Rattle.std.specs.Prelude.{◌≡◌, ℕ, ◌≤◌, List, Bool, [], ◌∷◌, ◌++◌, length, drop};
+ghost use Rattle.std.specs.Prelude.{◌≡◌, ℕ, ◌≤◌, List, Bool, [], ◌∷◌, ◌++◌, length, drop, fold};
 ghost use Rattle.std.specs.Prelude.{false, true, IfSome, IfOk, IfErr, OnOk, OnErr, MatchResult, MatchBool};
+ghost use Rattle.left_right.specs.Register.{TurnsAt};
+ghost use Rattle.left_right.specs.Sides.{view};
 ghost use Rattle.index.specs.declared.command.Command.TheVariants.{Put as put_command, Remove as remove_command};
 ghost use Rattle.shared.specs.History.{known};
 ghost use Rattle.shared.specs.Private.Batches.{head_of};
 ghost use Rattle.shared.specs.Private.Names.{has_name};
-ghost use Rattle.shared.specs.Private.Shelf.{command_of};
+ghost use Rattle.shared.specs.Private.Shelf.{command_of, operated};
+ghost use Rattle.shared.specs.Private.Rule.{IsKept, Meets};
+ghost use Rattle.shared.specs.Private.DeskParts.{accepted_of, Begins, HasNamesOf};
+ghost use Rattle.shared.specs.declared.opening.TheConstants.{MAX_COMMANDS};
 ghost use Rattle.shared.specs.Desk.{desk_state, with_command, all_published, IsFull, HasRoom, has_document, returned_bytes, IsPutFault, IsRemoveFault};
 
 use crate::error::{PutError, PutErrorKind, RemoveError, Returned};
 use crate::history::{Batch, Front, Head};
 use crate::names::Names;
 use crate::rule::{Meet, ShelfWriter};
-use crate::shelf::{Operation, Update};
+use crate::shelf::{Operation, Shelf, Update};
 use crate::told::Told;
 use core::mem::replace_with;
 use index::{Body, Held, Name};
@@ -29,30 +34,35 @@ use std::sync::Wait;
 pub struct Desk {
     writer: ShelfWriter,
     head: Head,
-    // The end of the history, as far as the desk knows it. After a refused publish it can be
-    // ahead of what is published.
+    /// The end of the history, as far as the desk knows it. After a refused publish it can be
+    /// ahead of what is published.
     front: Front,
-    // The names of the documents after all accepted commands.
+    /// The names of the documents after all accepted commands.
     names: Names,
-    // The number of accepted commands.
+    /// The number of accepted commands.
     accepted: u32,
     limit: u32,
+    ghost opening: { writer.desk.shown.value.front.opening ≡ front.opening },
+    ghost history: { head ≡ head_of front.opening },
+    ghost begins: { Begins front.commands (accepted_of writer.desk.shown.value (drop writer.behind writer.log.items)) },
+    ghost counted: { accepted ≡ length (accepted_of writer.desk.shown.value (drop writer.behind writer.log.items)) },
+    ghost room: { accepted ≤ limit },
+    ghost limited: { limit ≤ MAX_COMMANDS },
+    ghost named: { HasNamesOf names (accepted_of writer.desk.shown.value (drop writer.behind writer.log.items)) },
 }
 
 impl Model for Desk {
     ghost use Rattle.std.specs.Prelude.{drop};
     ghost use Rattle.shared.specs.Desk.{DeskState, desk_state};
-    ghost use Rattle.shared.specs.Private.DeskParts.{IsDesk, accepted_of};
+    ghost use Rattle.shared.specs.Private.DeskParts.{accepted_of};
 
     ghost Value = { DeskState };
 
     ghost view = { λ d. desk_state d.front.opening d.limit d.writer.desk.shown.value.front.commands
         (accepted_of d.writer.desk.shown.value (drop d.writer.behind d.writer.log.items)) };
-
-    ghost invariant = { λ d. IsDesk d.writer.desk.shown.value (drop d.writer.behind d.writer.log.items) d.head d.front d.names d.accepted d.limit };
 }
 
-// What a publish adds to the history.
+/// What a publish adds to the history.
 #[derive(Clone, Copy)]
 struct Unwritten<'a> {
     writer: &'a ShelfWriter,
@@ -70,7 +80,7 @@ impl Plain<Unwritten<'_>, Batch, u64> for Lacks {
     ghost state = { λ u. None };
 }
 
-// Adds an operation to those that the next publish carries out.
+/// Adds an operation to those that the next exchange of the copies carries out.
 fn append(writer: &mut ShelfWriter, operation: Operation) -> Result<(), AllocError>
     ensures desk { writer.new.desk ≡ writer.old.desk }
     ensures ok { OnOk result (drop writer.new.behind writer.new.log.items ≡ drop writer.old.behind writer.old.log.items ++ operation ∷ []) }
@@ -80,6 +90,36 @@ fn append(writer: &mut ShelfWriter, operation: Operation) -> Result<(), AllocErr
         Ok(()) => Ok(()),
         Err(_) => Err(AllocError),
     }
+}
+
+/// Carries out the operations that wait, and exchanges the copies: then the shelf that readings see has all accepted
+/// commands, which are those of this front. An `Err` means that memory ran out; what readings see stays as it is.
+fn exchange_copies<R: Wait>(
+    writer: &mut ShelfWriter,
+    rt: &R,
+    front: &Front,
+) -> Result<(), AllocError>
+    requires opening { front.now.opening ≡ writer.old.desk.shown.value.front.opening }
+    requires all { front.now.commands ≡ accepted_of writer.old.desk.shown.value (drop writer.old.behind writer.old.log.items) }
+    ensures ok { OnOk result ((writer.new.desk.shown.value.front ≡ front.now) × (drop writer.new.behind writer.new.log.items ≡ [])) }
+    ensures shown { OnErr result (writer.new.desk.shown.value ≡ writer.old.desk.shown.value) }
+    ensures accepted { OnErr result (accepted_of writer.new.desk.shown.value (drop writer.new.behind writer.new.log.items)
+        ≡ accepted_of writer.old.desk.shown.value (drop writer.old.behind writer.old.log.items)) }
+{
+    append(writer, Operation::Stamp(front.again()))?;
+    replace_with(
+        writer,
+        rt,
+        |writer: ShelfWriter, rt: &R| -> (ShelfWriter, Result<(), AllocError>)
+            requires { (next : Shelf) → next ≡ fold operated writer.desk.shown.value (drop writer.behind writer.log.items)
+                → TurnsAt IsKept writer.desk.place.id (view writer.desk.place) writer.desk.shown.value next Meets }
+            ensures { MatchResult result.1
+                (λ _. (result.0.desk.shown.value ≡ fold operated writer.desk.shown.value (drop writer.behind writer.log.items))
+                    × (drop result.0.behind result.0.log.items ≡ []))
+                (λ _. (result.0.desk.shown.value ≡ writer.desk.shown.value)
+                    × (drop result.0.behind result.0.log.items ≡ drop writer.behind writer.log.items)) }
+        { writer.publish_as::<Meet, R>(rt) },
+    )
 }
 
 impl Desk {
@@ -95,7 +135,7 @@ impl Desk {
         requires head { head ≡ head_of front.opening }
         requires empty { (front.commands ≡ []) × (drop writer.behind writer.log.items ≡ []) }
         requires names { (name : List ℕ) → has_name names name ≡ false }
-        requires limit { limit ≤ 1000000 }
+        requires limit { limit ≤ MAX_COMMANDS }
         ensures { result ≡ desk_state front.opening limit [] [] }
     {
         Desk {
@@ -108,7 +148,7 @@ impl Desk {
         }
     }
 
-    // Whether the greatest number of commands has been accepted already.
+    /// Whether the greatest number of commands has been accepted already.
     fn is_full(&self) -> bool
         ensures { MatchBool result (IsFull self.now) (HasRoom self.now) }
     {
@@ -155,8 +195,10 @@ impl Desk {
         ensures ok { OnOk result (self.new ≡ with_command (put_command name.now held.now) self.old) }
         ensures err { OnErr result (self.new ≡ self.old) }
     {
-        let update = Update::Put(name.share()?, held.share()?);
+        let own = name.share()?;
+        let shared = held.share()?;
         let added = self.names.add(name)?;
+        let update = Update::Put(own, shared);
         match append(&mut self.writer, Operation::Change(update)) {
             Ok(()) => {
                 self.accepted += 1;
@@ -195,8 +237,8 @@ impl Desk {
         ensures ok { OnOk result (self.new ≡ with_command (remove_command name.now) self.old) }
         ensures err { OnErr result (self.new ≡ self.old) }
     {
-        let update = Update::Remove(name.share()?);
-        append(&mut self.writer, Operation::Change(update))?;
+        let own = name.share()?;
+        append(&mut self.writer, Operation::Change(Update::Remove(own)))?;
         self.names.remove(name);
         self.accepted += 1;
         Ok(())
@@ -209,27 +251,20 @@ impl Desk {
         ensures ok { IfOk result (λ told. (self.new ≡ all_published self.old) × (told ≡ known self.old.opening self.old.accepted)) }
         ensures err { OnErr result (self.new ≡ self.old) }
     {
-        replace_with(
-            self,
-            rt,
-            |desk: Desk, rt: &R| -> (Desk, Result<Told, AllocError>)
-                ensures { MatchResult result.1 (λ told. (result.0 ≡ all_published desk) × (told ≡ known desk.opening desk.accepted)) (λ _. result.0 ≡ desk) }
-            { desk.published(rt) },
-        )
+        let Some(front) = self.extend_history() else {
+            return Err(AllocError);
+        };
+        let told = Told {
+            front: front.again(),
+        };
+        self.front = front;
+        exchange_copies(&mut self.writer, rt, &self.front)?;
+        Ok(told)
     }
 
-    fn published<R: Wait>(self, rt: &R) -> (Desk, Result<Told, AllocError>)
-        ensures { MatchResult result.1 (λ told. (result.0 ≡ all_published self) × (told ≡ known self.opening self.accepted)) (λ _. result.0 ≡ self) }
-    {
-        match self.written() {
-            Some(front) => self.shown(rt, front),
-            None => (self, Err(AllocError)),
-        }
-    }
-
-    // The front after all accepted commands are added to the history. `None` if the history continues after
-    // the desk's front, which never happens: only the desk adds to it.
-    fn written(&self) -> Option<Front>
+    /// Adds the accepted commands that the history lacks to it, and returns the front after all of them. `None` if the
+    /// history continues after the desk's front, which never happens: only the desk adds to it.
+    fn extend_history(&self) -> Option<Front>
         ensures { IfSome result (λ front. front ≡ known self.now.opening self.now.accepted) }
     {
         if self.front.version() == self.accepted {
@@ -241,48 +276,6 @@ impl Desk {
         };
         self.front
             .with::<Unwritten<'_>, Lacks>(&self.head, &unwritten, self.accepted)
-    }
-
-    // Publishes the accepted commands, which are those of the front.
-    fn shown<R: Wait>(self, rt: &R, front: Front) -> (Desk, Result<Told, AllocError>)
-        requires { front ≡ known self.opening self.accepted }
-        ensures { MatchResult result.1 (λ told. (result.0 ≡ all_published self) × (told ≡ front)) (λ _. result.0 ≡ self) }
-    {
-        let Desk {
-            mut writer,
-            head,
-            front: _,
-            names,
-            accepted,
-            limit,
-        } = self;
-        let told = Told {
-            front: front.again(),
-        };
-        if let Err(error) = append(&mut writer, Operation::Stamp(front.again())) {
-            let desk = Desk {
-                writer,
-                head,
-                front,
-                names,
-                accepted,
-                limit,
-            };
-            return (desk, Err(error));
-        }
-        let (writer, shown) = writer.publish_as::<Meet, R>(rt);
-        let desk = Desk {
-            writer,
-            head,
-            front,
-            names,
-            accepted,
-            limit,
-        };
-        match shown {
-            Ok(()) => (desk, Ok(told)),
-            Err(error) => (desk, Err(error)),
-        }
     }
 
     /// Ends the desk. It waits for readings that are taking what a search needs; afterwards every search is refused

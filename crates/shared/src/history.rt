@@ -38,7 +38,7 @@ impl Rule<Batch, u64> for Counted {
     ghost moves = { λ ask before after answer. Unit {0} };
 }
 
-// A step tells its caller nothing.
+/// A step tells its caller nothing.
 struct Nothing;
 
 impl Gain<Batch, u64> for Nothing {
@@ -47,7 +47,7 @@ impl Gain<Batch, u64> for Nothing {
     ghost after = { λ names about answer. ftrue };
 }
 
-// A step that adds a batch.
+/// A step that adds a batch.
 struct Add;
 
 impl Play<Batch, u64> for Add {
@@ -63,9 +63,9 @@ pub type Head = Word<Batch, u64, Counted>;
 /// the commands.
 #[derive(Drop)]
 pub struct Front {
-    // The number of commands.
+    /// The number of commands.
     version: u32,
-    // The number of batches.
+    /// The number of batches.
     batches: u64,
     seen: Seen<Batch, u64, Counted>,
 }

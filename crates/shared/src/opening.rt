@@ -17,8 +17,9 @@ use index::Index;
 use std::alloc::{AllocError, Global};
 use std::sync::Wait;
 
-/// The greatest number of commands that a desk can be opened for.
-pub const MAX_COMMANDS: u32 = 1000000;
+/// The greatest number of commands that a desk can be opened for: the number of the last one fits in 32 bits, and so
+/// does the next number.
+pub const MAX_COMMANDS: u32 = 4_294_967_294;
 
 /// The greatest number of readings that can be opened.
 pub const MAX_READINGS: usize = 17;
@@ -34,8 +35,8 @@ pub fn open<R: Wait>(
     max_commands: u32,
     readers: usize,
 ) -> Result<(Desk, Vec<Reading>), OpenError>
-    requires commands { (0 < max_commands) × (max_commands ≤ 1000000) }
-    requires readers { (0 < readers) × (readers ≤ 17) }
+    requires commands { (0 < max_commands) × (max_commands ≤ MAX_COMMANDS) }
+    requires readers { (0 < readers) × (readers ≤ MAX_READINGS) }
     ensures desk { IfOk result (λ opened. opened.0 ≡ desk_state opened.0.opening max_commands [] []) }
     ensures count { IfOk result (λ opened. length opened.1.items ≡ readers) }
     ensures readings { IfOk result (λ opened. All (λ reading. reading ≡ known opened.0.opening []) opened.1.items) }
@@ -53,8 +54,8 @@ pub fn open_with_places<R: Wait>(
     places: usize,
     readers: usize,
 ) -> Result<(Desk, Vec<Reading>), OpenError>
-    requires commands { max_commands ≤ 1000000 }
-    requires places { (0 < places) × (places ≤ 17) }
+    requires commands { max_commands ≤ MAX_COMMANDS }
+    requires places { (0 < places) × (places ≤ MAX_READINGS) }
     ensures desk { IfOk result (λ opened. opened.0 ≡ desk_state opened.0.opening max_commands [] []) }
     ensures count { IfOk result (λ opened. length opened.1.items ≡ readers) }
     ensures readings { IfOk result (λ opened. All (λ reading. reading ≡ known opened.0.opening []) opened.1.items) }
@@ -78,10 +79,10 @@ pub fn open_with_places<R: Wait>(
     }
 }
 
-// Two copies of an index with no commands, with this number of places for readings.
+/// Two copies of an index with no commands, with this number of places for readings.
 fn shelves(alloc: Global, front: &Front, places: usize) -> Result<ShelfWriter, AllocError>
     requires front { front.now.commands ≡ [] }
-    requires places { (0 < places) × (places ≤ 17) }
+    requires places { (0 < places) × (places ≤ MAX_READINGS) }
     ensures front { IfOk result (λ writer. writer.desk.shown.value.front ≡ front.now) }
     ensures empty { IfOk result (λ writer. drop writer.behind writer.log.items ≡ []) }
 {
@@ -96,7 +97,7 @@ fn shelves(alloc: Global, front: &Front, places: usize) -> Result<ShelfWriter, A
     ShelfWriter::new(alloc, first, second, places)
 }
 
-// `readers` readings that have seen as much as the writer has met.
+/// `readers` readings that have seen as much as the writer has met.
 fn readings(
     alloc: Global,
     writer: &mut ShelfWriter,

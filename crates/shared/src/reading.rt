@@ -116,14 +116,14 @@ impl Reading {
     }
 }
 
-// What a search asks for.
+/// What a search asks for.
 #[derive(Clone, Copy)]
 struct Asked<'p> {
     alloc: Global,
     prepared: &'p Prepared,
 }
 
-// Enters, takes and leaves. `None` if it cannot enter; otherwise the front that it met and what it took.
+/// Enters, takes and leaves. `None` if it cannot enter; otherwise the front that it met and what it took.
 fn look<'p>(
     reader: ShelfReader,
     asked: Asked<'p>,

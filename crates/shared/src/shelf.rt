@@ -1,7 +1,7 @@
 //! The writer and the readings share an index and the history that it represents. There are two copies, and
 //! each operation is carried out on both.
 
-ghost use Rattle.std.specs.Prelude.{◌≡◌, OnOk, OnErr};
+ghost use Rattle.std.specs.Prelude.{◌≡◌, ◌+◌, ◌^◌, ◌<◌, OnOk, OnErr, MatchBool};
 ghost use Rattle.index.specs.State.{applied};
 ghost use Rattle.shared.specs.Private.Shelf.{command_of, operated};
 
@@ -51,17 +51,24 @@ impl Absorb<Operation> for Shelf {
     }
 }
 
-// Carries out the command. It is refused if memory ran out, or if the number of commands would not fit in
-// 32 bits, which no desk reaches.
+/// Carries out the command. It is refused if memory ran out, or if the index takes no more commands, which no desk
+/// meets.
 fn change(index: &mut Index, update: &Update) -> Result<(), AllocError>
     ensures ok { OnOk result (index.new ≡ applied (command_of update.now) index.old) }
     ensures err { OnErr result (index.new ≡ index.old) }
 {
-    if index.version() == u32::MAX {
+    if takes_no_more(index) {
         return Err(AllocError);
     }
     match update {
         Update::Put(name, held) => index.apply_put(name, held),
         Update::Remove(name) => index.remove(name),
     }
+}
+
+/// Whether one more command would have a number over 32 bits.
+fn takes_no_more(index: &Index) -> bool
+    ensures { MatchBool result (index.now.version + 1 ≡ 2 ^ 32) (index.now.version + 1 < 2 ^ 32) }
+{
+    index.version() == u32::MAX
 }

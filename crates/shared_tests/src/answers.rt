@@ -27,7 +27,7 @@ fn report<R: Threads + Wait + Sync, G: Gate>(
     })
 }
 
-// Sends the numbers as long as they can be sent, and returns whether all are sent.
+/// Sends the numbers as long as they can be sent, and returns whether all are sent.
 fn send_all<R: Wait>(rt: &R, worker: &Worker<'_>, numbers: &[u32]) -> bool {
     for number in numbers {
         if !worker.send(rt, *number) {
@@ -55,7 +55,7 @@ fn two_workers_at_once(rt: HostRuntime) {
     assert!(rt; are_given(&two.given, &[(2, 1, 1, 1)]));
 }
 
-// Search 1 is sent to the first worker, search 2 to the second.
+/// Search 1 is sent to the first worker, search 2 to the second.
 fn two_reports<R: Threads + Wait + Sync, G: Gate>(
     rt: &R,
     alloc: Global,

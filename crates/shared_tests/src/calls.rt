@@ -49,7 +49,7 @@ fn three_commands<R: Abort + Wait>(
     assert!(rt; finds(alloc, reading, pattern, 3));
 }
 
-// Publishes, which must be at this version.
+/// Publishes, which must be at this version.
 fn published<R: Abort + Wait>(rt: &R, desk: &mut Desk, version: u32) -> Told
     ensures desk { desk.new.opening ≡ desk.old.opening }
     ensures told { result.opening ≡ desk.old.opening }
@@ -59,7 +59,7 @@ fn published<R: Abort + Wait>(rt: &R, desk: &mut Desk, version: u32) -> Told
     told
 }
 
-// The reading learns of a publish, and has then seen this many commands.
+/// The reading learns of a publish, and has then seen this many commands.
 fn learns(rt: &impl Abort, reading: &mut Reading, told: &Told, seen: u32)
     requires { told.now.opening ≡ reading.old.opening }
     ensures { reading.new.opening ≡ reading.old.opening }
@@ -68,7 +68,7 @@ fn learns(rt: &impl Abort, reading: &mut Reading, told: &Told, seen: u32)
     assert!(rt; reading.seen() == seen);
 }
 
-// With one document `b` not yet published and room for one command: what is refused, and a remove.
+/// With one document `b` not yet published and room for one command: what is refused, and a remove.
 fn refuses(rt: &impl Abort, alloc: Global, desk: &mut Desk)
     ensures { desk.new.opening ≡ desk.old.opening }
 {
@@ -82,7 +82,7 @@ fn refuses(rt: &impl Abort, alloc: Global, desk: &mut Desk)
     assert!(rt; comes_back(&refused));
 }
 
-// Whether the put of the body `x` under the name `c` is refused because the desk is full, and comes back as it was.
+/// Whether the put of the body `x` under the name `c` is refused because the desk is full, and comes back as it was.
 fn comes_back(refused: &PutError) -> bool {
     let is_same_body = match &refused.body {
         Returned::Plain(body) => matches!(body.as_bytes(), [b'x']),
@@ -135,7 +135,7 @@ fn a_closed_desk_is_not_entered(rt: HostRuntime) {
     assert!(rt; reading.seen() == 1);
 }
 
-// Why a search is refused, if it is.
+/// Why a search is refused, if it is.
 fn refusal(alloc: Global, reading: &mut Reading, pattern: &Prepared) -> Option<SearchError> {
     reading.search(alloc, pattern).err()
 }
@@ -148,7 +148,7 @@ fn refusal_of_take(
     reading.take(alloc, pattern).err()
 }
 
-// Whether a search is answered at this version, over one document, with one line of the document `a`.
+/// Whether a search is answered at this version, over one document, with one line of the document `a`.
 fn finds(alloc: Global, reading: &mut Reading, pattern: &Prepared, version: u32) -> bool
     ensures { reading.new.opening ≡ reading.old.opening }
 {

@@ -28,7 +28,7 @@ fn publish_during_matching(rt: HostRuntime) {
     assert!(rt; are_given(&report.given, &[(1, 1, 1, 1)]));
 }
 
-// Publishes three times, while the worker is held before it matches.
+/// Publishes three times, while the worker is held before it matches.
 fn report_beside<R: Threads + Wait + Sync>(
     rt: &R,
     alloc: Global,

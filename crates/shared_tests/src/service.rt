@@ -50,7 +50,7 @@ fn search_beside_a_put<R: Threads + Wait + Sync>(
     Some((first, second))
 }
 
-// Puts and publishes.
+/// Puts and publishes.
 fn publish<R: Wait>(rt: &R, desk: &mut Desk, document: (Name, Body)) -> Option<Told>
     ensures { IfSome result (λ told. told ≡ known desk.old.opening (desk.old.accepted ++ Put document.0 document.1 ∷ [])) }
 {
@@ -58,7 +58,7 @@ fn publish<R: Wait>(rt: &R, desk: &mut Desk, document: (Name, Body)) -> Option<T
     desk.publish(rt).ok()
 }
 
-// Searches, and drops the answer.
+/// Searches, and drops the answer.
 fn search(alloc: Global, mut reading: Reading, pattern: &Prepared) -> Reading
     ensures { result.opening ≡ reading.opening }
 {
@@ -66,7 +66,7 @@ fn search(alloc: Global, mut reading: Reading, pattern: &Prepared) -> Reading
     reading
 }
 
-// Searches the documents of the publish that `told` reports, or of a newer one.
+/// Searches the documents of the publish that `told` reports, or of a newer one.
 fn search_after(
     alloc: Global,
     mut reading: Reading,

@@ -20,7 +20,7 @@ fn torn(rt: HostRuntime) {
     assert!(rt; watched.0 && watched.1, "an answer is torn");
 }
 
-// Whether each reading saw only whole answers, and whether everything was written.
+/// Whether each reading saw only whole answers, and whether everything was written.
 fn watched<R: Threads + Wait + Sync>(
     rt: &R,
     alloc: Global,
@@ -47,7 +47,7 @@ fn watched<R: Threads + Wait + Sync>(
     )
 }
 
-// Puts two documents with the text of a number and publishes them, for 200 numbers.
+/// Puts two documents with the text of a number and publishes them, for 200 numbers.
 fn write<R: Wait>(rt: &R, alloc: Global, desk: &mut Desk) -> bool {
     for number in 1..=200u32 {
         if !write_both(rt, alloc, desk, number) {
@@ -66,8 +66,8 @@ fn write_both<R: Wait>(rt: &R, alloc: Global, desk: &mut Desk, number: u32) -> b
         && desk.publish(rt).is_ok()
 }
 
-// Searches until the desk is done, and once more. Returns whether each answer is whole, none goes back, and the last
-// one is at version 400.
+/// Searches until the desk is done, and once more. Returns whether each answer is whole, none goes back, and the last
+/// one is at version 400.
 fn watch(alloc: Global, mut reading: Reading, pattern: &Prepared, done: &AtomicU64) -> bool {
     let mut least = 0;
     for _ in 0..u64::MAX {
@@ -85,7 +85,7 @@ fn watch(alloc: Global, mut reading: Reading, pattern: &Prepared, done: &AtomicU
     false
 }
 
-// An even version 2k; if k is not 0, the text of k as the first line of `a` and of `b`.
+/// An even version 2k; if k is not 0, the text of k as the first line of `a` and of `b`.
 fn is_whole(answer: &Answer) -> bool {
     let number = answer.version() / 2;
     let hits = if number == 0 { 0 } else { 2 };
@@ -106,7 +106,7 @@ fn are_lines_of(answer: &Answer, number: u32) -> bool {
     true
 }
 
-// The number of a decimal text.
+/// The number of a decimal text.
 fn number_of(text: &[u8]) -> u32 {
     let mut number = 0u32;
     for digit in text {

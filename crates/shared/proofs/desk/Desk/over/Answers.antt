@@ -1,9 +1,12 @@
-use Rattle.std.proofs.Common.{drop}
-use Rattle.shared.proofs.DeskLemmas.{desk_begins}
+use Rattle.std.proofs.Common.{length, drop, sym, ap, ◌∙◌, arith}
+use Rattle.shared.specs.Desk.{has_document}
+use Rattle.shared.proofs.DeskLemmas.{nothing_accepted, begins_same, named_same}
+use Rattle.shared.proofs.DocumentNames.{has_document-none}
 use Rattle.shared.proofs.desk.Desk.over.Goals as goal
 
 pub invariant_of-result : goal.invariant_of-result
 invariant_of-result c =
     let w = c.args.writer in
-    desk_begins w.desk.shown.value (drop w.behind w.log.items) c.args.head c.args.front c.args.names c.args.limit c.requires.front
-    c.requires.head c.requires.empty.0 c.requires.empty.1 c.requires.names c.requires.limit
+    let r = c.requires in
+    let all = nothing_accepted w.desk.shown.value (drop w.behind w.log.items) c.args.front r.front r.empty.0 r.empty.1 in
+    (ap (λ f. f.opening) r.front, (r.head, (begins_same _ _ (all ∙ sym r.empty.0), (sym (ap length all), (omega arith, (r.limit, (named_same _ _ _ all (λ name. r.names name ∙ sym (has_document-none name)), tt)))))))
