@@ -115,9 +115,9 @@ fn exchange_copies<R: Wait>(
                 → TurnsAt IsKept writer.desk.place.id (view writer.desk.place) writer.desk.shown.value next Meets }
             ensures { MatchResult result.1
                 (λ _. (result.0.desk.shown.value ≡ fold operated writer.desk.shown.value (drop writer.behind writer.log.items))
-                    × (drop result.0.behind result.0.log.items ≡ []))
+                × (drop result.0.behind result.0.log.items ≡ []))
                 (λ _. (result.0.desk.shown.value ≡ writer.desk.shown.value)
-                    × (drop result.0.behind result.0.log.items ≡ drop writer.behind writer.log.items)) }
+                × (drop result.0.behind result.0.log.items ≡ drop writer.behind writer.log.items)) }
         { writer.publish_as::<Meet, R>(rt) },
     )
 }

@@ -20,7 +20,11 @@ invariant_of-self-inside-in-Ok c =
     let room = subst HasRoom (sym c.self.view_is) c.requires in
     let noted = noted_put (accepted_of w.desk.shown.value old) i.names c.add.new.self c.args.name.now c.in_ok-own.own
     c.in_ok-shared.shared c.in_ok-own.ensures i.named c.in_ok-added.ensures.ok in
-    (ap (λ s. s.front.opening) same ∙ i.opening, (i.history, (begins_still w.desk.shown.value w'.desk.shown.value old new u same more i.front.commands i.begins, (counted_one_more w.desk.shown.value w'.desk.shown.value old new u same more i.accepted i.counted, (omega (arith, room, i.counted), (i.limited, (named_now w.desk.shown.value w'.desk.shown.value old new u same more c.add.new.self noted, tt)))))))
+    let opening = ap (λ s. s.front.opening) same ∙ i.opening in
+    let begins = begins_still w.desk.shown.value w'.desk.shown.value old new u same more i.front.commands i.begins in
+    let counted = counted_one_more w.desk.shown.value w'.desk.shown.value old new u same more i.accepted i.counted in
+    let named = named_now w.desk.shown.value w'.desk.shown.value old new u same more c.add.new.self noted in
+    (opening, (i.history, (begins, (counted, (omega (arith, room, i.counted), (i.limited, (named, tt)))))))
 
 pub returns-in-Ok-clause-ok : goal.returns-in-Ok-clause-ok
 returns-in-Ok-clause-ok c =

@@ -25,7 +25,11 @@ invariant_of-self-inside-2 c =
     let room = subst HasRoom (sym c.self.view_is) c.requires in
     let noted = noted_remove (accepted_of w.desk.shown.value old) i.names c.remove.new.self c.args.name.now c.in_ok-own.own
     c.in_ok-own.ensures i.named c.remove.ensures in
-    (ap (λ s. s.front.opening) same ∙ i.opening, (i.history, (begins_still w.desk.shown.value w'.desk.shown.value old new u same more i.front.commands i.begins, (counted_one_more w.desk.shown.value w'.desk.shown.value old new u same more i.accepted i.counted, (omega (arith, room, i.counted), (i.limited, (named_now w.desk.shown.value w'.desk.shown.value old new u same more c.remove.new.self noted, tt)))))))
+    let opening = ap (λ s. s.front.opening) same ∙ i.opening in
+    let begins = begins_still w.desk.shown.value w'.desk.shown.value old new u same more i.front.commands i.begins in
+    let counted = counted_one_more w.desk.shown.value w'.desk.shown.value old new u same more i.accepted i.counted in
+    let named = named_now w.desk.shown.value w'.desk.shown.value old new u same more c.remove.new.self noted in
+    (opening, (i.history, (begins, (counted, (omega (arith, room, i.counted), (i.limited, (named, tt)))))))
 
 pub returns-clause-ok : goal.returns-clause-ok
 returns-clause-ok c =

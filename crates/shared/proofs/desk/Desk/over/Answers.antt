@@ -1,5 +1,5 @@
-use Rattle.std.proofs.Common.{length, drop, sym, ap, ◌∙◌, arith}
-use Rattle.shared.specs.Desk.{has_document}
+use Rattle.std.proofs.Common.{[], length, drop, sym, ap, ◌∙◌, arith}
+use Rattle.shared.specs.Private.DeskParts.{accepted_of}
 use Rattle.shared.proofs.DeskLemmas.{nothing_accepted, begins_same, named_same}
 use Rattle.shared.proofs.DocumentNames.{has_document-none}
 use Rattle.shared.proofs.desk.Desk.over.Goals as goal
@@ -9,4 +9,6 @@ invariant_of-result c =
     let w = c.args.writer in
     let r = c.requires in
     let all = nothing_accepted w.desk.shown.value (drop w.behind w.log.items) c.args.front r.front r.empty.0 r.empty.1 in
-    (ap (λ f. f.opening) r.front, (r.head, (begins_same _ _ (all ∙ sym r.empty.0), (sym (ap length all), (omega arith, (r.limit, (named_same _ _ _ all (λ name. r.names name ∙ sym (has_document-none name)), tt)))))))
+    let begins = begins_same c.args.front.commands (accepted_of w.desk.shown.value (drop w.behind w.log.items)) (all ∙ sym r.empty.0) in
+    let named = named_same c.args.names [] (accepted_of w.desk.shown.value (drop w.behind w.log.items)) all (λ name. r.names name ∙ sym (has_document-none name)) in
+    (ap (λ f. f.opening) r.front, (r.head, (begins, (sym (ap length all), (omega arith, (r.limit, (named, tt)))))))
