@@ -16,6 +16,7 @@ use Rattle.clap.proofs.FaultLemmas.{free_args}
 use Rattle.clap.proofs.OnLiterals.{clap_on_literals}
 use Rattle.clap.proofs.SimpleLemmas.{ready_simple, simple_groups}
 use Rattle.cli.specs.CommandLine.{command_line}
+use Rattle.cli.specs.declared.limits.TheConstants.{MAX_COMMANDS, MAX_READERS}
 
 -- the argument at a place takes a number from `low` to `high`
 abbrev pub TakesNumber : Command → ℕ → ℕ → ℕ → Type 0
@@ -26,8 +27,8 @@ TakesNumber c place low high =
 pub record HasOptions (c : Command) : Type 0 where
   pub names : map (λ a. a.id.now) (args_of c)
       ≡ codes "readers" ∷ codes "stats" ∷ codes "max-commands" ∷ codes "live" ∷ codes "FILE" ∷ []
-  pub readers : TakesNumber c 0 0 16
-  pub max_commands : TakesNumber c 2 1 1000000
+  pub readers : TakesNumber c 0 0 MAX_READERS
+  pub max_commands : TakesNumber c 2 1 MAX_COMMANDS
   pub plain : IsPlain c
   pub local : (out-Command c).has_globals ≡ false
 
@@ -51,7 +52,7 @@ fields : {X : Type 0} (f : Rule → X) (c : Command) → app_of c ≡ command_li
 fields f c is = map_rules f (args_of c) ∙ ap (λ (a : App). map f a.top.rules) is
 
 abbrev parsers : List (Option ValueParser)
-parsers = Some (Signed (pos 0) (pos 16)) ∷ None ∷ Some (Signed (pos 1) (pos 1000000)) ∷ None ∷ None ∷ []
+parsers = Some (Signed (pos 0) (pos MAX_READERS)) ∷ None ∷ Some (Signed (pos 1) (pos MAX_COMMANDS)) ∷ None ∷ None ∷ []
 
 pub has_options : (c : Command) → app_of c ≡ command_line → HasOptions c
 has_options c is =

@@ -11,17 +11,13 @@ use Rattle.clap.specs.Values.{kind_of}
 use Rattle.clap.specs.declared.error.Error.{Error}
 use Rattle.clap.specs.declared.error.kind.ErrorKind.{ErrorKind}
 use Rattle.clap.specs.declared.error.kind.ErrorKind.TheVariants.{ArgumentConflict}
-use Rattle.cli.specs.CommandLine.{IsInLimits, IsSettingsIn, SpellSettings, command_line, faults_of, found_in, default_max_commands}
+use Rattle.cli.specs.CommandLine.{IsInLimits, IsSettingsIn, SpellSettings, command_line, faults_of, found_in}
 use Rattle.cli.specs.CommandLine.{default_readers, is_set, number_or, session_faults}
 use Rattle.cli.specs.declared.arguments.Settings.{Settings}
 
 pub at_most_16 : (live : Bool) (n : ℕ) → n ≡ default_readers live → n ≤ 16
 at_most_16 true n is = rw is (omega arith)
 at_most_16 false n is = rw is (omega arith)
-
-pub in_limits : (live : Bool) (n : ℕ) → n ≡ default_max_commands live → (1 ≤ n) × (n ≤ 1000000)
-in_limits true n is = (rw is (omega arith), rw is (omega arith))
-in_limits false n is = (rw is (omega arith), rw is (omega arith))
 
 -- a flag is set if its text is `true`
 set_where : (v : Bool) (text : Option (List ℕ)) → (v ≡ true) ↔ (text ≡ Some (codes "true")) → is_set text ≡ v

@@ -10,10 +10,11 @@ use Rattle.clap.specs.Values.{kind_of}
 use Rattle.clap.specs.Walk.{Row, Rule, Text, first_of, one_of}
 use Rattle.clap.specs.declared.builder.action.ArgAction.TheVariants.{SetTrue}
 use Rattle.clap.specs.declared.builder.value_parser.ValueParser.TheVariants.{Signed}
-use Rattle.clap.specs.declared.error.kind.ErrorKind.TheVariants.{ArgumentConflict, DisplayHelp}
+use Rattle.clap.specs.declared.error.kind.ErrorKind.TheVariants.{ArgumentConflict, DisplayHelp, DisplayVersion}
 use Rattle.cli.specs.declared.arguments.Request.{Request}
-use Rattle.cli.specs.declared.arguments.Request.TheVariants.{Run, Help}
+use Rattle.cli.specs.declared.arguments.Request.TheVariants.{Run, Help, Version}
 use Rattle.cli.specs.declared.arguments.Settings.{Settings}
+use Rattle.cli.specs.declared.limits.TheConstants.{DEFAULT_MAX_COMMANDS, DEFAULT_READERS, MAX_COMMANDS, MAX_READERS}
 use Rattle.cli.specs.declared.error.ArgumentError.{ArgumentError}
 use Rattle.cli.specs.declared.error.ArgumentError.TheVariants as error
 
@@ -26,11 +27,15 @@ number_option name low high =
 abbrev pub flag : Text → Rule
 flag name = record (new_rule name) { long = Some name; action = Some SetTrue }
 
+-- a command that shows its version if the arguments ask for it
+abbrev pub with_version : App → App
+with_version app = record app { top = record app.top { has_version = true } }
+
 abbrev pub command_line : App
-command_line = with_rule (with_rule (with_rule (with_rule (with_rule (new_app (codes "tsearch"))
-    (number_option (codes "readers") 0 16))
+command_line = with_rule (with_rule (with_rule (with_rule (with_rule (with_version (new_app (codes "tsearch")))
+    (number_option (codes "readers") 0 MAX_READERS))
     (flag (codes "stats")))
-    (number_option (codes "max-commands") 1 1000000))
+    (number_option (codes "max-commands") 1 MAX_COMMANDS))
     (flag (codes "live")))
     (new_rule (codes "FILE"))
 
@@ -58,25 +63,22 @@ session_faults found =
 abbrev pub faults_of : List Text → Kinds
 faults_of arguments = or_else (fault_of command_line arguments) (session_faults (found_in arguments))
 
--- the defaults of a run and of a session
+-- the default of a run and of a session
 abbrev pub default_readers : Bool → ℕ
-default_readers live = if live then 0 else 2
-
-abbrev pub default_max_commands : Bool → ℕ
-default_max_commands live = if live then 1000000 else 65536
+default_readers live = if live then 0 else DEFAULT_READERS
 
 -- The settings are those that are found, each under its name, and the defaults for those that are not found.
 pub record IsSettingsIn (found : List Row) (settings : Settings) : Type 0 where
   pub live : (settings.live ≡ true) ↔ (one_of (codes "live") found ≡ Some (codes "true"))
   pub readers : settings.readers ≡ number_or (default_readers settings.live) (one_of (codes "readers") found)
-  pub max_commands : settings.max_commands ≡ number_or (default_max_commands settings.live) (one_of (codes "max-commands") found)
+  pub max_commands : settings.max_commands ≡ number_or DEFAULT_MAX_COMMANDS (one_of (codes "max-commands") found)
   pub stats : (settings.stats ≡ true) ↔ (one_of (codes "stats") found ≡ Some (codes "true"))
   pub file : option_map (λ path. path.now) settings.file ≡ first_of (codes "FILE") found
 
 pub record IsInLimits (settings : Settings) : Type 0 where
-  pub readers : settings.readers ≤ 16
+  pub readers : settings.readers ≤ MAX_READERS
   pub some_commands : 0 < settings.max_commands
-  pub few_commands : settings.max_commands ≤ 1000000
+  pub few_commands : settings.max_commands ≤ MAX_COMMANDS
 
 -- Nothing is wrong with the arguments, and they give these settings.
 pub record SpellSettings (arguments : List Text) (settings : Settings) : Type 0 where
@@ -89,14 +91,20 @@ pub record SpellSettings (arguments : List Text) (settings : Settings) : Type 0 
 abbrev pub AskForHelp : List Text → Type 0
 AskForHelp arguments = IsAmong DisplayHelp (faults_of arguments)
 
--- Something is wrong with the arguments, and they do not ask for the help.
+-- The arguments ask for the version.
+abbrev pub AskForVersion : List Text → Type 0
+AskForVersion arguments = IsAmong DisplayVersion (faults_of arguments)
+
+-- Something is wrong with the arguments, and they ask for neither the help nor the version.
 pub record AreRefused (arguments : List Text) : Type 0 where
   pub faulty : faults_of arguments ≢ []
   pub no_help : AskForHelp arguments → ⊥
+  pub no_version : AskForVersion arguments → ⊥
 
 abbrev pub IsRequestOf : List Text → Request → Type 0
 IsRequestOf arguments (Run settings) = SpellSettings arguments settings
 IsRequestOf arguments Help = AskForHelp arguments
+IsRequestOf arguments Version = AskForVersion arguments
 
 abbrev pub IsRefusalOf : List Text → ArgumentError → Type 0
 IsRefusalOf arguments (error.Refused e) = IsAmong (kind_of e) (faults_of arguments)

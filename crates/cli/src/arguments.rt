@@ -6,22 +6,14 @@ ghost use Rattle.clap.specs.Kinds.{FailsBy};
 ghost use Rattle.clap.specs.Simple.{app_of};
 ghost use Rattle.clap.specs.Values.{kind_of};
 ghost use Rattle.cli.specs.CommandLine.{IsInLimits, IsRefusalOf, IsRequestOf, IsSettingsIn, SpellSettings};
-ghost use Rattle.cli.specs.CommandLine.{command_line, default_max_commands, default_readers, faults_of, found_in};
+ghost use Rattle.cli.specs.CommandLine.{command_line, default_readers, faults_of, found_in};
 
 use crate::error::ArgumentError;
-use crate::help::HELP;
+use crate::help::{HELP, VERSION};
+use crate::limits::{DEFAULT_MAX_COMMANDS, DEFAULT_READERS, MAX_COMMANDS, MAX_READERS};
 use clap::error::ErrorKind;
 use clap::{Arg, ArgAction, Command, Error, value_parser};
 use std::alloc::{AllocError, Global};
-
-/// The number of readers of a run if the arguments give none.
-const DEFAULT_READERS: u32 = 2;
-
-/// The greatest number of accepted commands of a run if the arguments give none.
-const DEFAULT_MAX_COMMANDS: u32 = 65536;
-
-/// The greatest number of accepted commands of a session if the arguments give none.
-const DEFAULT_MAX_COMMANDS_LIVE: u32 = 1_000_000;
 
 /// How the arguments set a run or a session.
 #[derive(Clone, Copy, Debug, PartialEq, Eq)]
@@ -30,8 +22,7 @@ pub struct Settings<'a> {
     pub live: bool,
     /// `--readers`: how many readers there are, 0 to 16, by default 2. It is 0 in a session.
     pub readers: u32,
-    /// `--max-commands`: how many commands are accepted at most, 1 to 1,000,000, by default 65,536, or
-    /// 1,000,000 in a session.
+    /// `--max-commands`: how many commands are accepted at most, 1 to 4,294,967,294, by default 1,000,000.
     pub max_commands: u32,
     /// `--stats`: whether each answer shows its number of candidates and of documents.
     pub stats: bool,
@@ -46,6 +37,8 @@ pub enum Request<'a> {
     Run(Settings<'a>),
     /// The help, which is `HELP`.
     Help,
+    /// The version, which is `VERSION`.
+    Version,
 }
 
 /// Reads the arguments. The first one is the program's name.
@@ -63,6 +56,7 @@ pub fn read_arguments<'a>(
         Ok(settings) => Ok(Request::Run(settings)),
         Err(error) => match error.kind() {
             ErrorKind::DisplayHelp => Ok(Request::Help),
+            ErrorKind::DisplayVersion => Ok(Request::Version),
             ErrorKind::OutOfMemory => Err(ArgumentError::OutOfMemory),
             _ => Err(ArgumentError::Refused(error)),
         },
@@ -118,7 +112,7 @@ fn read_settings<'a>(alloc: Global, arguments: &'a [String]) -> Result<Settings<
     Ok(Settings {
         live,
         readers: readers.unwrap_or(default_readers(live)),
-        max_commands: max_commands.unwrap_or(default_max_commands(live)),
+        max_commands: max_commands.unwrap_or(DEFAULT_MAX_COMMANDS),
         stats: stats.unwrap_or(false),
         file: matches.get_str("FILE"),
     })
@@ -131,17 +125,6 @@ fn default_readers(live: bool) -> u32
     if live { 0 } else { DEFAULT_READERS }
 }
 
-/// The greatest number of accepted commands if the arguments give none.
-fn default_max_commands(live: bool) -> u32
-    ensures { result ≡ default_max_commands live }
-{
-    if live {
-        DEFAULT_MAX_COMMANDS_LIVE
-    } else {
-        DEFAULT_MAX_COMMANDS
-    }
-}
-
 /// The command line that `clap` reads the arguments by. An `Err` means that memory ran out.
 fn command<'a>(alloc: Global) -> Result<Command<'a>, AllocError>
     ensures command_line { IfOk result (λ command. app_of command ≡ command_line) }
@@ -149,14 +132,14 @@ fn command<'a>(alloc: Global) -> Result<Command<'a>, AllocError>
     let readers = Arg::new(alloc, "readers")
         .long("readers")
         .value_name("N")
-        .value_parser(value_parser!(u32).range(0..=16));
+        .value_parser(value_parser!(u32).range(0..=MAX_READERS as i64));
     let stats = Arg::new(alloc, "stats")
         .long("stats")
         .action(ArgAction::SetTrue);
     let max_commands = Arg::new(alloc, "max-commands")
         .long("max-commands")
         .value_name("N")
-        .value_parser(value_parser!(u32).range(1..=1_000_000));
+        .value_parser(value_parser!(u32).range(1..=MAX_COMMANDS as i64));
     let live = Arg::new(alloc, "live")
         .long("live")
         .action(ArgAction::SetTrue);
@@ -164,6 +147,7 @@ fn command<'a>(alloc: Global) -> Result<Command<'a>, AllocError>
     Command::new(alloc, "tsearch")
         .bin_name("tsearch")?
         .override_help(HELP)
+        .version(VERSION)
         .arg(readers)?
         .arg(stats)?
         .arg(max_commands)?

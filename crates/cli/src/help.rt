@@ -1,8 +1,8 @@
-//! The text of `--help`.
+//! The texts of `--help` and `--version`.
 
 /// What `--help` and `-h` show. It ends with a line feed.
 pub const HELP: &str = "\
-Searches documents, line by line, by extended regular expressions, as a script says.
+Searches documents, line by line, by POSIX extended regular expressions, as a script says.
 
 Usage: tsearch [OPTIONS] [FILE]
 
@@ -16,11 +16,12 @@ Options:
                           syncs and they find many lines
       --stats             Shows with each answer how many documents may have a match, judged by
                           their trigrams, and how many there are
-      --max-commands <N>  How many puts, loads and removes are accepted, 1 to 1000000
-                          [default: 65536, and 1000000 with --live]
+      --max-commands <N>  How many puts, loads and removes are accepted, 1 to 4294967294
+                          [default: 1000000]
       --live              Carries out each line as it arrives, and writes its output before waiting
                           for the next line. Each search is answered at once
   -h, --help              Shows this help
+  -V, --version           Shows the version
 
 A script is a list of lines:
   put NAME N          takes the next N bytes as the document NAME; a line feed follows them
@@ -43,6 +44,11 @@ with no count or a wrong one ends the script.
 
 The status is 0 if a search listed a line, 1 if none did, 2 if anything was refused.
 
+Scripts are described in docs/SCRIPT.md, and patterns in docs/PATTERNS.md.
+
 An example:
   printf 'load notes notes.txt\\npublish\\nsearch ^[0-9]+ apples?\\n' | tsearch
 ";
+
+/// What `--version` and `-V` show: the name of the program and its version. It ends with a line feed.
+pub const VERSION: &str = "tsearch 0.1.0\n";

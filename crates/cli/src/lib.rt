@@ -1,13 +1,14 @@
 //! The command line of `tsearch`: `tsearch [--readers N] [--stats] [--max-commands N] [--live] [FILE]`.
 //!
-//! `read_arguments` turns the arguments of the program into its settings, or says that they ask for the help,
-//! or why they are refused. `clap` reads them.
+//! `read_arguments` turns the arguments of the program into its settings, or says that they ask for the help
+//! or the version, or why they are refused. `clap` reads them.
 #![tactic(auto)]
 
 pub mod arguments;
 pub mod error;
 pub mod help;
+pub mod limits;
 
 pub use arguments::{Request, Settings, read_arguments};
 pub use error::ArgumentError;
-pub use help::HELP;
+pub use help::{HELP, VERSION};

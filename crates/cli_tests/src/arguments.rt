@@ -1,7 +1,7 @@
 //! Arguments, their settings, and the refusals.
 
 use cli::arguments::not_text;
-use cli::{ArgumentError, HELP, Request, Settings, read_arguments};
+use cli::{ArgumentError, HELP, Request, Settings, VERSION, read_arguments};
 use std::alloc::Global;
 use std::process::Abort;
 use std::test::Fail;
@@ -31,7 +31,7 @@ fn settings_have_defaults(rt: HostRuntime) -> Result<(), Fail> {
     let wanted = Settings {
         live: false,
         readers: 2,
-        max_commands: 65536,
+        max_commands: 1_000_000,
         stats: false,
         file: None,
     };
@@ -45,12 +45,12 @@ fn each_option_is_read_by_its_name(rt: HostRuntime) -> Result<(), Fail> {
         "16",
         "--stats",
         "a file",
-        "--max-commands=1000000",
+        "--max-commands=4294967294",
     ];
     let wanted = Settings {
         live: false,
         readers: 16,
-        max_commands: 1_000_000,
+        max_commands: 4_294_967_294,
         stats: true,
         file: Some("a file"),
     };
@@ -126,7 +126,8 @@ fn numbers_outside_their_limits_are_refused(rt: HostRuntime) -> Result<(), Fail>
     assert_refused(&rt, rt.alloc(), &["--readers", "17"], begin)?;
     assert_refused(&rt, rt.alloc(), &["--readers", "4294967297"], begin)?;
     assert_refused(&rt, rt.alloc(), &["--max-commands", "0"], begin)?;
-    assert_refused(&rt, rt.alloc(), &["--max-commands", "1000001"], begin)?;
+    assert_refused(&rt, rt.alloc(), &["--max-commands", "4294967295"], begin)?;
+    assert_refused(&rt, rt.alloc(), &["--max-commands", "4294967297"], begin)?;
     assert_refused(&rt, rt.alloc(), &["--max-commands", "many"], begin)
 }
 
@@ -150,7 +151,7 @@ fn other_arguments_are_refused(rt: HostRuntime) -> Result<(), Fail> {
     assert_refused(
         &rt,
         rt.alloc(),
-        &["--version"],
+        &["--versions"],
         "error: unexpected argument",
     )
 }
@@ -162,6 +163,19 @@ fn arguments_ask_for_the_help(rt: HostRuntime) -> Result<(), Fail> {
         assert!(rt; read_arguments(rt.alloc(), &arguments)? == Request::Help);
     }
     assert!(rt; HELP.ends_with('\n'));
+    Ok(())
+}
+
+#[test]
+fn arguments_ask_for_the_version(rt: HostRuntime) -> Result<(), Fail> {
+    for text in ["--version", "-V"] {
+        let arguments = arguments(rt.alloc(), &["--live", "--readers", "2", text, "a", "b"])?;
+        assert!(rt; read_arguments(rt.alloc(), &arguments)? == Request::Version);
+    }
+    let both = arguments(rt.alloc(), &["--version", "--help"])?;
+    assert!(rt; read_arguments(rt.alloc(), &both)? == Request::Version);
+    assert_refused(&rt, rt.alloc(), &["--version=2"], "error: unexpected value")?;
+    assert!(rt; VERSION == "tsearch 0.1.0\n");
     Ok(())
 }
 
@@ -193,6 +207,6 @@ fn assert_shows_usage(
 
 #[test]
 fn the_usage_names_tsearch_whatever_the_program_is_called(rt: HostRuntime) -> Result<(), Fail> {
-    assert_shows_usage(&rt, rt.alloc(), "program", "--version")?;
+    assert_shows_usage(&rt, rt.alloc(), "program", "--versions")?;
     assert_shows_usage(&rt, rt.alloc(), "/a/b", "--live=2")
 }

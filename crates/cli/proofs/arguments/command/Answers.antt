@@ -6,30 +6,31 @@ use Rattle.clap.specs.Walk.{Rule, rule_of}
 use Rattle.clap.specs.declared.builder.action.ArgAction.TheVariants.{SetTrue}
 use Rattle.clap.specs.declared.builder.value_parser.ValueParser.{ValueParser}
 use Rattle.clap.specs.declared.builder.value_parser.ValueParser.TheVariants as vp
-use Rattle.cli.specs.CommandLine.{flag, number_option}
+use Rattle.cli.specs.CommandLine.{flag, number_option, with_version}
+use Rattle.cli.specs.declared.limits.TheConstants.{MAX_COMMANDS, MAX_READERS}
 use Rattle.cli.proofs.arguments.command.Goals as goal
 
 pub returns : goal.returns
 returns c =
-    let start : app_of c.override_help.result ≡ new_app (codes "tsearch") = search rules in
-    let zero_to_16 : c.range.result ≡ vp.Signed (pos 0) (pos 16) = rw (c.value_parser.ensures, c.new-2.ensures.start, c.new-2.ensures.end) at c.range.ensures in
-    let one_to_million : c.range-2.result ≡ vp.Signed (pos 1) (pos 1000000) =
+    let start : app_of c.version.result ≡ with_version (new_app (codes "tsearch")) = search rules in
+    let zero_to_most : c.range.result ≡ vp.Signed (pos 0) (pos MAX_READERS) = rw (c.value_parser.ensures, c.new-2.ensures.start, c.new-2.ensures.end) at c.range.ensures in
+    let one_to_most : c.range-2.result ≡ vp.Signed (pos 1) (pos MAX_COMMANDS) =
     rw (c.value_parser-2.ensures, c.new-5.ensures.start, c.new-5.ensures.end) at c.range-2.ensures in
-    let readers_parser : c.value_parser-readers.result.value_parser ≡ Some (vp.Signed (pos 0) (pos 16)) =
-    rw (c.value_parser-readers.ensures.given.1, c.value_parser-readers.ensures.given.2, zero_to_16) refl in
-    let commands_parser : c.value_parser-max_commands.result.value_parser ≡ Some (vp.Signed (pos 1) (pos 1000000)) =
-    rw (c.value_parser-max_commands.ensures.given.1, c.value_parser-max_commands.ensures.given.2, one_to_million) refl in
+    let readers_parser : c.value_parser-readers.result.value_parser ≡ Some (vp.Signed (pos 0) (pos MAX_READERS)) =
+    rw (c.value_parser-readers.ensures.given.1, c.value_parser-readers.ensures.given.2, zero_to_most) refl in
+    let commands_parser : c.value_parser-max_commands.result.value_parser ≡ Some (vp.Signed (pos 1) (pos MAX_COMMANDS)) =
+    rw (c.value_parser-max_commands.ensures.given.1, c.value_parser-max_commands.ensures.given.2, one_to_most) refl in
     let readers_named : rule_of c.value_name.result ≡ record (new_rule (codes "readers")) { long = Some (codes "readers"); value_names = 1 } =
     ap rule_of c.value_name.ensures
     ∙ ap (λ (r : Rule). record r { value_names = 1 })
     (ap rule_of c.long.ensures ∙ ap (λ (r : Rule). record r { long = Some (codes "readers") }) c.new.ensures.rule) in
-    let readers_is : rule_of c.value_parser-readers.result ≡ number_option (codes "readers") 0 16 =
+    let readers_is : rule_of c.value_parser-readers.result ≡ number_option (codes "readers") 0 MAX_READERS =
     ap rule_of c.value_parser-readers.ensures.others ∙ ap₂ (λ (r : Rule) (q : Option ValueParser). record r { parser = q }) readers_named readers_parser in
     let commands_named : rule_of c.value_name-2.result ≡ record (new_rule (codes "max-commands")) { long = Some (codes "max-commands"); value_names = 1 } =
     ap rule_of c.value_name-2.ensures
     ∙ ap (λ (r : Rule). record r { value_names = 1 })
     (ap rule_of c.long-3.ensures ∙ ap (λ (r : Rule). record r { long = Some (codes "max-commands") }) c.new-4.ensures.rule) in
-    let commands_is : rule_of c.value_parser-max_commands.result ≡ number_option (codes "max-commands") 1 1000000 =
+    let commands_is : rule_of c.value_parser-max_commands.result ≡ number_option (codes "max-commands") 1 MAX_COMMANDS =
     ap rule_of c.value_parser-max_commands.ensures.others
     ∙ ap₂ (λ (r : Rule) (q : Option ValueParser). record r { parser = q }) commands_named commands_parser in
     let stats_named : rule_of c.long-2.result ≡ record (new_rule (codes "stats")) { long = Some (codes "stats") } =

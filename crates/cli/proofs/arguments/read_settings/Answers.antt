@@ -6,10 +6,11 @@ use Rattle.clap.specs.Matches.{found_of, one_text}
 use Rattle.clap.specs.Simple.{App, app_of, is_simple, matches_of}
 use Rattle.clap.specs.Walk.{first_of, one_of, rows_of}
 use Rattle.clap.proofs.WalkLemmas.{first_value-rows, one_text-rows}
-use Rattle.cli.specs.CommandLine.{command_line, default_max_commands, default_readers, found_in, number_or}
+use Rattle.cli.specs.CommandLine.{command_line, default_readers, found_in, number_or}
+use Rattle.cli.specs.declared.limits.TheConstants.{DEFAULT_MAX_COMMANDS, MAX_COMMANDS, MAX_READERS}
 use Rattle.cli.proofs.NumberLemmas.{max_commands_option, number_given, readers_option}
 use Rattle.cli.proofs.Options.{HasOptions, has_options, line_is_free, line_is_simple}
-use Rattle.cli.proofs.SessionLemmas.{at_most_16, in_limits}
+use Rattle.cli.proofs.SessionLemmas.{at_most_16}
 use Rattle.cli.proofs.Settled.{settled_flag, settled_number}
 use Rattle.cli.proofs.arguments.read_settings.Goals as goal
 
@@ -26,23 +27,22 @@ returns c =
     sym (ap (λ (a : App). fault_of a (map string_bytes c.args.arguments.now)) is) ∙ c.in_ok-matches.ensures.kinds (ap is_simple_and_free is ∙ line_is_free) in
     let text_in : (id : List ℕ) → one_text (found_of m) id ≡ one_of id (found_in (map string_bytes c.args.arguments.now)) =
     λ id. one_text-rows (found_of m) id ∙ ap (one_of id) rows in
-    let some_readers = number_given command m parsed options 0 (codes "readers") (readers_option command options) 0 16 options.readers
+    let some_readers = number_given command m parsed options 0 (codes "readers") (readers_option command options) 0 MAX_READERS options.readers
     _ (λ bs r. ParsesUnsigned 32 10 bs r × ExplainsUnsignedError 10 bs r × HasUnsignedDigitsIfOk bs r) (λ u x g. g.0) (omega arith)
     c.get_one-readers.result c.get_one-readers.ensures.value in
-    let some_commands = number_given command m parsed options 2 (codes "max-commands") (max_commands_option command options) 1 1000000 options.max_commands
+    let some_commands = number_given command m parsed options 2 (codes "max-commands") (max_commands_option command options) 1 MAX_COMMANDS options.max_commands
     _ (λ bs r. ParsesUnsigned 32 10 bs r × ExplainsUnsignedError 10 bs r × HasUnsignedDigitsIfOk bs r) (λ u x g. g.0) (omega arith)
     c.get_one-max_commands.result c.get_one-max_commands.ensures.value in
     let live = c.unwrap_or-live.result in
     let readers_default : c.default_readers.result ≡ default_readers live = c.default_readers.ensures in
-    let commands_default : c.default_max_commands.result ≡ default_max_commands live = c.default_max_commands.ensures in
     let readers = settled_number _ (λ bs r. ParsesUnsigned 32 10 bs r × ExplainsUnsignedError 10 bs r × HasUnsignedDigitsIfOk bs r) (λ u x g. g.0)
-    (one_text (found_of m) (codes "readers")) c.get_one-readers.result c.unwrap_or.result 0 16 c.default_readers.result c.unwrap_or.ensures
+    (one_text (found_of m) (codes "readers")) c.get_one-readers.result c.unwrap_or.result 0 MAX_READERS c.default_readers.result c.unwrap_or.ensures
     c.get_one-readers.ensures.none c.get_one-readers.ensures.value some_readers (omega arith) (at_most_16 live c.default_readers.result readers_default) in
     let commands = settled_number _ (λ bs r. ParsesUnsigned 32 10 bs r × ExplainsUnsignedError 10 bs r × HasUnsignedDigitsIfOk bs r) (λ u x g. g.0)
-    (one_text (found_of m) (codes "max-commands")) c.get_one-max_commands.result c.unwrap_or-2.result 1 1000000
-    c.default_max_commands.result c.unwrap_or-2.ensures
+    (one_text (found_of m) (codes "max-commands")) c.get_one-max_commands.result c.unwrap_or-2.result 1 MAX_COMMANDS
+    DEFAULT_MAX_COMMANDS c.unwrap_or-2.ensures
     c.get_one-max_commands.ensures.none c.get_one-max_commands.ensures.value some_commands
-    (in_limits live c.default_max_commands.result commands_default).0 (in_limits live c.default_max_commands.result commands_default).1 in
+    (omega arith) (omega arith) in
     let live_flag = settled_flag _ (one_text (found_of m) (codes "live")) c.get_one.result live c.unwrap_or-live.ensures
     c.get_one.ensures.none c.get_one.ensures.value in
     let stats_flag = settled_flag _ (one_text (found_of m) (codes "stats")) c.get_one-stats.result c.unwrap_or-3.result c.unwrap_or-3.ensures
@@ -51,7 +51,7 @@ returns c =
       found = record {
         live = subst (λ (text : Option (List ℕ)). (live ≡ true) ↔ (text ≡ Some (codes "true"))) (text_in (codes "live")) live_flag;
         readers = readers.0 ∙ ap₂ number_or readers_default (text_in (codes "readers"));
-        max_commands = commands.0 ∙ ap₂ number_or commands_default (text_in (codes "max-commands"));
+        max_commands = commands.0 ∙ ap (number_or DEFAULT_MAX_COMMANDS) (text_in (codes "max-commands"));
         stats = subst (λ (text : Option (List ℕ)). (c.unwrap_or-3.result ≡ true) ↔ (text ≡ Some (codes "true"))) (text_in (codes "stats")) stats_flag;
         file = c.get_str.ensures ∙ first_value-rows (found_of m) (codes "FILE") ∙ ap (first_of (codes "FILE")) rows;
       };
