@@ -1,5 +1,7 @@
 //! Why a session ends early.
 
+ghost use Rattle.std.specs.Prelude.{◌≡◌};
+
 use shared::OpenError;
 use stream::StreamError;
 use thiserror::Error;
@@ -14,6 +16,9 @@ pub enum LiveError {
     /// The output failed, or took no byte.
     #[error("tsearch: cannot write")]
     CannotWrite,
+    /// Nobody reads the output any more.
+    #[error("tsearch: cannot write")]
+    OutputClosed,
     /// Memory ran out for a line, for the text of an entry, or for the session itself.
     #[error("tsearch: out of memory")]
     OutOfMemory,
@@ -31,14 +36,24 @@ pub enum LiveError {
     TooManySearches,
 }
 
-pub(crate) fn of_opening(error: OpenError) -> LiveError {
+/// The error of a session whose index could not be opened.
+pub(crate) fn of_opening(error: OpenError) -> LiveError
+    ensures no_place { error ≡ OpenError.NoPlace → result ≡ LiveError.NoPlace }
+    ensures memory { error ≡ OpenError.OutOfMemory → result ≡ LiveError.OutOfMemory }
+{
     match error {
         OpenError::NoPlace => LiveError::NoPlace,
         OpenError::OutOfMemory => LiveError::OutOfMemory,
     }
 }
 
-pub(crate) fn of_reading(error: StreamError) -> LiveError {
+/// The error of a session that got no next item.
+pub(crate) fn of_reading(error: StreamError) -> LiveError
+    ensures cannot_read { error ≡ StreamError.CannotRead → result ≡ LiveError.CannotRead }
+    ensures memory { error ≡ StreamError.OutOfMemory → result ≡ LiveError.OutOfMemory }
+    ensures long_line { error ≡ StreamError.LineTooLong → result ≡ LiveError.LineTooLong }
+    ensures many_lines { error ≡ StreamError.TooManyLines → result ≡ LiveError.TooManyLines }
+{
     match error {
         StreamError::CannotRead => LiveError::CannotRead,
         StreamError::OutOfMemory => LiveError::OutOfMemory,
@@ -47,9 +62,16 @@ pub(crate) fn of_reading(error: StreamError) -> LiveError {
     }
 }
 
-pub(crate) fn of_writing(error: WriteError) -> LiveError {
+/// The error of a session whose text was not written whole.
+pub(crate) fn of_writing(error: WriteError) -> LiveError
+    ensures failed { error ≡ WriteError.Failed → result ≡ LiveError.CannotWrite }
+    ensures stopped { error ≡ WriteError.Stopped → result ≡ LiveError.CannotWrite }
+    ensures closed { error ≡ WriteError.Closed → result ≡ LiveError.OutputClosed }
+    ensures memory { error ≡ WriteError.OutOfMemory → result ≡ LiveError.OutOfMemory }
+{
     match error {
         WriteError::Failed | WriteError::Stopped => LiveError::CannotWrite,
+        WriteError::Closed => LiveError::OutputClosed,
         WriteError::OutOfMemory => LiveError::OutOfMemory,
     }
 }

@@ -1,6 +1,7 @@
 //! A session, from its first item to its last.
 
 ghost use Rattle.std.specs.Prelude.{◌≡◌, ℕ, ◌<◌, ◌≤◌, List, IfOk, OnErr};
+ghost use Rattle.shared.specs.declared.opening.TheConstants.{MAX_COMMANDS};
 ghost use Rattle.tsearch.specs.Lone.{first_state};
 ghost use Rattle.live.specs.Served.{IsServed, IsBroken};
 
@@ -14,7 +15,7 @@ use tsearch::{LoneRun, Source};
 /// How a session is run.
 #[derive(Clone, Copy, Debug, PartialEq, Eq)]
 pub struct LiveOptions {
-    /// How many commands are accepted at most, 1 to 1,000,000.
+    /// How many commands are accepted at most, 1 to 4,294,967,294.
     pub max_commands: u32,
     /// Whether each answer also shows its number of candidates and of documents.
     pub stats: bool,
@@ -34,8 +35,8 @@ pub struct LiveOptions {
 /// fallen.
 ///
 /// `NoPlace` means that reader 0 got no place, `CannotRead` that the input failed, `CannotWrite` that the output
-/// failed or took no byte, and `OutOfMemory` that memory ran out for the session itself, for a line, or for the text
-/// of an entry. `LineTooLong`, `TooManyLines` and `TooManySearches` mean that a limit was reached, which `LiveError`
+/// failed or took no byte, `OutputClosed` that nobody reads the output any more, and `OutOfMemory` that memory ran
+/// out for the session itself, for a line, or for the text of an entry. `LineTooLong`, `TooManyLines` and `TooManySearches` mean that a limit was reached, which `LiveError`
 /// states.
 pub fn serve<R: Wait, S: Source, I: BufRead, O: Write>(
     rt: &R,
@@ -45,7 +46,7 @@ pub fn serve<R: Wait, S: Source, I: BufRead, O: Write>(
     source: &mut S,
     out: &mut O,
 ) -> Result<u8, LiveError>
-    requires commands { (0 < options.max_commands) × (options.max_commands ≤ 1000000) }
+    requires commands { (0 < options.max_commands) × (options.max_commands ≤ MAX_COMMANDS) }
     ensures ok { IfOk result (IsServed options (S.holds source.old) (S.failed source.old) (S.failed source.new)
         (I.remaining input.old) (I.remaining input.new) (O.contents out.old) (O.contents out.new)) }
     ensures err { OnErr result (IsBroken options (S.holds source.old) (S.failed source.old) (S.failed source.new)

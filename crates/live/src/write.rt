@@ -8,10 +8,11 @@ ghost use Rattle.tsearch.specs.Written.{AppendsFront};
 use crate::error::{LiveError, of_writing};
 use std::alloc::Global;
 use std::io::Write;
-use tsearch::{Entry, append_entry, write_whole};
+use index::MAX_BODY;
+use tsearch::{Entry, append_entry, flush_whole, write_whole};
 
 /// A buffer of more bytes than this is freed once its text is written.
-const LARGE: usize = 1_048_576;
+const LARGE: usize = MAX_BODY;
 
 /// Writes the text of an entry and flushes it. For an entry without text, nothing is written or flushed. `text` is a
 /// buffer; its old bytes do not matter.
@@ -47,8 +48,8 @@ fn write_now<O: Write>(bytes: &[u8], out: &mut O) -> Result<(), LiveError>
     if let Err(error) = write_whole(out, bytes) {
         return Err(of_writing(error));
     }
-    match out.flush() {
+    match flush_whole(out) {
         Ok(()) => Ok(()),
-        Err(_) => Err(LiveError::CannotWrite),
+        Err(error) => Err(of_writing(error)),
     }
 }

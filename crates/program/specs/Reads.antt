@@ -23,7 +23,9 @@ abbrev pub IsInputFrom : (List ℕ → Option (List ℕ) → Type 0) → Option 
 IsInputFrom opens input (Some path) all = opens path.now all
 IsInputFrom opens input None all = all ≡ input
 
--- A load takes the file at its path, which is UTF-8. At most one byte more than a body may have is read.
-pub record IsLoadFrom (opens : List ℕ → Option (List ℕ) → Type 0) (path bytes : List ℕ) : Type 0 where
+-- A load takes the file at its path, which is UTF-8, and at which a regular file was seen. At most one byte more than a
+-- body may have is read.
+pub record IsLoadFrom (opens : List ℕ → Option (List ℕ) → Type 0) (has_file : List ℕ → Type 0) (path bytes : List ℕ) : Type 0 where
   pub text : IsUtf8 path
+  pub regular : has_file path
   pub read : IsReadFrom opens path (MAX_BODY + 1) bytes

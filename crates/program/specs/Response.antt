@@ -1,13 +1,15 @@
 -- What the program does in response to its arguments.
 use Rattle.std.specs.Prelude.{◌≡◌, ◌⊎◌, ℕ, List, [], Option, true, false, ⊤}
 use Rattle.std.specs.Io.KnownBytes.{Appends}
-use Rattle.cli.specs.CommandLine.{AskForHelp, IsRefusalOf, SpellSettings, faults_of}
+use Rattle.cli.specs.CommandLine.{AskForHelp, AskForVersion, IsRefusalOf, SpellSettings}
 use Rattle.cli.specs.declared.arguments.Settings.{Settings}
-use Rattle.cli.specs.declared.help.TheConstants.{HELP}
-use Rattle.live.specs.Served.{IsServed}
+use Rattle.cli.specs.declared.error.ArgumentError.{ArgumentError}
+use Rattle.cli.specs.declared.help.TheConstants.{HELP, VERSION}
+use Rattle.live.specs.Served.{IsBroken, IsServed}
 use Rattle.live.specs.declared.serving.LiveOptions.{LiveOptions}
 use Rattle.tsearch.specs.Legal.{IsLegal}
 use Rattle.tsearch.specs.Transcript.{status_of, text_of_transcript}
+use Rattle.tsearch.specs.Written.{AppendsFront}
 use Rattle.tsearch.specs.declared.run.Options.{Options}
 use Rattle.tsearch.specs.declared.transcript.Entry.{Entry}
 use Rattle.program.specs.Reads.{IsInputFrom, IsLoadFrom, IsScriptFrom}
@@ -20,48 +22,81 @@ options_of settings = record { readers = settings.readers; max_commands = settin
 abbrev pub live_options_of : Settings → LiveOptions
 live_options_of settings = record { max_commands = settings.max_commands; stats = settings.stats }
 
--- A run as the settings say: the script is read from their file or from the input, a transcript that is legal for
--- it under their options is written, once and as text, and the status is the transcript's. opens: the bytes of the
--- files. input: what standard input has left. failed, failed': how often files have failed, before and after.
--- old, new: what has been written, before and after.
-pub record IsRunOf (opens : List ℕ → Option (List ℕ) → Type 0) (input : Option (List ℕ)) (failed failed' : ℕ) (old new : Option (List ℕ))
-    (settings : Settings) (status : ℕ) : Type 0 where
-  pub script : List ℕ
-  pub entries : List Entry
-  pub is_script : IsScriptFrom opens input settings.file script
-  pub legal : IsLegal script (options_of settings) (IsLoadFrom opens) failed failed' entries
-  pub written : Appends old new (text_of_transcript settings.stats entries)
-  pub is_status : status ≡ status_of entries
+-- The errors of an input: it cannot be opened or read.
+abbrev pub IsFaultOfInput : ProgramError → Type 0
+IsFaultOfInput (error.CannotRead text) = ⊤
+IsFaultOfInput error.OutOfMemory = ⊤
+IsFaultOfInput _ = ⊥
 
--- A session as the settings say, read from their file or from the input.
-pub record IsSessionOf (opens : List ℕ → Option (List ℕ) → Type 0) (input : Option (List ℕ)) (failed failed' : ℕ) (old new : Option (List ℕ))
-    (settings : Settings) (status : ℕ) : Type 0 where
-  pub all : Option (List ℕ)
-  pub left : Option (List ℕ)
-  pub is_input : IsInputFrom opens input settings.file all
-  pub served : IsServed (live_options_of settings) (IsLoadFrom opens) failed failed' all left old new status
+-- The errors of an output.
+abbrev pub IsFaultOfOutput : ProgramError → Type 0
+IsFaultOfOutput error.CannotWrite = ⊤
+IsFaultOfOutput error.OutputClosed = ⊤
+IsFaultOfOutput _ = ⊥
 
--- Arguments that spell settings lead to their run, or to their session if they ask for one, and arguments that ask for
--- the help lead to the help and 0.
-pub data IsResponse (arguments : List (List ℕ)) (opens : List ℕ → Option (List ℕ) → Type 0) (input : Option (List ℕ)) (failed failed' : ℕ)
-    (old new : Option (List ℕ)) (status : ℕ) : Type 0 where
-  ran : (settings : Settings) → SpellSettings arguments settings → settings.live ≡ false
-      → IsRunOf opens input failed failed' old new settings status → IsResponse arguments opens input failed failed' old new status
-  served : (settings : Settings) → SpellSettings arguments settings → settings.live ≡ true
-      → IsSessionOf opens input failed failed' old new settings status → IsResponse arguments opens input failed failed' old new status
-  helped : AskForHelp arguments → Appends old new HELP.now → status ≡ 0 → IsResponse arguments opens input failed failed' old new status
+-- The errors of an output to which a transcript is written.
+abbrev pub IsFaultOfText : ProgramError → Type 0
+IsFaultOfText error.OutOfMemory = ⊤
+IsFaultOfText e = IsFaultOfOutput e
 
--- The errors with which a run or a session can end.
-abbrev pub IsFailureOfRun : ProgramError → Type 0
-IsFailureOfRun (error.Arguments fault) = ⊥
-IsFailureOfRun _ = ⊤
+-- The errors before a run has a transcript.
+abbrev pub IsFaultOfRun : ProgramError → Type 0
+IsFaultOfRun (error.Run fault) = ⊤
+IsFaultOfRun e = IsFaultOfInput e
 
--- The errors with which the program can end for these arguments.
-abbrev pub IsFailure : List (List ℕ) → ProgramError → Type 0
-IsFailure arguments (error.Arguments fault) = IsRefusalOf arguments fault
-IsFailure arguments error.OutOfMemory = faults_of arguments ≡ []
-IsFailure arguments error.CannotWrite = (faults_of arguments ≡ []) ⊎ AskForHelp arguments
-IsFailure arguments error.CannotRead = faults_of arguments ≡ []
-IsFailure arguments (error.Run fault) = faults_of arguments ≡ []
-IsFailure arguments (error.Write fault) = faults_of arguments ≡ []
-IsFailure arguments (error.Live fault) = faults_of arguments ≡ []
+-- The errors of a session.
+abbrev pub IsFaultOfSession : ProgramError → Type 0
+IsFaultOfSession (error.Live fault) = ⊤
+IsFaultOfSession error.OutputClosed = ⊤
+IsFaultOfSession e = IsFaultOfInput e
+
+-- opens: the bytes of the files. has_file: where regular files were seen. input: what standard input has left. failed,
+-- failed': how often files have failed, before and after. old, new: what has been written, before and after.
+module _ (opens : List ℕ → Option (List ℕ) → Type 0) (has_file : List ℕ → Type 0) (input : Option (List ℕ)) (failed failed' : ℕ)
+    (old new : Option (List ℕ)) where
+  -- A run as the settings say: the script is read from their file or from the input, a transcript that is legal for
+  -- it under their options is written, once and as text, and the status is the transcript's.
+  pub record IsRunOf (settings : Settings) (status : ℕ) : Type 0 where
+    pub script : List ℕ
+    pub entries : List Entry
+    pub is_script : IsScriptFrom opens input settings.file script
+    pub legal : IsLegal script (options_of settings) (IsLoadFrom opens has_file) failed failed' entries
+    pub written : Appends old new (text_of_transcript settings.stats entries)
+    pub is_status : status ≡ status_of entries
+
+  -- A session as the settings say, read from their file or from the input.
+  pub record IsSessionOf (settings : Settings) (status : ℕ) : Type 0 where
+    pub all : Option (List ℕ)
+    pub left : Option (List ℕ)
+    pub is_input : IsInputFrom opens input settings.file all
+    pub served : IsServed (live_options_of settings) (IsLoadFrom opens has_file) failed failed' all left old new status
+
+  -- What arguments lead to: those that spell settings to their run, or to their session if they ask for one, those that ask
+  -- for the help to the help and 0, and those that ask for the version to the version and 0.
+  pub data IsResponse (arguments : List (List ℕ)) (status : ℕ) : Type 0 where
+    ran : (settings : Settings) → SpellSettings arguments settings → settings.live ≡ false → IsRunOf settings status → IsResponse arguments status
+    served : (settings : Settings) → SpellSettings arguments settings → settings.live ≡ true → IsSessionOf settings status → IsResponse arguments status
+    helped : AskForHelp arguments → Appends old new HELP.now → status ≡ 0 → IsResponse arguments status
+    versioned : AskForVersion arguments → Appends old new VERSION.now → status ≡ 0 → IsResponse arguments status
+
+  -- A run that ends with an error: it has no transcript, and nothing was written, or its transcript was not written whole.
+  pub data EndsRun (settings : Settings) (e : ProgramError) : Type 0 where
+    not_run : IsFaultOfRun e → Appends old new [] → EndsRun settings e
+    not_written : (script : List ℕ) (entries : List Entry) → IsFaultOfText e → IsScriptFrom opens input settings.file script
+        → IsLegal script (options_of settings) (IsLoadFrom opens has_file) failed failed' entries
+        → AppendsFront old new (text_of_transcript settings.stats entries) → EndsRun settings e
+
+  -- A session that ends with an error: its file was not opened, and nothing was written, or it ended early.
+  pub data EndsSession (settings : Settings) (e : ProgramError) : Type 0 where
+    not_opened : IsFaultOfInput e → Appends old new [] → EndsSession settings e
+    broken : (all left : Option (List ℕ)) → IsFaultOfSession e → IsInputFrom opens input settings.file all
+        → IsBroken (live_options_of settings) (IsLoadFrom opens has_file) failed failed' all left old new → EndsSession settings e
+
+  -- What the program does that ends with an error. Refused arguments write nothing, and the help and the version may be
+  -- written in part.
+  pub data IsFailure (arguments : List (List ℕ)) (e : ProgramError) : Type 0 where
+    refused : (fault : ArgumentError) → e ≡ error.Arguments fault → IsRefusalOf arguments fault → Appends old new [] → IsFailure arguments e
+    not_ran : (settings : Settings) → SpellSettings arguments settings → settings.live ≡ false → EndsRun settings e → IsFailure arguments e
+    not_served : (settings : Settings) → SpellSettings arguments settings → settings.live ≡ true → EndsSession settings e → IsFailure arguments e
+    not_helped : AskForHelp arguments → IsFaultOfOutput e → AppendsFront old new HELP.now → IsFailure arguments e
+    not_versioned : AskForVersion arguments → IsFaultOfOutput e → AppendsFront old new VERSION.now → IsFailure arguments e

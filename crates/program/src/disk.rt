@@ -1,6 +1,8 @@
 //! Files, by their paths.
 
-ghost use Rattle.std.specs.Prelude.{◌≡◌, ℕ, List, Option, IfOk, IfSome, take};
+ghost use Rattle.std.specs.Prelude.{◌≡◌, ℕ, List, Option, IfOk, IfSome, IsTrue, take};
+ghost use Rattle.std.specs.Fs.{IsFile, file_type};
+ghost use Rattle.std.specs.declared.fs.attrs.Metadata.{Metadata};
 ghost use Rattle.program.specs.Reads.{IsReadFrom};
 
 use std::alloc::Global;
@@ -16,14 +18,23 @@ pub trait Disk {
     /// The file at the path has these bytes. `None` means that its bytes are not known.
     ghost opens: { Self → List ℕ → Option (List ℕ) → Type 0 };
 
+    /// A regular file was seen at the path: no folder, pipe or device.
+    ghost has_file: { Self → List ℕ → Type 0 };
+
     /// Opens the file at the path, at its start. An `Err` means that it cannot be opened.
     fn open(&self, path: &str) -> io::Result<Self::File>
         ensures { IfOk result (λ file. opens self.now path.now (Self.File.remaining file)) };
+
+    /// Whether a regular file is at the path: no folder, pipe or device. Nothing is opened, so this never waits for
+    /// whoever writes into a pipe. An `Err` means that it cannot be told, since nothing is there or it may not be seen.
+    fn is_file(&self, path: &str) -> io::Result<bool>
+        ensures { IfOk result (λ is. IsTrue is → has_file self.now path.now) };
 }
 
 /// The files of the machine on which the program runs.
 ///
-/// Contracts know that the bytes are those of a file that was opened, but not which file is at a path.
+/// Contracts know that the bytes are those of a file that was opened, but not which file is at a path. They know that
+/// some regular file was seen, but not where.
 #[derive(Drop)]
 pub struct HostDisk<'a, R> {
     files: &'a R,
@@ -43,8 +54,17 @@ impl<R: Files> Disk for HostDisk<'_, R> {
 
     ghost opens = { λ _ _ bytes. (file : R.File) × (R.File.remaining file ≡ bytes) };
 
+    ghost has_file = { λ _ _. (seen : Metadata) × IsFile (file_type seen) };
+
     fn open(&self, path: &str) -> io::Result<R::File> {
         fs::open(self.files, path)
+    }
+
+    fn is_file(&self, path: &str) -> io::Result<bool> {
+        match fs::metadata(self.files, path) {
+            Ok(seen) => Ok(seen.is_file()),
+            Err(error) => Err(error),
+        }
     }
 }
 

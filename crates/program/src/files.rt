@@ -28,17 +28,23 @@ impl<'a, D: Disk> FileSource<'a, D> {
         FileSource { disk, failures: 0 }
     }
 
-    /// Reads a file. If it is longer than a body can be (1,048,576 bytes), only one byte more than that is read.
+    /// Reads a regular file. If it is longer than a body can be (`MAX_BODY` bytes), only one byte more than that is
+    /// read.
     ///
-    /// `OutOfMemory` means that memory ran out, and `Failed` that the path is not UTF-8, or that the file cannot be
-    /// opened or read.
+    /// `OutOfMemory` means that memory ran out, and `Failed` that the path is not UTF-8, that something else than a
+    /// regular file is there, which is then not opened, or that the file cannot be opened or read.
     fn read_file(&self, alloc: Global, path: &[u8]) -> Result<Vec<u8>, Fault>
-        ensures bytes { IfOk result (λ bytes. IsLoadFrom (D.opens self.now.disk.now) path.now bytes.items) }
+        ensures bytes { IfOk result (λ bytes. IsLoadFrom (D.opens self.now.disk.now) (D.has_file self.now.disk.now) path.now bytes.items) }
         ensures no_text { ¬ IsUtf8 path.now → IsErrOf result Fault.Failed }
     {
         let Ok(path) = str::from_utf8(path) else {
             return Err(Fault::Failed);
         };
+        match self.disk.is_file(path) {
+            Ok(true) => {}
+            Ok(false) => return Err(Fault::Failed),
+            Err(error) => return Err(fault_of_load(&error)),
+        }
         let most = MAX_BODY as u64 + 1;
         match read_path(alloc, self.disk, path, most) {
             Ok(bytes) => Ok(bytes),
@@ -74,7 +80,7 @@ fn failures_after(failures: u64, read: &Result<Vec<u8>, Fault>) -> u64
 }
 
 impl<D: Disk> Source for FileSource<'_, D> {
-    ghost holds = { λ source path bytes. IsLoadFrom (D.opens source.disk.now) path bytes };
+    ghost holds = { λ source path bytes. IsLoadFrom (D.opens source.disk.now) (D.has_file source.disk.now) path bytes };
 
     ghost failed = { λ source. source.failures };
 

@@ -1,17 +1,18 @@
 //! The script, from a file or from standard input.
 
-ghost use Rattle.std.specs.Prelude.{◌≡◌, ◌≢◌, ◌⊎◌, IfOk, IfErr};
+ghost use Rattle.std.specs.Prelude.{◌≡◌, ◌⊎◌, IfOk, IfErr};
 ghost use Rattle.std.specs.IoError.{error_kind};
 ghost use Rattle.program.specs.Reads.{IsScriptFrom};
+ghost use Rattle.program.specs.Response.{IsFaultOfInput};
 
 use crate::disk::{Disk, read_at_most, read_path};
 use crate::error::ProgramError;
 use script::MAX_SCRIPT;
-use std::alloc::Global;
+use std::alloc::{AllocError, Global};
 use std::io::{self, ErrorKind, Read};
 
 /// Reads the script from the file at the path `file`, or from `input` if there is no path. If the script has over
-/// 67,108,864 bytes, only one byte more than that is read.
+/// `MAX_SCRIPT` bytes, only one byte more than that is read.
 ///
 /// `OutOfMemory` means that memory ran out, and `CannotRead` that the file cannot be opened or that the reading
 /// fails.
@@ -22,7 +23,7 @@ pub fn read_script<D: Disk, I: Read + Drop>(
     input: I,
 ) -> Result<Vec<u8>, ProgramError>
     ensures script { IfOk result (λ script. IsScriptFrom (D.opens disk.now) (I.remaining input) file.entry script.items) }
-    ensures fault { IfErr result (λ error. (error ≡ ProgramError.CannotRead) ⊎ (error ≡ ProgramError.OutOfMemory)) }
+    ensures fault { IfErr result IsFaultOfInput }
 {
     let most = MAX_SCRIPT as u64 + 1;
     let read = match file {
@@ -31,18 +32,68 @@ pub fn read_script<D: Disk, I: Read + Drop>(
     };
     match read {
         Ok(script) => Ok(script),
-        Err(error) => Err(fault_of_script(&error)),
+        Err(error) => Err(fault_of_script(alloc, file, &error)),
     }
 }
 
-/// The program's error for one that it met while it opened or read the script.
-pub fn fault_of_script(error: &io::Error) -> ProgramError
+/// The program's error for one that it met while it opened or read the script: `CannotRead`, or `OutOfMemory` if
+/// memory ran out in the reading or for the text.
+pub fn fault_of_script(alloc: Global, file: Option<&str>, error: &io::Error) -> ProgramError
     ensures memory { error_kind error.now ≡ ErrorKind.OutOfMemory → result ≡ ProgramError.OutOfMemory }
-    ensures other { error_kind error.now ≢ ErrorKind.OutOfMemory → result ≡ ProgramError.CannotRead }
+    ensures fault { IsFaultOfInput result }
 {
     if error.kind() == ErrorKind::OutOfMemory {
-        ProgramError::OutOfMemory
-    } else {
-        ProgramError::CannotRead
+        return ProgramError::OutOfMemory;
+    }
+    match text_of_fault(alloc, file.unwrap_or("standard input"), error) {
+        Ok(text) => ProgramError::CannotRead(text),
+        Err(_) => ProgramError::OutOfMemory,
+    }
+}
+
+/// The name and the reason, as `a.script: No such file or directory`. The number that an error of the system has in its
+/// text is left out.
+fn text_of_fault(alloc: Global, name: &str, error: &io::Error) -> Result<String, AllocError> {
+    let text = format!(in alloc; "{error}")?;
+    let reason = match text.as_str().split_once(" (os error ") {
+        Some((reason, _)) => reason,
+        None => text.as_str(),
+    };
+    Ok(format!(in alloc; "{name}: {reason}")?)
+}
+
+/// A reader that keeps the error that it met last, so that it can be shown.
+#[derive(Drop)]
+pub struct Noted<I> {
+    reader: I,
+    error: Option<io::Error>,
+}
+
+impl<I: Read> Noted<I> {
+    /// The reader, which has met no error yet.
+    pub fn new(reader: I) -> Noted<I>
+        ensures { result.reader ≡ reader }
+    {
+        Noted {
+            reader,
+            error: None,
+        }
+    }
+
+    /// The error that the reader met last.
+    pub fn error(&self) -> Option<io::Error> {
+        self.error
+    }
+}
+
+impl<I: Read> Read for Noted<I> {
+    ghost remaining = { λ noted. I.remaining noted.reader };
+
+    fn read(&mut self, buf: &mut [u8]) -> io::Result<usize> {
+        let read = self.reader.read(buf);
+        if let Err(error) = &read {
+            self.error = Some(*error);
+        }
+        read
     }
 }

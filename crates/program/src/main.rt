@@ -25,8 +25,15 @@ fn main(rt: HostRuntime) -> ExitCode {
         Ok(arguments) => {
             let disk = HostDisk::new(&rt);
             let mut source = FileSource::new(&disk);
-            let out = io::writer(&rt);
-            let (status, _) = respond(&rt, rt.alloc(), &arguments, &mut source, rt.reader(), out);
+            let mut out = io::writer(&rt);
+            let (status, _) = respond(
+                &rt,
+                rt.alloc(),
+                &arguments,
+                &mut source,
+                rt.reader(),
+                &mut out,
+            );
             status
         }
         Err(error) => report(&rt, &error),

@@ -1,44 +1,65 @@
-//! The transcript's text, written through a buffer.
+//! Text that is written to standard output.
 
-ghost use Rattle.std.specs.Prelude.{IfOk, IfErr};
+ghost use Rattle.std.specs.Prelude.{◌≡◌, ◌≢◌, IfOk, IfErr, OnOk, OnErr};
 ghost use Rattle.std.specs.Io.KnownBytes.{Appends};
 ghost use Rattle.tsearch.specs.Transcript.{text_of_transcript};
-ghost use Rattle.program.specs.Response.{IsFailureOfRun};
+ghost use Rattle.tsearch.specs.Written.{AppendsFront};
+ghost use Rattle.program.specs.Response.{IsFaultOfOutput, IsFaultOfText};
 
 use crate::error::ProgramError;
 use std::alloc::Global;
-use std::io::{BufWriter, Write};
-use tsearch::{Transcript, write_transcript};
+use std::io::Write;
+use tsearch::{Transcript, WriteError, flush_whole, write_transcript, write_whole};
 
-/// Output is written in parts of this many bytes.
-const OUTPUT_BUFFER: usize = 65536;
-
-/// Writes the text of a transcript to a writer, and returns the writer once it has the whole text.
+/// Writes the text of a transcript, and flushes it.
 ///
-/// `OutOfMemory` means that there was no memory for the buffer, `Write` that the text could not be written to the
-/// buffer whole or that memory ran out for an entry's text, and `CannotWrite` that the last part of the text could
-/// not be written from the buffer.
-pub fn write_text<W: Write + Drop>(
+/// `OutOfMemory` means that memory ran out for an entry's text, `CannotWrite` that the output failed, and `OutputClosed`
+/// that nobody reads it any more. A beginning of the text is then written.
+pub fn write_text<W: Write>(
     alloc: Global,
     transcript: &Transcript,
     stats: bool,
-    writer: W,
-) -> Result<W, ProgramError>
-    ensures written { IfOk result (λ written. Appends (W.contents writer) (W.contents written) (text_of_transcript stats transcript.now.entries.items)) }
-    ensures failed { IfErr result IsFailureOfRun }
+    out: &mut W,
+) -> Result<(), ProgramError>
+    ensures ok { OnOk result (Appends (W.contents out.old) (W.contents out.new) (text_of_transcript stats transcript.now.entries.items)) }
+    ensures err { OnErr result (AppendsFront (W.contents out.old) (W.contents out.new) (text_of_transcript stats transcript.now.entries.items)) }
+    ensures fault { IfErr result IsFaultOfText }
 {
-    let mut out = match BufWriter::with_capacity(alloc, OUTPUT_BUFFER, writer) {
-        Ok(out) => out,
-        Err(_) => return Err(ProgramError::OutOfMemory),
-    };
-    if let Err(error) = write_transcript(alloc, transcript, stats, &mut out) {
-        return Err(ProgramError::Write(error));
+    if let Err(error) = write_transcript(alloc, transcript, stats, out) {
+        return Err(fault_of_writing(error));
     }
-    if out.flush().is_err() {
-        return Err(ProgramError::CannotWrite);
+    match flush_whole(out) {
+        Ok(()) => Ok(()),
+        Err(error) => Err(fault_of_writing(error)),
     }
-    match out.into_inner() {
-        Ok(writer) => Ok(writer),
-        Err(_) => Err(ProgramError::CannotWrite),
+}
+
+/// Writes a text, and flushes it. Returns the status, 0. `CannotWrite` means that the output failed, and `OutputClosed` that nobody reads it
+/// any more. A beginning of the text is then written.
+pub fn show<W: Write>(text: &str, out: &mut W) -> Result<u8, ProgramError>
+    ensures ok { IfOk result (λ status. (status ≡ 0) × Appends (W.contents out.old) (W.contents out.new) text.now) }
+    ensures err { OnErr result (AppendsFront (W.contents out.old) (W.contents out.new) text.now) }
+    ensures fault { IfErr result IsFaultOfOutput }
+{
+    if let Err(error) = write_whole(out, text.as_bytes()) {
+        return Err(fault_of_writing(error));
+    }
+    match flush_whole(out) {
+        Ok(()) => Ok(0),
+        Err(error) => Err(fault_of_writing(error)),
+    }
+}
+
+/// The program's error for one that it met while it wrote.
+fn fault_of_writing(error: WriteError) -> ProgramError
+    ensures closed { error ≡ WriteError.Closed → result ≡ ProgramError.OutputClosed }
+    ensures memory { error ≡ WriteError.OutOfMemory → result ≡ ProgramError.OutOfMemory }
+    ensures text { IsFaultOfText result }
+    ensures output { error ≢ WriteError.OutOfMemory → IsFaultOfOutput result }
+{
+    match error {
+        WriteError::Failed | WriteError::Stopped => ProgramError::CannotWrite,
+        WriteError::Closed => ProgramError::OutputClosed,
+        WriteError::OutOfMemory => ProgramError::OutOfMemory,
     }
 }

@@ -1,66 +1,71 @@
 //! A session, from a file or from standard input.
 
-ghost use Rattle.std.specs.Prelude.{ℕ, List, Option, IfOk, IfErr};
+ghost use Rattle.std.specs.Prelude.{ℕ, List, Option, IfOk, IfErr, OnErr};
 ghost use Rattle.cli.specs.CommandLine.{IsInLimits};
-ghost use Rattle.live.specs.Served.{IsServed};
-ghost use Rattle.program.specs.Response.{IsFailureOfRun, IsSessionOf, live_options_of};
+ghost use Rattle.live.specs.Served.{IsBroken, IsServed};
+ghost use Rattle.program.specs.Response.{EndsSession, IsFaultOfSession, IsSessionOf, live_options_of};
 ghost use Rattle.program.specs.Reads.{IsLoadFrom};
 
 use crate::disk::Disk;
 use crate::error::ProgramError;
 use crate::files::FileSource;
-use crate::input::fault_of_script;
+use crate::input::{Noted, fault_of_script};
 use cli::Settings;
-use live::{LiveOptions, serve};
+use live::{LiveError, LiveOptions, serve};
 use std::alloc::Global;
-use std::io::{BufReader, Read, Write};
+use std::io::{self, BufReader, Read, Write};
 use std::sync::Wait;
 
 /// Input is read in parts of at most this many bytes.
 const INPUT_BUFFER: usize = 65536;
 
-/// Serves a session from the file that the settings name, or from `input` if they name none. Returns its status,
-/// and the writer with what was written.
+/// Serves a session from the file that the settings name, or from `input` if they name none. Returns its status.
 ///
-/// `CannotRead` means that the file cannot be opened, `OutOfMemory` that there was no memory for opening it or for
-/// the buffer, and `Live` that the session ended early.
-pub fn serve_session<R: Wait, D: Disk, I: Read + Drop, O: Write + Drop>(
+/// `CannotRead` means that the file cannot be opened, or that the reading fails, `OutOfMemory` that there was no memory
+/// for opening it or for the buffer, `OutputClosed` that nobody reads the output any more, and `Live` that the session
+/// ended early for another reason.
+pub fn serve_session<R: Wait, D: Disk, I: Read + Drop, O: Write>(
     rt: &R,
     alloc: Global,
     settings: &Settings<'_>,
     source: &mut FileSource<'_, D>,
     input: I,
-    out: O,
-) -> Result<(u8, O), ProgramError>
+    out: &mut O,
+) -> Result<u8, ProgramError>
     requires limits { IsInLimits settings.now }
-    ensures served { IfOk result (λ done. IsSessionOf (D.opens source.old.disk.now) (I.remaining input) source.old.failures source.new.failures
-        (O.contents out) (O.contents done.1) settings.now done.0) }
-    ensures failed { IfErr result IsFailureOfRun }
+    ensures served { IfOk result (IsSessionOf (D.opens source.old.disk.now) (D.has_file source.old.disk.now) (I.remaining input)
+        source.old.failures source.new.failures (O.contents out.old) (O.contents out.new) settings.now) }
+    ensures failed { IfErr result (EndsSession (D.opens source.old.disk.now) (D.has_file source.old.disk.now) (I.remaining input)
+        source.old.failures source.new.failures (O.contents out.old) (O.contents out.new) settings.now) }
 {
     match settings.file {
         Some(path) => match source.disk.open(path) {
             Ok(file) => serve_reader(rt, alloc, settings, source, file, out),
-            Err(error) => Err(fault_of_script(&error)),
+            Err(error) => Err(fault_of_script(alloc, settings.file, &error)),
         },
         None => serve_reader(rt, alloc, settings, source, input, out),
     }
 }
 
 /// Serves a session from a reader.
-fn serve_reader<R: Wait, D: Disk, I: Read + Drop, O: Write + Drop>(
+fn serve_reader<R: Wait, D: Disk, I: Read + Drop, O: Write>(
     rt: &R,
     alloc: Global,
     settings: &Settings<'_>,
     source: &mut FileSource<'_, D>,
     input: I,
-    mut out: O,
-) -> Result<(u8, O), ProgramError>
+    out: &mut O,
+) -> Result<u8, ProgramError>
     requires limits { IsInLimits settings.now }
-    ensures served { IfOk result (λ done. (left : Option (List ℕ)) × IsServed (live_options_of settings.now) (IsLoadFrom (D.opens source.old.disk.now))
-        source.old.failures source.new.failures (I.remaining input) left (O.contents out) (O.contents done.1) done.0) }
-    ensures failed { IfErr result IsFailureOfRun }
+    ensures served { IfOk result (λ status. (left : Option (List ℕ)) × IsServed (live_options_of settings.now)
+        (IsLoadFrom (D.opens source.old.disk.now) (D.has_file source.old.disk.now)) source.old.failures source.new.failures
+        (I.remaining input) left (O.contents out.old) (O.contents out.new) status) }
+    ensures broken { OnErr result ((left : Option (List ℕ)) × IsBroken (live_options_of settings.now)
+        (IsLoadFrom (D.opens source.old.disk.now) (D.has_file source.old.disk.now)) source.old.failures source.new.failures
+        (I.remaining input) left (O.contents out.old) (O.contents out.new)) }
+    ensures fault { IfErr result IsFaultOfSession }
 {
-    let mut reader = match BufReader::with_capacity(alloc, INPUT_BUFFER, input) {
+    let mut reader = match BufReader::with_capacity(alloc, INPUT_BUFFER, Noted::new(input)) {
         Ok(reader) => reader,
         Err(_) => return Err(ProgramError::OutOfMemory),
     };
@@ -68,8 +73,24 @@ fn serve_reader<R: Wait, D: Disk, I: Read + Drop, O: Write + Drop>(
         max_commands: settings.max_commands,
         stats: settings.stats,
     };
-    match serve(rt, alloc, &mut reader, options, source, &mut out) {
-        Ok(status) => Ok((status, out)),
-        Err(error) => Err(ProgramError::Live(error)),
+    match serve(rt, alloc, &mut reader, options, source, out) {
+        Ok(status) => Ok(status),
+        Err(error) => Err(fault_of_session(alloc, settings.file, error, reader.get_ref().error())),
+    }
+}
+
+/// The program's error for that of a session, whose input has met this error last.
+fn fault_of_session(
+    alloc: Global,
+    file: Option<&str>,
+    error: LiveError,
+    met: Option<io::Error>,
+) -> ProgramError
+    ensures { IsFaultOfSession result }
+{
+    match (error, met) {
+        (LiveError::CannotRead, Some(met)) => fault_of_script(alloc, file, &met),
+        (LiveError::OutputClosed, _) => ProgramError::OutputClosed,
+        (other, _) => ProgramError::Live(other),
     }
 }

@@ -64,9 +64,10 @@ enum Stop {
     FlushFails,
 }
 
-/// A writer that stops like this at its write or flush number `at`.
-fn stops_at(stop: Stop, at: u32) -> Stops {
+/// A writer that stops like this at its write or flush number `at`, with an error of this kind if it fails.
+fn stops_at(stop: Stop, at: u32, kind: ErrorKind) -> Stops {
     let mut stops = Stops::NEVER;
+    stops.kind = kind;
     match stop {
         Stop::Fails => stops.failing = at,
         Stop::TakesNothing => stops.taking_nothing = at,
@@ -75,21 +76,64 @@ fn stops_at(stop: Stop, at: u32) -> Stops {
     stops
 }
 
+/// How a writer stops, the error if it fails, and how the session ends then.
+const STOPS: &[(Stop, ErrorKind, LiveError)] = &[
+    (Stop::Fails, ErrorKind::BrokenPipe, LiveError::OutputClosed),
+    (Stop::Fails, ErrorKind::WriteZero, LiveError::CannotWrite),
+    (
+        Stop::TakesNothing,
+        ErrorKind::BrokenPipe,
+        LiveError::CannotWrite,
+    ),
+    (
+        Stop::FlushFails,
+        ErrorKind::BrokenPipe,
+        LiveError::OutputClosed,
+    ),
+    (
+        Stop::FlushFails,
+        ErrorKind::StorageFull,
+        LiveError::CannotWrite,
+    ),
+];
+
 /// Each text is written at once, and flushed at once: a writer that stops at its kth write or flush has the first
 /// texts, and a text whose flush fails is among them.
 #[test]
 fn writers(rt: HostRuntime) -> Result<(), Fail> {
-    for stop in [Stop::Fails, Stop::TakesNothing, Stop::FlushFails] {
+    for (stop, kind, error) in STOPS {
         for at in 1..6u32 {
-            let count = if stop == Stop::FlushFails { at } else { at - 1 };
-            let end = if at == 5 {
-                Ok(2)
+            let count = if *stop == Stop::FlushFails {
+                at
             } else {
-                Err(LiveError::CannotWrite)
+                at - 1
             };
+            let end = if at == 5 { Ok(2) } else { Err(*error) };
             let input = Input::new(SCRIPT, 1000);
-            expect_texts(&rt, input, stops_at(stop, at), count as usize, end)?;
+            expect_texts(&rt, input, stops_at(*stop, at, *kind), count as usize, end)?;
         }
+    }
+    Ok(())
+}
+
+/// A write or a flush that is interrupted is tried again: the session goes on as if it had not been.
+#[test]
+fn interrupted_writers(rt: HostRuntime) -> Result<(), Fail> {
+    for stop in [Stop::Fails, Stop::FlushFails] {
+        for at in 1..6u32 {
+            let stops = stops_at(stop, at, ErrorKind::Interrupted);
+            expect_texts(&rt, Input::new(SCRIPT, 1000), stops, TEXTS.len(), Ok(2))?;
+        }
+    }
+    Ok(())
+}
+
+/// A read that is interrupted is tried again.
+#[test]
+fn interrupted_readers(rt: HostRuntime) -> Result<(), Fail> {
+    for read in 1..62 {
+        let input = Input::failing(SCRIPT, 1, read, ErrorKind::Interrupted);
+        expect_texts(&rt, input, Stops::NEVER, TEXTS.len(), Ok(2))?;
     }
     Ok(())
 }

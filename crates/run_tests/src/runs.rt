@@ -123,6 +123,7 @@ fn expect_written(
 enum End {
     Whole,
     Failed,
+    Closed,
     Stopped,
     OutOfMemory,
 }
@@ -131,6 +132,7 @@ fn end_of(written: Result<(), WriteError>) -> End {
     match written {
         Ok(()) => End::Whole,
         Err(WriteError::Failed) => End::Failed,
+        Err(WriteError::Closed) => End::Closed,
         Err(WriteError::Stopped) => End::Stopped,
         Err(WriteError::OutOfMemory) => End::OutOfMemory,
     }
@@ -140,10 +142,12 @@ fn end_of(written: Result<(), WriteError>) -> End {
 const WRITERS: &[(ErrorKind, End)] = &[
     // the writer takes no byte
     (ErrorKind::BrokenPipe, End::Stopped),
-    (ErrorKind::BrokenPipe, End::Failed),
+    (ErrorKind::BrokenPipe, End::Closed),
     // a writer that has no memory counts as one that failed
     (ErrorKind::OutOfMemory, End::Failed),
     (ErrorKind::WriteZero, End::Failed),
+    // an interrupted write is tried again
+    (ErrorKind::Interrupted, End::Whole),
 ];
 
 const TEXT: &[u8] = b"search 1 version 1 lines 1\na.txt:1:hello world\n";
@@ -168,7 +172,7 @@ fn expect_stops(
             flush: 0,
             kind,
         };
-        let (taken, end) = if call == 0 || call > 16 {
+        let (taken, end) = if call == 0 || call > 16 || end == End::Whole {
             (TEXT, End::Whole)
         } else {
             (&TEXT[..3 * call as usize - 3], end)

@@ -6,13 +6,7 @@ use Rattle.std.proofs.Common.{suc, ◌<◌, get_or, drop-cons}
 use Rattle.std.proofs.lemmas.Grind.{flat_map-append}
 use Rattle.std.specs.Prelude.{flat_map}
 use Rattle.std.specs.Io.KnownBytes.{Appends, Keeps}
-use Rattle.tsearch.specs.Written.{AppendsFront}
-
--- a beginning of the text is written, and this rest is left
-pub record WrittenSoFar (old new : Option (List ℕ)) (text rest : List ℕ) : Type 0 where
-  pub front : List ℕ
-  pub whole : text ≡ front ++ rest
-  pub appended : Appends old new front
+use Rattle.tsearch.specs.Written.{AppendsAllBut, AppendsFront}
 
 pub appends_nothing : (known : Option (List ℕ)) → Appends known known []
 appends_nothing None = tt
@@ -30,25 +24,25 @@ appends_kept (Some s) None c x h k = absurd h
 appends_kept (Some s) (Some t) None x h k = absurd k
 appends_kept (Some s) (Some t) (Some u) x h k = k ∙ h
 
-pub written_none : (known : Option (List ℕ)) (text : List ℕ) → WrittenSoFar known known text text
+pub written_none : (known : Option (List ℕ)) (text : List ℕ) → AppendsAllBut known known text text
 written_none known text = record { front = []; whole = refl; appended = appends_nothing known }
 
-pub written_more : (a b c : Option (List ℕ)) (text rest : List ℕ) (count : ℕ) → WrittenSoFar a b text rest → Appends b c (take count rest)
-    → WrittenSoFar a c text (drop count rest)
+pub written_more : (a b c : Option (List ℕ)) (text rest : List ℕ) (count : ℕ) → AppendsAllBut a b text rest → Appends b c (take count rest)
+    → AppendsAllBut a c text (drop count rest)
 written_more a b c text rest count so_far more = record {
   front = so_far.front ++ take count rest;
   whole = so_far.whole ∙ ap (λ l. so_far.front ++ l) (sym (take-append-drop count rest)) ∙ sym (append_assoc so_far.front (take count rest) (drop count rest));
   appended = appends_both a b c so_far.front (take count rest) so_far.appended more;
 }
 
-pub written_all : (a b : Option (List ℕ)) (text rest : List ℕ) → rest ≡ [] → WrittenSoFar a b text rest → Appends a b text
+pub written_all : (a b : Option (List ℕ)) (text rest : List ℕ) → rest ≡ [] → AppendsAllBut a b text rest → Appends a b text
 written_all a b text rest none so_far = subst (Appends a b) (sym (so_far.whole ∙ ap (λ r. so_far.front ++ r) none ∙ append-nil so_far.front)) so_far.appended
 
-pub written_front : (a b c : Option (List ℕ)) (text rest : List ℕ) → WrittenSoFar a b text rest → Keeps b c → AppendsFront a c text
+pub written_front : (a b c : Option (List ℕ)) (text rest : List ℕ) → AppendsAllBut a b text rest → Keeps b c → AppendsFront a c text
 written_front a b c text rest so_far kept =
     record { front = so_far.front; rest = rest; whole = so_far.whole; appended = appends_kept a b c so_far.front so_far.appended kept }
 
-pub written_short : (a b c : Option (List ℕ)) (text rest : List ℕ) (count : ℕ) → WrittenSoFar a b text rest → Appends b c (take count rest)
+pub written_short : (a b c : Option (List ℕ)) (text rest : List ℕ) (count : ℕ) → AppendsAllBut a b text rest → Appends b c (take count rest)
     → AppendsFront a c text
 written_short a b c text rest count so_far more =
     let further = written_more a b c text rest count so_far more in
@@ -62,30 +56,52 @@ empty_by_length (b ∷ text) e = absurd (omega arith)
 pub rest_dropped : (text : List ℕ) (count : ℕ) → take (length text - count) (drop count text) ≡ drop count text
 rest_dropped text count = take_all (length text - count) (drop count text) (simp length-drop (omega arith))
 
--- The first pieces of a text, and a beginning of the next one.
-pub pieces_front : {X : Type 0} (piece : X → List ℕ) (items : List X) (i : ℕ) (a b : Option (List ℕ))
-    → Appends a b (flat_map piece (take i items)) → AppendsFront a b (flat_map piece items)
-pieces_front piece items i a b so_far = record {
-  front = flat_map piece (take i items);
-  rest = flat_map piece (drop i items);
-  whole = ap (flat_map piece) (sym (take-append-drop i items)) ∙ flat_map-append piece (take i items) (drop i items);
-  appended = so_far;
+-- a text of which all is written, and which is then emptied
+pub written_emptied : (a b : Option (List ℕ)) (text rest : List ℕ) → rest ≡ [] → Appends a b text → AppendsAllBut a b text rest
+written_emptied a b text rest none all = record { front = text; whole = sym (append-nil text) ∙ ap (λ r. text ++ r) (sym none); appended = all }
+
+-- more of what is held back is written
+pub held_less : (a b c : Option (List ℕ)) (all held held' : List ℕ) → AppendsAllBut a b all held → AppendsAllBut b c held held' → AppendsAllBut a c all held'
+held_less a b c all held held' so_far next = record {
+  front = so_far.front ++ next.front;
+  whole = so_far.whole ∙ ap (λ t. so_far.front ++ t) next.whole ∙ sym (append_assoc so_far.front next.front held');
+  appended = appends_both a b c so_far.front next.front so_far.appended next.appended;
 }
 
-pub pieces_more : {X : Type 0} (piece : X → List ℕ) (items : List X) (i : ℕ) (x : X) (a b c : Option (List ℕ)) (text : List ℕ)
-    → i < length items → x ≡ get_or items i x → text ≡ piece x → Appends a b (flat_map piece (take i items)) → AppendsFront b c text
-    → AppendsFront a c (flat_map piece items)
-pieces_more piece items i x a b c text inside is text_is so_far next =
-    let after : drop i items ≡ x ∷ drop (suc i) items = drop-cons items i x inside ∙ ap (λ y. y ∷ drop (suc i) items) (sym is) in
-    let rest : flat_map piece (drop i items) ≡ next.front ++ (next.rest ++ flat_map piece (drop (suc i) items)) =
-    ap (flat_map piece) after ∙ ap (λ t. t ++ flat_map piece (drop (suc i) items)) (sym text_is ∙ next.whole)
-    ∙ append_assoc next.front next.rest (flat_map piece (drop (suc i) items)) in
-    record {
-      front = flat_map piece (take i items) ++ next.front;
-      rest = next.rest ++ flat_map piece (drop (suc i) items);
-      whole =
-          ap (flat_map piece) (sym (take-append-drop i items)) ∙ flat_map-append piece (take i items) (drop i items)
-          ∙ ap (λ t. flat_map piece (take i items) ++ t) rest
-          ∙ sym (append_assoc (flat_map piece (take i items)) next.front (next.rest ++ flat_map piece (drop (suc i) items)));
-      appended = appends_both a b c (flat_map piece (take i items)) next.front so_far next.appended;
-    }
+-- the text and what is held back grow by the same bytes
+pub held_more : (a b : Option (List ℕ)) (all held more : List ℕ) → AppendsAllBut a b all held → AppendsAllBut a b (all ++ more) (held ++ more)
+held_more a b all held more so_far = record {
+  front = so_far.front;
+  whole = ap (λ t. t ++ more) so_far.whole ∙ append_assoc so_far.front held more;
+  appended = so_far.appended;
+}
+
+-- what was held back is written
+pub held_none : (a b c : Option (List ℕ)) (all held : List ℕ) → AppendsAllBut a b all held → Appends b c held → Appends a c all
+held_none a b c all held so_far last =
+    subst (Appends a c) (sym so_far.whole) (appends_both a b c so_far.front held so_far.appended last)
+
+-- or a beginning of it
+pub held_in_part : (a b c : Option (List ℕ)) (all held : List ℕ) → AppendsAllBut a b all held → AppendsFront b c held → AppendsFront a c all
+held_in_part a b c all held so_far last = record {
+  front = so_far.front ++ last.front;
+  rest = last.rest;
+  whole = so_far.whole ∙ ap (λ t. so_far.front ++ t) last.whole ∙ sym (append_assoc so_far.front last.front last.rest);
+  appended = appends_both a b c so_far.front last.front so_far.appended last.appended;
+}
+
+-- or nothing of it
+pub held_back : (a b : Option (List ℕ)) (all held : List ℕ) → AppendsAllBut a b all held → AppendsFront a b all
+held_back a b all held so_far = record { front = so_far.front; rest = held; whole = so_far.whole; appended = so_far.appended }
+
+-- a beginning of the text of the first items is one of the text of all
+pub front_of_more : {X : Type 0} (piece : X → List ℕ) (items : List X) (i : ℕ) (a b : Option (List ℕ))
+    → AppendsFront a b (flat_map piece (take i items)) → AppendsFront a b (flat_map piece items)
+front_of_more piece items i a b some = record {
+  front = some.front;
+  rest = some.rest ++ flat_map piece (drop i items);
+  whole =
+      ap (flat_map piece) (sym (take-append-drop i items)) ∙ flat_map-append piece (take i items) (drop i items)
+      ∙ ap (λ t. t ++ flat_map piece (drop i items)) some.whole ∙ append_assoc some.front some.rest (flat_map piece (drop i items));
+  appended = some.appended;
+}

@@ -8,3 +8,9 @@ pub record AppendsFront (old new : Option (List ℕ)) (text : List ℕ) : Type 0
   pub rest : List ℕ
   pub whole : text ≡ front ++ rest
   pub appended : Appends old new front
+
+-- known bytes grow by the text without this end of it, which is not written yet
+pub record AppendsAllBut (old new : Option (List ℕ)) (text rest : List ℕ) : Type 0 where
+  pub front : List ℕ
+  pub whole : text ≡ front ++ rest
+  pub appended : Appends old new front

@@ -19,7 +19,7 @@ mod texts;
 mod transcript;
 
 pub use lone::LoneRun;
-pub use output::{WriteError, write_transcript, write_whole};
+pub use output::{WriteError, flush_whole, write_transcript, write_whole};
 pub use readers::{Gate, Point};
 pub use run::{Options, RunError};
 pub use source::{Fault, Source};

@@ -7,6 +7,7 @@ ghost use Rattle.script.specs.Items.{numbered as numbered_item};
 ghost use Rattle.script.specs.Reading.{shown_item};
 ghost use Rattle.search.specs.Prepared.{pattern_of};
 ghost use Rattle.shared.specs.Desk.{desk_state};
+ghost use Rattle.shared.specs.declared.opening.TheConstants.{MAX_COMMANDS};
 ghost use Rattle.shared.specs.History.{known};
 ghost use Rattle.tsearch.specs.Lone.{LoneState, first_state, GoesOn, IsPutOn};
 ghost use Rattle.tsearch.specs.Rows.{searches_of};
@@ -54,10 +55,10 @@ impl Model for LoneRun {
 }
 
 impl LoneRun {
-    /// A run before its first item. It accepts at most `max_commands` commands, 1 to 1,000,000. `NoPlace` means that
+    /// A run before its first item. It accepts at most `max_commands` commands, 1 to 4,294,967,294. `NoPlace` means that
     /// reader 0 got no place, and `OutOfMemory` that memory ran out.
     pub fn open<R: Wait>(rt: &R, alloc: Global, max_commands: u32) -> Result<LoneRun, OpenError>
-        requires { (0 < max_commands) × (max_commands ≤ 1000000) }
+        requires { (0 < max_commands) × (max_commands ≤ MAX_COMMANDS) }
         ensures { IfOk result (λ run. run ≡ first_state max_commands) }
     {
         let (mut desk, readings) = open(rt, alloc, max_commands, 1)?;
@@ -114,7 +115,7 @@ impl LoneRun {
         entry_of(line, put_read(alloc, &mut self.desk, name, body))
     }
 
-    /// The entry that refuses a put of over 1,048,576 bytes, which were not kept: for its name, if that is not valid,
+    /// The entry that refuses a put of over `index::MAX_BODY` bytes, which were not kept: for its name, if that is not valid,
     /// and otherwise for its body. If memory runs out for the name, the entry says that.
     pub fn refuse_long_put(alloc: Global, line: u32, name: &[u8]) -> Entry
         ensures { (state : LoneState) (body : List ℕ) → greatest_body < length body → IsPutOn state name.now body line result state }

@@ -1,6 +1,7 @@
 //! Runs of scripts.
 
 ghost use Rattle.std.specs.Prelude.{◌≡◌, ℕ, ◌<◌, ◌≤◌, ◌↔◌, List, IfOk, IsErrOf, MatchBool, length};
+ghost use Rattle.shared.specs.declared.opening.TheConstants.{MAX_COMMANDS};
 ghost use Rattle.tsearch.specs.Legal.{IsLegal};
 ghost use Rattle.tsearch.specs.Private.Runs.{IsReady};
 
@@ -22,7 +23,7 @@ use thiserror::Error;
 pub struct Options {
     /// How many readers there are in addition to reader 0, each with a thread of its own, 0 to 16.
     pub readers: u32,
-    /// How many commands are accepted at most, 1 to 1,000,000.
+    /// How many commands are accepted at most, 1 to 4,294,967,294.
     pub max_commands: u32,
 }
 
@@ -68,7 +69,7 @@ pub fn run<R: Threads + Wait + Sync, S: Source + Drop, G: Gate>(
 ) -> Result<Transcript, RunError>
     requires readers { options.readers ≤ 16 }
     requires commands { 0 < options.max_commands }
-    requires few_commands { options.max_commands ≤ 1000000 }
+    requires few_commands { options.max_commands ≤ MAX_COMMANDS }
     ensures legal { IfOk result (λ transcript. IsLegal script.now options (S.holds source.old)
         (S.failed source.old) (S.failed source.new) transcript.entries.items) }
     ensures same { (path body : List ℕ) → (S.holds source.new path body → S.holds source.old path body)

@@ -1,7 +1,9 @@
+-- All is written of the text of the entries so far but what is held back.
 use Rattle.std.proofs.Common.{take}
-use Rattle.std.specs.Io.KnownBytes.{Appends}
 use Rattle.tsearch.specs.Transcript.{text_of_transcript}
+use Rattle.tsearch.specs.Written.{AppendsAllBut}
 use Rattle.tsearch.proofs.output.write_transcript.Given as goal
 
 abbrev pub invariant-loop-entry : goal.invariant-loop-entry
-invariant-loop-entry g l = Appends (g.W.Write.contents l.initial.out) (g.W.Write.contents l.out) (text_of_transcript l.stats (take l.entry-index l.entry-items))
+invariant-loop-entry g l =
+    AppendsAllBut (g.W.Write.contents l.initial.out) (g.W.Write.contents l.out) (text_of_transcript l.stats (take l.entry-index l.entry-items)) l.text.items
