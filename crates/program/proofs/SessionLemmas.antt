@@ -3,8 +3,13 @@ use Rattle.std.proofs.Common.{◌≡◌, ◌∙◌, ap, refl, subst, ℕ, List, 
 use Rattle.std.specs.Io.Buffered.{reader_buffer, reader_capacity, reader_inner, reader_remaining}
 use Rattle.std.specs.Io.KnownBytes.{prepend_known}
 use Rattle.std.specs.declared.io.buffered.BufReader.{BufReader}
-use Rattle.live.specs.Served.{IsServed}
+use Rattle.std.specs.Prelude.{Result, Ok, Err, IfErr}
+use Rattle.cli.specs.declared.arguments.Settings.{Settings}
+use Rattle.live.specs.Served.{IsBroken, IsServed}
 use Rattle.live.specs.declared.serving.LiveOptions.{LiveOptions}
+use Rattle.program.specs.Reads.{IsInputFrom, IsLoadFrom}
+use Rattle.program.specs.Response.{EndsOver, EndsSession, IsFaultOfSession, live_options_of, broken, ended}
+use Rattle.program.specs.declared.error.ProgramError.{ProgramError}
 
 nothing_before : (known : Option (List ℕ)) → prepend_known [] known ≡ known
 nothing_before None = refl
@@ -21,3 +26,18 @@ pub served_from : (options : LiveOptions) (Holds : List ℕ → List ℕ → Typ
     → (left : Option (List ℕ)) × IsServed options Holds failed failed' whole left old new status
 served_from options Holds failed failed' known whole left old new status same served =
     (left, subst (λ (input : Option (List ℕ)). IsServed options Holds failed failed' input left old new status) same served)
+
+module _ (opens : List ℕ → Option (List ℕ) → Type 0) (has_file : List ℕ → Type 0) (input : Option (List ℕ)) (failed failed' : ℕ)
+    (old new : Option (List ℕ)) where
+  pub broken_from : (settings : Settings) (known whole left : Option (List ℕ)) (e : ProgramError) → known ≡ whole → IsFaultOfSession e
+      → IsBroken (live_options_of settings) (IsLoadFrom opens has_file) failed failed' known left old new
+      → EndsOver opens has_file input failed failed' old new whole settings e
+  broken_from settings known whole left e same fault is =
+      broken left fault
+      (subst (λ (bytes : Option (List ℕ)). IsBroken (live_options_of settings) (IsLoadFrom opens has_file) failed failed' bytes left old new) same is)
+
+  pub session_ended : (settings : Settings) (all : Option (List ℕ)) (result : Result ℕ ProgramError) → IsInputFrom opens input settings.file all
+      → IfErr result (EndsOver opens has_file input failed failed' old new all settings)
+      → IfErr result (EndsSession opens has_file input failed failed' old new settings)
+  session_ended settings all (Ok status) is over = over
+  session_ended settings all (Err e) is over = ended all is over

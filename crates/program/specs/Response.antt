@@ -86,11 +86,17 @@ module _ (opens : List ℕ → Option (List ℕ) → Type 0) (has_file : List �
         → IsLegal script (options_of settings) (IsLoadFrom opens has_file) failed failed' entries
         → AppendsFront old new (text_of_transcript settings.stats entries) → EndsRun settings e
 
-  -- A session that ends with an error: its file was not opened, and nothing was written, or it ended early.
+  -- A session of which the input has these bytes, and which ends with an error: it did not begin, and nothing was written, or
+  -- it ended early.
+  pub data EndsOver (all : Option (List ℕ)) (settings : Settings) (e : ProgramError) : Type 0 where
+    not_begun : IsFaultOfInput e → Appends old new [] → EndsOver all settings e
+    broken : (left : Option (List ℕ)) → IsFaultOfSession e
+        → IsBroken (live_options_of settings) (IsLoadFrom opens has_file) failed failed' all left old new → EndsOver all settings e
+
+  -- A session that ends with an error: its file was not opened, and nothing was written, or it ended over its input.
   pub data EndsSession (settings : Settings) (e : ProgramError) : Type 0 where
     not_opened : IsFaultOfInput e → Appends old new [] → EndsSession settings e
-    broken : (all left : Option (List ℕ)) → IsFaultOfSession e → IsInputFrom opens input settings.file all
-        → IsBroken (live_options_of settings) (IsLoadFrom opens has_file) failed failed' all left old new → EndsSession settings e
+    ended : (all : Option (List ℕ)) → IsInputFrom opens input settings.file all → EndsOver all settings e → EndsSession settings e
 
   -- What the program does that ends with an error. Refused arguments write nothing, and the help and the version may be
   -- written in part.

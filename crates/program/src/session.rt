@@ -1,9 +1,9 @@
 //! A session, from a file or from standard input.
 
-ghost use Rattle.std.specs.Prelude.{ℕ, List, Option, IfOk, IfErr, OnErr};
+ghost use Rattle.std.specs.Prelude.{ℕ, List, Option, IfOk, IfErr};
 ghost use Rattle.cli.specs.CommandLine.{IsInLimits};
-ghost use Rattle.live.specs.Served.{IsBroken, IsServed};
-ghost use Rattle.program.specs.Response.{EndsSession, IsFaultOfSession, IsSessionOf, live_options_of};
+ghost use Rattle.live.specs.Served.{IsServed};
+ghost use Rattle.program.specs.Response.{EndsOver, EndsSession, IsFaultOfSession, IsSessionOf, live_options_of};
 ghost use Rattle.program.specs.Reads.{IsLoadFrom};
 
 use crate::disk::Disk;
@@ -60,10 +60,8 @@ fn serve_reader<R: Wait, D: Disk, I: Read + Drop, O: Write>(
     ensures served { IfOk result (λ status. (left : Option (List ℕ)) × IsServed (live_options_of settings.now)
         (IsLoadFrom (D.opens source.old.disk.now) (D.has_file source.old.disk.now)) source.old.failures source.new.failures
         (I.remaining input) left (O.contents out.old) (O.contents out.new) status) }
-    ensures broken { OnErr result ((left : Option (List ℕ)) × IsBroken (live_options_of settings.now)
-        (IsLoadFrom (D.opens source.old.disk.now) (D.has_file source.old.disk.now)) source.old.failures source.new.failures
-        (I.remaining input) left (O.contents out.old) (O.contents out.new)) }
-    ensures fault { IfErr result IsFaultOfSession }
+    ensures failed { IfErr result (EndsOver (D.opens source.old.disk.now) (D.has_file source.old.disk.now) (I.remaining input)
+        source.old.failures source.new.failures (O.contents out.old) (O.contents out.new) (I.remaining input) settings.now) }
 {
     let mut reader = match BufReader::with_capacity(alloc, INPUT_BUFFER, Noted::new(input)) {
         Ok(reader) => reader,

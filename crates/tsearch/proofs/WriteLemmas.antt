@@ -2,9 +2,10 @@
 use Rattle.std.proofs.Common.{◌≡◌, ℕ, List, [], ◌∷◌, ◌++◌, Option, Some, None, refl, sym, ap, ◌∙◌, length, take, drop, append_assoc, subst}
 use Rattle.std.proofs.Common.{◌-◌, arith, length-drop}
 use Rattle.std.proofs.lemmas.List.{append-nil, take-append-drop, take_all}
-use Rattle.std.proofs.Common.{suc, ◌<◌, get_or, drop-cons}
+use Rattle.std.proofs.Common.{suc, ◌+◌, ◌<◌, add-one, get_or}
+use Rattle.std.proofs.Math.Seq.{take-suc}
 use Rattle.std.proofs.lemmas.Grind.{flat_map-append}
-use Rattle.std.specs.Prelude.{flat_map}
+use Rattle.std.specs.Prelude.{flat_map, Result, Ok, Err, OnErr}
 use Rattle.std.specs.Io.KnownBytes.{Appends, Keeps}
 use Rattle.tsearch.specs.Written.{AppendsAllBut, AppendsFront}
 
@@ -105,3 +106,21 @@ front_of_more piece items i a b some = record {
       ∙ ap (λ t. t ++ flat_map piece (drop i items)) some.whole ∙ append_assoc some.front some.rest (flat_map piece (drop i items));
   appended = some.appended;
 }
+
+-- the text of the first items, and of one more
+text_of_one_more : {X : Type 0} (piece : X → List ℕ) (items : List X) (i : ℕ) (x : X) → i < length items → x ≡ get_or items i x
+    → flat_map piece (take (suc i) items) ≡ flat_map piece (take i items) ++ piece x
+text_of_one_more piece items i x inside is =
+    ap (flat_map piece) (take-suc items i x inside) ∙ flat_map-append piece (take i items) (get_or items i x ∷ [])
+    ∙ ap (λ t. flat_map piece (take i items) ++ t) (append-nil (piece (get_or items i x)) ∙ ap piece (sym is))
+
+-- the text of one more item is held back too
+pub held_with_next : {X : Type 0} (piece : X → List ℕ) (items : List X) (i : ℕ) (x : X) (a b : Option (List ℕ)) (held held' : List ℕ)
+    → i < length items → x ≡ get_or items i x → AppendsAllBut a b (flat_map piece (take i items)) held → held' ≡ held ++ piece x
+    → AppendsAllBut a b (flat_map piece (take (i + 1) items)) held'
+held_with_next piece items i x a b held held' inside is so_far grown =
+    rw (add-one, text_of_one_more piece items i x inside is, grown) (held_more a b (flat_map piece (take i items)) held (piece x) so_far)
+
+pub on_err_weaker : {A E P Q : Type 0} (result : Result A E) → (P → Q) → OnErr result P → OnErr result Q
+on_err_weaker (Ok a) weaker is = is
+on_err_weaker (Err e) weaker is = weaker is

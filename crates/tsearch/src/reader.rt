@@ -67,7 +67,7 @@ impl<'a> Reader<'a> {
         }
     }
 
-    // Starts a worker with the reading, if that is at rest.
+    /// Starts a worker with the reading, if that is at rest.
     fn start<'s, E, R: Wait + Sync, G: Gate>(
         &mut self,
         scope: &Scope<'s, E>,
@@ -89,7 +89,7 @@ impl<'a> Reader<'a> {
         }
     }
 
-    // Records that the reading is now with this worker.
+    /// Records that the reading is now with this worker.
     fn work_with(&mut self, worker: Worker<'a>)
         requires { self.old.reading ≡ None }
         ensures { (opening : Book) → worker.entry.before.opening ≡ opening → IsReader opening worker.entry.searches self.new }
@@ -111,7 +111,7 @@ impl<'a> Reader<'a> {
         self.next_given(told, number)
     }
 
-    // Waits until the reader's worker has ended, if it has one.
+    /// Waits until the reader's worker has ended, if it has one.
     fn rest<R: Threads>(&mut self, rt: &R)
         ensures opening { (opening : Book) → IsOf opening self.old → IsOf opening self.new }
         ensures reader { (opening : Book) (searches : List (Option PreparedValue)) → IsReader opening searches self.old → IsReader opening searches self.new }
@@ -122,7 +122,7 @@ impl<'a> Reader<'a> {
         self.keep(worker.join(rt));
     }
 
-    // Learns what was published last, and takes the next answer if it is for the search of this number.
+    /// Learns what was published last, and takes the next answer if it is for the search of this number.
     fn next_given(&mut self, told: &Told, number: u32) -> Option<Given>
         requires { IsOf told.now.opening self.old }
         ensures given { IfSome result (λ given. given.search ≡ number) }
@@ -140,7 +140,7 @@ impl<'a> Reader<'a> {
         }
     }
 
-    // Keeps the reading and the answers of a worker that has ended.
+    /// Keeps the reading and the answers of a worker that has ended.
     fn keep(&mut self, report: Report)
         ensures { (opening : Book) (searches : List (Option PreparedValue)) (before : Known) → before.opening ≡ opening → IsReport searches before report
             → IfSome self.old.worker (λ worker. (worker.searches ≡ searches) × (worker.before.opening ≡ opening)) → IsReader opening searches self.new }
