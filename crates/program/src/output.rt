@@ -15,6 +15,7 @@ use tsearch::{Transcript, WriteError, flush_whole, write_transcript, write_whole
 ///
 /// `OutOfMemory` means that memory ran out for an entry's text, `CannotWrite` that the output failed, and `OutputClosed`
 /// that nobody reads it any more. A beginning of the text is then written.
+#[tactic(auto, using(crate::proofs::OutputLemmas::written_and_kept, crate::proofs::OutputLemmas::whole_and_kept))]
 pub fn write_text<W: Write>(
     alloc: Global,
     transcript: &Transcript,
@@ -36,6 +37,7 @@ pub fn write_text<W: Write>(
 
 /// Writes a text, and flushes it. Returns the status, 0. `CannotWrite` means that the output failed, and `OutputClosed` that nobody reads it
 /// any more. A beginning of the text is then written.
+#[tactic(auto, using(crate::proofs::OutputLemmas::written_and_kept, crate::proofs::OutputLemmas::whole_and_kept))]
 pub fn show<W: Write>(text: &str, out: &mut W) -> Result<u8, ProgramError>
     ensures ok { IfOk result (λ status. (status ≡ 0) × Appends (W.contents out.old) (W.contents out.new) text.now) }
     ensures err { OnErr result (AppendsFront (W.contents out.old) (W.contents out.new) text.now) }

@@ -71,6 +71,7 @@ pub fn report<R: Eprint>(rt: &R, error: &ProgramError) -> u8
 }
 
 /// Does what the arguments ask for. Returns the status.
+#[tactic(auto, using(crate::proofs::OutputLemmas::nothing_written))]
 fn response<R: Threads + Wait + Sync, D: Disk, I: Read + Drop, O: Write>(
     rt: &R,
     alloc: Global,
@@ -103,6 +104,7 @@ impl Gate for Open {
 }
 
 /// Reads the script, runs it and writes its transcript, and returns the status of the run.
+#[tactic(auto, using(crate::proofs::OutputLemmas::nothing_written))]
 fn run_script<R: Threads + Wait + Sync, D: Disk, I: Read + Drop, O: Write>(
     rt: &R,
     alloc: Global,

@@ -24,6 +24,7 @@ const INPUT_BUFFER: usize = 65536;
 /// `CannotRead` means that the file cannot be opened, or that the reading fails, `OutOfMemory` that there was no memory
 /// for opening it or for the buffer, `OutputClosed` that nobody reads the output any more, and `Live` that the session
 /// ended early for another reason.
+#[tactic(auto, using(crate::proofs::OutputLemmas::nothing_written, crate::proofs::SessionLemmas::session_ended))]
 pub fn serve_session<R: Wait, D: Disk, I: Read + Drop, O: Write>(
     rt: &R,
     alloc: Global,
@@ -48,6 +49,7 @@ pub fn serve_session<R: Wait, D: Disk, I: Read + Drop, O: Write>(
 }
 
 /// Serves a session from a reader.
+#[tactic(auto, using(crate::proofs::OutputLemmas::nothing_written))]
 fn serve_reader<R: Wait, D: Disk, I: Read + Drop, O: Write>(
     rt: &R,
     alloc: Global,
