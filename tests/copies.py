@@ -4,8 +4,14 @@ import pathlib
 import shutil
 import subprocess
 import sys
+import time
 
 TOP = pathlib.Path(__file__).resolve().parent.parent
+sys.path.insert(0, str(TOP / "building"))
+
+from commands import CannotBuild  # noqa: E402
+from compiled import Compilation  # noqa: E402
+from toolchain import Unexpected  # noqa: E402
 
 
 def lines_of_crates():
@@ -39,16 +45,16 @@ def copy_crates(folder, names, own="", kept=False):
     subprocess.run(["git", "init", "-q", folder], check=True)
 
 
-def build_program(folder, name, uses, wanted):
-    """Builds the program tests/NAME.rt.txt over copies of these crates in a folder, and returns its path. `wanted` is what
-    it writes."""
-    copy_crates(folder, uses, name, kept=True)
-    own = pathlib.Path(folder, "crates", name)
+def build_program(folder, name, uses):
+    """Compiles the program tests/NAME.rt.txt, with checks and no optimisation, over copies of these crates in a folder, and returns its path."""
+    copy_crates(folder, uses, name)
+    top = pathlib.Path(folder).resolve()
+    own, room, program = top / "crates" / name, top / "room", top / name
     (own / "src").mkdir(parents=True)
+    room.mkdir()
     shutil.copy(TOP / "tests" / (name + ".rt.txt"), own / "src/main.rt")
-    (own / "stdout").write_bytes(wanted)
-    built = subprocess.run(["rt", "run"], cwd=own, capture_output=True, text=True, check=False)
-    program = own / "out" / name
-    if built.returncode != 0 or not program.exists():
-        sys.exit("tests/%s.py: the program is not built\n%s%s" % (name, built.stdout, built.stderr))
+    try:
+        Compilation(room, time.monotonic(), own, top, "-O0").build(program)
+    except (CannotBuild, Unexpected) as error:
+        sys.exit("tests/%s.py: the program is not built: %s" % (name, error))
     return program

@@ -5,9 +5,9 @@ The program, refused_calls.rt.txt, makes the calls of `index`, `search` and `sha
 say that memory ran out and nothing else, give back what it was given, and leave everything as it was; the same call must then do
 its work. The program writes the same text whatever is refused, unless something is wrong.
 
-The toolchain's tests cannot refuse a request, so this is not part of `rt ci`. `rt` proves and builds the program in a folder of
-its own, with what it keeps of crates that are proved already. A library of a few lines, which the command cc
-builds and which is loaded before the C library, counts the requests. The last line counts: N passed, M failed.
+The toolchain's tests cannot refuse a request, so this is not part of `rt ci`. The program is compiled with checks, as ./tsearch
+does it at its first call. A library of a few lines, which the command cc builds and which is loaded before the C library, counts
+the requests. The last line counts: N passed, M failed.
 
 Usage: tests/refused_calls.py [--every N]   With --every, only each Nth request is refused.
 """
@@ -45,7 +45,7 @@ def main():
     every = every.parse_args().every
     counted = Counted()
     with tempfile.TemporaryDirectory() as folder, concurrent.futures.ThreadPoolExecutor(os.cpu_count()) as pool:
-        program = copies.build_program(os.path.join(folder, "copy"), "refused_calls", USES, WANTED)
+        program = copies.build_program(os.path.join(folder, "copy"), "refused_calls", USES)
         subprocess.run(["cc", "-O2", "-shared", "-fPIC", "-x", "c", "-", "-o", os.path.join(folder, "counting.so")], input=COUNTING, text=True, check=True)
         _, requests = run(folder, program, 0)
         counted.judge(pool.map(lambda refused: fault_of(folder, program, refused), range(0, requests + 1, every)))

@@ -5,8 +5,8 @@ The built program's gate is open and reports nothing. So a small program over th
 no readers and with two. Its gate holds each search for a while at each point. After each run it waits for ten times as long, and
 reports whether the gate was called again. What the runs write is judged as in refused_runs.py.
 
-`rt` proves and builds the program in a folder of its own, in a few minutes, with what it keeps of crates that are proved already.
-So this is not part of ./test. The library of refused_memory.py, which the command cc builds, counts the requests.
+The program is compiled with checks, as ./tsearch does it at its first call. The library of refused_memory.py, which the command
+cc builds, counts the requests.
 
 Usage: tests/refused_workers.py [TIMES]   The last line counts: N passed, M failed.
 """
@@ -51,7 +51,7 @@ def main():
     times = int(sys.argv[1]) if len(sys.argv) > 1 else 3
     outcomes, counted = collections.Counter(), Counted()
     with tempfile.TemporaryDirectory() as folder:
-        program, library = copies.build_program(os.path.join(folder, "copy"), "refused_workers", ["tsearch"], WANTED), refused_runs.build(folder)
+        program, library = copies.build_program(os.path.join(folder, "copy"), "refused_workers", ["tsearch"]), refused_runs.build(folder)
         for _ in range(times):
             refused = count = 0
             while refused <= count:
