@@ -235,11 +235,7 @@ impl Index {
     }
 
     // The documents whose numbers are in the list: each is looked up, and then they are sorted by name.
-    fn few(
-        &self,
-        alloc: Global,
-        chosen: &posting::List,
-    ) -> Result<Vec<SharedDocument>, AllocError>
+    fn few(&self, alloc: Global, chosen: &posting::List) -> Result<Vec<SharedDocument>, AllocError>
         ensures { IfOk result (λ shared. IsInNameOrder (filter (λ d. has chosen.now.members d.number) self.now.documents)
             (documents_shared shared.items)) }
     {
@@ -267,11 +263,7 @@ impl Index {
     }
 
     // The documents whose numbers are in the list, found among all documents in the order of their names.
-    fn many(
-        &self,
-        alloc: Global,
-        chosen: &posting::List,
-    ) -> Result<Vec<SharedDocument>, AllocError>
+    fn many(&self, alloc: Global, chosen: &posting::List) -> Result<Vec<SharedDocument>, AllocError>
         ensures { IfOk result (λ shared. IsInNameOrder (filter (λ d. has chosen.now.members d.number) self.now.documents)
             (documents_shared shared.items)) }
     {

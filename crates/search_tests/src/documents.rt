@@ -418,12 +418,7 @@ fn names_rise(documents: &[SharedDocument]) -> bool {
 }
 
 /// Whether every `step`-th document comes out, this many of them, and in the order of their names.
-fn come_in_order(
-    alloc: Global,
-    index: &Index,
-    step: u8,
-    count: usize,
-) -> Result<bool, AllocError> {
+fn come_in_order(alloc: Global, index: &Index, step: u8, count: usize) -> Result<bool, AllocError> {
     let numbers = index.candidates(alloc, &one_of(alloc, step)?)?;
     let documents = index.chosen_documents(alloc, &numbers)?;
     Ok(documents.len() == count && names_rise(&documents))
