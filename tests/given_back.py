@@ -2,7 +2,7 @@
 """Loses documents in sessions of the built program (--live), and compares the memory before and after.
 
 A session has two copies of its documents, and a publish brings one of them up to date. So what was removed is gone from
-both after two publishes. Then most of the memory that the documents took must be given back.
+both after two publishes. Then most of the memory that the documents took must be given back, or used for others.
 
 Usage: tests/given_back.py [NAME..]   The last line counts: N passed, M failed.
 """
@@ -31,44 +31,60 @@ def words(source, count):
     return b" ".join(b"%x" % source.getrandbits(32) for _ in range(count)) + b"\n"
 
 
-def memory(session, script, number, lines):
-    """The session's memory after a script and two publishes, once search `number` has found so many lines."""
-    session.send(script + b"publish\npublish\nsearchin ^stays$ .\n")
-    head = session.read_line()
-    if not head.startswith(b"search %d version " % number) or not head.endswith(b" lines %d\n" % lines):
-        raise Wrong(f"search {number} is answered by {head!r}")
-    for _ in range(lines):
-        session.read_line()
-    return session.memory("VmRSS")
+class Documents:
+    """A session with documents that stay, `stays` among them, and others that come and go."""
 
+    def __init__(self, session, kept):
+        self.session, self.searches = session, 0
+        puts = [put(b"stays-%d" % number, body) for number, body in enumerate(kept)]
+        self.begin = self.memory(put(b"stays", b"who\n") + b"".join(puts))
 
-def lose(kept, lost):
-    """Puts a body that stays and others, which are then removed. Does so twice, and checks that memory is given back."""
-    puts = b"".join(put(b"%d" % number, body) for number, body in enumerate(lost))
-    # from the last one on, since a list is then short to walk
-    removes = b"".join(b"remove %d\n" % number for number in reversed(range(len(lost))))
-    with Session() as session:
-        begin = memory(session, put(b"stays", kept), 1, 1)
-        for number in (2, 4):
-            full = memory(session, puts, number, 1)
-            left = memory(session, removes, number + 1, 1)
-            if full - begin < 16 * MEBIBYTE:
-                raise Wrong(f"the documents take only {full - begin} bytes")
-            if left - begin > PART * (full - begin):
-                raise Wrong(f"{begin} bytes before the documents, {full} with them, and {left} when they are gone")
-        session.end(0)
+    def memory(self, script):
+        """The session's memory after a script and two publishes, once a search has been answered."""
+        self.searches += 1
+        self.session.send(script + b"publish\npublish\nsearchin ^stays$ .\n")
+        head = self.session.read_line()
+        if not head.startswith(b"search %d version " % self.searches) or not head.endswith(b" lines 1\n"):
+            raise Wrong(f"search {self.searches} is answered by {head!r}")
+        self.session.read_line()
+        return self.session.memory("VmRSS")
+
+    def come_and_go(self, bodies):
+        """The memory while documents with these bodies are there, and after they have been removed."""
+        names = [b"%d" % number for number in range(len(bodies))]
+        full = self.memory(b"".join(map(put, names, bodies)))
+        if full - self.begin < 16 * MEBIBYTE:
+            raise Wrong(f"the documents take only {full - self.begin} bytes")
+        # from the last one on, since their numbers are then at the ends of lists
+        return full, self.memory(b"".join(b"remove %s\n" % name for name in reversed(names)))
 
 
 def lists_of_many_trigrams():
-    """Each of nearly four million trigrams has a list, in both copies."""
+    """Each of nearly four million trigrams has a list, in both copies. They come and go twice."""
     source = random.Random(1)
-    lose(b"who\n", [random_body(source, MEBIBYTE) for _ in range(4)])
+    bodies = [random_body(source, MEBIBYTE) for _ in range(4)]
+    with Session() as session:
+        documents = Documents(session, [])
+        for _ in range(2):
+            full, left = documents.come_and_go(bodies)
+            if left - documents.begin > PART * (full - documents.begin):
+                raise Wrong(f"{documents.begin} bytes before the documents, {full} with them, and {left} when they are gone")
+        session.end(0)
 
 
 def lists_of_many_numbers():
-    """Each trigram of a text has 4,001 numbers, and then one."""
-    body = words(random.Random(2), 200)
-    lose(body, [body] * 4_000)
+    """The lists of one text after the other get 3,000 numbers and lose them. A document of each text stays.
+
+    What is given back is in many small pieces, so the system need not see it. But the next text's lists must use it.
+    """
+    source = random.Random(2)
+    texts = [words(source, 200) for _ in range(4)]
+    with Session() as session:
+        documents = Documents(session, texts)
+        first, *later = [documents.come_and_go([text] * 3_000)[0] for text in texts]
+        if later[-1] - first > PART * (first - documents.begin):
+            raise Wrong(f"{documents.begin} bytes before the documents, {first} with those of a text, and {later} with those of others")
+        session.end(0)
 
 
 TESTS = [lists_of_many_trigrams, lists_of_many_numbers]
