@@ -132,8 +132,8 @@ impl Postings {
 
     /// The numbers of `live` whose trigrams meet the query. The trigrams of a number are those whose sets have it.
     ///
-    /// The call goes down into the query. Each member that is in another one takes less than 1 KiB of stack (as LLVM
-    /// compiles it), so 1 MiB is enough for a query of 1,000 such levels.
+    /// Calls nest as deep as the query is high. By measurement each level takes at most 720 bytes of stack, so 2 MiB of
+    /// stack bear 2,900 levels.
     ///
     /// An `Err` means that memory ran out.
     pub fn select(&self, alloc: Global, query: &Query, live: &List) -> Result<List, AllocError>
