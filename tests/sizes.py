@@ -36,15 +36,15 @@ class Wrong(Exception):
 
 
 class Case:
-    """A script, the text that must be written for it, the ways in which it is run, and its status. Before the script come the
-    pieces, of which each read gives one byte."""
+    """A script, the text that must be written for it, the ways in which it is run, its status, and whether each read gives
+    one byte of the script."""
 
-    def __init__(self, script, wanted, ways, status=0, pieces=b""):
+    def __init__(self, script, wanted, ways, status=0, one_by_one=False):
         self.script = script
         self.wanted = wanted
         self.ways = ways
         self.status = status
-        self.pieces = pieces
+        self.one_by_one = one_by_one
 
 
 def put(name, body):
@@ -145,9 +145,9 @@ def lines_that_are_refused():
 
 def body_of_line_feeds():
     """Its lines are counted for the items after it, and as lines of a document."""
-    script = put(b"a", b"\n" * GREATEST_BODY) + b"what\npublish\nsearch .\nput b 70002\n" + b"\n" * 70_001 + b"x\npublish\nsearch x\nwhat\n"
+    script = put(b"a", b"\n" * GREATEST_BODY) + b"what\npublish\nsearch .\nsync\nput b 70002\n" + b"\n" * 70_001 + b"x\npublish\nsearch x\nwhat\n"
     wanted = b"line %d refused: bad line\n" % (GREATEST_BODY + 3) + answers(1, 1, []) + answers(1, 2, [b"b:70002:x"], 2)
-    wanted += b"line %d refused: bad line\n" % (GREATEST_BODY + 70_011)
+    wanted += b"line %d refused: bad line\n" % (GREATEST_BODY + 70_012)
     return Case(script, wanted, [ALONE, TWO_READERS, SESSION], 2)
 
 
@@ -160,19 +160,18 @@ def lines_of_an_answer():
 
 def reads_of_a_line():
     """A comment and an item that come in more than 2^20 reads each, and an item after them. A run reads its script in as many."""
-    line = b"#" + b"x" * OVER_20_BITS + b"\nsearch " + b"y" * OVER_20_BITS + b"\n"
+    script = b"#" + b"x" * OVER_20_BITS + b"\nsearch " + b"y" * OVER_20_BITS + b"\nsearch x\n"
     wanted = b"search 1 refused: pattern too long at 1024\nsearch 2 version 0 lines 0\n"
-    return Case(b"search x\n", wanted, [SESSION, ALONE], 2, line)
+    return Case(script, wanted, [SESSION, ALONE], 2, True)
 
 
 def reads_of_a_body():
     """The longest body and one that is too long, in one read for each byte, and items after them."""
     line = b"x" * 15 + b"\n"
     count = GREATEST_BODY // len(line)
-    pieces = put(b"a", line * count) + put(b"b", line * 70_000)
-    script = put(b"a", line) + b"publish\nsearch x{15}\n"
+    script = put(b"a", line * count) + put(b"b", line * 70_000) + put(b"a", line) + b"publish\nsearch x{15}\n"
     refused = b"line %d refused: body too long\n" % (count + 3)
-    return Case(script, refused + answers(1, 2, [b"a:1:" + line[:-1]]), [SESSION], 2, pieces)
+    return Case(script, refused + answers(1, 2, [b"a:1:" + line[:-1]]), [SESSION], 2, True)
 
 
 CASES = [
@@ -204,26 +203,24 @@ def difference(got, wanted):
     return f"at byte {at} of {len(got)} is {got[start : at + 80]!r}, and should be {wanted[start : at + 80]!r}"
 
 
-def send(descriptor, pieces, script):
-    """Sends each byte of the pieces by itself, and then the script."""
+def send(descriptor, script):
+    """Sends each byte of a script by itself."""
     try:
-        for at in range(len(pieces)):
-            os.write(descriptor, pieces[at : at + 1])
-        while script:
-            script = script[os.write(descriptor, script) :]
+        for at in range(len(script)):
+            os.write(descriptor, script[at : at + 1])
     except BrokenPipeError:
         pass  # the session has ended, which its status shows
     finally:
         os.close(descriptor)
 
 
-def run_in_pieces(case, words):
-    """Runs a session over a pipe on which no read gives more than one write."""
+def run_one_by_one(case, words):
+    """Runs a script that comes through a pipe on which no read gives more than one write."""
     taken, given = os.pipe2(os.O_DIRECT | os.O_CLOEXEC)
     fcntl.fcntl(given, fcntl.F_SETPIPE_SZ, 1_048_576)
     with subprocess.Popen([str(PROGRAM), *words], cwd=TOP, stdin=taken, stdout=subprocess.PIPE, stderr=subprocess.PIPE) as process:
         os.close(taken)
-        sender = threading.Thread(target=send, args=(given, case.pieces, case.script))
+        sender = threading.Thread(target=send, args=(given, case.script))
         sender.start()
         try:
             stdout, stderr = process.communicate(timeout=SECONDS)
@@ -246,7 +243,7 @@ def run_whole(case, words):
 def check(test, words, case):
     """What is wrong with a run of a case, or None."""
     try:
-        status, stdout, stderr = run_in_pieces(case, words) if case.pieces else run_whole(case, words)
+        status, stdout, stderr = run_one_by_one(case, words) if case.one_by_one else run_whole(case, words)
     except subprocess.TimeoutExpired:
         return f"did not end in {SECONDS} seconds"
     if stderr:
