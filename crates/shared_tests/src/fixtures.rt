@@ -1,6 +1,7 @@
 //! What several tests start from.
 
 ghost use Rattle.std.specs.Prelude.{◌≡◌, ◌<◌, ◌≤◌};
+ghost use Rattle.shared.specs.declared.opening.TheConstants.{MAX_COMMANDS};
 
 use readers::{Given, Prepared};
 use shared::{Body, Desk, Name, Reading, open};
@@ -13,7 +14,7 @@ pub(crate) type Row = (u32, u32, u32, usize);
 
 /// A desk for this many commands, and a reading.
 pub(crate) fn one_reading<R: Abort + Wait>(rt: &R, alloc: Global, commands: u32) -> (Desk, Reading)
-    requires { (0 < commands) × (commands ≤ 1000000) }
+    requires { (0 < commands) × (commands ≤ MAX_COMMANDS) }
 {
     let (desk, mut readings) = open(rt, alloc, commands, 1).ok().expect(rt, "an opening");
     let reading = readings.pop().expect(rt, "a reading");
@@ -26,7 +27,7 @@ pub(crate) fn two_readings<R: Abort + Wait>(
     alloc: Global,
     commands: u32,
 ) -> (Desk, (Reading, Reading))
-    requires { (0 < commands) × (commands ≤ 1000000) }
+    requires { (0 < commands) × (commands ≤ MAX_COMMANDS) }
 {
     let (desk, mut readings) = open(rt, alloc, commands, 2).ok().expect(rt, "an opening");
     let one = readings.pop().expect(rt, "a reading");
