@@ -19,7 +19,6 @@ METER = r"""//! One call for a tree or a query of this height.
 #![tactic(auto)]
 
 use ere::{ByteSet, Ere};
-use finder::Compiled;
 use matcher::{has_star_height, steps_of};
 use query::{Query, Trigram, copied, simplify};
 use std::alloc::{AllocError, Global};
@@ -60,9 +59,6 @@ fn with_tree(alloc: Global, kind: &[u8], call: &[u8], height: u32) -> Result<boo
     }
     if call == b"has_star_height".as_slice() {
         return Ok(has_star_height(&tree, 1_000_000_000));
-    }
-    if call == b"Compiled::new".as_slice() {
-        return Ok(Compiled::new(alloc, &tree)?.is_some());
     }
     Ok(true)
 }
@@ -124,9 +120,9 @@ fn query_of(alloc: Global, height: u32) -> Result<Query, AllocError> {
 """
 
 CALLS = {
-    "repeats": ["drop", "clone", "==", "within_limits", "steps_of", "has_star_height", "Compiled::new"],
-    "cats": ["drop", "clone", "==", "within_limits", "steps_of", "has_star_height", "Compiled::new"],
-    "alternatives": ["drop", "clone", "==", "within_limits", "steps_of", "has_star_height", "Compiled::new"],
+    "repeats": ["drop", "clone", "==", "within_limits", "steps_of", "has_star_height"],
+    "cats": ["drop", "clone", "==", "within_limits", "steps_of", "has_star_height"],
+    "alternatives": ["drop", "clone", "==", "within_limits", "steps_of", "has_star_height"],
     "query": ["drop", "clone", "==", "copied", "simplify"],
 }
 HEIGHTS = (2000, 6000)
@@ -159,7 +155,7 @@ def bytes_of_level(program, kind, call):
 def main():
     with tempfile.TemporaryDirectory() as folder:
         for i, root in enumerate(sys.argv[1:] or [trigrams.ROOT]):
-            programs = stack.build_both(root, os.path.join(folder, str(i)), METER, ["ere", "finder", "matcher", "query"])
+            programs = stack.build_both(root, os.path.join(folder, str(i)), METER, ["ere", "matcher", "query"])
             print("\n| tree | call | bytes of stack for a level |\n|---|---|---|")
             for kind, calls in CALLS.items():
                 for call in calls:
