@@ -125,7 +125,7 @@ CALLS = {
     "alternatives": ["drop", "clone", "==", "within_limits", "steps_of", "has_star_height"],
     "query": ["drop", "clone", "==", "copied", "simplify"],
 }
-HEIGHTS = (2000, 6000)
+HEIGHTS = (20000, 60000)
 
 
 def comes(program, kib, words):
