@@ -51,15 +51,19 @@ pub fn fault_of_script(alloc: Global, file: Option<&str>, error: &io::Error) -> 
     }
 }
 
-/// The name and the reason, as `a.script: No such file or directory`. The number that an error of the system has in its
-/// text is left out.
+/// The name and the reason, as `a.script: No such file or directory`.
 fn text_of_fault(alloc: Global, name: &str, error: &io::Error) -> Result<String, AllocError> {
     let text = format!(in alloc; "{error}")?;
-    let reason = match text.as_str().split_once(" (os error ") {
-        Some((reason, _)) => reason,
-        None => text.as_str(),
-    };
+    let reason = without_number(text.as_str());
     Ok(format!(in alloc; "{name}: {reason}")?)
+}
+
+/// The text of an error without the number that an error of the system has at its end.
+fn without_number(text: &str) -> &str {
+    match text.split_once(" (os error ") {
+        Some((reason, _)) => reason,
+        None => text,
+    }
 }
 
 /// A reader that keeps the error that it met last, so that it can be shown.
