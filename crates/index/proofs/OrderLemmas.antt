@@ -1,6 +1,6 @@
 -- The documents in the order of their names.
-use Rattle.std.proofs.Common.{◌≡◌, ℕ, zero, suc, ◌<◌, ◌==◌, ◌||◌, ◌⊎◌, inl, inr, Bool, true, false, cond, ◌++◌, List, [], ◌∷◌, map, length}
-use Rattle.std.proofs.Common.{get_or, Option, Some, None, Contains, refl, sym, ◌∙◌, ap, subst, arith, append_assoc}
+use Rattle.std.proofs.Common.{◌≡◌, ℕ, zero, suc, ◌<◌, ◌==◌, ◌||◌, ◌⊎◌, inl, inr, Bool, true, false, cond, List, [], ◌∷◌, map, length}
+use Rattle.std.proofs.Common.{get_or, Option, Some, None, Contains, refl, sym, ◌∙◌, ap, subst, arith}
 use Rattle.std.specs.Prelude.{slice_get, bytes_eq, filter}
 use Rattle.std.specs.List.{AllByRecursion}
 use Rattle.std.specs.declared.cmp.Ordering.TheVariants.{Less}
@@ -23,7 +23,7 @@ use Rattle.index.specs.Private.Sets.{AreSetsOf, trigrams_shown}
 use Rattle.index.specs.Private.Chosen.{numbered_document, document_numbered, documents_numbered}
 use Rattle.index.proofs.DocumentLemmas.{same_name, bytes_eq-refl}
 use Rattle.index.proofs.PutLemmas.{Contains-cons, Contains-head, Contains-tail, Contains-number_of}
-use Rattle.index.proofs.StoredLemmas.{Numbered, document_at-found_in, same_bool}
+use Rattle.index.proofs.StoredLemmas.{Numbered, same_bool}
 use Rattle.index.proofs.ApplyLemmas.{Named}
 
 -- ---- a document by its number and by its name
