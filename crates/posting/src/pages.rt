@@ -4,7 +4,7 @@ ghost use Rattle.std.specs.Prelude.{◌≡◌, ◌≢◌, ℕ, ◌+◌, ◌<◌,
 ghost use Rattle.std.specs.Vec.{vec_capacity};
 ghost use Rattle.posting.specs.ListValue.{HasRoom};
 ghost use Rattle.posting.specs.Postings.{no_numbers};
-ghost use Rattle.posting.specs.Private.Pages.{IsSound, HasSlot, set_in_slot, slot_of, trigram_count};
+ghost use Rattle.posting.specs.Private.Pages.{IsSound, HasSlot, few_lists, set_in_slot, slot_of, trigram_count};
 
 use crate::list::List;
 use query::Trigram;
@@ -12,6 +12,9 @@ use std::alloc::AllocError;
 
 /// How many trigrams have their slots on a page.
 const PAGE: usize = 1024;
+
+/// The room for this many lists is not given back.
+const FEW: usize = 4096;
 
 /// A list of numbers, and the trigram whose list it is.
 #[derive(Drop)]
@@ -110,21 +113,26 @@ pub(crate) fn drop_list(pages: &mut Vec<Vec<u32>>, lists: &mut Vec<Owned>, trigr
     }
 }
 
-/// Gives back memory that is not needed once less than a quarter of the room for lists is used: the rest of this room,
-/// and the pages without a list. If there is no list, no memory is kept. All sets stay as they are.
+/// Gives back memory once less than a quarter of the room for lists is used: the rest of this room, and the pages
+/// without a list. All sets stay as they are. While there is room for a few lists only, nothing is given back, so that
+/// what is put in and taken out in turn need not be made each time.
 ///
 /// What cannot be given back, since memory for a smaller copy is refused, is kept.
 pub(crate) fn give_back(pages: &mut Vec<Vec<u32>>, lists: &mut Vec<Owned>)
     requires { IsSound pages.old.items lists.old.items }
     ensures slots { (t : ℕ) → slot_of pages.new.items t ≡ slot_of pages.old.items t }
     ensures lists { lists.new.items ≡ lists.old.items }
-    ensures none { lists.old.items ≡ [] → (vec_capacity pages.new ≡ 0) × (vec_capacity lists.new ≡ 0) }
+    ensures none { lists.old.items ≡ [] → few_lists < vec_capacity lists.old
+        → (vec_capacity pages.new ≡ 0) × (vec_capacity lists.new ≡ 0) }
 {
+    let room = lists.capacity();
+    if room <= FEW || lists.len() >= room / 4 {
+        return;
+    }
+    lists.shrink_to_fit();
     if lists.is_empty() {
         *pages = Vec::new(*pages.allocator());
-        lists.shrink_to_fit();
-    } else if lists.len() < lists.capacity() / 4 {
-        lists.shrink_to_fit();
+    } else {
         free_pages(pages);
     }
 }

@@ -19,8 +19,8 @@ use std::marker::Model;
 ///
 /// A set takes memory only while it has a number or was prepared for one. A page for each 1,024 trigrams says
 /// where their sets are; all pages together take at most 64 MiB. `withdraw` gives memory back: that of a set that is
-/// empty afterwards, room of which less than a quarter is used, and with the room for sets also the pages that no set
-/// needs.
+/// empty afterwards, and room of which less than a quarter is used; with the room for sets, if it is for more than 4,096,
+/// also the pages that no set needs.
 ///
 /// Contracts see it as a table of sets by the trigrams' numbers. A set has its numbers, and room for some more:
 /// `prepare` makes the room, and `add` uses it.

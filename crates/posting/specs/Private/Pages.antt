@@ -15,6 +15,10 @@ trigram_count = 16777216
 abbrev pub page_size : ℕ
 page_size = 1024
 
+-- The room for more lists than this can be given back.
+abbrev pub few_lists : ℕ
+few_lists = 4096
+
 -- the slots of a page, none where there is no such page
 abbrev pub page_at : List (Vec ℕ Global) → ℕ → List ℕ
 page_at pages page = slice_index_or (map (λ p. p.items) pages) page []
