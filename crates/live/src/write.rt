@@ -6,9 +6,9 @@ ghost use Rattle.tsearch.specs.Transcript.{text_of_entry};
 ghost use Rattle.tsearch.specs.Written.{AppendsFront};
 
 use crate::error::{LiveError, of_writing};
+use index::MAX_BODY;
 use std::alloc::Global;
 use std::io::Write;
-use index::MAX_BODY;
 use tsearch::{Entry, append_entry, flush_whole, write_whole};
 
 /// A buffer of more bytes than this is freed once its text is written.
