@@ -17,10 +17,10 @@ use Rattle.search.specs.Pattern.{HasTree}
 use Rattle.tsearch.specs.declared.transcript.Entry.{Entry}
 use Rattle.tsearch.specs.declared.transcript.Entry.TheVariants.{Refused, SearchRefused}
 use Rattle.tsearch.specs.declared.transcript.SearchReason.TheVariants as search_reason
-use Rattle.tsearch.specs.Legal.{IsNamed, bad_name, no_memory, named, bad_body, with_body, full, accepted, IsPut, HasLoaded, loaded_body}
+use Rattle.tsearch.specs.Legal.{IsNamed, bad_name, no_memory, named, bad_body, with_body, full, accepted, IsPut, IsRemove, HasLoaded, loaded_body}
 use Rattle.tsearch.specs.Legal.{IsFailedTimes, Context, search_number, IsSearch, IsSearchIn}
 use Rattle.tsearch.specs.Legal as legal
-use Rattle.tsearch.specs.Private.Entries.{reason_of_name, reason_of_fault, reason_of_fault_of, HasBodyOrNoMemory, IsCounted}
+use Rattle.tsearch.specs.Private.Entries.{reason_of_name, reason_of_fault, reason_of_fault_of, HasBodyOrNoMemory, IsRemoveOrNoMemory, IsCounted}
 
 pub named_fault : (error : NameError) (bytes : List ℕ) (line : ℕ) (entry : Entry) (Else : Type 0) → IsNameFault error bytes
     → entry ≡ Refused line (reason_of_name error) → IsNamed bytes line entry Else
@@ -34,6 +34,11 @@ pub named_body : (most : ℕ) (state : State) (bytes bytes' : List ℕ) (line : 
     → HasBodyOrNoMemory most state bytes' line entry → IsPut most state bytes bytes' line entry
 named_body most state bytes bytes' line entry is (inl body_is) = named is body_is
 named_body most state bytes bytes' line entry is (inr ran_out) = no_memory is ran_out.2
+
+pub named_removed : (most : ℕ) (state : State) (bytes : List ℕ) (line : ℕ) (entry : Entry) → IsName bytes
+    → IsRemoveOrNoMemory most state bytes line entry → IsNamed bytes line entry (IsRemove most state bytes line entry)
+named_removed most state bytes line entry is (inl removed) = named is removed
+named_removed most state bytes line entry is (inr ran_out) = no_memory is ran_out.1
 
 pub named_loaded : (Holds : List ℕ → List ℕ → Type 0) (most : ℕ) (state : State) (bytes path bytes' : List ℕ) (line : ℕ) (entry : Entry)
     → IsName bytes → Holds path bytes' → HasBodyOrNoMemory most state bytes' line entry

@@ -9,7 +9,7 @@ ghost use Rattle.script.specs.Items.{numbered as numbered_item};
 ghost use Rattle.shared.specs.Desk.{DeskState, IsPutFault};
 ghost use Rattle.shared.specs.History.{known};
 ghost use Rattle.tsearch.specs.Legal.{IsPut, IsNamed, IsRemove};
-ghost use Rattle.tsearch.specs.Private.Entries.{reason_of_name, entry_of, published_entry_of, desk_after, HasBodyOrNoMemory, IsLoaded};
+ghost use Rattle.tsearch.specs.Private.Entries.{reason_of_name, entry_of, published_entry_of, desk_after, HasBodyOrNoMemory, IsRemoveOrNoMemory, IsLoaded};
 ghost use Rattle.tsearch.specs.Private.Items.{IsCarriedOut};
 
 use crate::source::{Fault, Source};
@@ -127,11 +127,18 @@ fn remove(alloc: Global, desk: &mut Desk, name: &[u8]) -> Result<u32, Reason>
         (IsRemove desk.old.limit (state_of desk.old.accepted) name.now line (entry_of line result)) }
     ensures desk { desk.new ≡ desk_after result (remove_command name.now ∷ []) desk.old }
 {
-    let name = match Name::new(alloc, name) {
-        Ok(name) => name,
-        Err(error) => return Err(reason_of_name(error)),
-    };
-    match desk.remove(&name) {
+    match Name::new(alloc, name) {
+        Ok(name) => remove_named(desk, &name),
+        Err(error) => Err(reason_of_name(error)),
+    }
+}
+
+/// Removes the document of this name.
+fn remove_named(desk: &mut Desk, name: &Name) -> Result<u32, Reason>
+    ensures entry { (line : ℕ) → IsRemoveOrNoMemory desk.old.limit (state_of desk.old.accepted) name.now line (entry_of line result) }
+    ensures desk { desk.new ≡ desk_after result (remove_command name.now ∷ []) desk.old }
+{
+    match desk.remove(name) {
         Ok(commands) => Ok(commands),
         Err(RemoveError::NoSuchFile) => Err(Reason::NoSuchFile),
         Err(RemoveError::Full) => Err(Reason::Full),

@@ -16,7 +16,7 @@ use Rattle.tsearch.specs.declared.transcript.Reason.{Reason}
 use Rattle.tsearch.specs.declared.transcript.Reason.TheVariants as reason
 use Rattle.tsearch.specs.declared.transcript.SearchReason.{SearchReason}
 use Rattle.tsearch.specs.declared.transcript.SearchReason.TheVariants as search_reason
-use Rattle.tsearch.specs.Legal.{IsRoomFor, HasBody, IsNamed, HasLoaded, IsFailedTimes, greatest_failures}
+use Rattle.tsearch.specs.Legal.{IsRoomFor, HasBody, IsRemove, IsNamed, HasLoaded, IsFailedTimes, greatest_failures}
 use Rattle.tsearch.specs.Rows.{command_of, failures_in}
 
 abbrev pub reason_of_name : NameError → Reason
@@ -56,6 +56,10 @@ IsAccepted most state line entry = IsRoomFor most state line entry ⊎ ((state.v
 -- The faults of a body come first, then the room.
 abbrev pub HasBodyOrNoMemory : ℕ → State → List ℕ → ℕ → Entry → Type 0
 HasBodyOrNoMemory most state body line entry = HasBody most state body line entry ⊎ (IsBody body × (state.version < most) × RanOut line entry)
+
+-- A remove needs a document of that name, and then room. If there is room, memory can run out.
+abbrev pub IsRemoveOrNoMemory : ℕ → State → List ℕ → ℕ → Entry → Type 0
+IsRemoveOrNoMemory most state name line entry = IsRemove most state name line entry ⊎ ((state.version < most) × RanOut line entry)
 
 -- A source's count rose by this number of failures, and no longer changes once it is the greatest.
 pub record IsCounted (failures failed failed' : ℕ) : Type 0 where
