@@ -204,7 +204,7 @@ def random_scripts():
 
 def main():
     if not PROGRAM.exists():
-        sys.exit("tests/check_transcripts.py: build the program first: ./tsearch --help")
+        sys.exit("tests/check_transcripts.py: build the program first: ./tsearch --prove")
     counted = Counted()
     for part, name in (judged_by_hand, "the judge"), (beginnings, "beginnings"), (random_scripts, "random scripts"):
         wrong, count = part()

@@ -194,7 +194,7 @@ def kind_of(pattern, repeated, ours, theirs, ignoring):
 
 def main():
     if not PROGRAM.exists():
-        sys.exit("tests/compare_with_grep.py: build the program first: ./tsearch --help")
+        sys.exit("tests/compare_with_grep.py: build the program first: ./tsearch --prove")
     options = argparse.ArgumentParser(description="Compares the program with grep -E.")
     options.add_argument("-i", "--ignore-case", action="store_true", help="compare isearch with grep -i")
     options.add_argument("--patterns", type=int, default=4000)

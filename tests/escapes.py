@@ -87,7 +87,7 @@ def fault_of_re_escape():
 
 def main():
     if not PROGRAM.exists():
-        sys.exit("tests/escapes.py: build the program first: ./tsearch --help")
+        sys.exit("tests/escapes.py: build the program first: ./tsearch --prove")
     counted = Counted()
     python, javascript = lines_of_page()
     found = texts()

@@ -92,7 +92,7 @@ TESTS = [lists_of_many_trigrams, lists_of_many_numbers]
 
 def main():
     if not PROGRAM.exists():
-        sys.exit("tests/given_back.py: build the program first: ./tsearch --help")
+        sys.exit("tests/given_back.py: build the program first: ./tsearch --prove")
     wanted = sys.argv[1:]
     missing = sorted(set(wanted) - {test.__name__ for test in TESTS})
     if missing:

@@ -532,7 +532,7 @@ def main():
     known = [row.growth for row in GROWTHS] + CHECKS
     missing = sorted(set(wanted) - {it.__name__ for it in known})
     if missing or not PROGRAM.exists():
-        sys.exit(f"tests/growth.py: no such name: {', '.join(missing)}" if missing else "tests/growth.py: build the program first: ./tsearch --help")
+        sys.exit(f"tests/growth.py: no such name: {', '.join(missing)}" if missing else "tests/growth.py: build the program first: ./tsearch --prove")
     counted = Counted()
     with tempfile.TemporaryDirectory() as folder, concurrent.futures.ThreadPoolExecutor(os.cpu_count()) as pool:
         runs = Runs(folder)

@@ -517,7 +517,7 @@ TESTS = [
 
 def main():
     if not PROGRAM.exists():
-        sys.exit("tests/live.py: build the program first: ./tsearch --help")
+        sys.exit("tests/live.py: build the program first: ./tsearch --prove")
     wanted = sys.argv[1:]
     missing = sorted(set(wanted) - {test.__name__ for test in TESTS})
     if missing:

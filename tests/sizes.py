@@ -265,7 +265,7 @@ def faults_of(test):
 
 def main():
     if not PROGRAM.exists():
-        sys.exit("tests/sizes.py: build the program first: ./tsearch --help")
+        sys.exit("tests/sizes.py: build the program first: ./tsearch --prove")
     wanted = sys.argv[1:]
     missing = sorted(set(wanted) - {test.__name__ for test in CASES})
     if missing:
