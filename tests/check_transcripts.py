@@ -53,9 +53,6 @@ CASES_ANSWERED = [
     b"search 4 version 2 lines 0\n",
 ]
 
-# The one file that exists outside a case's own folder.
-ENDLESS = {b"/dev/zero": bytes(transcripts.MAX_BODY + 1)}
-
 # The patterns of the judged tests/cases that are not plain, each with its spelling for `re` or the reason of its refusal.
 TABLE = {
     b"[[:upper:]]1": b"[A-Z]1",
@@ -152,7 +149,7 @@ def judged_by_hand():
         text = path.with_suffix(".stdout").read_bytes() if path.with_suffix(".stdout").exists() else b""
         status = int(path.with_suffix(".status").read_text()) if path.with_suffix(".status").exists() else 0
         try:
-            fault = transcripts.fault_of(path.read_bytes(), text, status, stats="--stats" in words, files=ENDLESS, table=TABLE)
+            fault = transcripts.fault_of(path.read_bytes(), text, status, stats="--stats" in words, table=TABLE)
         except transcripts.NotPlain:
             continue
         count += 1

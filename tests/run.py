@@ -235,7 +235,7 @@ def compare_examples(text):
 
 def compare_files(text):
     """Looks for each file that is named: by its path from the top, or by the end of it."""
-    folders = ["bench", "crates", "docs", "examples", "tests"]
+    folders = ["bench", "building", "crates", "docs", "examples", "tests"]
     paths = [path.relative_to(TOP).parts for folder in folders for path in (TOP / folder).rglob("*.*")]
     ends = {"/".join(parts[at:]) for parts in paths if "out" not in parts for at in range(len(parts))}
     missing = set(re.findall(r"`([\w/]+\.(?:rt|antt|py|md))`", text)) - ends
