@@ -235,7 +235,7 @@ def pair(items, text):
     return entries
 
 
-def check(script, text, readers=2, max_commands=65_536, stats=False, files=None, table=None, scarce=False):
+def check(script, text, readers=2, max_commands=1_000_000, stats=False, files=None, table=None, scarce=False):
     """Returns the status with which the run must end if the text is legal, and raises Illegal if it is not. `files` are the
     bytes by their paths, `table` the patterns that are not plain, each with the reason of its refusal or its spelling for `re`.
     Where memory is scarce, it may be refused to any item, and any reader may answer a search."""
