@@ -31,13 +31,13 @@ module _ (opens : List ℕ → Option (List ℕ) → Type 0) (has_file : List �
     (old new : Option (List ℕ)) where
   pub broken_from : (settings : Settings) (known whole left : Option (List ℕ)) (e : ProgramError) → known ≡ whole → IsFaultOfSession e
       → IsBroken (live_options_of settings) (IsLoadFrom opens has_file) failed failed' known left old new
-      → EndsOver opens has_file input failed failed' old new whole settings e
+      → EndsOver opens has_file failed failed' old new whole settings e
   broken_from settings known whole left e same fault is =
       broken left fault
       (subst (λ (bytes : Option (List ℕ)). IsBroken (live_options_of settings) (IsLoadFrom opens has_file) failed failed' bytes left old new) same is)
 
   pub session_ended : (settings : Settings) (all : Option (List ℕ)) (result : Result ℕ ProgramError) → IsInputFrom opens input settings.file all
-      → IfErr result (EndsOver opens has_file input failed failed' old new all settings)
+      → IfErr result (EndsOver opens has_file failed failed' old new all settings)
       → IfErr result (EndsSession opens has_file input failed failed' old new settings)
   session_ended settings all (Ok status) is over = over
   session_ended settings all (Err e) is over = ended all is over

@@ -50,6 +50,14 @@ IsFaultOfSession (error.Live fault) = ⊤
 IsFaultOfSession error.OutputClosed = ⊤
 IsFaultOfSession e = IsFaultOfInput e
 
+-- A session of which the input has these bytes, and which ends with an error: it did not begin, and nothing was written, or
+-- it ended early.
+pub data EndsOver (opens : List ℕ → Option (List ℕ) → Type 0) (has_file : List ℕ → Type 0) (failed failed' : ℕ) (old new : Option (List ℕ))
+    (all : Option (List ℕ)) (settings : Settings) (e : ProgramError) : Type 0 where
+  not_begun : IsFaultOfInput e → Appends old new [] → EndsOver opens has_file failed failed' old new all settings e
+  broken : (left : Option (List ℕ)) → IsFaultOfSession e
+      → IsBroken (live_options_of settings) (IsLoadFrom opens has_file) failed failed' all left old new → EndsOver opens has_file failed failed' old new all settings e
+
 -- opens: the bytes of the files. has_file: where regular files were seen. input: what standard input has left. failed,
 -- failed': how often files have failed, before and after. old, new: what has been written, before and after.
 module _ (opens : List ℕ → Option (List ℕ) → Type 0) (has_file : List ℕ → Type 0) (input : Option (List ℕ)) (failed failed' : ℕ)
@@ -86,17 +94,10 @@ module _ (opens : List ℕ → Option (List ℕ) → Type 0) (has_file : List �
         → IsLegal script (options_of settings) (IsLoadFrom opens has_file) failed failed' entries
         → AppendsFront old new (text_of_transcript settings.stats entries) → EndsRun settings e
 
-  -- A session of which the input has these bytes, and which ends with an error: it did not begin, and nothing was written, or
-  -- it ended early.
-  pub data EndsOver (all : Option (List ℕ)) (settings : Settings) (e : ProgramError) : Type 0 where
-    not_begun : IsFaultOfInput e → Appends old new [] → EndsOver all settings e
-    broken : (left : Option (List ℕ)) → IsFaultOfSession e
-        → IsBroken (live_options_of settings) (IsLoadFrom opens has_file) failed failed' all left old new → EndsOver all settings e
-
   -- A session that ends with an error: its file was not opened, and nothing was written, or it ended over its input.
   pub data EndsSession (settings : Settings) (e : ProgramError) : Type 0 where
     not_opened : IsFaultOfInput e → Appends old new [] → EndsSession settings e
-    ended : (all : Option (List ℕ)) → IsInputFrom opens input settings.file all → EndsOver all settings e → EndsSession settings e
+    ended : (all : Option (List ℕ)) → IsInputFrom opens input settings.file all → EndsOver opens has_file failed failed' old new all settings e → EndsSession settings e
 
   -- What the program does that ends with an error. Refused arguments write nothing, and the help and the version may be
   -- written in part.

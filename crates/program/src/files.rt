@@ -3,7 +3,7 @@
 ghost use Rattle.std.specs.Prelude.{◌≡◌, ◌≢◌, ◌≤◌, ◌<◌, ◌⊎◌, ◌^◌, ◌+◌, ◌-◌, IfOk, IsErrOf};
 ghost use Rattle.std.specs.IoError.{error_kind};
 ghost use Rattle.std.specs.Str.{IsUtf8};
-ghost use Rattle.program.specs.Reads.{IsLoadFrom};
+ghost use Rattle.program.specs.Reads.{IsLoadFrom, IsReadFrom};
 
 use crate::disk::{Disk, read_path};
 use index::MAX_BODY;
@@ -40,16 +40,26 @@ impl<'a, D: Disk> FileSource<'a, D> {
         let Ok(path) = str::from_utf8(path) else {
             return Err(Fault::Failed);
         };
-        match self.disk.is_file(path) {
-            Ok(true) => {}
-            Ok(false) => return Err(Fault::Failed),
-            Err(error) => return Err(fault_of_load(&error)),
-        }
-        let most = MAX_BODY as u64 + 1;
-        match read_path(alloc, self.disk, path, most) {
+        match read_regular(alloc, self.disk, path) {
             Ok(bytes) => Ok(bytes),
-            Err(error) => Err(fault_of_load(&error)),
+            Err(fault) => Err(fault),
         }
+    }
+}
+
+/// Reads the file at the path, at most one byte more than a body can have, if a regular file is there.
+fn read_regular<D: Disk>(alloc: Global, disk: &D, path: &str) -> Result<Vec<u8>, Fault>
+    ensures { IfOk result (λ bytes. D.has_file disk.now path.now × IsReadFrom (D.opens disk.now) path.now (MAX_BODY + 1) bytes.items) }
+{
+    match disk.is_file(path) {
+        Ok(true) => {}
+        Ok(false) => return Err(Fault::Failed),
+        Err(error) => return Err(fault_of_load(&error)),
+    }
+    let most = MAX_BODY as u64 + 1;
+    match read_path(alloc, disk, path, most) {
+        Ok(bytes) => Ok(bytes),
+        Err(error) => Err(fault_of_load(&error)),
     }
 }
 

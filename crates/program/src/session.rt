@@ -62,7 +62,7 @@ fn serve_reader<R: Wait, D: Disk, I: Read + Drop, O: Write>(
     ensures served { IfOk result (λ status. (left : Option (List ℕ)) × IsServed (live_options_of settings.now)
         (IsLoadFrom (D.opens source.old.disk.now) (D.has_file source.old.disk.now)) source.old.failures source.new.failures
         (I.remaining input) left (O.contents out.old) (O.contents out.new) status) }
-    ensures failed { IfErr result (EndsOver (D.opens source.old.disk.now) (D.has_file source.old.disk.now) (I.remaining input)
+    ensures failed { IfErr result (EndsOver (D.opens source.old.disk.now) (D.has_file source.old.disk.now)
         source.old.failures source.new.failures (O.contents out.old) (O.contents out.new) (I.remaining input) settings.now) }
 {
     let mut reader = match BufReader::with_capacity(alloc, INPUT_BUFFER, Noted::new(input)) {

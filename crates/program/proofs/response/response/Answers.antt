@@ -1,4 +1,7 @@
 use Rattle.program.proofs.ResponseLemmas.{help_fails, help_responds, run_fails, run_responds, session_fails, session_responds, version_fails, version_responds}
+use Rattle.std.proofs.Common.{refl}
+use Rattle.program.specs.Response.{refused}
+use Rattle.program.proofs.OutputLemmas.{nothing_written}
 use Rattle.program.proofs.response.response.Goals as goal
 
 pub returns-in-Ok-Run-clause-responded : goal.returns-in-Ok-Run-clause-responded
@@ -31,8 +34,11 @@ returns-in-Ok-Help-clause-failed g c =
 
 pub returns-in-Ok-Version-clause-responded : goal.returns-in-Ok-Version-clause-responded
 returns-in-Ok-Version-clause-responded g c =
-    version_responds _ _ _ _ _ _ _ _ c.show-2.result (rw c.in-Ok-Version.field-0-is at c.in-Ok-Version.ensures.request) c.show-2.ensures.ok
+    version_responds _ _ _ _ _ _ _ _ c.show-in-Ok-Version.result (rw c.in-Ok-Version.field-0-is at c.in-Ok-Version.ensures.request) c.show-in-Ok-Version.ensures.ok
 
 pub returns-in-Ok-Version-clause-failed : goal.returns-in-Ok-Version-clause-failed
 returns-in-Ok-Version-clause-failed g c =
-    version_fails _ _ _ _ _ _ _ _ c.show-2.result (rw c.in-Ok-Version.field-0-is at c.in-Ok-Version.ensures.request) c.show-2.ensures.fault c.show-2.ensures.err
+    version_fails _ _ _ _ _ _ _ _ c.show-in-Ok-Version.result (rw c.in-Ok-Version.field-0-is at c.in-Ok-Version.ensures.request) c.show-in-Ok-Version.ensures.fault c.show-in-Ok-Version.ensures.err
+
+pub returns-in-Err-clause-failed : goal.returns-in-Err-clause-failed
+returns-in-Err-clause-failed g c = refused c.in-Err.error refl c.in-Err.ensures.refused (nothing_written _)

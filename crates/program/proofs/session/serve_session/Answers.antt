@@ -1,0 +1,6 @@
+use Rattle.program.proofs.SessionLemmas.{session_ended}
+use Rattle.program.proofs.session.serve_session.Goals as goal
+
+pub returns-in-Ok-clause-failed : goal.returns-in-Ok-clause-failed
+returns-in-Ok-clause-failed g c =
+    session_ended _ _ _ _ _ _ _ c.args.settings.now _ c.serve_reader.result (rw c.in-Some.is c.in-Ok.ensures) c.serve_reader.ensures.failed
