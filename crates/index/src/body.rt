@@ -61,7 +61,7 @@ impl Body {
     }
 }
 
-// Why the bytes are not a body.
+/// Why the bytes are not a body.
 #[tactic(auto, unfolding(crate::specs::Text::IsBodyFault))]
 fn fault_of(bytes: &[u8]) -> Option<BodyErrorKind>
     ensures none { IfNone result (IsBody bytes.now) }
@@ -85,7 +85,7 @@ fn has_byte_0(bytes: &[u8]) -> bool
     memchr(0, bytes).is_some()
 }
 
-// Whether some line has over MAX_LINE bytes.
+/// Whether some line has over MAX_LINE bytes.
 fn has_long_line(bytes: &[u8]) -> bool
     ensures { result ≡ has_long_line bytes.now }
 {

@@ -41,7 +41,7 @@ const FEW: usize = 8;
 pub struct Index {
     // the number of commands
     version: u32,
-    // the number of each document, by its name
+    /// The number of each document, by its name.
     numbers: BTreeMap<Name, u32>,
     store: Store,
 }
@@ -89,7 +89,7 @@ impl Index {
         }
     }
 
-    // Applies the `Put` of this name and body. An `Err` hands them back.
+    /// Applies the `Put` of this name and body. An `Err` hands them back.
     fn put(&mut self, name: Name, body: Body) -> Result<(), ApplyError>
         requires { self.old.version + 1 < 2 ^ 32 }
         ensures ok { OnOk result (self.new ≡ applied (put_command name body) self.old) }
@@ -234,7 +234,7 @@ impl Index {
         }
     }
 
-    // The documents whose numbers are in the list: each is looked up, and then they are sorted by name.
+    /// The documents whose numbers are in the list: each is looked up, and then they are sorted by name.
     fn few(&self, alloc: Global, chosen: &posting::List) -> Result<Vec<SharedDocument>, AllocError>
         ensures { IfOk result (λ shared. IsInNameOrder (filter (λ d. has chosen.now.members d.number) self.now.documents)
             (documents_shared shared.items)) }
@@ -245,7 +245,7 @@ impl Index {
         Ok(shared)
     }
 
-    // The documents whose numbers are in the list, in the order of their numbers.
+    /// The documents whose numbers are in the list, in the order of their numbers.
     fn numbered(
         &self,
         alloc: Global,
@@ -262,7 +262,7 @@ impl Index {
         Ok(shared)
     }
 
-    // The documents whose numbers are in the list, found among all documents in the order of their names.
+    /// The documents whose numbers are in the list, found among all documents in the order of their names.
     fn many(&self, alloc: Global, chosen: &posting::List) -> Result<Vec<SharedDocument>, AllocError>
         ensures { IfOk result (λ shared. IsInNameOrder (filter (λ d. has chosen.now.members d.number) self.now.documents)
             (documents_shared shared.items)) }
@@ -277,7 +277,7 @@ impl Index {
         Ok(shared)
     }
 
-    // Adds the document with this number, if there is one.
+    /// Adds the document with this number, if there is one.
     fn add(&self, number: u32, shared: &mut Vec<SharedDocument>) -> Result<(), AllocError>
         ensures { OnOk result (documents_shared shared.new.items
             ≡ documents_shared shared.old.items ++ document_numbered self.now.documents number) }
@@ -293,7 +293,7 @@ impl Index {
     }
 }
 
-// The refusal of the `Put` of this name and body.
+/// The refusal of the `Put` of this name and body.
 fn refused(name: Name, body: Body, error: AllocError) -> ApplyError
     ensures { result.command ≡ put_command name body }
 {
@@ -303,7 +303,7 @@ fn refused(name: Name, body: Body, error: AllocError) -> ApplyError
     }
 }
 
-// Another handle to the name. If `numbers` has an equal name, the handle is to that one, so its memory is shared.
+/// Another handle to the name. If `numbers` has an equal name, the handle is to that one, so its memory is shared.
 fn shared_name(numbers: &BTreeMap<Name, u32>, name: &Name) -> Result<Name, AllocError>
     ensures { IfOk result (λ shared. shared ≡ name.now) }
 {
@@ -313,7 +313,7 @@ fn shared_name(numbers: &BTreeMap<Name, u32>, name: &Name) -> Result<Name, Alloc
     }
 }
 
-// Enters the number of a name. Returns the number that the name had before, if any.
+/// Enters the number of a name. Returns the number that the name had before, if any.
 fn enter(
     numbers: &mut BTreeMap<Name, u32>,
     name: &Name,
@@ -330,7 +330,7 @@ fn enter(
     Ok(numbers.insert(key, number)?)
 }
 
-// Undoes an `enter` that returned `gone`.
+/// Undoes an `enter` that returned `gone`.
 fn leave(numbers: &mut BTreeMap<Name, u32>, name: &Name, gone: Option<u32>)
     requires { IsSome (get (slice_cmp nat_cmp) numbers.old name.now) }
     ensures { (q : List ℕ) → get (slice_cmp nat_cmp) numbers.new q

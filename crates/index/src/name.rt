@@ -18,7 +18,7 @@ pub const MAX_NAME: usize = 255;
 /// Contracts see it as its bytes. Names are compared byte by byte, as unsigned numbers.
 #[derive(Debug, Drop)]
 pub struct Name {
-    // shared by all handles to the name, so that its bytes are in memory only once
+    /// Shared by all handles to the name, so that its bytes are in memory only once.
     bytes: ArcSlice<u8>,
 }
 
@@ -119,7 +119,7 @@ impl Name {
     }
 }
 
-// Why the bytes are not a name.
+/// Why the bytes are not a name.
 #[tactic(auto, unfolding(crate::specs::Text::IsNameFault))]
 fn fault_of(bytes: &[u8]) -> Option<NameError>
     ensures none { IfNone result (IsName bytes.now) }

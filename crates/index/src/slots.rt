@@ -81,7 +81,7 @@ pub(crate) fn give_back(slots: &mut Vec<Slot>)
     }
 }
 
-// The place of the slot with this number, if there is one.
+/// The place of the slot with this number, if there is one.
 fn place_of(slots: &[Slot], number: u32) -> Option<usize>
     requires { (last : ℕ) × RiseTo last slots.now }
     ensures some { IfSome result (λ place. (place < length slots.now)

@@ -96,7 +96,7 @@ impl Answer {
         }
     }
 
-    // Appends the text of the answer. An `Err` can leave a beginning of it in `out`.
+    /// Appends the text of the answer. An `Err` can leave a beginning of it in `out`.
     fn append_to(&self, search: u32, stats: bool, out: &mut Vec<u8>) -> Result<(), AllocError>
         ensures ok { OnOk result (out.new.items ≡ out.old.items ++ text_of_answer search stats self.now) }
         ensures err { OnErr result (Begins out.old.items out.new.items) }
@@ -105,7 +105,7 @@ impl Answer {
         append_hits(out, self.hits.as_slice())
     }
 
-    // Appends the line of the search. An `Err` can leave a beginning of it in `out`.
+    /// Appends the line of the search. An `Err` can leave a beginning of it in `out`.
     fn append_head(&self, search: u32, stats: bool, out: &mut Vec<u8>) -> Result<(), AllocError>
         ensures ok { OnOk result (out.new.items ≡ out.old.items ++ text_of_head search stats self.now) }
         ensures err { OnErr result (Begins out.old.items out.new.items) }
@@ -130,7 +130,7 @@ impl Answer {
         append_all(out, &[b"\n".as_slice()])
     }
 
-    // Appends the counts of documents.
+    /// Appends the counts of documents.
     fn append_stats(&self, out: &mut Vec<u8>) -> Result<(), AllocError>
         ensures ok { OnOk result (out.new.items ≡ out.old.items ++ text_of_stats self.now) }
         ensures err { OnErr result (out.new.items ≡ out.old.items) }
@@ -149,7 +149,7 @@ impl Answer {
     }
 }
 
-// Appends a line for each hit. An `Err` can leave some of them in `out`.
+/// Appends a line for each hit. An `Err` can leave some of them in `out`.
 fn append_hits(out: &mut Vec<u8>, hits: &[Hit]) -> Result<(), AllocError>
     ensures ok { OnOk result (out.new.items ≡ out.old.items ++ flat_map text_of_hit (hits_of hits.now)) }
     ensures err { OnErr result (Begins out.old.items out.new.items) }
@@ -160,7 +160,7 @@ fn append_hits(out: &mut Vec<u8>, hits: &[Hit]) -> Result<(), AllocError>
     Ok(())
 }
 
-// Appends the line of a hit.
+/// Appends the line of a hit.
 fn append_hit(out: &mut Vec<u8>, hit: &Hit) -> Result<(), AllocError>
     ensures ok { OnOk result (out.new.items ≡ out.old.items ++ text_of_hit (hit_of hit.now)) }
     ensures err { OnErr result (out.new.items ≡ out.old.items) }

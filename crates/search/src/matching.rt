@@ -43,8 +43,8 @@ pub fn scan_documents<W: Watch>(
     Ok(hits)
 }
 
-// Adds the lines with a match in the first few documents (see `few_documents`), looking at each line by itself.
-// Returns how many documents these are.
+/// Adds the lines with a match in the first few documents (see `few_documents`), looking at each line by itself.
+/// Returns how many documents these are.
 fn scan_few<W: Watch>(
     tree: &Ere,
     documents: &[SharedDocument],
@@ -62,8 +62,8 @@ fn scan_few<W: Watch>(
     Ok(few)
 }
 
-// How many documents, from the first on, are so small together that their lines are looked at one by one: 0 if the
-// tree has stars inside stars. No answer depends on it.
+/// How many documents, from the first on, are so small together that their lines are looked at one by one: 0 if the
+/// tree has stars inside stars. No answer depends on it.
 fn few_documents(tree: &Ere, documents: &[SharedDocument]) -> usize
     ensures { AreFew (form tree.now) documents.now result }
 {
@@ -81,15 +81,15 @@ fn few_documents(tree: &Ere, documents: &[SharedDocument]) -> usize
     documents.len()
 }
 
-// The length of the document's body, in bytes.
+/// The length of the document's body, in bytes.
 fn body_size(document: &SharedDocument) -> usize
     ensures { result ≡ length document.now.held }
 {
     document.held.body().as_bytes().len()
 }
 
-// Adds the lines with a match in these documents, by the compiled pattern if there is one. If there are no documents,
-// the pattern is not compiled.
+/// Adds the lines with a match in these documents, by the compiled pattern if there is one. If there are no documents,
+/// the pattern is not compiled.
 fn scan_compiled<W: Watch>(
     tree: &Ere,
     documents: &[SharedDocument],
@@ -109,7 +109,7 @@ fn scan_compiled<W: Watch>(
     scan_by(tree, &mut way, documents, hits, watch)
 }
 
-// Adds the lines with a match in these documents, by this way.
+/// Adds the lines with a match in these documents, by this way.
 fn scan_by<W: Watch>(
     tree: &Ere,
     way: &mut Way<'_>,
@@ -129,7 +129,7 @@ fn scan_by<W: Watch>(
     Ok(())
 }
 
-// Adds the lines with a match of one body.
+/// Adds the lines with a match of one body.
 fn scan_body(
     tree: &Ere,
     way: &mut Way<'_>,
@@ -150,7 +150,7 @@ fn scan_body(
     }
 }
 
-// Adds the lines with a match, looking for each in what is left after the one before.
+/// Adds the lines with a match, looking for each in what is left after the one before.
 fn sweep_lines(
     alloc: Global,
     finder: &mut Finder<'_>,
@@ -181,7 +181,7 @@ fn sweep_lines(
     Ok(())
 }
 
-// Adds the lines with a match, looking at each line by itself.
+/// Adds the lines with a match, looking at each line by itself.
 fn scan_lines(
     alloc: Global,
     tree: &Ere,
@@ -206,7 +206,7 @@ fn scan_lines(
     scan_line(alloc, tree, name, line, rest, hits)
 }
 
-// Adds a line if it contains a match.
+/// Adds a line if it contains a match.
 fn scan_line(
     alloc: Global,
     tree: &Ere,

@@ -30,7 +30,7 @@ pub(crate) fn named(
     }
 }
 
-// Those of the documents whose names contain a match of the tree.
+/// Those of the documents whose names contain a match of the tree.
 fn with_names(
     alloc: Global,
     tree: &Ere,
@@ -49,7 +49,7 @@ fn with_names(
     with_names_by(alloc, tree, &mut way, documents)
 }
 
-// The same by this way. A document whose name does not match is dropped.
+/// The same by this way. A document whose name does not match is dropped.
 fn with_names_by(
     alloc: Global,
     tree: &Ere,
@@ -69,7 +69,7 @@ fn with_names_by(
     Ok(kept)
 }
 
-// Whether the name, taken as a line, contains a match.
+/// Whether the name, taken as a line, contains a match.
 fn matches_name(tree: &Ere, way: &mut Way<'_>, name: &Name) -> bool
     requires limits { IsWithinLimits (form tree.now) }
     requires way { Finds (form tree.now) way.old }

@@ -118,7 +118,7 @@ impl Prepared {
     }
 }
 
-// The tree of a pattern, and the query of its condition.
+/// The tree of a pattern, and the query of its condition.
 fn analysed(alloc: Global, pattern: &[u8], case: Case) -> Result<(Ere, Query), EreError>
     ensures tree { IfOk result (λ both. IsTreeOf case pattern.now (form both.0)) }
     ensures limits { IfOk result (λ both. IsWithinLimits (form both.0)) }

@@ -37,7 +37,7 @@ fn publish_during_name_matching(rt: HostRuntime) {
     assert!(rt; are_given(&report.given, &[(1, 1, SLOW_NAMES + 1, 1)]));
 }
 
-// One search, for `x` in documents whose names match the slow pattern.
+/// One search, for `x` in documents whose names match the slow pattern.
 fn slow_search(alloc: Global) -> Option<Vec<Option<Prepared>>> {
     let search = Prepared::within(alloc, SLOW_PATTERN, b"x").ok()?;
     let mut searches = Vec::new(alloc);
@@ -52,7 +52,7 @@ fn put_slow_names(alloc: Global, desk: &mut Desk) -> Option<()> {
     Some(())
 }
 
-// The number, and then the start of a match that never ends.
+/// The number, and then the start of a match that never ends.
 fn slow_name(alloc: Global, number: u32) -> Option<Vec<u8>> {
     let text = format!(in alloc; "{number}x").ok()?;
     let mut name = Vec::from_slice(alloc, text.as_bytes()).ok()?;
@@ -62,7 +62,7 @@ fn slow_name(alloc: Global, number: u32) -> Option<Vec<u8>> {
     Some(name)
 }
 
-// Publishes many times, from when the worker is about to match. The report, if its search was not done after that.
+/// Publishes many times, from when the worker is about to match. The report, if its search was not done after that.
 fn report_beside<R: Threads + Wait + Sync>(
     rt: &R,
     alloc: Global,

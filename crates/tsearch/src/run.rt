@@ -147,7 +147,7 @@ fn in_scope<R: Threads + Wait + Sync, S: Source + Drop, G: Gate>(
     )
 }
 
-// A closure can keep only values that can be dropped, so the source is passed through it by value.
+/// A closure can keep only values that can be dropped, so the source is passed through it by value.
 fn scoped<R: Threads + Wait + Sync, S: Source + Drop, G: Gate>(
     plan: &Plan<'_, R, G>,
     desk: &mut Desk,
