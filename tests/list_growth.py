@@ -1,0 +1,99 @@
+#!/usr/bin/env python3
+"""Compares the work and the memory of each operation of the lists over sets of N and of 4N numbers.
+
+A small program over `posting`, list_growth.rt.txt, makes sets and carries out one operation on them. What it takes to make the sets
+is taken off. growth.py says how work and memory are counted. What is left may grow to 4.8 times, or to what the row says.
+
+The program is compiled with checks, as ./tsearch does it at its first call.
+
+Usage: tests/list_growth.py [--show]   The last line counts: N passed, M failed. --show prints all counts.
+"""
+
+import collections
+import concurrent.futures
+import os
+import re
+import subprocess
+import sys
+import tempfile
+
+import copies
+from counted import Counted
+from growth import COUNTING, LEVEL, MOST
+
+# An operation, the one that makes what it is carried out on, N, and to how many times its work and memory may grow.
+Row = collections.namedtuple("Row", "operation base n most", defaults=(MOST,))
+
+ROWS = [
+    Row("set", "nothing", 4_000),
+    Row("set numbers", "set", 4_000),
+    Row("set has", "set", 4_000),
+    Row("set lookup", "set", 4_000),
+    Row("set first removed", "set", 4_000),
+    Row("set middle removed", "set", 4_000),
+    Row("set last removed", "set", 4_000, LEVEL),
+    Row("set all removed from the end", "set", 4_000),
+    Row("two met", "two", 4_000),
+    Row("two joined", "two", 4_000),
+    Row("few met", "few", 4_000),
+    Row("few joined", "few", 4_000),
+    Row("trigrams kept", "trigrams", 4_000),
+    Row("trigrams with sets", "trigrams", 2_000),
+    Row("documents", "nothing", 500),
+    Row("documents withdrawn", "documents", 500),
+    Row("documents with all", "documents", 500),
+    Row("documents with some", "documents", 500),
+]
+
+# What is counted, and how much of it is so little that it does not matter how it grew.
+COUNTS = [("instructions", 50_000), ("requests for memory", 50), ("bytes requested", 65_536), ("bytes in use at once", 65_536)]
+
+
+def run(command, env=None):
+    done = subprocess.run(command, env=env, capture_output=True, text=True, timeout=300, check=False)
+    if done.returncode != 0 or not re.fullmatch(r"\d+\n", done.stdout):
+        sys.exit(f"tests/list_growth.py: {command[-2:]} ends with status {done.returncode}, {done.stdout!r}, {done.stderr[-300:]!r}")
+    return done.stderr
+
+
+def counts_of(program, library, operation, n):
+    """What a run takes: instructions, requests, bytes, and bytes in use at once."""
+    words = [str(program), operation, str(n)]
+    tool = ["valgrind", "--tool=cachegrind", "--cache-sim=no", "--cachegrind-out-file=/dev/null"]
+    instructions = re.search(r"I +refs: +([\d,]+)", run([*tool, *words]))[1].replace(",", "")
+    told = re.search(r"counts ([\d ]+)", run(words, dict(os.environ, LD_PRELOAD=library)))[1].split()
+    return [int(instructions), *map(int, told[:3])]
+
+
+def beyond(program, library, row, n):
+    """What the operation takes beyond the making of what it is carried out on."""
+    whole, base = (counts_of(program, library, operation, n) for operation in (row.operation, row.base))
+    return [more - less for more, less in zip(whole, base)]
+
+
+def faults_of(program, library, row, show):
+    """For each count of a row, what is wrong, or None."""
+    small, large = (beyond(program, library, row, n) for n in (row.n, 4 * row.n))
+    if show:
+        print(f"{row.operation:32} {small} {large}", flush=True)
+    faults = []
+    for (what, few), fewer, more in zip(COUNTS, small, large):
+        told = f"{row.operation}: {fewer} {what} with {row.n}, and {more} with {4 * row.n}"
+        faults.append(told if more > max(few, row.most * fewer) else None)
+    return faults
+
+
+def main():
+    counted = Counted()
+    with tempfile.TemporaryDirectory() as folder:
+        program = copies.build_program(os.path.join(folder, "copy"), "list_growth", ["query", "posting"])
+        library = os.path.join(folder, "counting.so")
+        subprocess.run(["cc", "-O2", "-shared", "-fPIC", "-x", "c", "-", "-o", library], input=COUNTING, text=True, check=True)
+        with concurrent.futures.ThreadPoolExecutor(os.cpu_count()) as pool:
+            for faults in pool.map(lambda row: faults_of(program, library, row, "--show" in sys.argv[1:]), ROWS):
+                counted.judge(faults)
+    counted.end()
+
+
+if __name__ == "__main__":
+    main()
