@@ -4,11 +4,11 @@
 //! or the version, or why they are refused. `clap` reads them.
 #![tactic(auto)]
 
-pub mod arguments;
-pub mod error;
-pub mod help;
-pub mod limits;
+mod arguments;
+mod error;
+mod help;
+mod limits;
 
-pub use arguments::{Request, Settings, read_arguments};
+pub use arguments::{Request, Settings, not_text, read_arguments};
 pub use error::ArgumentError;
 pub use help::{HELP, VERSION};

@@ -1,7 +1,6 @@
 //! Arguments, their settings, and the refusals.
 
-use cli::arguments::not_text;
-use cli::{ArgumentError, HELP, Request, Settings, VERSION, read_arguments};
+use cli::{ArgumentError, HELP, Request, Settings, VERSION, not_text, read_arguments};
 use std::alloc::Global;
 use std::process::Abort;
 use std::test::Fail;

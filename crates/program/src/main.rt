@@ -11,7 +11,7 @@ mod output;
 mod response;
 mod session;
 
-use cli::arguments::not_text;
+use cli::not_text;
 use disk::HostDisk;
 use error::ProgramError;
 use files::FileSource;

@@ -1,19 +1,20 @@
 //! Searches of an index: prepared patterns, answers, and the text of answers.
 #![tactic(auto)]
 
-pub mod answer;
-pub mod laws;
+mod answer;
+mod laws;
 mod matching;
 mod names;
-pub mod pattern;
-pub mod scan;
-pub mod taken;
+mod pattern;
+mod scan;
+mod taken;
 mod watch;
 mod way;
 
 pub use answer::{Answer, Hit, append_all};
 pub use ere::{EreError, EreErrorKind};
 pub use index::{Body, BodyError, BodyErrorKind, Command, Held, Index, Name, NameError};
+pub use laws::answers_follow_commands;
 pub use pattern::{Prepared, WithinError};
 pub use scan::{find, find_watched};
 pub use taken::{Taken, take};
