@@ -12,15 +12,15 @@ use Rattle.script.specs.Items.{Item, Numbered, numbered, ItemsFrom, done, IsItem
 use Rattle.stream.specs.declared.item.TakenItem.{TakenItem}
 use Rattle.stream.specs.Stream.{StreamState, IsItemOf, IsFault}
 use Rattle.stream.specs.Stream as streams
-use Rattle.tsearch.specs.declared.transcript.Entry.{Entry}
-use Rattle.tsearch.specs.declared.transcript.Entry.TheVariants.{Refused}
-use Rattle.tsearch.specs.declared.transcript.Reason.{Reason}
-use Rattle.tsearch.specs.declared.transcript.Reason.TheVariants as reason
+use Rattle.transcript.specs.declared.entry.Entry.{Entry}
+use Rattle.transcript.specs.declared.entry.Entry.TheVariants.{Refused}
+use Rattle.transcript.specs.declared.entry.Reason.{Reason}
+use Rattle.transcript.specs.declared.entry.Reason.TheVariants as reason
 use Rattle.tsearch.specs.Legal.{Context, IsEntryOf, HasEntry, IsLegalRow, IsLegal}
 use Rattle.tsearch.specs.Lone.{LoneState, first_state, AreSoFar, GoesOn, IsPutOn}
 use Rattle.tsearch.specs.Rows.{Row, items_of, entries_of, list_of}
-use Rattle.tsearch.specs.Transcript.{is_refusal, has_hit, text_of_entry, text_of_transcript}
-use Rattle.tsearch.specs.Written.{AppendsFront}
+use Rattle.transcript.specs.Transcript.{is_refusal, has_hit, text_of_entry, text_of_transcript}
+use Rattle.transcript.specs.Written.{AppendsFront}
 use Rattle.tsearch.proofs.LoneLemmas.{so_far_begins, so_far_held, put_goes_on}
 use Rattle.tsearch.proofs.RowLemmas.{items_of-append, entries_of-append}
 use Rattle.live.specs.declared.error.LiveError.{LiveError}

@@ -2,13 +2,13 @@
 use Rattle.std.specs.Prelude.{◌≡◌, ℕ, List, [], ◌∷◌, ◌++◌, Option, OnSome}
 use Rattle.std.specs.Io.KnownBytes.{Appends, Consumes, IsAtEnd}
 use Rattle.tsearch.specs.declared.run.Options.{Options}
-use Rattle.tsearch.specs.declared.transcript.Entry.{Entry}
-use Rattle.tsearch.specs.declared.transcript.Entry.TheVariants.{Refused}
-use Rattle.tsearch.specs.declared.transcript.Reason.{Reason}
-use Rattle.tsearch.specs.declared.transcript.Reason.TheVariants as reason
+use Rattle.transcript.specs.declared.entry.Entry.{Entry}
+use Rattle.transcript.specs.declared.entry.Entry.TheVariants.{Refused}
+use Rattle.transcript.specs.declared.entry.Reason.{Reason}
+use Rattle.transcript.specs.declared.entry.Reason.TheVariants as reason
 use Rattle.tsearch.specs.Legal.{IsLegal}
-use Rattle.tsearch.specs.Transcript.{status_of, text_of_transcript}
-use Rattle.tsearch.specs.Written.{AppendsFront}
+use Rattle.transcript.specs.Transcript.{status_of, text_of_transcript}
+use Rattle.transcript.specs.Written.{AppendsFront}
 use Rattle.live.specs.declared.serving.LiveOptions.{LiveOptions}
 
 -- a run with these options and no readers

@@ -5,7 +5,7 @@ ghost use Rattle.std.specs.Prelude.{◌≡◌};
 use shared::OpenError;
 use stream::StreamError;
 use thiserror::Error;
-use tsearch::WriteError;
+use transcript::WriteError;
 
 /// Why a session ends without a status.
 #[derive(Clone, Copy, Debug, PartialEq, Eq, Error)]

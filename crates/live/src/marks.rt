@@ -1,10 +1,10 @@
 //! What the entries of a session say of its status.
 
 ghost use Rattle.std.specs.Prelude.{◌≡◌, ◌||◌, if◌then◌else◌};
-ghost use Rattle.tsearch.specs.Transcript.{is_refusal, has_hit};
+ghost use Rattle.transcript.specs.Transcript.{is_refusal, has_hit};
 ghost use Rattle.live.specs.Private.Serving.{marks_with, status_by};
 
-use tsearch::{Entry, has_hit, is_refusal};
+use transcript::{Entry, has_hit, is_refusal};
 
 /// Whether any entry so far refuses something, and whether any has a hit.
 #[derive(Clone, Copy, Debug, PartialEq, Eq)]

@@ -23,7 +23,7 @@ pub struct LiveOptions {
 
 /// Serves a session: takes items from the input as they come, carries each one out, and writes its text, until the
 /// input ends or a fault ends the reading. Returns the status of the session: 2 if anything was refused, otherwise 0
-/// if some search has a hit, and otherwise 1, as `tsearch::status` does for a run.
+/// if some search has a hit, and otherwise 1, as `transcript::status` does for a run.
 ///
 /// All text that an item causes is written and flushed before a byte after the item is waited for, and no byte is
 /// waited for that the item does not need. Reader 0 answers each search at once; no threads are started. Neither

@@ -2,7 +2,7 @@
 
 ghost use Rattle.std.specs.Prelude.{◌≡◌, ℕ, ◌+◌, ◌<◌, ◌≤◌, ◌^◌, List, [], false, OnOk, OnErr};
 ghost use Rattle.std.specs.Io.KnownBytes.{Appends};
-ghost use Rattle.tsearch.specs.Written.{AppendsFront};
+ghost use Rattle.transcript.specs.Written.{AppendsFront};
 ghost use Rattle.script.specs.Items.{Item as ItemValue, numbered as numbered_item};
 ghost use Rattle.stream.specs.Stream.{Shows, stream_at};
 ghost use Rattle.tsearch.specs.Lone.{GoesOn};
@@ -16,7 +16,8 @@ use std::alloc::Global;
 use std::io::{BufRead, Write};
 use std::sync::Wait;
 use stream::{ItemStream, StreamItem, TakenItem};
-use tsearch::{Entry, LoneRun, Source};
+use transcript::Entry;
+use tsearch::{LoneRun, Source};
 
 /// What a session needs throughout.
 #[derive(Drop)]

@@ -2,14 +2,14 @@
 
 ghost use Rattle.std.specs.Prelude.{◌≡◌, OnOk, OnErr};
 ghost use Rattle.std.specs.Io.KnownBytes.{Appends};
-ghost use Rattle.tsearch.specs.Transcript.{text_of_entry};
-ghost use Rattle.tsearch.specs.Written.{AppendsFront};
+ghost use Rattle.transcript.specs.Transcript.{text_of_entry};
+ghost use Rattle.transcript.specs.Written.{AppendsFront};
 
 use crate::error::{LiveError, of_writing};
 use index::MAX_BODY;
 use std::alloc::Global;
 use std::io::Write;
-use tsearch::{Entry, append_entry, flush_whole, write_whole};
+use transcript::{Entry, append_entry, flush_whole, write_whole};
 
 /// A buffer of more bytes than this is freed once its text is written.
 const LARGE: usize = MAX_BODY;

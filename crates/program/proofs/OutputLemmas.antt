@@ -2,7 +2,7 @@
 use Rattle.std.proofs.Common.{sym, append-nil, List, [], ℕ, Option}
 use Rattle.std.specs.Io.KnownBytes.{Appends, Keeps}
 use Rattle.std.proofs.KnownBytes.{Appends-kept, Appends-nil}
-use Rattle.tsearch.specs.Written.{AppendsFront}
+use Rattle.transcript.specs.Written.{AppendsFront}
 
 -- bytes that were written stay written after a flush
 pub written_and_kept : (a b c : Option (List ℕ)) (bs : List ℕ) → Appends a b bs → Keeps b c → Appends a c bs

@@ -5,7 +5,7 @@ use Rattle.std.specs.Io.KnownBytes.{Appends}
 use Rattle.cli.specs.CommandLine.{AreRefused, AskForHelp, AskForVersion, SpellSettings}
 use Rattle.cli.specs.declared.arguments.Settings.{Settings}
 use Rattle.cli.specs.declared.help.TheConstants.{HELP, VERSION}
-use Rattle.tsearch.specs.Written.{AppendsFront}
+use Rattle.transcript.specs.Written.{AppendsFront}
 use Rattle.program.specs.Response.{EndsRun, EndsSession, IsFailure, IsFaultOfOutput, IsResponse, IsRunOf, IsSessionOf}
 use Rattle.program.specs.Response.{helped, not_helped, not_ran, not_served, not_versioned, ran, served, versioned}
 use Rattle.program.specs.declared.error.ProgramError.{ProgramError}

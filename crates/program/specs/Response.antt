@@ -8,10 +8,10 @@ use Rattle.cli.specs.declared.help.TheConstants.{HELP, VERSION}
 use Rattle.live.specs.Served.{IsBroken, IsServed}
 use Rattle.live.specs.declared.serving.LiveOptions.{LiveOptions}
 use Rattle.tsearch.specs.Legal.{IsLegal}
-use Rattle.tsearch.specs.Transcript.{status_of, text_of_transcript}
-use Rattle.tsearch.specs.Written.{AppendsFront}
+use Rattle.transcript.specs.Transcript.{status_of, text_of_transcript}
+use Rattle.transcript.specs.Written.{AppendsFront}
 use Rattle.tsearch.specs.declared.run.Options.{Options}
-use Rattle.tsearch.specs.declared.transcript.Entry.{Entry}
+use Rattle.transcript.specs.declared.entry.Entry.{Entry}
 use Rattle.program.specs.Reads.{IsInputFrom, IsLoadFrom, IsScriptFrom}
 use Rattle.program.specs.declared.error.ProgramError.{ProgramError}
 use Rattle.program.specs.declared.error.ProgramError.TheVariants as error

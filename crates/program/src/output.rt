@@ -2,14 +2,14 @@
 
 ghost use Rattle.std.specs.Prelude.{◌≡◌, ◌≢◌, IfOk, IfErr, OnOk, OnErr};
 ghost use Rattle.std.specs.Io.KnownBytes.{Appends};
-ghost use Rattle.tsearch.specs.Transcript.{text_of_transcript};
-ghost use Rattle.tsearch.specs.Written.{AppendsFront};
+ghost use Rattle.transcript.specs.Transcript.{text_of_transcript};
+ghost use Rattle.transcript.specs.Written.{AppendsFront};
 ghost use Rattle.program.specs.Response.{IsFaultOfOutput, IsFaultOfText};
 
 use crate::error::ProgramError;
 use std::alloc::Global;
 use std::io::Write;
-use tsearch::{Transcript, WriteError, flush_whole, write_transcript, write_whole};
+use transcript::{Transcript, WriteError, flush_whole, write_transcript, write_whole};
 
 /// Writes the text of a transcript, and flushes it.
 ///

@@ -16,6 +16,7 @@ use std::io::{Read, Write};
 use std::mem::forget;
 use std::sync::Wait;
 use std::thread::Threads;
+use transcript::status;
 use tsearch::run::run;
 use tsearch::{Gate, Options, Point};
 
@@ -132,7 +133,7 @@ fn run_script<R: Threads + Wait + Sync, D: Disk, I: Read + Drop, O: Write>(
         Err(error) => return Err(ProgramError::Run(error)),
     };
     let written = write_text(alloc, &transcript, settings.stats, out);
-    let status = tsearch::status(&transcript);
+    let status = status(&transcript);
     // The process ends next, which frees its memory at once: freeing each hit of the answers would take about as long
     // as writing it.
     forget(transcript);

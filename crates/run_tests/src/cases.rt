@@ -7,8 +7,9 @@ use std::process::Abort;
 use std::sync::Wait;
 use std::test::Fail;
 use std::thread::Threads;
+use transcript::{Entry, Transcript, status, write_transcript};
+use tsearch::Options;
 use tsearch::run::run;
-use tsearch::{Entry, Options, Transcript, status, write_transcript};
 
 /// A script, how it is run, and its outcome.
 #[derive(Clone, Copy)]

@@ -9,7 +9,8 @@ use std::alloc::Global;
 use std::io::ErrorKind;
 use std::process::Abort;
 use std::test::Fail;
-use tsearch::{Source, Transcript, WriteError, write_transcript};
+use transcript::{Transcript, WriteError, write_transcript};
+use tsearch::Source;
 
 /// 121 loads, the first of a body of 600,000 bytes. All succeed, and the source counts no failure.
 #[test]

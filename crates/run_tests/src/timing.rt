@@ -10,7 +10,8 @@ use std::process::Abort;
 use std::sync::Wait;
 use std::test::Fail;
 use std::thread::Threads;
-use tsearch::{Entry, Point};
+use transcript::Entry;
+use tsearch::Point;
 
 /// Two readers are at work at once: search 1 begins when search 2 is done. A run that answers one search after the
 /// other never gets that far.

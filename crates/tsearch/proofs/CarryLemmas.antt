@@ -8,10 +8,10 @@ use Rattle.index.specs.declared.command.Command.TheVariants.{Put, Remove}
 use Rattle.script.specs.Items as item
 use Rattle.shared.specs.Desk.{DeskState}
 use Rattle.shared.specs.History.{Known, known}
-use Rattle.tsearch.specs.declared.transcript.Entry.{Entry}
-use Rattle.tsearch.specs.declared.transcript.Entry.TheVariants.{Refused, Published}
-use Rattle.tsearch.specs.declared.transcript.Reason.{Reason}
-use Rattle.tsearch.specs.declared.transcript.Reason.TheVariants as reason
+use Rattle.transcript.specs.declared.entry.Entry.{Entry}
+use Rattle.transcript.specs.declared.entry.Entry.TheVariants.{Refused, Published}
+use Rattle.transcript.specs.declared.entry.Reason.{Reason}
+use Rattle.transcript.specs.declared.entry.Reason.TheVariants as reason
 use Rattle.tsearch.specs.Legal.{IsNamed, bad_name, no_memory, named, HasBody, bad_body, with_body, IsRoomFor, full, accepted, IsPut}
 use Rattle.tsearch.specs.Legal.{HasLoaded, IsRemove, no_such_file, is_there}
 use Rattle.tsearch.specs.Legal as legal

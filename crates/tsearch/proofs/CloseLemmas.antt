@@ -14,7 +14,7 @@ use Rattle.search.specs.declared.pattern.Prepared.{Prepared}
 use Rattle.search.specs.Prepared.{pattern_of}
 use Rattle.search.specs.Scan.{Answer, IsAnswerOf}
 use Rattle.tsearch.specs.declared.settled.Last.{Last}
-use Rattle.tsearch.specs.declared.transcript.Entry.TheVariants.{Found}
+use Rattle.transcript.specs.declared.entry.Entry.TheVariants.{Found}
 use Rattle.tsearch.specs.Private.Tallies.{last, last_of, IsUseful, CanStand, IsClosed, found}
 
 -- a version that a binary search finds is in the list

@@ -4,7 +4,7 @@ use Rattle.script.specs.Items.{Numbered}
 use Rattle.shared.specs.Desk.{DeskState}
 use Rattle.shared.specs.History.{Known}
 use Rattle.tsearch.specs.declared.progress.Progress.{Progress}
-use Rattle.tsearch.specs.declared.transcript.Entry.{Entry}
+use Rattle.transcript.specs.declared.entry.Entry.{Entry}
 use Rattle.tsearch.specs.Private.Items.{Tells}
 use Rattle.tsearch.specs.Private.Items as items
 use Rattle.search.specs.declared.pattern.Prepared.{Prepared}

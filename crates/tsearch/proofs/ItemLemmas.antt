@@ -14,9 +14,9 @@ use Rattle.std.proofs.Common.{length, ◌^◌}
 use Rattle.tsearch.specs.Rows.{failures_in}
 use Rattle.index.specs.Text.{greatest_body, IsName, IsNameFault, IsBodyFault}
 use Rattle.search.specs.Pattern.{HasTree}
-use Rattle.tsearch.specs.declared.transcript.Entry.{Entry}
-use Rattle.tsearch.specs.declared.transcript.Entry.TheVariants.{Refused, SearchRefused}
-use Rattle.tsearch.specs.declared.transcript.SearchReason.TheVariants as search_reason
+use Rattle.transcript.specs.declared.entry.Entry.{Entry}
+use Rattle.transcript.specs.declared.entry.Entry.TheVariants.{Refused, SearchRefused}
+use Rattle.transcript.specs.declared.entry.SearchReason.TheVariants as search_reason
 use Rattle.tsearch.specs.Legal.{IsNamed, bad_name, no_memory, named, bad_body, with_body, full, accepted, IsPut, IsRemove, HasLoaded, loaded_body}
 use Rattle.tsearch.specs.Legal.{IsFailedTimes, Context, search_number, IsSearch, IsSearchIn}
 use Rattle.tsearch.specs.Legal as legal

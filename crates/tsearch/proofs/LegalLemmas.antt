@@ -11,10 +11,10 @@ use Rattle.search.specs.Prepared.{pattern_of}
 use Rattle.search.specs.Scan.{Answer, IsAnswerOf}
 use Rattle.index.specs.State.{State, state_of}
 use Rattle.script.specs.Items.{Item, put, load, remove, publish, search, search_in, sync, bad_line, bad_put, truncated, body_not_closed}
-use Rattle.tsearch.specs.declared.transcript.Entry.{Entry}
-use Rattle.tsearch.specs.declared.transcript.Entry.TheVariants.{Found, SearchRefused}
-use Rattle.tsearch.specs.declared.transcript.SearchReason.{SearchReason}
-use Rattle.tsearch.specs.declared.transcript.SearchReason.TheVariants as search_reason
+use Rattle.transcript.specs.declared.entry.Entry.{Entry}
+use Rattle.transcript.specs.declared.entry.Entry.TheVariants.{Found, SearchRefused}
+use Rattle.transcript.specs.declared.entry.SearchReason.{SearchReason}
+use Rattle.transcript.specs.declared.entry.SearchReason.TheVariants as search_reason
 use Rattle.tsearch.specs.Rows.{Row, commands_of, published_in, published_last, is_sync, before_sync, searches_of, count_searches}
 use Rattle.tsearch.specs.Legal.{Context, all_rows, search_number, IsEntryOf, HasEntry, IsLegalRow, IsNamed, bad_name, no_memory, named}
 use Rattle.tsearch.specs.Legal.{HasLoaded, loaded_body, IsAnswered, newest_allowed, IsSearched, IsSearch, IsSearchIn}

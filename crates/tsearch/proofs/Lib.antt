@@ -11,5 +11,4 @@ pub mod RunLemmas
 pub mod LoopLemmas
 pub mod DriveLemmas
 pub mod ProgressLemmas
-pub mod WriteLemmas
 pub mod LoneLemmas

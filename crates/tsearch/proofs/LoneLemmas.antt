@@ -14,12 +14,12 @@ use Rattle.search.specs.Scan.{Answer, IsAnswerOf}
 use Rattle.script.specs.Items.{Item, Numbered, numbered, put, load, remove, publish, search, search_in, sync, bad_line, bad_put, truncated, body_not_closed}
 use Rattle.shared.specs.Desk.{DeskState}
 use Rattle.shared.specs.History.{Known}
-use Rattle.tsearch.specs.declared.transcript.Entry.{Entry}
-use Rattle.tsearch.specs.declared.transcript.Entry.TheVariants.{Accepted, Refused, Published, Found, SearchRefused}
-use Rattle.tsearch.specs.declared.transcript.Reason.{Reason}
-use Rattle.tsearch.specs.declared.transcript.Reason.TheVariants.{Full, Body, Name, OutOfMemory}
-use Rattle.tsearch.specs.declared.transcript.SearchReason.{SearchReason}
-use Rattle.tsearch.specs.declared.transcript.SearchReason.TheVariants as search_reason
+use Rattle.transcript.specs.declared.entry.Entry.{Entry}
+use Rattle.transcript.specs.declared.entry.Entry.TheVariants.{Accepted, Refused, Published, Found, SearchRefused}
+use Rattle.transcript.specs.declared.entry.Reason.{Reason}
+use Rattle.transcript.specs.declared.entry.Reason.TheVariants.{Full, Body, Name, OutOfMemory}
+use Rattle.transcript.specs.declared.entry.SearchReason.{SearchReason}
+use Rattle.transcript.specs.declared.entry.SearchReason.TheVariants as search_reason
 use Rattle.tsearch.specs.Rows.{Row, commands_of, accepted_by, command_of, version_in, published_in, last_or, published_last, is_sync}
 use Rattle.tsearch.specs.Rows.{searches_of, count_searches, failures_in, count_failures}
 use Rattle.tsearch.specs.Legal.{Context, IsEntryOf, HasEntry, IsLegalRow, IsSearched, IsAnswered, IsInTurn, AreInTurn, IsFailedTimes, IsPut}

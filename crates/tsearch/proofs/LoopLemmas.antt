@@ -6,8 +6,8 @@ use Rattle.search.specs.declared.pattern.Prepared.{Prepared}
 use Rattle.script.specs.Items.{Item, put, load, remove, publish, search, search_in, sync, bad_line, bad_put, truncated, body_not_closed}
 use Rattle.tsearch.specs.declared.progress.Progress.{Progress}
 use Rattle.tsearch.specs.declared.settled.Last.{Last}
-use Rattle.tsearch.specs.declared.transcript.Entry.{Entry}
-use Rattle.tsearch.specs.declared.transcript.Entry.TheVariants.{Accepted, Refused, Published, Found, SearchRefused}
+use Rattle.transcript.specs.declared.entry.Entry.{Entry}
+use Rattle.transcript.specs.declared.entry.Entry.TheVariants.{Accepted, Refused, Published, Found, SearchRefused}
 use Rattle.tsearch.specs.Rows.{searches_of}
 use Rattle.tsearch.specs.Private.Items.{searches_in}
 use Rattle.tsearch.specs.Private.Tallies.{last, Tally, tally_with, IsClosed, no_memory, found, Settles}

@@ -6,7 +6,7 @@ use Rattle.shared.specs.Desk.{DeskState}
 use Rattle.tsearch.specs.declared.progress.Progress.{Progress}
 use Rattle.tsearch.specs.declared.progress.Step.{Step}
 use Rattle.tsearch.specs.declared.progress.Step.TheVariants as step
-use Rattle.tsearch.specs.declared.transcript.Entry.{Entry}
+use Rattle.transcript.specs.declared.entry.Entry.{Entry}
 use Rattle.search.specs.declared.pattern.Prepared.{Prepared}
 use Rattle.tsearch.specs.declared.settled.Last.{Last}
 use Rattle.tsearch.specs.Rows.{searches_of, last_or, version_in}

@@ -17,8 +17,8 @@ use Rattle.shared.specs.History.{Known}
 use Rattle.tsearch.specs.declared.run.Options.{Options}
 use Rattle.tsearch.specs.declared.progress.Progress.{Progress}
 use Rattle.tsearch.specs.declared.settled.Last.{Last}
-use Rattle.tsearch.specs.declared.transcript.Entry.{Entry}
-use Rattle.tsearch.specs.declared.transcript.Entry.TheVariants.{SearchRefused}
+use Rattle.transcript.specs.declared.entry.Entry.{Entry}
+use Rattle.transcript.specs.declared.entry.Entry.TheVariants.{SearchRefused}
 use Rattle.tsearch.specs.Rows.{Row, items_of, entries_of, commands_of, accepted_by, command_of, version_in, published_in, last_or}
 use Rattle.tsearch.specs.Rows.{published_last, is_sync, searches_of, count_searches, failures_in, count_failures}
 use Rattle.tsearch.specs.Legal.{IsLegalRow, IsLegal, IsFailedTimes}

@@ -10,10 +10,10 @@ use Rattle.search.specs.declared.pattern.Prepared.{Prepared}
 use Rattle.search.specs.Prepared.{pattern_of}
 use Rattle.search.specs.Scan.{Answer, IsAnswerOf}
 use Rattle.tsearch.specs.declared.settled.Last.{Last}
-use Rattle.tsearch.specs.declared.transcript.Entry.{Entry}
-use Rattle.tsearch.specs.declared.transcript.Entry.TheVariants.{Found, SearchRefused}
-use Rattle.tsearch.specs.declared.transcript.SearchReason.{SearchReason}
-use Rattle.tsearch.specs.declared.transcript.SearchReason.TheVariants as search_reason
+use Rattle.transcript.specs.declared.entry.Entry.{Entry}
+use Rattle.transcript.specs.declared.entry.Entry.TheVariants.{Found, SearchRefused}
+use Rattle.transcript.specs.declared.entry.SearchReason.{SearchReason}
+use Rattle.transcript.specs.declared.entry.SearchReason.TheVariants as search_reason
 use Rattle.tsearch.specs.Rows.{Row, entries_of, list_of, commands_of, accepted_by, command_of, version_in, published_in, last_or}
 use Rattle.tsearch.specs.Rows.{published_last, is_sync, searches_of, count_searches, failures_in}
 use Rattle.tsearch.specs.Legal.{HasEntry, IsLegalRow}

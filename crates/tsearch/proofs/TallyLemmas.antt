@@ -5,7 +5,7 @@ use Rattle.std.proofs.lemmas.Bool.Decides.{eqb_tells}
 use Rattle.std.proofs.lemmas.List.{length-set, get_or-set_same, get_or-set_other}
 use Rattle.search.specs.Scan.{Answer}
 use Rattle.tsearch.specs.declared.settled.Last.{Last}
-use Rattle.tsearch.specs.declared.transcript.Entry.TheVariants.{Found}
+use Rattle.transcript.specs.declared.entry.Entry.TheVariants.{Found}
 use Rattle.tsearch.specs.Rows.{Row}
 use Rattle.tsearch.specs.Legal.{IsInTurn, AreInTurn}
 use Rattle.tsearch.specs.Private.Tallies.{last, last_of}

@@ -15,10 +15,10 @@ use Rattle.index.specs.Text.{IsName, IsNameFault, IsBody, IsBodyFault}
 use Rattle.search.specs.Pattern.{Pattern, IsPatternOf, IsPatternWithin, HasTree}
 use Rattle.search.specs.Scan.{Answer, IsAnswerOf}
 use Rattle.script.specs.Items.{Item, IsItemsOf, put, load, remove, publish, search, search_in, sync, bad_line, bad_put, truncated, body_not_closed}
-use Rattle.tsearch.specs.declared.transcript.Entry.{Entry}
-use Rattle.tsearch.specs.declared.transcript.Entry.TheVariants.{Accepted, Refused, Published, Found, SearchRefused}
-use Rattle.tsearch.specs.declared.transcript.Reason.TheVariants as reason
-use Rattle.tsearch.specs.declared.transcript.SearchReason.TheVariants as search_reason
+use Rattle.transcript.specs.declared.entry.Entry.{Entry}
+use Rattle.transcript.specs.declared.entry.Entry.TheVariants.{Accepted, Refused, Published, Found, SearchRefused}
+use Rattle.transcript.specs.declared.entry.Reason.TheVariants as reason
+use Rattle.transcript.specs.declared.entry.SearchReason.TheVariants as search_reason
 use Rattle.tsearch.specs.declared.run.Options.{Options}
 use Rattle.tsearch.specs.Rows.{Row, items_of, entries_of, commands_of, published_in, published_last, before_sync, count_searches, count_failures}
 

@@ -5,8 +5,8 @@ use Rattle.index.specs.declared.command.Command.TheVariants.{Put}
 use Rattle.index.specs.State.{state_of}
 use Rattle.script.specs.Items.{Numbered}
 use Rattle.search.specs.Scan.{Answer}
-use Rattle.tsearch.specs.declared.transcript.Entry.{Entry}
-use Rattle.tsearch.specs.declared.transcript.Entry.TheVariants.{Found}
+use Rattle.transcript.specs.declared.entry.Entry.{Entry}
+use Rattle.transcript.specs.declared.entry.Entry.TheVariants.{Found}
 use Rattle.tsearch.specs.Rows.{Row, commands_of, published_last, count_searches, count_failures, accepted_by}
 use Rattle.tsearch.specs.Legal.{IsLegalRow, AreInTurn, IsFailedTimes, IsPut}
 

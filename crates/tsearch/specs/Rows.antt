@@ -3,9 +3,9 @@ use Rattle.std.specs.Prelude.{ℕ, ◌+◌, Bool, true, false, option_map, if◌
 use Rattle.index.specs.declared.command.Command.{Command}
 use Rattle.index.specs.declared.command.Command.TheVariants.{Put, Remove}
 use Rattle.script.specs.Items.{Item, Numbered, put, load, remove, search, search_in, sync}
-use Rattle.tsearch.specs.declared.transcript.Entry.{Entry}
-use Rattle.tsearch.specs.declared.transcript.Reason.TheVariants.{CannotLoad}
-use Rattle.tsearch.specs.declared.transcript.Entry.TheVariants.{Accepted, Refused, Published}
+use Rattle.transcript.specs.declared.entry.Entry.{Entry}
+use Rattle.transcript.specs.declared.entry.Reason.TheVariants.{CannotLoad}
+use Rattle.transcript.specs.declared.entry.Entry.TheVariants.{Accepted, Refused, Published}
 
 -- loaded: the bytes that the source returned for a load, if it did not fail.
 -- entry: a sync has none.

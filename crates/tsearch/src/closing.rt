@@ -9,13 +9,13 @@ ghost use Rattle.tsearch.specs.Private.Tallies.{IsUseful, IsClosed, IsTaken, Can
 
 use crate::reader::Reader;
 use crate::settled::Last;
-use crate::transcript::{Entry, SearchReason};
 use readers::Given;
 use search::{Answer, Prepared};
 use shared::{Reading, SearchError, Told};
 use std::alloc::Global;
 use std::sync::Wait;
 use std::thread::Threads;
+use transcript::{Entry, SearchReason};
 
 /// An open search, with what is needed to close it.
 #[derive(Clone, Copy)]

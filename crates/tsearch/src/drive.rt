@@ -15,7 +15,6 @@ use crate::progress::{Progress, Step};
 use crate::reader::{Reader, at_rest};
 use crate::run::Options;
 use crate::source::Source;
-use crate::transcript::Entry;
 use readers::Gate;
 use script::{MAX_SCRIPT, Numbered, ScriptReader};
 use search::Prepared;
@@ -23,6 +22,7 @@ use shared::{Desk, Reading};
 use std::alloc::{AllocError, Global};
 use std::sync::Wait;
 use std::thread::{Scope, Threads};
+use transcript::Entry;
 
 /// What a run is given, and what it lends to its workers.
 #[derive(Drop)]

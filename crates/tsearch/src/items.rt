@@ -13,12 +13,12 @@ ghost use Rattle.tsearch.specs.Private.Entries.{reason_of_name, entry_of, publis
 ghost use Rattle.tsearch.specs.Private.Items.{IsCarriedOut};
 
 use crate::source::{Fault, Source};
-use crate::transcript::{Entry, Reason};
 use index::{Body, BodyErrorKind, MAX_BODY, Name, NameError};
 use script::{Item, Numbered};
 use shared::{Desk, PutErrorKind, RemoveError, Told};
 use std::alloc::Global;
 use std::sync::Wait;
+use transcript::{Entry, Reason};
 
 /// Why a line with this name is refused: the name is invalid, or memory ran out.
 fn reason_of_name(error: NameError) -> Reason

@@ -19,13 +19,13 @@ use crate::items::{
 };
 use crate::searches::{prepare, reason_of_refusal};
 use crate::source::Source;
-use crate::transcript::{Entry, SearchReason};
 use script::{Item, Numbered};
 use search::Prepared;
 use shared::{Desk, OpenError, Reading, Told, open};
 use std::alloc::{AllocError, Global};
 use std::marker::Model;
 use std::sync::Wait;
+use transcript::{Entry, SearchReason};
 
 /// A run without readers, which is given its items one after the other. Reader 0 answers each search at once.
 ///

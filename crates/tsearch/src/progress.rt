@@ -15,7 +15,6 @@ use crate::reader::Reader;
 use crate::searches::reason_of_refusal;
 use crate::settled::Settled;
 use crate::source::Source;
-use crate::transcript::{Entry, SearchReason};
 use script::{Item, Numbered};
 use search::Prepared;
 use shared::{Desk, Reading, Told};
@@ -23,6 +22,7 @@ use std::alloc::{AllocError, Global};
 use std::collections::VecDeque;
 use std::sync::Wait;
 use std::thread::Threads;
+use transcript::{Entry, SearchReason};
 
 /// A run between two items.
 ///

@@ -8,7 +8,6 @@ ghost use Rattle.tsearch.specs.Private.Runs.{IsReady};
 use crate::drive::{Plan, drive};
 use crate::searches::prepare_all;
 use crate::source::Source;
-use crate::transcript::{Entry, Transcript};
 use core::mem::replace_with;
 use readers::Gate;
 use script::MAX_SCRIPT;
@@ -17,6 +16,7 @@ use std::alloc::{AllocError, Global};
 use std::sync::Wait;
 use std::thread::{self, Threads};
 use thiserror::Error;
+use transcript::{Entry, Transcript};
 
 /// How a script is run.
 #[derive(Clone, Copy, Debug, PartialEq, Eq)]

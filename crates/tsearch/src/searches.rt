@@ -8,11 +8,11 @@ ghost use Rattle.tsearch.specs.Rows.{searches_of};
 ghost use Rattle.tsearch.specs.Private.Entries.{reason_of_fault};
 ghost use Rattle.tsearch.specs.Private.Searches.{Asks, IsListed, ArePrepared, IsReasonOfRefusal};
 
-use crate::transcript::SearchReason;
 use ere::{Case, EreError, EreErrorKind};
 use script::{Item, MAX_SCRIPT, ScriptReader};
 use search::Prepared;
 use std::alloc::{AllocError, Global};
+use transcript::SearchReason;
 
 /// The searches of a script in order: search number N, from 1, is at index N - 1. A search that could not be prepared
 /// is `None`. An `Err` means that memory ran out for the list.

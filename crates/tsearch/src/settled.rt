@@ -4,8 +4,8 @@ ghost use Rattle.std.specs.Prelude.{◌≡◌, ℕ, ◌+◌, ◌<◌, ◌≤◌,
 ghost use Rattle.tsearch.specs.Rows.{last_or, version_in};
 ghost use Rattle.tsearch.specs.Private.Items.{searches_in};
 
-use crate::transcript::Entry;
 use std::alloc::{AllocError, Global};
+use transcript::Entry;
 
 /// The last turn of a reader, and the version that it answered from in that turn.
 #[derive(Clone, Copy, Debug, PartialEq, Eq)]

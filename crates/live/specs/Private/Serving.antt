@@ -4,11 +4,11 @@ use Rattle.std.specs.List.{list_any}
 use Rattle.std.specs.Io.KnownBytes.{Appends, Consumes}
 use Rattle.script.specs.Items.{Numbered, ItemsFrom, IsItemsOf}
 use Rattle.stream.specs.Stream.{StreamState}
-use Rattle.tsearch.specs.declared.transcript.Entry.{Entry}
+use Rattle.transcript.specs.declared.entry.Entry.{Entry}
 use Rattle.tsearch.specs.Lone.{LoneState, AreSoFar}
 use Rattle.tsearch.specs.Rows.{Row, items_of, entries_of}
-use Rattle.tsearch.specs.Transcript.{is_refusal, has_hit, text_of_entry, text_of_transcript}
-use Rattle.tsearch.specs.Written.{AppendsFront}
+use Rattle.transcript.specs.Transcript.{is_refusal, has_hit, text_of_entry, text_of_transcript}
+use Rattle.transcript.specs.Written.{AppendsFront}
 use Rattle.live.specs.declared.error.LiveError.{LiveError}
 use Rattle.live.specs.declared.marks.Marks.{Marks}
 use Rattle.live.specs.Served.{IsOver}

@@ -10,12 +10,12 @@ use Rattle.index.specs.State.{State, state_of}
 use Rattle.index.specs.Text.{IsBody}
 use Rattle.script.specs.Items.{load}
 use Rattle.shared.specs.Desk.{DeskState}
-use Rattle.tsearch.specs.declared.transcript.Entry.{Entry}
-use Rattle.tsearch.specs.declared.transcript.Entry.TheVariants.{Accepted, Refused, Published}
-use Rattle.tsearch.specs.declared.transcript.Reason.{Reason}
-use Rattle.tsearch.specs.declared.transcript.Reason.TheVariants as reason
-use Rattle.tsearch.specs.declared.transcript.SearchReason.{SearchReason}
-use Rattle.tsearch.specs.declared.transcript.SearchReason.TheVariants as search_reason
+use Rattle.transcript.specs.declared.entry.Entry.{Entry}
+use Rattle.transcript.specs.declared.entry.Entry.TheVariants.{Accepted, Refused, Published}
+use Rattle.transcript.specs.declared.entry.Reason.{Reason}
+use Rattle.transcript.specs.declared.entry.Reason.TheVariants as reason
+use Rattle.transcript.specs.declared.entry.SearchReason.{SearchReason}
+use Rattle.transcript.specs.declared.entry.SearchReason.TheVariants as search_reason
 use Rattle.tsearch.specs.Legal.{IsRoomFor, HasBody, IsRemove, IsNamed, HasLoaded, IsFailedTimes, greatest_failures}
 use Rattle.tsearch.specs.Rows.{command_of, failures_in}
 

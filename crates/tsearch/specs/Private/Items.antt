@@ -5,8 +5,8 @@ use Rattle.shared.specs.Desk.{DeskState}
 use Rattle.shared.specs.History.{Known, known}
 use Rattle.tsearch.specs.declared.items.Outcome.{Outcome}
 use Rattle.tsearch.specs.declared.items.Outcome.TheVariants as outcome
-use Rattle.tsearch.specs.declared.transcript.Entry.{Entry}
-use Rattle.tsearch.specs.declared.transcript.Entry.TheVariants.{Published, Found, SearchRefused}
+use Rattle.transcript.specs.declared.entry.Entry.{Entry}
+use Rattle.transcript.specs.declared.entry.Entry.TheVariants.{Published, Found, SearchRefused}
 use Rattle.tsearch.specs.Rows.{Row, commands_of, accepted_by, command_of, version_in, failures_in, searches_of, is_sync}
 use Rattle.tsearch.specs.Legal.{IsLegalRow}
 use Rattle.tsearch.specs.Private.Entries.{IsCounted}

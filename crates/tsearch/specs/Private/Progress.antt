@@ -10,9 +10,9 @@ use Rattle.tsearch.specs.declared.progress.Step.{Step}
 use Rattle.tsearch.specs.declared.progress.Step.TheVariants as step
 use Rattle.tsearch.specs.declared.settled.Settled.{Settled}
 use Rattle.tsearch.specs.declared.settled.Last.{Last}
-use Rattle.tsearch.specs.declared.transcript.Entry.{Entry}
-use Rattle.tsearch.specs.declared.transcript.Entry.TheVariants.{SearchRefused}
-use Rattle.tsearch.specs.declared.transcript.SearchReason.{SearchReason}
+use Rattle.transcript.specs.declared.entry.Entry.{Entry}
+use Rattle.transcript.specs.declared.entry.Entry.TheVariants.{SearchRefused}
+use Rattle.transcript.specs.declared.entry.SearchReason.{SearchReason}
 use Rattle.tsearch.specs.Rows.{version_in, searches_of, is_sync}
 use Rattle.tsearch.specs.Private.Items.{IsEntered, IsLeft}
 use Rattle.tsearch.specs.Private.Searches.{IsReasonOfRefusal}

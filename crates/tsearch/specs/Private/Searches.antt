@@ -4,8 +4,8 @@ use Rattle.search.specs.declared.pattern.Prepared.{Prepared}
 use Rattle.search.specs.Pattern.{Pattern, IsPatternOf, IsPatternWithin}
 use Rattle.search.specs.Prepared.{pattern_of}
 use Rattle.script.specs.Items.{Item, Numbered, IsItemsOf, search, search_in}
-use Rattle.tsearch.specs.declared.transcript.Entry.TheVariants.{SearchRefused}
-use Rattle.tsearch.specs.declared.transcript.SearchReason.{SearchReason}
+use Rattle.transcript.specs.declared.entry.Entry.TheVariants.{SearchRefused}
+use Rattle.transcript.specs.declared.entry.SearchReason.{SearchReason}
 use Rattle.tsearch.specs.Rows.{searches_of}
 use Rattle.tsearch.specs.Legal.{Context, search_number, IsSearch, IsSearchIn}
 

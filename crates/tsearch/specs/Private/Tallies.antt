@@ -6,9 +6,9 @@ use Rattle.readers.specs.declared.report.Given.{Given}
 use Rattle.search.specs.declared.pattern.Prepared.{Prepared}
 use Rattle.search.specs.Prepared.{pattern_of}
 use Rattle.search.specs.Scan.{Answer, IsAnswerOf}
-use Rattle.tsearch.specs.declared.transcript.Entry.{Entry}
-use Rattle.tsearch.specs.declared.transcript.Entry.TheVariants.{Found, SearchRefused}
-use Rattle.tsearch.specs.declared.transcript.SearchReason.TheVariants as search_reason
+use Rattle.transcript.specs.declared.entry.Entry.{Entry}
+use Rattle.transcript.specs.declared.entry.Entry.TheVariants.{Found, SearchRefused}
+use Rattle.transcript.specs.declared.entry.SearchReason.TheVariants as search_reason
 use Rattle.tsearch.specs.declared.settled.Last.{Last}
 use Rattle.tsearch.specs.Rows.{last_or, version_in}
 use Rattle.tsearch.specs.Private.Items.{searches_in}

@@ -1,6 +1,6 @@
 use Rattle.std.proofs.Common.{None, Some, refl, ap, ◌∙◌}
 use Rattle.index.specs.State.{state_of}
-use Rattle.tsearch.specs.declared.transcript.Entry.TheVariants.{Refused}
+use Rattle.transcript.specs.declared.entry.Entry.TheVariants.{Refused}
 use Rattle.tsearch.specs.Rows.{failures_in}
 use Rattle.tsearch.proofs.ItemLemmas.{named_fault, named_loaded, no_failure_in_name, no_failure_in_body, counted_none, counted_same}
 use Rattle.tsearch.proofs.items.load.Goals as goal

@@ -1,7 +1,7 @@
 use Rattle.std.proofs.Common.{arith, refl, ap}
 use Rattle.index.specs.declared.error.BodyErrorKind.TheVariants.{TooLong}
 use Rattle.index.specs.State.{state_of}
-use Rattle.tsearch.specs.declared.transcript.Entry.TheVariants.{Refused}
+use Rattle.transcript.specs.declared.entry.Entry.TheVariants.{Refused}
 use Rattle.tsearch.specs.Legal.{named, bad_body}
 use Rattle.tsearch.proofs.ItemLemmas.{named_fault, named_body, too_long_body}
 use Rattle.tsearch.proofs.items.put.Goals as goal

@@ -1,6 +1,6 @@
 use Rattle.std.proofs.Common.{ap, ◌∙◌}
 use Rattle.index.specs.declared.error.BodyErrorKind.TheVariants.{TooLong}
-use Rattle.tsearch.specs.declared.transcript.Entry.TheVariants.{Refused}
+use Rattle.transcript.specs.declared.entry.Entry.TheVariants.{Refused}
 use Rattle.tsearch.specs.Legal.{named, bad_body}
 use Rattle.tsearch.proofs.ItemLemmas.{named_fault, too_long_body}
 use Rattle.tsearch.proofs.items.reason_of_long_put.Goals as goal

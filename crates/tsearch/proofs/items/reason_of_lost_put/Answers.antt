@@ -1,5 +1,5 @@
 use Rattle.std.proofs.Common.{ap, ◌∙◌}
-use Rattle.tsearch.specs.declared.transcript.Entry.TheVariants.{Refused}
+use Rattle.transcript.specs.declared.entry.Entry.TheVariants.{Refused}
 use Rattle.tsearch.specs.Legal.{no_memory}
 use Rattle.tsearch.proofs.ItemLemmas.{named_fault}
 use Rattle.tsearch.proofs.items.reason_of_lost_put.Goals as goal

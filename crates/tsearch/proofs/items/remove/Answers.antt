@@ -1,6 +1,6 @@
 use Rattle.std.proofs.Common.{ap}
 use Rattle.index.specs.State.{state_of}
-use Rattle.tsearch.specs.declared.transcript.Entry.TheVariants.{Refused}
+use Rattle.transcript.specs.declared.entry.Entry.TheVariants.{Refused}
 use Rattle.tsearch.proofs.ItemLemmas.{named_fault, named_removed}
 use Rattle.tsearch.proofs.items.remove.Goals as goal
 

@@ -3,13 +3,13 @@ use Rattle.std.specs.Prelude.{ℕ, Bool, true, false, nat_lt, length, if◌then�
 use Rattle.std.specs.List.{list_any}
 use Rattle.search.specs.Text.{text_of_answer, line_end}
 use Rattle.ere.specs.declared.error.EreError.{EreError}
-use Rattle.tsearch.specs.declared.transcript.Entry.{Entry}
-use Rattle.tsearch.specs.declared.transcript.Entry.TheVariants.{Accepted, Refused, Published, Found, SearchRefused}
-use Rattle.tsearch.specs.declared.transcript.Reason.{Reason}
-use Rattle.tsearch.specs.declared.transcript.SearchReason.{SearchReason}
-use Rattle.tsearch.specs.declared.transcript.SearchReason.TheVariants as search
+use Rattle.transcript.specs.declared.entry.Entry.{Entry}
+use Rattle.transcript.specs.declared.entry.Entry.TheVariants.{Accepted, Refused, Published, Found, SearchRefused}
+use Rattle.transcript.specs.declared.entry.Reason.{Reason}
+use Rattle.transcript.specs.declared.entry.SearchReason.{SearchReason}
+use Rattle.transcript.specs.declared.entry.SearchReason.TheVariants as search
 use Rattle.ere.specs.Faults.{reason_of}
-use Rattle.tsearch.specs.Reasons.{text_of_reason}
+use Rattle.transcript.specs.Reasons.{text_of_reason}
 
 abbrev pub text_of_fault : EreError → List ℕ
 text_of_fault error = reason_of error.kind ++ codes " at " ++ decimal error.at

@@ -4,8 +4,8 @@ use Rattle.index.specs.declared.error.NameError.{NameError}
 use Rattle.index.specs.declared.error.NameError.TheVariants as name
 use Rattle.index.specs.declared.error.BodyErrorKind.{BodyErrorKind}
 use Rattle.index.specs.declared.error.BodyErrorKind.TheVariants as body
-use Rattle.tsearch.specs.declared.transcript.Reason.{Reason}
-use Rattle.tsearch.specs.declared.transcript.Reason.TheVariants as line
+use Rattle.transcript.specs.declared.entry.Reason.{Reason}
+use Rattle.transcript.specs.declared.entry.Reason.TheVariants as line
 
 abbrev pub text_of_name_error : NameError → List ℕ
 text_of_name_error name.Empty = codes "name empty"

@@ -1,8 +1,8 @@
 -- All is written of the text of the entries so far but what is held back.
 use Rattle.std.proofs.Common.{take}
-use Rattle.tsearch.specs.Transcript.{text_of_transcript}
-use Rattle.tsearch.specs.Written.{AppendsAllBut}
-use Rattle.tsearch.proofs.output.write_transcript.Given as goal
+use Rattle.transcript.specs.Transcript.{text_of_transcript}
+use Rattle.transcript.specs.Written.{AppendsAllBut}
+use Rattle.transcript.proofs.output.write_transcript.Given as goal
 
 abbrev pub invariant-loop-entry : goal.invariant-loop-entry
 invariant-loop-entry g l =

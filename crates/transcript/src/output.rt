@@ -3,8 +3,8 @@
 ghost use Rattle.std.specs.Prelude.{◌≡◌, ◌≢◌, ◌≤◌, ◌++◌, List, ℕ, length, take, ◌⊎◌, IfOk, IfErr, OnOk, OnErr, IsErrOf};
 ghost use Rattle.std.specs.Io.KnownBytes.{Appends, Keeps};
 ghost use Rattle.std.specs.IoError.{error_kind};
-ghost use Rattle.tsearch.specs.Transcript.{text_of_transcript};
-ghost use Rattle.tsearch.specs.Written.{AppendsFront, AppendsAllBut};
+ghost use Rattle.transcript.specs.Transcript.{text_of_transcript};
+ghost use Rattle.transcript.specs.Written.{AppendsFront, AppendsAllBut};
 
 use crate::texts::append_entry;
 use crate::transcript::Transcript;

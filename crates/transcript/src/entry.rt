@@ -1,13 +1,11 @@
-//! Transcripts of runs.
+//! Entries: what became of the items of a script.
 
-ghost use Rattle.std.specs.Prelude.{◌≡◌, ◌++◌, OnOk, OnErr};
-ghost use Rattle.std.specs.List.{list_any};
-ghost use Rattle.tsearch.specs.Transcript.{status_of, is_refusal, has_hit};
+ghost use Rattle.std.specs.Prelude.{◌≡◌};
+ghost use Rattle.transcript.specs.Transcript.{is_refusal, has_hit};
 
 use ere::EreError;
 use index::{BodyErrorKind, NameError};
 use search::Answer;
-use std::alloc::AllocError;
 
 /// Why a line of a script is refused.
 #[derive(Clone, Copy, Debug, PartialEq, Eq)]
@@ -78,39 +76,6 @@ pub enum Entry {
         search: u32,
         reason: SearchReason,
     },
-}
-
-/// What a run answered.
-#[derive(Debug, Drop)]
-pub struct Transcript {
-    /// In the order of the script, one for each item except `sync`.
-    pub entries: Vec<Entry>,
-}
-
-/// The status of a run: 2 if anything was refused, a line or a search, otherwise 0 if some search has a hit,
-/// and otherwise 1. These are grep's statuses (POSIX.1-2017, XCU, grep, EXIT STATUS).
-pub fn status(transcript: &Transcript) -> u8
-    ensures { result ≡ status_of transcript.now.entries.items }
-{
-    if any_refused(&transcript.entries) {
-        2
-    } else if any_hit(&transcript.entries) {
-        0
-    } else {
-        1
-    }
-}
-
-fn any_refused(entries: &[Entry]) -> bool
-    ensures { result ≡ list_any is_refusal entries.now }
-{
-    entries.iter().any(|entry| is_refusal(entry))
-}
-
-fn any_hit(entries: &[Entry]) -> bool
-    ensures { result ≡ list_any has_hit entries.now }
-{
-    entries.iter().any(|entry| has_hit(entry))
 }
 
 /// Whether the entry refuses a line or a search.

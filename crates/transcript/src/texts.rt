@@ -3,10 +3,10 @@
 ghost use Rattle.std.specs.Prelude.{◌≡◌, ◌++◌, OnOk, OnErr, codes, decimal};
 ghost use Rattle.ere.specs.Faults.{reason_of};
 ghost use Rattle.search.specs.Text.{line_end};
-ghost use Rattle.tsearch.specs.Reasons.{text_of_name_error, text_of_body_error, text_of_reason};
-ghost use Rattle.tsearch.specs.Transcript.{text_of_entry, line_refusal, search_refusal};
+ghost use Rattle.transcript.specs.Reasons.{text_of_name_error, text_of_body_error, text_of_reason};
+ghost use Rattle.transcript.specs.Transcript.{text_of_entry, line_refusal, search_refusal};
 
-use crate::transcript::{Entry, Reason, SearchReason};
+use crate::entry::{Entry, Reason, SearchReason};
 use ere::EreError;
 use index::{BodyErrorKind, NameError};
 use itoa::Buffer;

@@ -1,0 +1,3 @@
+pub mod Reasons
+pub mod Transcript
+pub mod Written
