@@ -1,8 +1,8 @@
 -- Texts that grow at their end.
-use Rattle.std.proofs.Common.{◌≡◌, ℕ, List, [], ◌++◌, take, drop, length, refl, sym, ◌∙◌, ap, append_assoc, Vec, Global}
+use Rattle.std.proofs.Common.{◌≡◌, ℕ, List, [], ◌++◌, take, drop, length, refl, sym, ◌∙◌, ap, append_assoc}
 use Rattle.std.proofs.lemmas.List.{take_at, append-nil, take-append-drop}
 use Rattle.std.proofs.lemmas.List.{length-map}
-use Rattle.std.specs.Prelude.{vec_len, decimal}
+use Rattle.std.specs.Prelude.{decimal}
 use Rattle.search.specs.declared.answer.Hit.{Hit as StoredHit}
 use Rattle.search.specs.Scan.{Hit}
 use Rattle.search.specs.Hits.{hit_of, hits_of}
@@ -26,9 +26,8 @@ Begins-further old more middle new grown h =
     (cut ∙ (ap (λ t. t ++ drop (length middle) new) grown ∙ append_assoc old more (drop (length middle) new)))
 
 -- the number of hits, as it is printed
-pub counted : (hits : Vec StoredHit Global) (len : ℕ) (shown : List Hit) → len ≡ vec_len hits → hits_of hits.items ≡ shown
-    → decimal len ≡ decimal (length shown)
-counted hits len shown e same = ap decimal (e ∙ (hits.ok.0 ∙ (sym (length-map hits.items hit_of) ∙ ap length same)))
+pub counted : (hits : List StoredHit) (shown : List Hit) → hits_of hits ≡ shown → decimal (length hits) ≡ decimal (length shown)
+counted hits shown same = ap decimal (sym (length-map hits hit_of) ∙ ap length same)
 
 -- three texts one after another
 pub three : (old a b end x y z : List ℕ) → x ≡ old ++ a → y ≡ x ++ b → z ≡ y ++ (end ++ []) → z ≡ old ++ ((a ++ b) ++ end)

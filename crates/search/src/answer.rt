@@ -25,6 +25,13 @@ pub struct Hit {
 /// Contracts see it as its version, its hits, the number of documents, and the number of candidates.
 #[derive(Debug, Drop)]
 pub struct Answer {
+    /// In a box, since a run keeps an entry for each item, and all entries have the size of those with answers.
+    pub(crate) contents: Box<Contents>,
+}
+
+/// What an answer has.
+#[derive(Debug, Drop)]
+pub(crate) struct Contents {
     /// The version that was searched.
     pub(crate) version: u32,
     /// The lines that contain a match, in order.
@@ -40,9 +47,9 @@ impl Model for Answer {
 
     ghost Value = { AnswerValue };
 
-    ghost use Rattle.search.specs.Hits.{hits_of};
+    ghost use Rattle.search.specs.Hits.{answer_of};
 
-    ghost view = { λ a. record { version = a.version; hits = hits_of a.hits.items; documents = a.documents; candidates = a.candidates } };
+    ghost view = { λ a. answer_of a.contents.value };
 }
 
 impl Answer {
@@ -54,21 +61,21 @@ impl Answer {
     pub fn version(&self) -> u32
         ensures { result ≡ self.now.version }
     {
-        self.version
+        self.contents.version
     }
 
     /// The lines that contain a match, rising by the bytes of their documents' names and then by line number.
     pub fn hits(&self) -> &[Hit]
         ensures { hits_of result.now ≡ self.now.hits }
     {
-        self.hits.as_slice()
+        self.contents.hits.as_slice()
     }
 
     /// The number of documents that the index had.
     pub fn documents(&self) -> u32
         ensures { result ≡ self.now.documents }
     {
-        self.documents
+        self.contents.documents
     }
 
     /// The number of candidates: the documents whose trigrams meet the condition of the pattern (Russ Cox, "Regular
@@ -76,7 +83,7 @@ impl Answer {
     pub fn candidates(&self) -> u32
         ensures { result ≡ self.now.candidates }
     {
-        self.candidates
+        self.contents.candidates
     }
 
     /// Appends the text of this answer to `out`. It is a line `search K version V lines L`, where K is `search`, with
@@ -102,7 +109,7 @@ impl Answer {
         ensures err { OnErr result (Begins out.old.items out.new.items) }
     {
         self.append_head(search, stats, out)?;
-        append_hits(out, self.hits.as_slice())
+        append_hits(out, self.hits())
     }
 
     /// Appends the line of the search. An `Err` can leave a beginning of it in `out`.
@@ -119,9 +126,9 @@ impl Answer {
                 b"search ".as_slice(),
                 number.format(search).as_bytes(),
                 b" version ".as_slice(),
-                version.format(self.version).as_bytes(),
+                version.format(self.version()).as_bytes(),
                 b" lines ".as_slice(),
-                lines.format(self.hits.len()).as_bytes(),
+                lines.format(self.hits().len()).as_bytes(),
             ],
         )?;
         if stats {
@@ -141,9 +148,9 @@ impl Answer {
             out,
             &[
                 b" candidates ".as_slice(),
-                candidates.format(self.candidates).as_bytes(),
+                candidates.format(self.candidates()).as_bytes(),
                 b" of ".as_slice(),
-                documents.format(self.documents).as_bytes(),
+                documents.format(self.documents()).as_bytes(),
             ],
         )
     }

@@ -4,7 +4,7 @@ ghost use Rattle.std.specs.Prelude.{IfOk};
 ghost use Rattle.search.specs.Prepared.{pattern_of};
 ghost use Rattle.search.specs.Taken.{IsTakenOf};
 
-use crate::answer::Answer;
+use crate::answer::{Answer, Contents};
 use crate::matching::scan_documents;
 use crate::names::named;
 use crate::pattern::Prepared;
@@ -77,11 +77,13 @@ impl Taken<'_> {
     {
         let kept = named(alloc, self.prepared, self.candidates)?;
         let hits = scan_documents(alloc, &self.prepared.tree, kept.as_slice(), watch)?;
-        Ok(Answer {
+        let contents = Contents {
             version: self.version,
             hits,
             documents: self.documents,
             candidates: self.count,
-        })
+        };
+        let contents = Box::new(alloc, contents)?;
+        Ok(Answer { contents })
     }
 }

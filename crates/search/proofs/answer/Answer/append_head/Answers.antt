@@ -14,10 +14,10 @@ returns-clause-ok c =
     let old = c.args.out.now.items in
     let number : c.as_bytes.result.now ≡ decimal c.args.search = c.as_bytes.ensures.value ∙ c.format.ensures.text in
     let version : c.as_bytes-2.result.now ≡ decimal now.version =
-    c.as_bytes-2.ensures.value ∙ (c.format-2.ensures.text ∙ ap (λ a. decimal a.version) c.self.view_is) in
+    c.as_bytes-2.ensures.value ∙ (c.format-2.ensures.text ∙ ap decimal c.version.ensures) in
     let lines : c.as_bytes-3.result.now ≡ decimal (length now.hits) =
     c.as_bytes-3.ensures.value
-    ∙ (c.format-3.ensures.text ∙ counted c.self.inside.hits c.len.result now.hits c.len.ensures (ap (λ a. a.hits) c.self.view_is))
+    ∙ (c.format-3.ensures.text ∙ counted c.hits.result.now now.hits c.hits.ensures)
     in
     let a : c.as_slice.result.now ≡ codes "search " = c.as_slice.ensures in
     let b : c.as_slice-2.result.now ≡ codes " version " = c.as_slice-2.ensures in

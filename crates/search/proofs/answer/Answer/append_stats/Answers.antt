@@ -10,10 +10,10 @@ unfolding text_of_stats
 returns-clause-ok c =
     let first : c.as_slice.result.now ≡ codes " candidates " = c.as_slice.ensures in
     let candidates : c.as_bytes.result.now ≡ decimal c.args.self.now.candidates =
-    c.as_bytes.ensures.value ∙ (c.format.ensures.text ∙ ap (λ a. decimal a.candidates) c.self.view_is) in
+    c.as_bytes.ensures.value ∙ (c.format.ensures.text ∙ ap decimal c.candidates.ensures) in
     let second : c.as_slice-2.result.now ≡ codes " of " = c.as_slice-2.ensures in
     let documents : c.as_bytes-2.result.now ≡ decimal c.args.self.now.documents =
-    c.as_bytes-2.ensures.value ∙ (c.format-2.ensures.text ∙ ap (λ a. decimal a.documents) c.self.view_is) in
+    c.as_bytes-2.ensures.value ∙ (c.format-2.ensures.text ∙ ap decimal c.documents.ensures) in
     let joined =
     four c.as_slice.result.now c.as_bytes.result.now c.as_slice-2.result.now c.as_bytes-2.result.now
     ∙ (λ i. ((first i ++ candidates i) ++ second i) ++ documents i) in

@@ -10,9 +10,9 @@ unfolding text_of_answer
 returns-clause-ok c =
     let head = text_of_head c.args.search c.args.stats c.args.self.now in
     let hits = flat_map text_of_hit c.args.self.now.hits in
-    let all : hits_of c.as_slice.result.now ≡ c.args.self.now.hits = ap hits_of c.as_slice.ensures.value ∙ ap (λ a. a.hits) c.self.view_is in
+    let all : hits_of c.hits.result.now ≡ c.args.self.now.hits = c.hits.ensures in
     on_ok_weaker c.append_hits.result (λ e.
     e
-    ∙ (ap (λ t. t ++ flat_map text_of_hit (hits_of c.as_slice.result.now)) c.in_ok-append_head.ensures.ok
-    ∙ (append_assoc c.args.out.now.items head (flat_map text_of_hit (hits_of c.as_slice.result.now))
+    ∙ (ap (λ t. t ++ flat_map text_of_hit (hits_of c.hits.result.now)) c.in_ok-append_head.ensures.ok
+    ∙ (append_assoc c.args.out.now.items head (flat_map text_of_hit (hits_of c.hits.result.now))
     ∙ ap (λ fs. c.args.out.now.items ++ (head ++ flat_map text_of_hit fs)) all))) c.append_hits.ensures.ok

@@ -1,7 +1,8 @@
-use Rattle.std.proofs.Common.{◌∙◌, ap, subst}
+use Rattle.std.proofs.Common.{◌∙◌, sym, ap, subst}
 use Rattle.std.specs.Prelude.{flat_map}
 use Rattle.index.specs.Shared.{documents_shared}
-use Rattle.search.specs.Hits.{hits_of}
+use Rattle.search.specs.Hits.{hits_of, answer_of}
+use Rattle.search.specs.Scan.{IsAnswerOf}
 use Rattle.search.specs.Private.Selects.{Selects, HasMatch, IsNamedFor}
 use Rattle.search.specs.Private.Documents.{lines_of_taken}
 use Rattle.search.proofs.ScanLemmas.{IsScanOf-wanted}
@@ -20,9 +21,9 @@ returns g c = λ state pattern of.
     subst (λ all. Selects (HasMatch pattern.tree) all hits) lines
     (subst (λ p. Selects (HasMatch p.tree) (flat_map lines_of_taken c.as_slice.result.now) hits) of.prepared c.in_ok-hits.ensures)
     in
-    record {
+    subst (λ contents. IsAnswerOf state pattern (answer_of contents)) (sym c.in_ok-contents.ensures.ok) (record {
       version = of.version;
       hits = IsScanOf-wanted state pattern (documents_shared kept) hits (wanted_are state pattern taken kept of.candidates named) found;
       documents = of.documents;
       candidates = of.count;
-    }
+    })
