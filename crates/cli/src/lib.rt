@@ -7,8 +7,10 @@
 mod arguments;
 mod error;
 mod help;
+mod laws;
 mod limits;
 
 pub use arguments::{Request, Settings, not_text, read_arguments};
 pub use error::ArgumentError;
 pub use help::{HELP, VERSION};
+pub use laws::{options_ask_for_themselves, settings_are_one};
