@@ -196,6 +196,7 @@ module _ (tree : Tree) (re : Re) (stands : StandsFor tree re) (text : List ℕ) 
         line = take (end - start) (drop start text);
         after = drop (end - start) (drop start text);
         whole = whole;
+        whole_lines = is.whole_lines;
         starts = sym front_size;
         ends = omega (arith, front_size, line_size, place);
         counted = count;

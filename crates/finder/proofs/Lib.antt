@@ -5,3 +5,4 @@ pub mod ClassLemmas
 pub mod LineLemmas
 pub mod MatchLemmas
 pub mod CutLemmas
+pub mod LawLemmas

@@ -51,6 +51,7 @@ pub record IsFirstLine (tree : Tree) (text : List ℕ) (found : FirstLine) : Typ
   pub line : List ℕ
   pub after : List ℕ
   pub whole : text ≡ front ++ (line ++ after)
+  pub whole_lines : IsWholeLines front
   pub starts : found.start ≡ length front
   pub ends : found.end ≡ length front + length line
   pub counted : found.before ≡ length (lines_of front)

@@ -8,8 +8,10 @@
 
 mod compiled;
 mod finding;
+mod laws;
 mod line;
 mod translate;
 
 pub use compiled::Compiled;
 pub use finding::{Finder, FirstLine};
+pub use laws::first_line_is_one;
