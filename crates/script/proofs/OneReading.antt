@@ -1,6 +1,6 @@
--- A script has at most one list of items: the text decides what is taken from its front.
+-- A script has at most one list of items: the text decides what is taken from its front. A line says one thing.
 use Rattle.std.proofs.Common.{◌≡◌, ◌≢◌, ℕ, ◌+◌, ◌<◌, length, take, drop, Bool, true, false, nat_lt, if◌then◌else◌, ◌==◌, List, [], ◌∷◌}
-use Rattle.std.proofs.Common.{◌++◌, Option, Some, None, unwrap_or, refl, sym, ap, ◌∙◌, subst, arith, IsTrue, IsFalse, length-append}
+use Rattle.std.proofs.Common.{◌++◌, Option, Some, None, unwrap_or, refl, sym, ap, ◌∙◌, subst, arith, IsTrue, IsFalse, length-append, true≢false}
 use Rattle.std.proofs.lemmas.List.{append-nil}
 use Rattle.std.proofs.lemmas.Bool.Decides.{nat_tests}
 use Rattle.std.proofs.Math.Seq.{take-append_seam, drop-append_seam}
@@ -11,6 +11,10 @@ use Rattle.script.specs.Private.Cuts.{Lacks, CutsLine}
 use Rattle.script.specs.Items.{Numbered, numbered, ItemsFrom, done, blank_line, other_line, closed_put, last_put, bad_put_line}
 use Rattle.script.specs.Items.{missing_body, short_body, open_body, BeginsWithLine, ended, last, IsPutLine, is_put, is_blank, item_of_line}
 use Rattle.script.specs.Items.{line_feeds, put, bad_put, truncated, body_not_closed}
+use Rattle.script.specs.Reading.{shown_item}
+use Rattle.script.specs.Line.{Says, SayTheSame}
+use Rattle.script.specs.declared.line.Line as program
+use Rattle.script.specs.declared.line.Line.TheVariants as variants
 use Rattle.script.proofs.ReaderLemmas.{in_back, last_cut_once, lacks_byte}
 
 -- What the front of a text leads to.
@@ -266,3 +270,26 @@ one_reading n text items items' (short_body line name left size whole is short) 
     sym (other_rest n text items items' (short_body line name left size whole is short) h')
 one_reading n text items items' (open_body line name body rest b whole is other) h' =
     sym (other_rest n text items items' (open_body line name body rest b whole is other) h')
+
+-- ---- one line
+
+blank_or_put : (line : List ℕ) → IsTrue (is_blank line) → IsTrue (is_put line) → ⊥
+blank_or_put line blank put_line = true≢false (sym put_line ∙ blank_is_no_put line blank)
+
+pub one_saying : (line : List ℕ) (said said' : program.Line) → Says line said → Says line said' → SayTheSame said said'
+one_saying line variants.Blank variants.Blank h h' = tt
+one_saying line variants.Blank (variants.Put name size) h h' = absurd (blank_or_put line h (is_put_first line name.now size h'))
+one_saying line variants.Blank variants.BadPut h h' = absurd (blank_or_put line h h'.0)
+one_saying line variants.Blank (variants.Other item) h h' = absurd (true≢false (sym h ∙ h'.0))
+one_saying line (variants.Put name size) variants.Blank h h' = absurd (blank_or_put line h' (is_put_first line name.now size h))
+one_saying line (variants.Put name size) (variants.Put name' size') h h' = one_put_line line name.now name'.now size size' h h'
+one_saying line (variants.Put name size) variants.BadPut h h' = absurd (h'.1 name.now size h)
+one_saying line (variants.Put name size) (variants.Other item) h h' = absurd (true≢false (sym (is_put_first line name.now size h) ∙ h'.1))
+one_saying line variants.BadPut variants.Blank h h' = absurd (blank_or_put line h' h.0)
+one_saying line variants.BadPut (variants.Put name size) h h' = absurd (h.1 name.now size h')
+one_saying line variants.BadPut variants.BadPut h h' = tt
+one_saying line variants.BadPut (variants.Other item) h h' = absurd (true≢false (sym h.0 ∙ h'.1))
+one_saying line (variants.Other item) variants.Blank h h' = absurd (true≢false (sym h' ∙ h.0))
+one_saying line (variants.Other item) (variants.Put name size) h h' = absurd (true≢false (sym (is_put_first line name.now size h') ∙ h.1))
+one_saying line (variants.Other item) variants.BadPut h h' = absurd (true≢false (sym h'.0 ∙ h.1))
+one_saying line (variants.Other item) (variants.Other item') h h' = h.2 ∙ sym h'.2

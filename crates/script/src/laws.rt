@@ -2,6 +2,8 @@
 
 ghost use Rattle.std.specs.Prelude.{◌≡◌, ℕ, List};
 ghost use Rattle.script.specs.Items.{Numbered as NumberedItem, ItemsFrom};
+ghost use Rattle.script.specs.Line.{Says, SayTheSame};
+ghost use Rattle.script.specs.declared.line.Line.{Line as LineValue};
 
 use crate::reader::MAX_SCRIPT;
 
@@ -13,4 +15,9 @@ pub fn script_limit()
 /// A text has at most one list of items, whatever the number of its first line.
 pub fn items_are_one()
     ensures { (n : ℕ) (text : List ℕ) (items items' : List NumberedItem) → ItemsFrom n text items → ItemsFrom n text items' → items ≡ items' }
+{}
+
+/// A line says one thing.
+pub fn lines_say_one_thing()
+    ensures { (line : List ℕ) (said said' : LineValue) → Says line said → Says line said' → SayTheSame said said' }
 {}

@@ -8,6 +8,6 @@ mod line;
 mod reader;
 
 pub use item::{Item, Numbered};
-pub use laws::{items_are_one, script_limit};
+pub use laws::{items_are_one, lines_say_one_thing, script_limit};
 pub use line::{Line, read_line};
 pub use reader::{MAX_SCRIPT, ScriptReader};
