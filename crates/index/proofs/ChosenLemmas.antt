@@ -15,7 +15,7 @@ use Rattle.std.proofs.lemmas.List.Edits.{Swapped, swapped_from_swap, length-swap
 use Rattle.std.proofs.lemmas.List.Kept.{AllPairs-from_increasing}
 use Rattle.std.proofs.lemmas.List.Sorted.{IsPermutation-keeps, IsPermutation-map, Contains-permutation, IsPermutation-sym, sorted_far, ranks_by}
 use Rattle.posting.specs.ListValue.{has}
-use Rattle.posting.proofs.Laws.{contains-has}
+use Rattle.posting.proofs.SetLemmas.{contains-has}
 use Rattle.index.specs.declared.document.SharedDocument.{SharedDocument}
 use Rattle.index.specs.Documents.{Document, document, document_at, IsInNameOrder}
 use Rattle.index.specs.Shared.{document_of, documents_shared}

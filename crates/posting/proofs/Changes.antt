@@ -9,7 +9,7 @@ use Rattle.std.proofs.Math.Seq.{get_or-append_seam}
 use Rattle.std.proofs.lemmas.List.Elements.{All-from_get_or, All-push, All-weaker}
 use Rattle.posting.specs.ListValue.{ListValue, has, without, HasRoom}
 use Rattle.posting.specs.Postings.{set_of, holds, IsPrepared, IsAbove, AllDiffer, SameSets, KeepsRoom, WithdrawsNumber, GivesBack, no_numbers}
-use Rattle.posting.proofs.Laws.{has-append, has-push, has-filter}
+use Rattle.posting.proofs.SetLemmas.{has-append, has-push, has-filter}
 use Rattle.posting.proofs.Members.{has_at, All-has, lacks_from_all}
 
 or_true : (a : Bool) → (a || true) ≡ true

@@ -1,4 +1,4 @@
-pub mod Laws
+pub mod SetLemmas
 pub mod Rising
 pub mod Groups
 pub mod Members

@@ -18,7 +18,7 @@ use Rattle.query.proofs.Forms.{formula_of-Any, formula_of-None, formula_of-Has, 
 use Rattle.posting.specs.ListValue.{ListValue, has}
 use Rattle.posting.specs.Postings.{set_of, trigrams_with, selected}
 use Rattle.posting.specs.Private.Selection.{Finds}
-use Rattle.posting.proofs.Laws.{has-filter, or-false}
+use Rattle.posting.proofs.SetLemmas.{has-filter, or-false}
 use Rattle.posting.proofs.Members.{filter_all, filter_none}
 
 -- the numbers of a list for which the set of their trigrams passes a test

@@ -17,7 +17,7 @@ use Rattle.std.proofs.Math.Seq.{take-append_seam, drop-append_seam}
 use Rattle.posting.specs.ListValue.{has, without}
 use Rattle.posting.specs.Stored.{groups, bytes_of, bytes_after}
 use Rattle.posting.specs.Private.Gaps.{limit, numbers_after, last_of, IsSpelled, IsStored, IsFirstNumber, IsPassed, IsBlock, IsLeast, not_below}
-use Rattle.posting.proofs.Laws.{has-append}
+use Rattle.posting.proofs.SetLemmas.{has-append}
 use Rattle.posting.proofs.Rising.{rising-head, rising-tail, rising-push}
 use Rattle.posting.proofs.Members.{All-has, filter_all, filter_none, lacks_above, lacks_from_all, without_absent, without-lacking}
 use Rattle.posting.proofs.Groups.{first_low, below_limit, Rise, rise-tail, rise_spelled, spelled_bytes, spelled_numbers, bytes_after-cons}

@@ -1,4 +1,5 @@
 pub mod ListValue
 pub mod Stored
 pub mod Postings
+pub mod Laws
 pub mod Private

@@ -3,11 +3,13 @@
 #![tactic(auto)]
 
 mod gaps;
+mod laws;
 mod list;
 mod pages;
 mod postings;
 mod trigrams;
 
+pub use laws::prepared_sets_have_room;
 pub use list::{List, Lookup, Numbers};
 pub use postings::Postings;
 pub use trigrams::{Trigrams, TrigramsIterator};
