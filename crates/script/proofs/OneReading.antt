@@ -11,7 +11,6 @@ use Rattle.script.specs.Private.Cuts.{Lacks, CutsLine}
 use Rattle.script.specs.Items.{Numbered, numbered, ItemsFrom, done, blank_line, other_line, closed_put, last_put, bad_put_line}
 use Rattle.script.specs.Items.{missing_body, short_body, open_body, BeginsWithLine, ended, last, IsPutLine, is_put, is_blank, item_of_line}
 use Rattle.script.specs.Items.{line_feeds, put, bad_put, truncated, body_not_closed}
-use Rattle.script.specs.Reading.{shown_item}
 use Rattle.script.specs.Line.{Says, SayTheSame}
 use Rattle.script.specs.declared.line.Line as program
 use Rattle.script.specs.declared.line.Line.TheVariants as variants
