@@ -5,3 +5,4 @@ pub mod LineLemmas
 pub mod BodyLemmas
 pub mod TakingLemmas
 pub mod NextLemmas
+pub mod LawLemmas

@@ -4,8 +4,10 @@
 
 mod body;
 mod item;
+mod laws;
 mod line;
 mod stream;
 
 pub use item::{StreamError, StreamItem, TakenItem};
+pub use laws::taken_items_are_one;
 pub use stream::ItemStream;
