@@ -8,6 +8,7 @@
 mod desk;
 mod error;
 mod history;
+mod laws;
 mod names;
 mod opening;
 mod reading;
@@ -17,6 +18,7 @@ mod told;
 
 pub use desk::Desk;
 pub use error::{OpenError, PutError, PutErrorKind, RemoveError, Returned, SearchError};
+pub use laws::faults_are_one;
 pub use opening::{MAX_COMMANDS, MAX_READINGS, open, open_with_places};
 pub use reading::Reading;
 pub use search::{
