@@ -6,7 +6,8 @@ import subprocess
 import sys
 import time
 
-TOP = pathlib.Path(__file__).resolve().parent.parent
+from built import TOP, script_name
+
 sys.path.insert(0, str(TOP / "building"))
 
 from commands import CannotBuild  # noqa: E402
@@ -45,16 +46,22 @@ def copy_crates(folder, names, own="", kept=False):
     subprocess.run(["git", "init", "-q", folder], check=True)
 
 
-def build_program(folder, name, uses):
-    """Compiles the program tests/NAME.rt.txt, with checks and no optimisation, over copies of these crates in a folder, and returns its path."""
+def beside(script):
+    """The program SCRIPT.rt.txt that is beside a script SCRIPT.py."""
+    return pathlib.Path(script).resolve().with_suffix(".rt.txt")
+
+
+def build_program(folder, source, uses):
+    """Compiles a program NAME.rt.txt, with checks and no optimisation, over copies of these crates in a folder, and returns its path."""
+    name = source.name.split(".")[0]
     copy_crates(folder, uses, name)
     top = pathlib.Path(folder).resolve()
     own, room, program = top / "crates" / name, top / "room", top / name
     (own / "src").mkdir(parents=True)
     room.mkdir()
-    shutil.copy(TOP / "tests" / (name + ".rt.txt"), own / "src/main.rt")
+    shutil.copy(source, own / "src/main.rt")
     try:
         Compilation(room, time.monotonic(), own, top, "-O0").build(program)
     except (CannotBuild, Unexpected) as error:
-        sys.exit("tests/%s.py: the program is not built: %s" % (name, error))
+        sys.exit(f"{script_name()}: the program is not built: {error}")
     return program

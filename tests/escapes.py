@@ -9,17 +9,15 @@ Usage: tests/escapes.py   The last line counts: N passed, M failed.
 """
 
 import json
-import pathlib
 import re
 import shutil
 import string
 import subprocess
 import sys
 
+from built import PROGRAM, TOP, need_program
 from counted import Counted
 
-TOP = pathlib.Path(__file__).resolve().parent.parent
-PROGRAM = TOP / "crates/program/out/program"
 PAGE = TOP / "docs/PATTERNS.md"
 SECTION = "## How to search for a text as it is\n"
 PRINTABLE = [chr(byte) for byte in range(32, 127)]
@@ -86,8 +84,7 @@ def fault_of_re_escape():
 
 
 def main():
-    if not PROGRAM.exists():
-        sys.exit("tests/escapes.py: build the program first: ./tsearch --prove")
+    need_program()
     counted = Counted()
     python, javascript = lines_of_page()
     found = texts()

@@ -8,18 +8,13 @@ Usage: tests/given_back.py [NAME..]   The last line counts: N passed, M failed.
 """
 
 import random
-import subprocess
-import sys
 
-from counted import Counted
-from live import MEBIBYTE, PROGRAM, Session, Wrong
+from built import put
+from counted import Wrong, run_tests
+from live import MEBIBYTE, Session
 
 # The part of the memory that may stay.
 PART = 1 / 4
-
-
-def put(name, body):
-    return b"put %s %d\n%s\n" % (name, len(body), body)
 
 
 def random_body(source, length):
@@ -87,28 +82,5 @@ def lists_of_many_numbers():
         session.end(0)
 
 
-TESTS = [lists_of_many_trigrams, lists_of_many_numbers]
-
-
-def main():
-    if not PROGRAM.exists():
-        sys.exit("tests/given_back.py: build the program first: ./tsearch --prove")
-    wanted = sys.argv[1:]
-    missing = sorted(set(wanted) - {test.__name__ for test in TESTS})
-    if missing:
-        sys.exit(f"tests/given_back.py: no such test: {', '.join(missing)}")
-    counted = Counted()
-    for test in TESTS:
-        if wanted and test.__name__ not in wanted:
-            continue
-        try:
-            test()
-        except (Wrong, OSError, IndexError, ValueError, subprocess.TimeoutExpired) as wrong:
-            counted.fails(f"{test.__name__}: {wrong!r}")
-        else:
-            counted.passes()
-    counted.end()
-
-
 if __name__ == "__main__":
-    main()
+    run_tests([lists_of_many_trigrams, lists_of_many_numbers])

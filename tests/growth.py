@@ -23,10 +23,9 @@ import subprocess
 import sys
 import tempfile
 
-from counted import Counted
+from built import PROGRAM, TOP, need_program
+from counted import Counted, Wrong
 
-TOP = pathlib.Path(__file__).resolve().parent.parent
-PROGRAM = TOP / "crates/program/out/program"
 SECONDS = 300
 SCRIPT, SESSION = "script", "session"
 WORDS = {SCRIPT: ["--readers", "0", "--max-commands", "1000000"], SESSION: ["--live"]}
@@ -85,10 +84,6 @@ void _exit(int status) { tell(); syscall(SYS_exit_group, status); __builtin_unre
 # What a run has taken: the requests for memory and their bytes, the most bytes in use at once, those in use when the last text was
 # written, the requests of at least so many bytes, how often text was written, and the text.
 Memory = collections.namedtuple("Memory", "requests bytes most held large writes text")
-
-
-class Wrong(Exception):
-    """A run did not do what its script says, so its counts say nothing."""
 
 
 class Runs:
@@ -531,8 +526,9 @@ def main():
     wanted = [word for word in sys.argv[1:] if word != "--show"]
     known = [row.growth for row in GROWTHS] + CHECKS
     missing = sorted(set(wanted) - {it.__name__ for it in known})
-    if missing or not PROGRAM.exists():
-        sys.exit(f"tests/growth.py: no such name: {', '.join(missing)}" if missing else "tests/growth.py: build the program first: ./tsearch --prove")
+    if missing:
+        sys.exit(f"tests/growth.py: no such name: {', '.join(missing)}")
+    need_program()
     counted = Counted()
     with tempfile.TemporaryDirectory() as folder, concurrent.futures.ThreadPoolExecutor(os.cpu_count()) as pool:
         runs = Runs(folder)

@@ -8,16 +8,12 @@ lines were found one by one. The rows below, which are too long for a file, are 
 Usage: tests/lines.py   The last line counts: N passed, M failed.
 """
 
-import codecs
-import pathlib
 import re
 import subprocess
-import sys
 
+from built import PROGRAM, TOP, need_program, put, rows_of
 from counted import Counted
 
-TOP = pathlib.Path(__file__).resolve().parent.parent
-PROGRAM = TOP / "crates/program/out/program"
 ROWS = TOP / "tests/lines.rows"
 SECONDS = 60
 
@@ -29,25 +25,11 @@ MANY_BYTES = 65_536
 MIB = 1_048_576
 
 
-def bytes_of(field):
-    return codecs.decode(field, "unicode_escape").encode("latin-1")
-
-
-def rows_of_file():
-    for line in ROWS.read_text().split("\n"):
-        if line and not line.startswith("#"):
-            yield tuple(bytes_of(field) for field in line.split("\t"))
-
-
-def put(name, body):
-    return b"put %s %d\n%s\n" % (name, len(body), body)
-
-
-def searched(documents, patterns):
-    """A part of a script: these documents and no others, and a search for each pattern."""
+def searched(documents, search):
+    """A part of a script: these documents and no others, and a search of them."""
     puts = [put(name, body) for name, body in documents]
     removes = [b"remove %s\n" % name for name, _ in documents]
-    return b"".join([*puts, b"publish\n", *(b"search %s\n" % pattern for pattern in patterns), *removes])
+    return b"".join([*puts, b"publish\n", search, *removes])
 
 
 def run(script):
@@ -70,23 +52,24 @@ def copies_of(body):
 
 
 def ways_of(row):
-    """The three ways of a row: what it is called, the documents, and the pattern."""
-    body, pattern, _ = row
-    yield "line by line", [(b"f", body)], pattern
-    yield "by the engine", [(b"f", body)], pattern + FOR_THE_ENGINE
-    yield "after many lines", [(b"f", body), (b"a", copies_of(body))], pattern
+    """The three ways of a row: what it is called, the documents, and the search."""
+    body, pattern, _, *ignored = row
+    search = (b"isearch %s\n" if ignored == [b"i"] else b"search %s\n") % pattern
+    yield "line by line", [(b"f", body)], search
+    yield "by the engine", [(b"f", body)], search[:-1] + FOR_THE_ENGINE + b"\n"
+    yield "after many lines", [(b"f", body), (b"a", copies_of(body))], search
 
 
 def faults_of_rows():
     """What is wrong with the rows of the file: None for each way that finds what it should."""
-    tried = [(row, *way) for row in rows_of_file() for way in ways_of(row)]
-    answers = run(b"".join(searched(documents, [pattern]) for _, _, documents, pattern in tried))
+    tried = [(row, *way) for row in rows_of(ROWS) for way in ways_of(row)]
+    answers = run(b"".join(searched(documents, search) for _, _, documents, search in tried))
     if len(answers) != len(tried):
         yield f"{len(answers)} searches of {len(tried)} have an answer"
         return
-    for (row, what, _, pattern), answer in zip(tried, answers):
+    for (row, what, _, search), answer in zip(tried, answers):
         hits = b"".join(line + b"\n" for line in answer if line.startswith(b"f:"))
-        yield None if hits == row[2] else f"{pattern!r} over {row[0]!r} {what}: {hits!r}, and should be {row[2]!r}"
+        yield None if hits == row[2] else f"{search!r} over {row[0]!r} {what}: {hits!r}, and should be {row[2]!r}"
 
 
 def many_stars():
@@ -160,8 +143,7 @@ def fault_of(what, documents, pattern, hits):
 
 
 def main():
-    if not PROGRAM.exists():
-        sys.exit("tests/lines.py: build the program first: ./tsearch --prove")
+    need_program()
     counted = Counted()
     counted.judge(faults_of_rows())
     counted.judge(fault_of(rows.__name__, *row) for rows in LONG_ROWS for row in rows())

@@ -86,7 +86,7 @@ def faults_of(program, library, row, show):
 def main():
     counted = Counted()
     with tempfile.TemporaryDirectory() as folder:
-        program = copies.build_program(os.path.join(folder, "copy"), "list_growth", ["query", "posting"])
+        program = copies.build_program(os.path.join(folder, "copy"), copies.beside(__file__), ["query", "posting"])
         library = os.path.join(folder, "counting.so")
         subprocess.run(["cc", "-O2", "-shared", "-fPIC", "-x", "c", "-", "-o", library], input=COUNTING, text=True, check=True)
         with concurrent.futures.ThreadPoolExecutor(os.cpu_count()) as pool:

@@ -3,7 +3,7 @@
 
 A client here waits for each answer before it sends what follows. If an answer waited for a byte after its item, it
 would never come, and the test would fail at its limit of time. The texts that must come are written by hand, or are
-what a run writes for the same script, which tests/run.py and tests/check_transcripts.py check.
+what a run writes for the same script, which tests/run.py and tests/judge/check_transcripts.py check.
 
 Usage: tests/live.py [NAME..]   The last line counts: N passed, M failed.
 """
@@ -22,12 +22,10 @@ import termios
 import threading
 import time
 
-import transcripts
-from changed_scripts import Files
-from counted import Counted
+from built import PROGRAM, TOP
+from counted import Wrong, run_tests
+from judge import transcripts
 
-TOP = pathlib.Path(__file__).resolve().parent.parent
-PROGRAM = TOP / "crates/program/out/program"
 CLIENT = TOP / "examples/live_folder.py"
 EXAMPLES = sorted((TOP / "examples").glob("*.script"))
 SECONDS = 60
@@ -64,10 +62,6 @@ TALK = [
 ]
 TALK_SCRIPT = b"".join(item for item, _ in TALK)
 TALK_PATTERNS = {b"(": "group not closed at 0"}
-
-
-class Wrong(Exception):
-    """A session did something other than it should."""
 
 
 class Session:
@@ -235,7 +229,7 @@ def check_cut(script, patterns, cut):
     if status not in (0, 1, 2):
         raise Wrong(f"cut at {cut}, the status is {status}")
     try:
-        fault = transcripts.fault_of(begin, text, status, readers=0, max_commands=1_000_000, files=Files(), table=patterns)
+        fault = transcripts.fault_of(begin, text, status, readers=0, max_commands=1_000_000, files=transcripts.Files(), table=patterns)
     except transcripts.NotPlain:
         return
     if fault:
@@ -515,25 +509,5 @@ TESTS = [
 ]
 
 
-def main():
-    if not PROGRAM.exists():
-        sys.exit("tests/live.py: build the program first: ./tsearch --prove")
-    wanted = sys.argv[1:]
-    missing = sorted(set(wanted) - {test.__name__ for test in TESTS})
-    if missing:
-        sys.exit(f"tests/live.py: no such test: {', '.join(missing)}")
-    counted = Counted()
-    for test in TESTS:
-        if wanted and test.__name__ not in wanted:
-            continue
-        try:
-            test()
-        except (Wrong, OSError, IndexError, ValueError, subprocess.TimeoutExpired) as wrong:
-            counted.fails(f"{test.__name__}: {wrong!r}")
-        else:
-            counted.passes()
-    counted.end()
-
-
 if __name__ == "__main__":
-    main()
+    run_tests(TESTS)

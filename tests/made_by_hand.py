@@ -15,13 +15,12 @@ Usage: tests/made_by_hand.py           checks the list
        tests/made_by_hand.py --print   prints the places as the list has them, for copying
 """
 
-import pathlib
 import re
 import sys
 
+from built import TOP
 from counted import Counted
 
-TOP = pathlib.Path(__file__).resolve().parent.parent
 LIST = TOP / "tests/made_by_hand.txt"
 ERRORS = {"AllocError", "AllocFailed", "OutOfMemory"}
 TOKEN = re.compile(

@@ -46,11 +46,12 @@ import subprocess
 import sys
 import tempfile
 
-from counted import Counted
+from built import PROGRAM as PROVED
+from built import TOP, need_program
+from counted import Counted, Wrong
 
-TOP = pathlib.Path(__file__).resolve().parent.parent
 COMPILED = "--compiled" in sys.argv[1:]
-PROGRAM = TOP / ("out/compiled/tsearch" if COMPILED else "crates/program/out/program")
+PROGRAM = TOP / "out/compiled/tsearch" if COMPILED else PROVED
 CASES = TOP / "tests/cases"
 EXAMPLES = TOP / "examples"
 ARCHITECTURE = TOP / "docs/architecture"
@@ -72,10 +73,6 @@ WHOLE_SCRIPTS = {
     "script_too_long_on_standard_input",
     "standard_input_is_read_to_one_byte_over_the_limit",
 }
-
-
-class Wrong(Exception):
-    """A case did not come out as it should."""
 
 
 def read_bytes(path):
@@ -333,8 +330,7 @@ def fault_of(job):
 
 
 def main():
-    if not PROGRAM.exists():
-        sys.exit(f"tests/run.py: build the program first: ./tsearch {'--help' if COMPILED else '--prove'}")
+    need_program(PROGRAM, f"./tsearch {'--help' if COMPILED else '--prove'}")
     examples = sorted(path.with_suffix("") for path in EXAMPLES.glob("*.script"))
     jobs = [(run_case, base) for base in cases_of_folders()] + [(run_example, base) for base in examples]
     if COMPILED:

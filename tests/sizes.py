@@ -9,19 +9,15 @@ there are processors.
 Usage: tests/sizes.py [NAME..]   The last line counts: N passed, M failed.
 """
 
-import concurrent.futures
 import fcntl
 import os
-import pathlib
 import subprocess
-import sys
 import tempfile
 import threading
 
-from counted import Counted
+from built import PROGRAM, TOP, put
+from counted import run_tests
 
-TOP = pathlib.Path(__file__).resolve().parent.parent
-PROGRAM = TOP / "crates/program/out/program"
 SECONDS = 300
 
 # Above 65,536; above 100,000; above 2^20 = 1,048,576.
@@ -29,10 +25,6 @@ OVER_16_BITS, OVER_100_000, OVER_20_BITS = 70_000, 110_000, 1_100_000
 GREATEST_BODY = 1_048_576
 ALONE, ONE_READER, TWO_READERS, SESSION = ["--readers", "0"], ["--readers", "1"], ["--readers", "2"], ["--live"]
 MANY_COMMANDS = ["--max-commands", "1000000"]
-
-
-class Wrong(Exception):
-    """A script did not come out as it should."""
 
 
 class Case:
@@ -45,10 +37,6 @@ class Case:
         self.ways = ways
         self.status = status
         self.one_by_one = one_by_one
-
-
-def put(name, body):
-    return b"put %s %d\n%s\n" % (name, len(body), body)
 
 
 def answers(count, version, hits, first=1):
@@ -263,19 +251,5 @@ def faults_of(test):
     return faults
 
 
-def main():
-    if not PROGRAM.exists():
-        sys.exit("tests/sizes.py: build the program first: ./tsearch --prove")
-    wanted = sys.argv[1:]
-    missing = sorted(set(wanted) - {test.__name__ for test in CASES})
-    if missing:
-        sys.exit(f"tests/sizes.py: no such test: {', '.join(missing)}")
-    counted = Counted()
-    with concurrent.futures.ThreadPoolExecutor(os.cpu_count()) as pool:
-        for faults in pool.map(faults_of, [test for test in CASES if not wanted or test.__name__ in wanted]):
-            counted.judge(faults)
-    counted.end()
-
-
 if __name__ == "__main__":
-    main()
+    run_tests(CASES, faults_of, os.cpu_count())

@@ -12,14 +12,13 @@ NAME is that of a function, or TYPE::FUNCTION.
 Usage: tests/without_ensures.py [--print]   The last line counts: N passed, M failed. --print shows the functions as README.md has them.
 """
 
-import pathlib
 import re
 import sys
 
+from built import TOP
 from counted import Counted
-from made_by_hand import CLOSERS, Source, test_files
+from made_by_hand import Source, test_files
 
-TOP = pathlib.Path(__file__).resolve().parent.parent
 README = TOP / "README.md"
 ITEM = re.compile(r"^- (\w+) public functions have no `ensures`.*$", re.MULTILINE)
 NAMED = re.compile(r"`([\w:]+)` of `(\w+)`")

@@ -4,11 +4,9 @@
 The script puts a small document and one of 19 KB, and searches them line by line, by the compiled pattern, with stars inside
 stars, and with a pattern that is too large to be compiled. With the Nth request refused, each search's answer is the same or
 `refused: out of memory`, each other line does its work or is refused with the same words, or the program says that memory ran
-out. Anything else is a fault. A library of a few lines, which the command cc builds and which is loaded
-before the C library, counts the requests. A program that may start threads ends by `_exit`, so the count is printed there too.
-With LEAST in its environment, the library counts only requests of at least that many bytes, and refuses the first REFUSED of them.
+out. Anything else is a fault. The library of counting.py counts the requests and refuses one.
 
-Usage: tests/refused_memory.py [--every N]   The last line counts: N passed, M failed. With --every, only each Nth request is refused.
+Usage: tests/refused/refused_memory.py [--every N]   The last line counts: N passed, M failed. With --every, only each Nth request is refused.
 """
 
 import argparse
@@ -18,50 +16,30 @@ import os
 import pathlib
 import re
 import subprocess
+import sys
 import tempfile
 
-from counted import Counted
+sys.path.insert(0, str(pathlib.Path(__file__).resolve().parent.parent))
 
-PROGRAM = pathlib.Path(__file__).resolve().parent.parent / "crates" / "program" / "out" / "program"
-
-COUNTING = r"""
-#include <stddef.h>
-#include <stdio.h>
-#include <stdlib.h>
-#include <sys/syscall.h>
-#include <unistd.h>
-extern void *__libc_malloc(size_t), *__libc_realloc(void *, size_t);
-static long requests, refused = -1, least;
-static int refuses(size_t size) {
-    if (refused < 0) {
-        if (getenv("LEAST")) least = atol(getenv("LEAST"));
-        refused = atol(getenv("REFUSED"));
-    }
-    if (size < (size_t)least) return 0;
-    long request = __atomic_add_fetch(&requests, 1, __ATOMIC_RELAXED);
-    return least ? request <= refused : request == refused;
-}
-void *malloc(size_t size) { return refuses(size) ? NULL : __libc_malloc(size); }
-void *realloc(void *old, size_t size) { return refuses(size) ? NULL : __libc_realloc(old, size); }
-__attribute__((destructor)) static void tell(void) { dprintf(2, "requests %ld\n", requests); }
-void _exit(int status) { tell(); syscall(SYS_exit_group, status); __builtin_unreachable(); }
-"""
+from built import PROGRAM, need_program, put  # noqa: E402
+from counted import Counted  # noqa: E402
+from refused import counting  # noqa: E402
 
 SEARCHES = [b"xy|ca", b"line 44[0-3] .* 0x[0-3]{2}", b"^$", b"((a*|b)*|c)*d$|^line (0*)*7", b"e 44[0-2]|z$", b".{211}.{212}.{211}|line 7 of the body, int x"]
 MEMORY = rb"(search|line) \d+ refused: out of memory"
 
 
-def script():
+def script_of_searches():
     small = b"ab\ncad\n\nxyz"
     large = b"".join(b"line %d of the body, int x = 0x%08x;\n" % (i, i * 7919) for i in range(450))
-    puts = b"".join(b"put %s %d\n%s\n" % (name, len(body), body) for name, body in ((b"a", small), (b"b", large)))
+    puts = put(b"a", small) + put(b"b", large)
     return puts + b"publish\n" + b"".join(b"search " + pattern + b"\n" for pattern in SEARCHES)
 
 
-def run(folder, refused):
+def run(library, script, refused):
     """The status, the output and the messages of the run whose request with this number is refused, and how many there were."""
-    env = dict(os.environ, LD_PRELOAD=os.path.join(folder, "counting.so"), REFUSED=str(refused))
-    done = subprocess.run([PROGRAM, "--readers", "0", os.path.join(folder, "script")], env=env, capture_output=True, check=False, timeout=60)
+    env = dict(os.environ, LD_PRELOAD=library, REFUSED=str(refused))
+    done = subprocess.run([PROGRAM, "--readers", "0", script], env=env, capture_output=True, check=False, timeout=60)
     messages, count = re.fullmatch(rb"(.*)requests (\d+)\n", done.stderr, re.DOTALL).groups()
     return done.returncode, done.stdout, messages, int(count)
 
@@ -87,9 +65,9 @@ def outcome(want, status, output, messages):
     return "a search refused" if all(re.fullmatch(MEMORY, answer) for answer in given) else None
 
 
-def fault_of(folder, want, refused):
+def fault_of(library, script, want, refused):
     """What became of the run whose request with this number is refused, and what is wrong, or None."""
-    status, output, messages, _ = run(folder, refused)
+    status, output, messages, _ = run(library, script, refused)
     what = outcome(want, status, output, messages)
     told = "request %d refused: status %d, %r, %r" % (refused, status, messages, output[:500])
     return what, None if what else told
@@ -99,12 +77,13 @@ def main():
     every = argparse.ArgumentParser(description="Refuses each request for memory of a run in turn.")
     every.add_argument("--every", type=int, default=1)
     every = every.parse_args().every
+    need_program()
     counts, counted = collections.Counter(), Counted()
     with tempfile.TemporaryDirectory() as folder, concurrent.futures.ThreadPoolExecutor(os.cpu_count()) as pool:
-        pathlib.Path(folder, "script").write_bytes(script())
-        subprocess.run(["cc", "-O2", "-shared", "-fPIC", "-x", "c", "-", "-o", os.path.join(folder, "counting.so")], input=COUNTING, text=True, check=True)
-        _, want, _, requests = run(folder, 0)
-        for what, fault in pool.map(lambda refused: fault_of(folder, want, refused), range(1, requests + 1, every)):
+        library, script = counting.build(folder), pathlib.Path(folder, "script")
+        script.write_bytes(script_of_searches())
+        _, want, _, requests = run(library, script, 0)
+        for what, fault in pool.map(lambda refused: fault_of(library, script, want, refused), range(1, requests + 1, every)):
             counts[what] += 1
             counted.judge([fault])
     print("%d requests refused in turn: %s" % (sum(counts.values()), ", ".join("%s %d" % pair for pair in sorted(counts.items(), key=str))))

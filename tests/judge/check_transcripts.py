@@ -5,7 +5,7 @@ First the judge itself is tested: it must accept the texts of tests/cases and ex
 text of a table, each wrong in one thing. Then every beginning of a script with a replacement, a pending put and syncs is run with
 several numbers of readers. So are random scripts, with few syncs between searches and later publishes. Every text must be legal.
 
-Usage: tests/check_transcripts.py   The last line counts: N passed, M failed.
+Usage: tests/judge/check_transcripts.py   The last line counts: N passed, M failed.
 """
 
 import pathlib
@@ -13,11 +13,12 @@ import random
 import subprocess
 import sys
 
-import transcripts
-from counted import Counted
+sys.path.insert(0, str(pathlib.Path(__file__).resolve().parent.parent))
 
-TOP = pathlib.Path(__file__).resolve().parent.parent
-PROGRAM = TOP / "crates/program/out/program"
+from built import PROGRAM, TOP, need_program  # noqa: E402
+from counted import Counted  # noqa: E402
+from judge import transcripts  # noqa: E402
+
 READERS = [0, 1, 2, 16]
 RANDOM_SCRIPTS = 400
 
@@ -200,8 +201,7 @@ def random_scripts():
 
 
 def main():
-    if not PROGRAM.exists():
-        sys.exit("tests/check_transcripts.py: build the program first: ./tsearch --prove")
+    need_program()
     counted = Counted()
     for part, name in (judged_by_hand, "the judge"), (beginnings, "beginnings"), (random_scripts, "random scripts"):
         wrong, count = part()

@@ -6,18 +6,22 @@ seconds with one of the program's statuses and no message, and its text must be 
 that is not plain, the text is not judged. As many scripts run at once as there are processors. With --every only each Nth script is run,
 as ./test does; with --all there are about ten times as many.
 
-Usage: tests/changed_scripts.py [--all] [--every N] [NAME..]   The last line counts: N passed, M failed.
+Usage: tests/judge/changed_scripts.py [--all] [--every N] [NAME..]   The last line counts: N passed, M failed.
 """
 
 import argparse
 import collections
 import concurrent.futures
 import os
+import pathlib
 import subprocess
+import sys
 
-import transcripts
-from check_transcripts import PROGRAM, TOP
-from counted import Counted
+sys.path.insert(0, str(pathlib.Path(__file__).resolve().parent.parent))
+
+from built import PROGRAM, TOP, need_program  # noqa: E402
+from counted import Counted  # noqa: E402
+from judge import transcripts  # noqa: E402
 
 BYTES = b"\0\n\r #09azp.*+?[]({|^$\\-\x7f\x80\xff"
 SECONDS = 10
@@ -42,20 +46,6 @@ def changed(script, every):
                 yield "byte %d as %d" % (at, byte), script[:at] + bytes([byte]) + script[at + 1 :]
 
 
-class Files:
-    """The files that a load may find from the top of the repository."""
-
-    def __contains__(self, path):
-        return self.get(path) is not None
-
-    def get(self, path):
-        try:
-            with open(os.path.join(TOP, path.decode()), "rb") as file:
-                return file.read()
-        except (OSError, ValueError):
-            return None
-
-
 def judge(script, readers):
     """Runs a script, and returns whether its text was judged, and what is wrong or None."""
     try:
@@ -65,7 +55,7 @@ def judge(script, readers):
     if done.stderr or done.returncode not in (0, 1, 2):
         return "judged", "status %d, %r" % (done.returncode, done.stderr)
     try:
-        return "judged", transcripts.fault_of(script, done.stdout, done.returncode, readers=readers, files=Files(), table=TABLE)
+        return "judged", transcripts.fault_of(script, done.stdout, done.returncode, readers=readers, files=transcripts.Files(), table=TABLE)
     except transcripts.NotPlain:
         return "not judged, since a pattern is not plain", None
 
@@ -81,6 +71,7 @@ def main():
     words.add_argument("--every", type=int, default=1)
     words.add_argument("names", nargs="*")
     given = words.parse_args()
+    need_program()
     counts, counted = collections.Counter(), Counted()
     paths = [path for path in sorted(TOP.glob("examples/*.script")) if not given.names or path.stem in given.names]
     scripts = [(path.name, *change) for path in paths for change in changed(path.read_bytes(), given.all)]

@@ -3,7 +3,7 @@
 
 The script has a replacement, a pending put and syncs; it is run with no readers, with two, and as a session. With the Nth request
 refused, a run says that memory ran out, or it writes a text that is legal (transcripts.py) if any item may be refused for memory.
-No run says that a reader has no place, since there are as many places as readers. The library of refused_memory.py counts the
+No run says that a reader has no place, since there are as many places as readers. The library of counting.py counts the
 requests. With readers, the requests of two threads come in a different order each time, so these runs are repeated.
 
 Then a body is searched that is so large that the pattern is compiled, which takes some hundreds of requests in a row. If one of
@@ -14,21 +14,25 @@ Finally, large requests are refused and small ones are not. It is then known whi
 be written: a put, a load or a search with no room is refused with its line or number, and the next item is carried out.
 A script with no room ends the run. In a session, so does a line with no room, or the text of an answer.
 
-Usage: tests/refused_runs.py   The last line counts: N passed, M failed.
+Usage: tests/refused/refused_runs.py   The last line counts: N passed, M failed.
 """
 
 import collections
 import itertools
 import os
+import pathlib
 import re
 import subprocess
 import sys
 import tempfile
 
-import transcripts
-from check_transcripts import NEW, NO_OLD, OLD, OLD_AGAIN, PROGRAM, REPLACEMENT
-from counted import Counted
-from refused_memory import COUNTING
+sys.path.insert(0, str(pathlib.Path(__file__).resolve().parent.parent))
+
+from built import PROGRAM, need_program, put  # noqa: E402
+from counted import Counted  # noqa: E402
+from judge import transcripts  # noqa: E402
+from judge.check_transcripts import NEW, NO_OLD, OLD, OLD_AGAIN, REPLACEMENT  # noqa: E402
+from refused import counting  # noqa: E402
 
 WANTED = OLD + OLD_AGAIN + NO_OLD + NEW
 # What a session may have written when it fails at an item.
@@ -55,7 +59,7 @@ LONG = b"of no use\n" * 99_999 + b"last line\n"
 MANY = b"x\n" * 50_000 + b"y\n"
 
 # Puts of LONG over an older document of the same name. Its 100,000 line feeds count in the number of the last line.
-LONG_PUT = b"put a %d\n%s\n" % (len(LONG), LONG)
+LONG_PUT = put(b"a", LONG)
 LONG_PUTS = b"put a 3\nold\npublish\n" + LONG_PUT + b"publish\nsearch old\n" + LONG_PUT + b"publish\nsearch ^last\nwhat\n"
 NO_ROOM, OLD_LEFT = b"line 4 refused: out of memory\n", b"search 1 version 1 lines 1\na:1:old\n"
 NO_ROOM_AGAIN, NOTHING_NEW = b"line 100008 refused: out of memory\n", b"search 2 version 1 lines 0\n"
@@ -73,13 +77,6 @@ FEW_FIRST, FEW_LAST = b"search 1 version 1 lines 1\nm:50001:y\n", b"search 4 ver
 HITS = b"version 1 lines 50000\n" + b"".join(b"m:%d:x\n" % number for number in range(1, 50_001))
 SECOND, THIRD = b"search 2 " + HITS, b"search 3 " + HITS
 SECOND_REFUSED, THIRD_REFUSED = b"search 2 refused: out of memory\n", b"search 3 refused: out of memory\n"
-
-
-def build(folder):
-    """Builds the library that counts and refuses requests, and returns its path."""
-    library = os.path.join(folder, "counting.so")
-    subprocess.run(["cc", "-O2", "-shared", "-fPIC", "-x", "c", "-", "-o", library], input=COUNTING, text=True, check=True)
-    return library
 
 
 def run(library, script, words, refused, least=0):
@@ -173,9 +170,10 @@ def fault_of_no_room(library, name, script, words, refused, wanted):
 
 
 def main():
+    need_program()
     counted = Counted()
     with tempfile.TemporaryDirectory() as folder:
-        library = build(folder)
+        library = counting.build(folder)
         for words, times in TIMES:
             seen = [it for _ in range(times) for it in each_request(library, words)]
             outcomes = collections.Counter(what for what, _ in seen)

@@ -11,7 +11,10 @@ feed, so `.` and `[^a]` mean the same and `$` matches only at the end of the lin
 All other patterns must be in a table, written by hand by the caller, that says what the program makes of them.
 """
 
+import os
 import re
+
+from built import TOP
 
 MAX_BODY, MAX_LINE, MAX_PATTERN = 1_048_576, 16_384, 1_024
 
@@ -34,6 +37,20 @@ class NotPlain(Exception):
 
 class Illegal(Exception):
     """Why the program may not write a text."""
+
+
+class Files:
+    """The files that a load may find from the top of the repository."""
+
+    def __contains__(self, path):
+        return self.get(path) is not None
+
+    def get(self, path):
+        try:
+            with open(os.path.join(TOP, path.decode()), "rb") as file:
+                return file.read()
+        except (OSError, ValueError):
+            return None
 
 
 class Item:

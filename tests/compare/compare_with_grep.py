@@ -5,7 +5,7 @@ All patterns are searches of a few scripts, over one document of random lines; g
 pattern. With -i case is ignored, by isearch and by grep -i. Differences are counted by kind. The known kinds
 are those of docs/PATTERNS.md, "How this differs from `grep -E`"; any other difference is a fault.
 
-Usage: tests/compare_with_grep.py [-i] [--patterns N] [--lines N] [--seed N] [--show N]   The last line counts: N passed, M failed.
+Usage: tests/compare/compare_with_grep.py [-i] [--patterns N] [--lines N] [--seed N] [--show N]   The last line counts: N passed, M failed.
 """
 
 import argparse
@@ -19,10 +19,11 @@ import subprocess
 import sys
 import tempfile
 
-from counted import Counted
+sys.path.insert(0, str(pathlib.Path(__file__).resolve().parent.parent))
 
-TOP = pathlib.Path(__file__).resolve().parent.parent
-PROGRAM = TOP / "crates/program/out/program"
+from built import PROGRAM, need_program  # noqa: E402
+from counted import Counted  # noqa: E402
+
 SEARCHES_OF_A_RUN = 1000
 # Some patterns keep grep busy for minutes or make it take all memory. They are counted and skipped.
 SECONDS_OF_GREP = 10
@@ -193,8 +194,7 @@ def kind_of(pattern, repeated, ours, theirs, ignoring):
 
 
 def main():
-    if not PROGRAM.exists():
-        sys.exit("tests/compare_with_grep.py: build the program first: ./tsearch --prove")
+    need_program()
     options = argparse.ArgumentParser(description="Compares the program with grep -E.")
     options.add_argument("-i", "--ignore-case", action="store_true", help="compare isearch with grep -i")
     options.add_argument("--patterns", type=int, default=4000)

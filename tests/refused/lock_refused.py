@@ -2,10 +2,9 @@
 """Shows that a search cannot take a lock: `Reading::take` with a lock around the index does not compile.
 
 A call that may wait for another thread takes a handle with the bound `Wait`. `Reading::search`, `take`, `learn` and `seen` get
-no such handle. The compiler refuses the code before the prover sees it, so it cannot be an edit of must-fail. The last line
-counts: N passed, M failed.
+no such handle. The compiler refuses the code before the prover sees it, so it cannot be an edit of must-fail.
 
-Usage: tests/lock_refused.py
+Usage: tests/refused/lock_refused.py   The last line counts: N passed, M failed.
 """
 
 import pathlib
@@ -13,8 +12,11 @@ import subprocess
 import sys
 import tempfile
 
-import copies
-from counted import Counted
+sys.path.insert(0, str(pathlib.Path(__file__).resolve().parent.parent))
+
+import copies  # noqa: E402
+from built import script_name  # noqa: E402
+from counted import Counted  # noqa: E402
 
 OLD = "            let taken = take(asked.alloc, &shelf.index, asked.prepared);\n"
 NEW = """            let lock = std::sync::Mutex::new(&shelf.index);
@@ -30,7 +32,7 @@ def main():
         crate = pathlib.Path(folder, "crates", "shared")
         text = (crate / "src/reading.rt").read_text(encoding="utf-8")
         if text.count(OLD) != 1:
-            sys.exit("tests/lock_refused.py: reading.rt does not have the lines to replace")
+            sys.exit(f"{script_name()}: reading.rt does not have the lines to replace")
         (crate / "src/reading.rt").write_text(text.replace(OLD, NEW), encoding="utf-8")
         done = subprocess.run(["rt", "try", "--test"], cwd=crate, capture_output=True, text=True, check=False)
     errors = [line for line in (done.stdout + done.stderr).splitlines() if ": error" in line]

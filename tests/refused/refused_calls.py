@@ -6,36 +6,39 @@ say that memory ran out and nothing else, give back what it was given, and leave
 its work. The program writes the same text whatever is refused, unless something is wrong.
 
 The toolchain's tests cannot refuse a request, so this is not part of `rt ci`. The program is compiled with checks, as ./tsearch
-does it at its first call. A library of a few lines, which the command cc builds and which is loaded before the C library, counts
-the requests. The last line counts: N passed, M failed.
+does it at its first call. The library of counting.py counts the requests and refuses one.
 
-Usage: tests/refused_calls.py [--every N]   With --every, only each Nth request is refused.
+Usage: tests/refused/refused_calls.py [--every N]   The last line counts: N passed, M failed. With --every, only each Nth request is refused.
 """
 
 import argparse
 import concurrent.futures
 import os
+import pathlib
 import subprocess
+import sys
 import tempfile
 
-import copies
-from counted import Counted
-from refused_memory import COUNTING
+sys.path.insert(0, str(pathlib.Path(__file__).resolve().parent.parent))
+
+import copies  # noqa: E402
+from counted import Counted  # noqa: E402
+from refused import counting  # noqa: E402
 
 USES = ["ere", "query", "index", "search", "shared"]
 WANTED = b"each call did its work, at once or after a refusal\n"
 
 
-def run(folder, program, refused):
+def run(library, program, refused):
     """The status and the output of the run whose request with this number is refused, and how many there were."""
-    env = dict(os.environ, LD_PRELOAD=os.path.join(folder, "counting.so"), REFUSED=str(refused))
+    env = dict(os.environ, LD_PRELOAD=library, REFUSED=str(refused))
     done = subprocess.run([program], env=env, stdin=subprocess.DEVNULL, capture_output=True, check=False, timeout=60)
     return (done.returncode, done.stdout), int(done.stderr.split()[-1])
 
 
-def fault_of(folder, program, refused):
+def fault_of(library, program, refused):
     """What is wrong with the run whose request with this number is refused, or None."""
-    result, _ = run(folder, program, refused)
+    result, _ = run(library, program, refused)
     return None if result == (0, WANTED) else "request %d refused: %r" % (refused, result)
 
 
@@ -45,10 +48,9 @@ def main():
     every = every.parse_args().every
     counted = Counted()
     with tempfile.TemporaryDirectory() as folder, concurrent.futures.ThreadPoolExecutor(os.cpu_count()) as pool:
-        program = copies.build_program(os.path.join(folder, "copy"), "refused_calls", USES)
-        subprocess.run(["cc", "-O2", "-shared", "-fPIC", "-x", "c", "-", "-o", os.path.join(folder, "counting.so")], input=COUNTING, text=True, check=True)
-        _, requests = run(folder, program, 0)
-        counted.judge(pool.map(lambda refused: fault_of(folder, program, refused), range(0, requests + 1, every)))
+        program, library = copies.build_program(os.path.join(folder, "copy"), copies.beside(__file__), USES), counting.build(folder)
+        _, requests = run(library, program, 0)
+        counted.judge(pool.map(lambda refused: fault_of(library, program, refused), range(0, requests + 1, every)))
     counted.end()
 
 

@@ -5,24 +5,27 @@ The built program's gate is open and reports nothing. So a small program over th
 no readers and with two. Its gate holds each search for a while at each point. After each run it waits for ten times as long, and
 reports whether the gate was called again. What the runs write is judged as in refused_runs.py.
 
-The program is compiled with checks, as ./tsearch does it at its first call. The library of refused_memory.py, which the command
-cc builds, counts the requests.
+The program is compiled with checks, as ./tsearch does it at its first call. The library of counting.py counts the requests and
+refuses one.
 
-Usage: tests/refused_workers.py [TIMES]   The last line counts: N passed, M failed.
+Usage: tests/refused/refused_workers.py [TIMES]   The last line counts: N passed, M failed.
 """
 
 import collections
 import os
+import pathlib
 import re
 import subprocess
 import sys
 import tempfile
 
-import copies
-import refused_runs
-import transcripts
-from check_transcripts import REPLACEMENT
-from counted import Counted
+sys.path.insert(0, str(pathlib.Path(__file__).resolve().parent.parent))
+
+import copies  # noqa: E402
+from counted import Counted  # noqa: E402
+from judge import transcripts  # noqa: E402
+from judge.check_transcripts import REPLACEMENT  # noqa: E402
+from refused import counting, refused_runs  # noqa: E402
 
 WRITTEN = refused_runs.WANTED + b"tsearch: written\n"
 WANTED = b"no readers\n" + WRITTEN + b"readers\n" + WRITTEN
@@ -51,7 +54,7 @@ def main():
     times = int(sys.argv[1]) if len(sys.argv) > 1 else 3
     outcomes, counted = collections.Counter(), Counted()
     with tempfile.TemporaryDirectory() as folder:
-        program, library = copies.build_program(os.path.join(folder, "copy"), "refused_workers", ["transcript", "tsearch"]), refused_runs.build(folder)
+        program, library = copies.build_program(os.path.join(folder, "copy"), copies.beside(__file__), ["transcript", "tsearch"]), counting.build(folder)
         for _ in range(times):
             refused = count = 0
             while refused <= count:

@@ -6,18 +6,23 @@ matched line by line, and one that repeats them and is so large that the pattern
 match. (Patterns that are too large to compile, and those with stars inside stars, are searched in one way in both.)
 Both ways implement one contract, so any difference is a fault. As many runs go on at once as there are processors.
 
-Usage: tests/compare_two_ways.py [--patterns N] [--lines N] [--seed N]   The last line counts: N passed, M failed.
+Usage: tests/compare/compare_two_ways.py [--patterns N] [--lines N] [--seed N]   The last line counts: N passed, M failed.
 """
 
 import argparse
 import concurrent.futures
 import os
+import pathlib
 import random
 import re
 import subprocess
+import sys
 
-import compare_with_grep as grep
-from counted import Counted
+sys.path.insert(0, str(pathlib.Path(__file__).resolve().parent.parent))
+
+from built import PROGRAM, need_program  # noqa: E402
+from compare.compare_with_grep import BYTES, Patterns  # noqa: E402
+from counted import Counted  # noqa: E402
 
 # This many bytes of the first candidates are matched line by line.
 FEW_BYTES = 8192
@@ -29,7 +34,7 @@ def small_body(chance, count):
     lines = []
     for _ in range(count):
         length = chance.choice([0, 1, 2, 3, 5, 8, 20, 60])
-        line = bytes(chance.choice(grep.BYTES) for _ in range(length))
+        line = bytes(chance.choice(BYTES) for _ in range(length))
         if sum(map(len, lines)) + len(lines) + length < FEW_BYTES // 2:
             lines.append(line)
     return lines
@@ -64,7 +69,7 @@ def compare(chance, patterns, lines):
     script = b"put a %d\n%s\nput b %d\n%s\npublish\n" % (len(small), small, len(small) * times, small * times)
     made = [pattern for pattern in patterns if b"\n" not in pattern and b"\0" not in pattern]
     script += b"".join(chance.choice([b"search ", b"isearch "]) + pattern + b"\n" for pattern in made)
-    run = subprocess.run([grep.PROGRAM, "--readers", "0"], input=script, stdout=subprocess.PIPE, check=False)
+    run = subprocess.run([PROGRAM, "--readers", "0"], input=script, stdout=subprocess.PIPE, check=False)
     hits = hits_of(run.stdout)
     assert len(hits) == len(made), "%d answers to %d searches" % (len(hits), len(made))
     searched = [(pattern, found) for pattern, found in zip(made, hits) if found is not None]
@@ -74,7 +79,7 @@ def compare(chance, patterns, lines):
 def compare_some(seed, number, patterns, lines):
     """The same as `compare`, for so many patterns and lines that a seed and a number give."""
     chance = random.Random(f"{seed} {number}")
-    source = grep.Patterns(chance)
+    source = Patterns(chance)
     return compare(chance, [source.alternatives(chance.randint(0, 3))[0] for _ in range(patterns)], lines)
 
 
@@ -84,6 +89,7 @@ def main():
     words.add_argument("--lines", type=int, default=300)
     words.add_argument("--seed", type=int, default=1)
     given = words.parse_args()
+    need_program()
     counted, refused = Counted(), 0
     with concurrent.futures.ThreadPoolExecutor(os.cpu_count()) as pool:
         starts = range(0, given.patterns, SEARCHES_OF_A_RUN)
