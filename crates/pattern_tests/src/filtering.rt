@@ -1,6 +1,6 @@
-//! Trigrams of bodies, plain queries, and what the analysis of a pattern asks of a document.
+//! Trigrams of bodies, plain queries, and how large the queries of patterns are. What they ask of a document is tested
+//! with the built program.
 
-use crate::fixtures::halves;
 use ere::{Ere, parse};
 use query::{Query, Trigram, simplify, trigrams_of};
 use std::alloc::{AllocError, Global};
@@ -17,43 +17,6 @@ fn asked(rt: &impl Abort, alloc: Global, tree: &Ere) -> Result<Query, AllocError
 fn analysed(rt: &impl Abort, alloc: Global, pattern: &[u8]) -> Result<Query, Fail> {
     let tree = parse(alloc, pattern)?;
     Ok(asked(rt, alloc, &tree)?)
-}
-
-/// Whether a set of trigrams has this one. The set is a text of trigrams with spaces between them.
-fn holds(held: &[u8], trigram: Trigram) -> bool {
-    for bytes in held.split(|b| *b == b' ') {
-        if bytes.len() == 3
-            && Trigram::of([bytes[0], bytes[1], bytes[2]]).number() == trigram.number()
-        {
-            return true;
-        }
-    }
-    false
-}
-
-/// Whether a set of trigrams meets the query. The set is a text of trigrams with spaces between them.
-pub(crate) fn meets(query: &Query, held: &[u8]) -> bool {
-    match query {
-        Query::Any => true,
-        Query::None => false,
-        Query::Has(trigram) => holds(held, *trigram),
-        Query::And(members) => {
-            for member in members {
-                if !meets(member, held) {
-                    return false;
-                }
-            }
-            true
-        }
-        Query::Or(members) => {
-            for member in members {
-                if meets(member, held) {
-                    return true;
-                }
-            }
-            false
-        }
-    }
 }
 
 /// How many parts the query has: itself, its members, and theirs.
@@ -138,76 +101,6 @@ fn simplified(rt: HostRuntime) -> Result<(), Fail> {
     assert!(rt; is_simplified(alloc, Query::And(never), &Query::None)?);
     let inner = Query::Or(with(Vec::new(alloc), has_abc())?);
     assert!(rt; is_simplified(alloc, Query::And(with(Vec::new(alloc), inner)?), &has_abc())?);
-    Ok(())
-}
-
-/// Patterns whose query every set of trigrams meets.
-const NO_DEMANDS: [&[u8]; 7] = [
-    b"ab",
-    b"ab?c",
-    b"(abc)*d",
-    b"a{2,3}",
-    b"[a-q]{3}",
-    b"",
-    b"^$",
-];
-
-fn is_asked(rt: &impl Abort, alloc: Global, pattern: &[u8], want: &Query) -> Result<bool, Fail> {
-    Ok(analysed(rt, alloc, pattern)? == *want)
-}
-
-#[test]
-fn no_demand(rt: HostRuntime) -> Result<(), Fail> {
-    for pattern in NO_DEMANDS {
-        assert!(rt;
-            is_asked(&rt, rt.alloc(), pattern, &Query::Any)?,
-            "of {pattern:?}"
-        );
-    }
-    assert!(rt; is_asked(&rt, rt.alloc(), b"abc.*[^\x01-\xff]", &Query::None)?);
-    Ok(())
-}
-
-/// The rows are `PATTERN~SETS~SETS`: the sets of trigrams that meet the pattern's query, and those that do
-/// not, separated by bars.
-const DEMANDS: &[u8] =
-    b"Google.*Search~Goo oog ogl gle Sea ear arc rch~oog ogl gle Sea ear arc rch|Goo ogl gle Sea ear arc rch|Goo oog gle Sea ear arc rch|Goo oog ogl Sea ear arc rch|Goo oog ogl gle ear arc rch|Goo oog ogl gle Sea arc rch|Goo oog ogl gle Sea ear rch|Goo oog ogl gle Sea ear arc
-ab+cd+~bcd~abc cdd|
-abc|xyz~abc|xyz|abc xyz~|bca
-abc?d~abc bcd|abd|abc abd~abc|bcd|
-(abc)+~abc~bca cab|
-a{3,}~aaa~aab|
-(ab|cd)ef~abe bef|cde def~abe def|cde bef|abe cde|bef def|
-(.ab)(cd.)~abc bcd~abc|bcd|
-abc.+def|xyz~abc def|xyz~abc|def|
-x[0-9][0-9]y~x00|x42|x99~00y 42y x0a xa0|
-one|two|ten|six~one|two|ten|six~net|
-abc{2}d{1,2}e~abc bcc ccd cde|abc bcc ccd cdd dde~abc bcc ccd|
-[a-p]bc~abc|pbc~qbc|";
-
-/// Whether each of the sets, which bars separate, meets the query; or, if that is not wanted, whether none does.
-fn all_meet(query: &Query, sets: &[u8], wanted: bool) -> bool {
-    for set in sets.split(|b| *b == b'|') {
-        if meets(query, set) != wanted {
-            return false;
-        }
-    }
-    true
-}
-
-/// Whether the query of a row's pattern is met by each set of the first list, and by none of the second.
-fn demands_agree(rt: &impl Abort, alloc: Global, row: &[u8]) -> Result<bool, Fail> {
-    let (pattern, rest) = halves(row);
-    let (wanted, others) = halves(rest);
-    let query = analysed(rt, alloc, pattern)?;
-    Ok(all_meet(&query, wanted, true) && all_meet(&query, others, false))
-}
-
-#[test]
-fn demands(rt: HostRuntime) -> Result<(), Fail> {
-    for row in DEMANDS.split(|b| *b == b'\n') {
-        assert!(rt; demands_agree(&rt, rt.alloc(), row)?, "of {row:?}");
-    }
     Ok(())
 }
 

@@ -1,5 +1,5 @@
 //! Tests of the libraries that read and match patterns, by call: each public function does its work if
-//! memory is ample. They also test what no contract says.
+//! memory is ample. They also test what no contract says, if the built program does not show it.
 //!
 //! They are a separate crate because a crate with tests is proved twice: with its tests and without.
 #![tactic(auto)]
@@ -8,8 +8,6 @@
 mod filtering;
 #[cfg(test)]
 mod fixtures;
-#[cfg(test)]
-mod ignored;
 #[cfg(test)]
 mod matching;
 #[cfg(test)]

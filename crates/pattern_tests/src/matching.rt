@@ -1,7 +1,7 @@
-//! Lines that contain a match, and lines that contain none.
+//! Long lines that contain a match, and long lines that contain none. Short ones are tested with the built program.
 
 use crate::fixtures::{built, halves, signed};
-use ere::{ByteSet, Ere, EreError, parse};
+use ere::{ByteSet, Ere, parse};
 use lines::MAX_LINE;
 use matcher::{WORDS, matches, step};
 use std::alloc::{AllocError, Global};
@@ -9,50 +9,8 @@ use std::process::Abort;
 use std::test::Fail;
 
 /// Whether the line contains a match of the tree if one is wanted, and none otherwise.
-pub(crate) fn agrees(tree: &Ere, line: &[u8], wanted: bool) -> bool {
+fn agrees(tree: &Ere, line: &[u8], wanted: bool) -> bool {
     tree.within_limits() && line.len() <= MAX_LINE && matches(tree, line) == wanted
-}
-
-/// The rows are `PATTERN~LINES`, with bars between the lines. A plus is before a line that contains a match, and a
-/// minus before one that contains none.
-const SHORT_LINES: &[u8] = b"(a|b$){2}~+ab|+aab|-ba|-aba
-(^a)+b~+ab|-aab
-(^)*ab~+xab|-xa
-$^~+|-a
-a{3,}~+baaab|-aa
-^(a|){2,3}$~+|+aaa|-aaaa
-~+|+a
-^(ab){2,3}c~+ababc|+abababc|-abc|-ababababc
-x[ab]*y~+-xaxbaby-|+xy|-xabcy
-^(ab|ba)+c$~+abbaabc|-abbaac|-c
-a{1}b{2}c{3}d{0,2}$~+abbccc|+xabbcccdd|-abbcc|-abbcccddd
-one|two|three|four~+xonex|+twot|+three|+four|-on|-tow|-thre|-fou
-\xff{2}~+a\xff\xff|-\xffa\xff
-[^\x01-\xff]~-a|-";
-
-/// Whether each line of a row of short lines contains a match, or none, as its sign says.
-fn short_row_agrees(alloc: Global, row: &[u8]) -> Result<bool, EreError> {
-    let (pattern, lines) = halves(row);
-    let tree = parse(alloc, pattern)?;
-    Ok(all_agree(&tree, lines))
-}
-
-fn all_agree(tree: &Ere, lines: &[u8]) -> bool {
-    for line in lines.split(|b| *b == b'|') {
-        let (wanted, line) = signed(line);
-        if !agrees(tree, line, wanted) {
-            return false;
-        }
-    }
-    true
-}
-
-#[test]
-fn short_lines(rt: HostRuntime) -> Result<(), Fail> {
-    for row in SHORT_LINES.split(|b| *b == b'\n') {
-        assert!(rt; short_row_agrees(rt.alloc(), row)?, "of {row:?}");
-    }
-    Ok(())
 }
 
 fn line_agrees(alloc: Global, tree: &Ere, pieces: &[u8], wanted: bool) -> Result<bool, AllocError> {
