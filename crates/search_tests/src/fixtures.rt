@@ -2,13 +2,10 @@
 
 use index::{Body, Command, Index, Name};
 use posting::List;
-use search::{Answer, Prepared, Watch, find_watched};
+use search::Answer;
 use std::alloc::{AllocError, Global};
 use std::process::Abort;
 use std::test::Fail;
-
-/// Pieces of a text, each with the number of its copies.
-pub(crate) type Pieces<'a> = &'a [(&'a [u8], usize)];
 
 /// A document of this name and body.
 pub(crate) fn document(alloc: Global, name: &[u8], body: &[u8]) -> Result<(Name, Body), Fail> {
@@ -73,23 +70,6 @@ pub(crate) fn index_of(rt: &impl Abort, alloc: Global, commands: &[u8]) -> Resul
     Ok(index)
 }
 
-/// Appends the piece `times` times.
-fn append_times(text: &mut Vec<u8>, piece: &[u8], times: usize) -> Result<(), AllocError> {
-    for _ in 0..times {
-        text.extend_from_slice(piece)?;
-    }
-    Ok(())
-}
-
-/// The text of these pieces.
-pub(crate) fn built(alloc: Global, pieces: Pieces<'_>) -> Result<Vec<u8>, AllocError> {
-    let mut text = Vec::new(alloc);
-    for piece in pieces {
-        append_times(&mut text, piece.0, piece.1)?;
-    }
-    Ok(text)
-}
-
 /// Whether the set has these numbers.
 pub(crate) fn lists(alloc: Global, set: &List, numbers: &[u32]) -> Result<bool, AllocError> {
     let listed: Vec<u32> = set.numbers().collect(alloc)?;
@@ -100,91 +80,9 @@ pub(crate) fn lists(alloc: Global, set: &List, numbers: &[u32]) -> Result<bool, 
     )
 }
 
-/// Which documents a search looked at, by their numbers below 512, and whether it looked at one of them twice.
-#[derive(Clone, Copy)]
-pub(crate) struct Kept {
-    seen: [u64; 8],
-    is_again: bool,
-}
-
-impl Kept {
-    pub(crate) fn new() -> Kept {
-        Kept {
-            seen: [0; 8],
-            is_again: false,
-        }
-    }
-
-    /// Whether the document of this number was looked at.
-    fn has(&self, number: usize) -> bool {
-        (self.seen[number / 64 % 8] >> (number % 64)) & 1 == 1
-    }
-
-    /// Whether each document of these numbers was looked at once, and no other.
-    pub(crate) fn has_read(&self, numbers: &[u8]) -> bool {
-        for number in 0..512 {
-            let is_read = number < 256 && numbers.contains(&(number as u8));
-            if self.has(number) != is_read {
-                return false;
-            }
-        }
-        !self.is_again
-    }
-
-    /// Whether the first two of every five documents up to the number 300 were looked at once, and no other.
-    pub(crate) fn has_read_two_of_five(&self) -> bool {
-        for number in 0..512usize {
-            let i = number.wrapping_sub(1);
-            let is_read = i < 300 && i % 5 < 2;
-            if self.has(number) != is_read {
-                return false;
-            }
-        }
-        !self.is_again
-    }
-}
-
-impl Watch for Kept {
-    fn reads(&mut self, number: u32) {
-        let place = number as usize % 512;
-        if self.has(place) {
-            self.is_again = true;
-        }
-        self.seen[place / 64] |= 1 << (place % 64);
-    }
-}
-
-/// The text of an answer.
-pub(crate) fn text_of_answer(
-    alloc: Global,
-    answer: &Answer,
-    search: u32,
-    stats: bool,
-) -> Result<Vec<u8>, AllocError> {
+/// Whether the text of the answer to search 1, with its counts, is this one.
+pub(crate) fn is_text(alloc: Global, answer: &Answer, want: &[u8]) -> Result<bool, AllocError> {
     let mut text = Vec::new(alloc);
-    answer.write_to(search, stats, &mut text)?;
-    Ok(text)
-}
-
-/// The answer to a pattern.
-fn answer_of(
-    alloc: Global,
-    index: &Index,
-    pattern: &[u8],
-    kept: &mut Kept,
-) -> Result<Answer, Fail> {
-    let prepared = Prepared::new(alloc, pattern)?;
-    Ok(find_watched(alloc, index, &prepared, kept)?)
-}
-
-/// The text of the answer to a pattern.
-pub(crate) fn answer_text(
-    alloc: Global,
-    index: &Index,
-    pattern: &[u8],
-    stats: bool,
-    kept: &mut Kept,
-) -> Result<Vec<u8>, Fail> {
-    let answer = answer_of(alloc, index, pattern, kept)?;
-    Ok(text_of_answer(alloc, &answer, 1, stats)?)
+    answer.write_to(1, true, &mut text)?;
+    Ok(text.as_slice() == want)
 }

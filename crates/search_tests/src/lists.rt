@@ -113,105 +113,51 @@ fn numbers_are_looked_up(rt: HostRuntime) -> Result<(), Fail> {
     Ok(())
 }
 
-/// The set of a text: each small letter puts in its number, and a capital takes out the number of its small letter.
-fn set_of_text(alloc: Global, text: &[u8]) -> Result<List, AllocError> {
-    let mut set = List::new(alloc);
-    for byte in text {
-        let number = (*byte | 32) as u32;
-        match *byte {
-            b'A'..=b'Z' => set.remove(number),
-            _ => put_all(&mut set, &[number])?,
-        }
-    }
-    Ok(set)
-}
+/// Two sets by their steps, their union, and their intersection.
+const JOINED: &[([&[u32]; 3], [&[u32]; 3], &[u32], &[u32])] = &[
+    (
+        [&[3, 10], &[], &[]],
+        [&[1, 3, 4, 5, 6, 7, 8, 9, 11], &[], &[]],
+        &[1, 3, 4, 5, 6, 7, 8, 9, 10, 11],
+        &[3],
+    ),
+    (
+        [&[1, 3, 4, 5, 6, 7, 8, 9, 11], &[], &[]],
+        [&[3, 10], &[], &[]],
+        &[1, 3, 4, 5, 6, 7, 8, 9, 10, 11],
+        &[3],
+    ),
+    ([&[], &[], &[]], [&FAR, &[], &[]], &FAR, &[]),
+    ([&FAR, &[], &[]], [&FAR, &[], &[]], &FAR, &FAR),
+    (
+        [&[1, 3, 5, 7, 9, 11, 13, 15, 17], &[1, 5, 7, 17], &[18, 19]],
+        [&[1, 4, 7, 10, 13, 16, 18], &[1, 7], &[19]],
+        &[3, 4, 9, 10, 11, 13, 15, 16, 18, 19],
+        &[13, 18, 19],
+    ),
+];
 
-/// Whether the set has the numbers of these small letters.
-fn has_letters(alloc: Global, set: List, letters: &[u8]) -> Result<bool, AllocError> {
-    let mut numbers = Vec::new(alloc);
-    for letter in letters {
-        numbers.push(*letter as u32)?;
-    }
-    lists(alloc, &set, &numbers)
-}
-
-/// Whether the union of two texts' sets has the third text's letters, and their intersection the fourth's.
-fn join_and_meet(alloc: Global, texts: &[&[u8]; 4]) -> Result<bool, AllocError> {
-    let left = set_of_text(alloc, texts[0])?;
-    let right = set_of_text(alloc, texts[1])?;
+/// Whether the sets of the steps have this union and this intersection.
+fn join_and_meet(
+    alloc: Global,
+    left: &[&[u32]; 3],
+    right: &[&[u32]; 3],
+    union: &[u32],
+    common: &[u32],
+) -> Result<bool, AllocError> {
+    let left = set_of(alloc, left)?;
+    let right = set_of(alloc, right)?;
     Ok(
-        has_letters(alloc, left.union(&right)?, texts[2])?
-            && has_letters(alloc, left.intersect(&right)?, texts[3])?,
+        lists(alloc, &left.union(&right)?, union)?
+            && lists(alloc, &left.intersect(&right)?, common)?,
     )
 }
 
-/// Two sets, their union, and their intersection.
-const JOINED: &[[&[u8]; 4]] = &[
-    [b"cj", b"acdefghik", b"acdefghijk", b"c"],
-    [b"acdefghik", b"cj", b"acdefghijk", b"c"],
-    [b"", b"acdefghik", b"acdefghik", b""],
-    [b"acdefghik", b"acdefghik", b"acdefghik", b"acdefghik"],
-    [b"acegikmoqAEGQrs", b"adgjmprAGs", b"cdijkmoprs", b"mrs"],
-];
-
 #[test]
 fn sets_join_and_meet(rt: HostRuntime) -> Result<(), Fail> {
-    for texts in JOINED {
-        assert!(rt; join_and_meet(rt.alloc(), texts)?, "of {:?}", texts[0]);
-    }
-    Ok(())
-}
-
-fn numbers_below(alloc: Global, end: u32) -> Result<Vec<u32>, AllocError> {
-    let mut numbers = Vec::new(alloc);
-    for number in 0..end {
-        numbers.push(number)?;
-    }
-    Ok(numbers)
-}
-
-/// The numbers without this one.
-fn without(alloc: Global, numbers: &[u32], gone: u32) -> Result<Vec<u32>, AllocError> {
-    let mut others = Vec::new(alloc);
-    for number in numbers {
-        if *number != gone {
-            others.push(*number)?;
-        }
-    }
-    Ok(others)
-}
-
-/// Takes the number out of the set, and out of the list `held` of its numbers. Returns whether the others stay.
-fn goes(
-    alloc: Global,
-    set: &mut List,
-    held: &mut Vec<u32>,
-    number: u32,
-) -> Result<bool, AllocError> {
-    set.remove(number);
-    *held = without(alloc, held, number)?;
-    lists(alloc, set, held)
-}
-
-/// Takes the numbers below 300 out of a set, from `first` on in steps of `factor`, modulo 300. Returns whether the
-/// others stay each time.
-fn go_in_order(alloc: Global, factor: u32, first: u32) -> Result<bool, AllocError> {
-    let mut held = numbers_below(alloc, 300)?;
-    let mut set = set_of(alloc, &[&held, &[], &[]])?;
-    for i in 0..300u32 {
-        let number = factor.wrapping_mul(i).wrapping_add(first) % 300;
-        if !goes(alloc, &mut set, &mut held, number)? {
-            return Ok(false);
-        }
-    }
-    put_all(&mut set, &[77])?;
-    lists(alloc, &set, &[77])
-}
-
-#[test]
-fn numbers_go_in_any_order(rt: HostRuntime) -> Result<(), Fail> {
-    for (factor, first) in [(1, 0), (299, 299), (1, 150), (7, 3)] {
-        assert!(rt; go_in_order(rt.alloc(), factor, first)?, "from {first}");
+    for row in JOINED {
+        let agree = join_and_meet(rt.alloc(), &row.0, &row.1, row.2, row.3)?;
+        assert!(rt; agree, "of {:?}", row.2);
     }
     Ok(())
 }

@@ -7,7 +7,7 @@ ghost use Rattle.ere.specs.declared.case.Case.TheVariants.{Exact};
 ghost use Rattle.search.specs.Pattern.{Pattern, IsPatternOf};
 ghost use Rattle.search.specs.Scan.{IsAnswerOf};
 
-use crate::fixtures::{document, index_of, put, remove, text_of_answer};
+use crate::fixtures::{document, index_of, is_text, put, remove};
 use index::{Body, Command, Index, Name};
 use search::{Answer, Prepared, Taken, find, take};
 use std::alloc::{AllocError, Global};
@@ -39,12 +39,6 @@ fn search_left(
 
 /// Compiles only for a value that can go to another thread.
 fn can_go<T: Send>(_value: &T) {}
-
-/// Whether the answer has this text.
-fn is_text(alloc: Global, answer: &Answer, want: &[u8]) -> Result<bool, AllocError> {
-    let text = text_of_answer(alloc, answer, 1, true)?;
-    Ok(text.as_slice() == want)
-}
 
 /// Whether the index has this answer to the search. The index is dropped.
 fn finds(
