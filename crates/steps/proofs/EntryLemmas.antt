@@ -1,0 +1,167 @@
+-- What the entries of items can be, and that they are legal.
+use Rattle.std.proofs.Common.{◌≡◌, ℕ, ◌+◌, ◌≤◌, Bool, true, false, List, [], ◌∷◌, Option, Some, None, refl, sym, ap, subst, arith}
+use Rattle.index.specs.State.{State}
+use Rattle.search.specs.Pattern.{Pattern}
+use Rattle.search.specs.Scan.{Answer}
+use Rattle.script.specs.Items.{Item, put, load, remove, publish, search, search_in, sync, bad_line, bad_put, truncated, body_not_closed}
+use Rattle.transcript.specs.declared.entry.Entry.{Entry}
+use Rattle.transcript.specs.declared.entry.Entry.TheVariants.{Accepted, Refused, Published, Found, SearchRefused}
+use Rattle.transcript.specs.declared.entry.Reason.{Reason}
+use Rattle.transcript.specs.declared.entry.Reason.TheVariants as reason
+use Rattle.transcript.specs.declared.entry.SearchReason.{SearchReason}
+use Rattle.transcript.specs.declared.entry.SearchReason.TheVariants as search_reason
+use Rattle.steps.specs.Rows.{version_in, last_or, is_sync, searches_of}
+use Rattle.steps.specs.LegalRows.{IsRoomFor, IsNamed, HasBody, HasLoaded, IsRemove, IsPublish, Context, search_number, state_before}
+use Rattle.steps.specs.LegalRows.{IsAnswered, IsCommandEntry, IsEntryOf, HasEntry}
+use Rattle.steps.specs.LegalRows as legal
+use Rattle.steps.specs.Steps.{Asks, IsFaultOf, IsFaultOfSearch, IsFaultOfSearchIn}
+use Rattle.steps.specs.Steps as steps
+use Rattle.steps.specs.StepRows.{Rises, unless_of_search}
+use Rattle.steps.specs.Entries.{takes_memory}
+
+-- What the entry of an item can be that is neither a search nor a sync, after this many accepted commands.
+pub data IsPlain (version line : ℕ) (item : Item) (entry : Entry) : Type 0 where
+  accepts : (count : ℕ) → entry ≡ Accepted line count → IsPlain version line item entry
+  refuses : (why : Reason) → entry ≡ Refused line why → (why ≡ reason.OutOfMemory → takes_memory item ≡ true) → IsPlain version line item entry
+  publishes : entry ≡ Published line version → IsPlain version line item entry
+
+module _ (most : ℕ) (state : State) (line : ℕ) (item : Item) (entry : Entry) where
+  plain_room : IsRoomFor most state line entry → IsPlain state.version line item entry
+  plain_room (legal.full limit is) = refuses reason.Full is (λ e. cc)
+  plain_room (legal.accepted room is) = accepts (state.version + 1) is
+
+  plain_body : (body : List ℕ) → HasBody most state body line entry → IsPlain state.version line item entry
+  plain_body body (legal.bad_body fault is_fault is) = refuses (reason.Body fault) is (λ e. cc)
+  plain_body body (legal.with_body is_body room) = plain_room room
+
+  plain_named : (name : List ℕ) (Else : Type 0) → takes_memory item ≡ true → (Else → IsPlain state.version line item entry)
+      → IsNamed name line entry Else → IsPlain state.version line item entry
+  plain_named name Else takes others (legal.bad_name fault other is_fault is) = refuses (reason.Name fault) is (λ e. cc)
+  plain_named name Else takes others (legal.no_memory is_name is) = refuses reason.OutOfMemory is (λ e. takes)
+  plain_named name Else takes others (legal.named is_name else) = others else
+
+  plain_loaded : (Holds : List ℕ → List ℕ → Type 0) (path : List ℕ) (loaded : Option (List ℕ)) → HasLoaded Holds most state path loaded line entry
+      → IsPlain state.version line item entry
+  plain_loaded Holds path loaded (legal.failed none is) = refuses reason.CannotLoad is (λ e. cc)
+  plain_loaded Holds path loaded (legal.loaded_body body some held with) = plain_body body with
+
+  plain_remove : (name : List ℕ) → IsRemove most state name line entry → IsPlain state.version line item entry
+  plain_remove name (legal.no_such_file none is) = refuses reason.NoSuchFile is (λ e. cc)
+  plain_remove name (legal.is_there some room) = plain_room room
+
+  plain_publish : takes_memory item ≡ true → IsPublish state line entry → IsPlain state.version line item entry
+  plain_publish takes (legal.published is) = publishes is
+  plain_publish takes (legal.no_memory is) = refuses reason.OutOfMemory is (λ e. takes)
+
+pub plain_entry : (Holds : List ℕ → List ℕ → Type 0) (most : ℕ) (state : State) (loaded : Option (List ℕ)) (line : ℕ) (item : Item)
+    (entry : Entry) → IsCommandEntry Holds most state loaded line item entry → IsPlain state.version line item entry
+plain_entry Holds most state loaded line (put name body) entry h =
+    plain_named most state line (put name body) entry name _ refl (plain_body most state line (put name body) entry body) h
+plain_entry Holds most state loaded line (load name path) entry h =
+    plain_named most state line (load name path) entry name _ refl (plain_loaded most state line (load name path) entry Holds path loaded) h
+plain_entry Holds most state loaded line (remove name) entry h =
+    plain_named most state line (remove name) entry name _ refl (plain_remove most state line (remove name) entry name) h
+plain_entry Holds most state loaded line publish entry h = plain_publish most state line publish entry refl h
+plain_entry Holds most state loaded line (search case text) entry h = absurd h
+plain_entry Holds most state loaded line (search_in case name_text text) entry h = absurd h
+plain_entry Holds most state loaded line sync entry h = absurd h
+plain_entry Holds most state loaded line bad_line entry h = refuses reason.BadLine h (λ e. cc)
+plain_entry Holds most state loaded line bad_put entry h = refuses reason.BadPut h (λ e. cc)
+plain_entry Holds most state loaded line truncated entry h = refuses reason.Truncated h (λ e. cc)
+plain_entry Holds most state loaded line body_not_closed entry h = refuses reason.BodyNotClosed h (λ e. cc)
+
+-- What holds of such entries holds of this one.
+pub plain_by : {version line : ℕ} {item : Item} {entry : Entry} → IsPlain version line item entry → (P : Entry → Type 0)
+    → ((count : ℕ) → P (Accepted line count)) → ((why : Reason) → P (Refused line why)) → P (Published line version) → P entry
+plain_by (accepts count is) P a r p = subst P (sym is) (a count)
+plain_by (refuses why is memory) P a r p = subst P (sym is) (r why)
+plain_by (publishes is) P a r p = subst P (sym is) p
+
+-- Such an entry publishes no older version.
+pub plain_rises : (latest version : ℕ) {line : ℕ} {item : Item} {entry : Entry} → latest ≤ version → IsPlain version line item entry
+    → Rises latest (version_in (Some entry)) × (last_or latest (version_in (Some entry)) ≤ version)
+plain_rises latest version le is =
+    plain_by is (λ e. Rises latest (version_in (Some e)) × (last_or latest (version_in (Some e)) ≤ version)) (λ count. (tt, le)) (λ why. (tt, le))
+    ((le, tt), omega arith)
+
+module _ (Holds : List ℕ → List ℕ → Type 0) (most : ℕ) (state : State) (loaded : Option (List ℕ)) (line : ℕ) where
+  pub command_is_no_search : (item : Item) (entry : Entry) → IsCommandEntry Holds most state loaded line item entry → searches_of item ≡ 0
+  command_is_no_search (search case text) entry h = absurd h
+  command_is_no_search (search_in case name_text text) entry h = absurd h
+  command_is_no_search item entry h = refl
+
+  pub command_is_no_sync : (item : Item) (entry : Entry) → IsCommandEntry Holds most state loaded line item entry → is_sync item ≡ false
+  command_is_no_sync sync entry h = absurd h
+  command_is_no_sync item entry h = refl
+
+pub search_is_no_sync : (item : Item) → searches_of item ≡ 1 → is_sync item ≡ false
+search_is_no_sync sync one = absurd (omega (arith, one))
+search_is_no_sync item one = refl
+
+pub sync_is_no_search : (item : Item) → is_sync item ≡ true → searches_of item ≡ 0
+sync_is_no_search (search case text) is = cc
+sync_is_no_search (search_in case name_text text) is = cc
+sync_is_no_search item is = refl
+
+pub fault_is_of_search : (item : Item) (why : SearchReason) → IsFaultOf item why → searches_of item ≡ 1
+fault_is_of_search (search case text) why h = refl
+fault_is_of_search (search_in case name_text text) why h = refl
+fault_is_of_search item why h = absurd h
+
+-- Memory may run out for any search.
+pub memory_fault : (item : Item) → searches_of item ≡ 1 → IsFaultOf item search_reason.OutOfMemory
+memory_fault (search case text) one = steps.no_memory refl
+memory_fault (search_in case name_text text) one = steps.no_memory refl
+memory_fault item one = absurd (omega (arith, one))
+
+module _ (Holds : List ℕ → List ℕ → Type 0) (most : ℕ) (context : Context) where
+  pub legal_sync : (item : Item) → is_sync item ≡ true → HasEntry Holds most context item None
+  legal_sync sync is = tt
+  legal_sync item is = cc
+
+  pub legal_command : (item : Item) (entry : Entry)
+      → IsCommandEntry Holds most (state_before context) context.row.loaded context.row.numbered.line item entry
+      → HasEntry Holds most context item (Some entry)
+  unfolding IsEntryOf
+  legal_command (search case text) entry h = absurd h
+  legal_command (search_in case name_text text) entry h = absurd h
+  legal_command sync entry h = h
+  legal_command item entry h = h
+
+  pub legal_fault : (item : Item) (why : SearchReason) → IsFaultOf item why
+      → HasEntry Holds most context item (Some (SearchRefused (search_number context) why))
+  unfolding IsEntryOf
+  legal_fault (search case text) why (steps.no_memory is) = legal.searched (legal.no_memory (ap (SearchRefused (search_number context)) is))
+  legal_fault (search case text) why (steps.bad_pattern fault other none is) =
+      legal.bad_pattern fault other none (ap (SearchRefused (search_number context)) is)
+  legal_fault (search_in case name_text text) why (steps.no_memory is) =
+      legal.searched (legal.no_memory (ap (SearchRefused (search_number context)) is))
+  legal_fault (search_in case name_text text) why (steps.bad_name_pattern fault other none is) =
+      legal.bad_name_pattern fault other none (ap (SearchRefused (search_number context)) is)
+  legal_fault (search_in case name_text text) why (steps.bad_pattern fault other named none is) =
+      legal.bad_pattern fault other named none (ap (SearchRefused (search_number context)) is)
+  legal_fault item why h = absurd h
+
+  pub legal_answer : (item : Item) (pattern : Pattern) (reader turn : ℕ) (answer : Answer) → Asks item pattern
+      → IsAnswered context pattern reader answer → HasEntry Holds most context item (Some (Found (search_number context) reader turn answer))
+  unfolding IsEntryOf
+  legal_answer (search case text) pattern reader turn answer asks is = legal.searched (legal.found pattern reader turn answer asks refl is)
+  legal_answer (search_in case name_text text) pattern reader turn answer asks is =
+      legal.searched (legal.found pattern reader turn answer asks refl is)
+  legal_answer item pattern reader turn answer asks is = absurd asks
+
+-- The entry of a search publishes nothing.
+pub no_version : (entry : Entry) → unless_of_search (Some entry) ≡ None → version_in (Some entry) ≡ []
+no_version (Found number reader turn answer) is = refl
+no_version (SearchRefused number why) is = refl
+no_version entry is = cc
+
+-- A search without an entry is not legal.
+pub not_legal_yet : (Holds : List ℕ → List ℕ → Type 0) (most : ℕ) (context : Context) (item : Item) (entry : Option Entry) → entry ≡ None
+    → searches_of item ≡ 1 → HasEntry Holds most context item entry → ⊥
+not_legal_yet Holds most context item entry none one h = by item one (subst (HasEntry Holds most context item) none h)
+  where
+    by : (item : Item) → searches_of item ≡ 1 → HasEntry Holds most context item None → ⊥
+    by (search case text) one h = h
+    by (search_in case name_text text) one h = h
+    by item one h = absurd (omega (arith, one))

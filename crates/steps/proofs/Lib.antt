@@ -1,0 +1,10 @@
+pub mod RowLemmas
+pub mod OpenLemmas
+pub mod TurnLemmas
+pub mod EntryLemmas
+pub mod PushLemmas
+pub mod FillLemmas
+pub mod StepLemmas
+pub mod RunLemmas
+pub mod WrittenLemmas
+pub mod OrderLemmas

@@ -1,0 +1,106 @@
+-- Runs of several steps, and their rows.
+use Rattle.std.proofs.Common.{◌≡◌, ℕ, ◌+◌, List, [], ◌∷◌, ◌++◌, Option, Some, None, refl, sym, ap, ◌∙◌, subst, arith, append_assoc}
+use Rattle.std.proofs.lemmas.List.{append-nil}
+use Rattle.std.proofs.lemmas.List.Sums.{sum_by-append}
+use Rattle.script.specs.Items.{Numbered}
+use Rattle.transcript.specs.declared.entry.Entry.{Entry}
+use Rattle.steps.specs.Rows.{Row, items_of, list_of, failures_in, count_failures}
+use Rattle.steps.specs.Steps.{RunState, IsStep, Runs, begins, goes_on, IsFirst}
+use Rattle.steps.specs.StepRows.{AreNext, more, filled, IsOfSearch, found, refused, with_its_entry, AreRows}
+use Rattle.steps.specs.Entries.{failures_of}
+use Rattle.steps.proofs.RowLemmas.{items_of-append, count_failures-append}
+use Rattle.steps.proofs.StepLemmas.{first_rows, next_rows}
+
+module _ {Holds : List ℕ → List ℕ → Type 0} {most readers : ℕ} where
+  pub one_step : {s s' : RunState} {taken : List Numbered} {written : List Entry} → IsStep Holds most readers s taken written s'
+      → Runs Holds most readers s taken written s'
+  one_step step = goes_on begins step refl refl
+
+  pub runs_on : {a b c : RunState} {items items' : List Numbered} {entries entries' : List Entry} → Runs Holds most readers a items entries b
+      → Runs Holds most readers b items' entries' c → Runs Holds most readers a (items ++ items') (entries ++ entries') c
+  runs_on {a} {b} {c} {items} {items'} {entries} {entries'} first begins =
+      subst (λ (i : List Numbered). Runs Holds most readers a i (entries ++ []) b) (sym (append-nil items))
+      (subst (λ (e : List Entry). Runs Holds most readers a items e b) (sym (append-nil entries)) first)
+  runs_on {a} {b} {c} {items} {items'} {entries} {entries'} first (goes_on {items = i} {taken = t} {entries = e} {written = w} run step is are) =
+      goes_on (runs_on first run) step (ap (λ k. items ++ k) is ∙ sym (append_assoc items i t)) (ap (λ k. entries ++ k) are ∙ sym (append_assoc entries e w))
+
+-- What holds at first, and still holds after each step, holds of a run.
+pub runs_keep : (Holds : List ℕ → List ℕ → Type 0) (most readers : ℕ) (from : RunState) (P : List Numbered → List Entry → RunState → Type 0)
+    → P [] [] from
+    → ((items : List Numbered) (entries : List Entry) (s : RunState) (taken : List Numbered) (written : List Entry) (s' : RunState)
+    → P items entries s → IsStep Holds most readers s taken written s' → P (items ++ taken) (entries ++ written) s')
+    → {items : List Numbered} {entries : List Entry} {s : RunState} → Runs Holds most readers from items entries s → P items entries s
+runs_keep Holds most readers from P first next begins = first
+runs_keep Holds most readers from P first next
+    (goes_on {items = i} {taken = t} {entries = e} {entries' = e'} {written = w} {s = s} {s' = s'} run step is are) =
+    subst (λ k. P k e' s') (sym is)
+    (subst (λ k. P (i ++ t) k s') (sym are) (next i e s t w s' (runs_keep Holds most readers from P first next run) step))
+
+pub next_items : (rows : List Row) (taken : List Numbered) (written : List Entry) (rows' : List Row) → AreNext rows taken written rows'
+    → items_of rows' ≡ items_of rows ++ taken
+next_items rows taken written rows' (more row takes writes same) =
+    ap items_of same ∙ items_of-append rows (row ∷ []) ∙ ap (λ t. items_of rows ++ t) (sym takes)
+next_items rows taken written rows' (filled before row after entry whole none one of takes writes same) =
+    ap items_of same ∙ items_of-append before (with_its_entry entry row ∷ after) ∙ sym (items_of-append before (row ∷ after))
+    ∙ ap items_of (sym whole) ∙ sym (append-nil (items_of rows)) ∙ ap (λ t. items_of rows ++ t) (sym takes)
+
+failures_one : (entry : Option Entry) → failures_of (list_of entry) ≡ failures_in entry
+failures_one None = refl
+failures_one (Some entry) = omega arith
+
+of_search_fails_not : (number : ℕ) (entry : Entry) → IsOfSearch number entry → failures_in (Some entry) ≡ 0
+of_search_fails_not number entry (found reader turn answer) = refl
+of_search_fails_not number entry (refused why) = refl
+
+pub next_failures : (rows : List Row) (taken : List Numbered) (written : List Entry) (rows' : List Row) → AreNext rows taken written rows'
+    → count_failures rows' ≡ count_failures rows + failures_of written
+unfolding count_failures
+next_failures rows taken written rows' (more row takes writes same) =
+    omega (
+      arith,
+      ap count_failures same,
+      count_failures-append rows (row ∷ []),
+      ap failures_of writes,
+      failures_one row.entry,
+    )
+next_failures rows taken written rows' (filled before row after entry whole none one of takes writes same) =
+    omega (
+      arith,
+      ap count_failures same,
+      ap count_failures whole,
+      count_failures-append before (row ∷ after),
+      count_failures-append before (with_its_entry entry row ∷ after),
+      ap failures_in none,
+      ap failures_of writes,
+      of_search_fails_not _ entry of,
+    )
+
+-- The rows of a run.
+pub record AreRowsOf (Holds : List ℕ → List ℕ → Type 0) (most readers : ℕ) (items : List Numbered) (entries : List Entry) (s : RunState) : Type 0 where
+  pub rows : List Row
+  pub are : AreRows Holds most readers s rows
+  pub same_items : items_of rows ≡ items
+  pub failures : count_failures rows ≡ failures_of entries
+
+-- A run has rows.
+pub runs_have_rows : (Holds : List ℕ → List ℕ → Type 0) (most readers : ℕ) (from : RunState) → IsFirst readers from
+    → {items : List Numbered} {entries : List Entry} {s : RunState} → Runs Holds most readers from items entries s
+    → AreRowsOf Holds most readers items entries s
+unfolding count_failures
+runs_have_rows Holds most readers from first =
+    runs_keep Holds most readers from (λ items entries s. AreRowsOf Holds most readers items entries s)
+    (record { rows = []; are = first_rows Holds most readers from first; same_items = refl; failures = refl })
+    (λ items entries s taken written s' old step.
+    let next = next_rows Holds most readers s old.rows old.are taken written s' step in
+    record {
+      rows = next.0;
+      are = next.2;
+      same_items = next_items old.rows taken written next.0 next.1 ∙ ap (λ l. l ++ taken) old.same_items;
+      failures =
+          omega (
+            arith,
+            next_failures old.rows taken written next.0 next.1,
+            old.failures,
+            sum_by-append (λ entry. failures_in (Some entry)) entries written,
+          );
+    })

@@ -1,0 +1,69 @@
+-- What entries say, in the order of writing.
+use Rattle.std.specs.Prelude.{◌≡◌, ℕ, ◌<◌, ◌≤◌, ◌⊎◌, ◌==◌, Bool, true, false, count_by, sum_by, List, [], ◌∷◌, flat_map, Some, Contains}
+use Rattle.search.specs.Scan.{Answer}
+use Rattle.script.specs.Items.{Item, Numbered, put, load, remove, publish, search, search_in, sync}
+use Rattle.transcript.specs.declared.entry.Entry.{Entry}
+use Rattle.transcript.specs.declared.entry.Entry.TheVariants.{Accepted, Refused, Published, Found, SearchRefused}
+use Rattle.steps.specs.Rows.{version_in, failures_in, searches_of}
+use Rattle.steps.specs.StepRows.{Given, given_in}
+
+-- whether the entry answers or refuses the search of this number
+abbrev pub is_of : ℕ → Entry → Bool
+is_of number (Found other reader turn answer) = other == number
+is_of number (SearchRefused other why) = other == number
+is_of number entry = false
+
+-- how many entries the search of this number has
+abbrev pub count_of : ℕ → List Entry → ℕ
+count_of number entries = count_by (is_of number) entries
+
+-- how many loads were refused because the source failed
+abbrev pub failures_of : List Entry → ℕ
+failures_of entries = sum_by (λ entry. failures_in (Some entry)) entries
+
+-- the versions that were published, first to last
+abbrev pub versions_of : List Entry → List ℕ
+versions_of entries = flat_map (λ entry. version_in (Some entry)) entries
+
+-- the answers, first to last
+abbrev pub answers_of : List Entry → List Given
+answers_of entries = flat_map (λ entry. given_in (Some entry)) entries
+
+-- how many searches there are
+abbrev pub searches_among : List Numbered → ℕ
+searches_among items = sum_by (λ item. searches_of item.item) items
+
+-- the line that an entry names, if it is not that of a search
+abbrev pub line_in : Entry → List ℕ
+line_in (Accepted line commands) = line ∷ []
+line_in (Refused line why) = line ∷ []
+line_in (Published line version) = line ∷ []
+line_in entry = []
+
+abbrev pub lines_in : List Entry → List ℕ
+lines_in entries = flat_map line_in entries
+
+-- the line of an item that is neither a search nor a sync
+abbrev pub command_line : ℕ → Item → List ℕ
+command_line line (search case text) = []
+command_line line (search_in case name_text text) = []
+command_line line sync = []
+command_line line item = line ∷ []
+
+abbrev pub command_lines : List Numbered → List ℕ
+command_lines items = flat_map (λ item. command_line item.line item.item) items
+
+-- whether memory may run out for an item that is no search
+abbrev pub takes_memory : Item → Bool
+takes_memory (put name body) = true
+takes_memory (load name path) = true
+takes_memory (remove name) = true
+takes_memory publish = true
+takes_memory item = false
+
+-- An answer after these entries: its version was published, or is 0; and of the answers that the same reader gave before,
+-- none has a later turn or a later version.
+pub record IsInOrder (before : List Entry) (reader turn : ℕ) (answer : Answer) : Type 0 where
+  pub published : (answer.version ≡ 0) ⊎ Contains (versions_of before) answer.version
+  pub later : (number' turn' : ℕ) (answer' : Answer) → Contains before (Found number' reader turn' answer')
+      → (turn' < turn) × (answer'.version ≤ answer.version)

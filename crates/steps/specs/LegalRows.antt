@@ -1,0 +1,162 @@
+-- Which rows are legal: which entry each item of a run may have, whatever the readers and their timing.
+use Rattle.std.specs.Prelude.{◌≡◌, ◌≢◌, ℕ, ◌+◌, ◌-◌, ◌^◌, ◌<◌, ◌≤◌, ◌⊎◌, List, ◌∷◌, ◌++◌, take, Option, Some, None, option_map, IfSome}
+use Rattle.std.specs.Prelude.{Contains, if◌then◌else◌, ◌==◌}
+use Rattle.ere.specs.Limits.{HasNoTree}
+use Rattle.ere.specs.declared.case.Case.{Case}
+use Rattle.ere.specs.declared.case.Case.TheVariants.{Exact}
+use Rattle.ere.specs.declared.error.EreError.{EreError}
+use Rattle.ere.specs.declared.error.EreErrorKind.TheVariants as kind
+use Rattle.index.specs.declared.error.NameError.{NameError}
+use Rattle.index.specs.declared.error.NameError.TheVariants as name_error
+use Rattle.index.specs.declared.error.BodyErrorKind.{BodyErrorKind}
+use Rattle.index.specs.Documents.{number_of}
+use Rattle.index.specs.State.{State, state_of}
+use Rattle.index.specs.Text.{IsName, IsNameFault, IsBody, IsBodyFault}
+use Rattle.search.specs.Pattern.{Pattern, IsPatternOf, IsPatternWithin, HasTree}
+use Rattle.search.specs.Scan.{Answer, IsAnswerOf}
+use Rattle.script.specs.Items.{Item, put, load, remove, publish, search, search_in, sync, bad_line, bad_put, truncated, body_not_closed}
+use Rattle.transcript.specs.declared.entry.Entry.{Entry}
+use Rattle.transcript.specs.declared.entry.Entry.TheVariants.{Accepted, Refused, Published, Found, SearchRefused}
+use Rattle.transcript.specs.declared.entry.Reason.TheVariants as reason
+use Rattle.transcript.specs.declared.entry.SearchReason.TheVariants as search_reason
+use Rattle.steps.specs.Rows.{Row, items_of, entries_of, commands_of, published_in, published_last, before_sync, count_searches, count_failures}
+
+-- What becomes of a command in which nothing is wrong: it is accepted if there is room for it.
+pub data IsRoomFor (most : ℕ) (state : State) (line : ℕ) (entry : Entry) : Type 0 where
+  full : state.version ≡ most → entry ≡ Refused line reason.Full → IsRoomFor most state line entry
+  accepted : state.version < most → entry ≡ Accepted line (state.version + 1) → IsRoomFor most state line entry
+
+-- Faults of a name come first. Only a command with a valid name can be refused for memory.
+pub data IsNamed (name : List ℕ) (line : ℕ) (entry : Entry) (Else : Type 0) : Type 0 where
+  bad_name : (fault : NameError) → (fault ≡ name_error.OutOfMemory → ⊥) → IsNameFault fault name → entry ≡ Refused line (reason.Name fault)
+      → IsNamed name line entry Else
+  no_memory : IsName name → entry ≡ Refused line reason.OutOfMemory → IsNamed name line entry Else
+  named : IsName name → Else → IsNamed name line entry Else
+
+-- then faults of the body, then lack of room
+pub data HasBody (most : ℕ) (state : State) (body : List ℕ) (line : ℕ) (entry : Entry) : Type 0 where
+  bad_body : (fault : BodyErrorKind) → IsBodyFault fault body → entry ≡ Refused line (reason.Body fault) → HasBody most state body line entry
+  with_body : IsBody body → IsRoomFor most state line entry → HasBody most state body line entry
+
+abbrev pub IsPut : ℕ → State → List ℕ → List ℕ → ℕ → Entry → Type 0
+IsPut most state name body line entry = IsNamed name line entry (HasBody most state body line entry)
+
+-- A load has one outcome: it cannot load, since the source failed, or the source held the loaded bytes under the path.
+pub data HasLoaded (Holds : List ℕ → List ℕ → Type 0) (most : ℕ) (state : State) (path : List ℕ) (loaded : Option (List ℕ)) (line : ℕ)
+    (entry : Entry) : Type 0 where
+  failed : loaded ≡ None → entry ≡ Refused line reason.CannotLoad → HasLoaded Holds most state path loaded line entry
+  loaded_body : (body : List ℕ) → loaded ≡ Some body → Holds path body → HasBody most state body line entry → HasLoaded Holds most state path loaded line entry
+
+-- A remove needs a document of that name after all accepted commands.
+pub data IsRemove (most : ℕ) (state : State) (name : List ℕ) (line : ℕ) (entry : Entry) : Type 0 where
+  no_such_file : number_of name state.documents ≡ None → entry ≡ Refused line reason.NoSuchFile → IsRemove most state name line entry
+  is_there : number_of name state.documents ≢ None → IsRoomFor most state line entry → IsRemove most state name line entry
+
+pub data IsPublish (state : State) (line : ℕ) (entry : Entry) : Type 0 where
+  published : entry ≡ Published line state.version → IsPublish state line entry
+  no_memory : entry ≡ Refused line reason.OutOfMemory → IsPublish state line entry
+
+-- A row, the rows before and after it, and how many readers there are.
+pub record Context : Type 0 where
+  pub readers : ℕ
+  pub before : List Row
+  pub row : Row
+  pub after : List Row
+
+abbrev pub all_rows : Context → List Row
+all_rows context = context.before ++ context.row ∷ context.after
+
+-- the state that the commands accepted before a row leave
+abbrev pub state_before : Context → State
+state_before context = state_of (commands_of context.before)
+
+-- The newest version that an answer can have: the one published last before the first sync after the search or,
+-- without readers, before the search itself. With readers and without a sync after the search, there is no such bound.
+abbrev pub newest_allowed : Context → Option ℕ
+newest_allowed context =
+    if context.readers == 0 then Some (published_last context.before)
+    else option_map (λ rows. published_last (context.before ++ context.row ∷ rows)) (before_sync context.after)
+
+-- An answer of a published version (0 counts as published), no older than what was published before the search and no newer
+-- than is allowed, which lists exactly the lines with a match in the documents after that version's commands.
+pub record IsAnswered (context : Context) (pattern : Pattern) (reader : ℕ) (answer : Answer) : Type 0 where
+  pub published : (answer.version ≡ 0) ⊎ Contains (published_in (all_rows context)) answer.version
+  pub not_older : published_last context.before ≤ answer.version
+  pub exact : IsAnswerOf (state_of (take answer.version (commands_of (all_rows context)))) pattern answer
+  pub one_of_them : reader ≤ context.readers
+  pub not_newer : IfSome (newest_allowed context) (λ version. answer.version ≤ version)
+
+-- the number of a search, from 1
+abbrev pub search_number : Context → ℕ
+search_number context = count_searches context.before + 1
+
+-- What becomes of a search that is not refused for its texts: it is refused for memory, or answered for a pattern that they spell.
+pub data IsSearched (context : Context) (IsIt : Pattern → Type 0) (entry : Entry) : Type 0 where
+  no_memory : entry ≡ SearchRefused (search_number context) search_reason.OutOfMemory → IsSearched context IsIt entry
+  found : (pattern : Pattern) (reader turn : ℕ) (answer : Answer) → IsIt pattern → entry ≡ Found (search_number context) reader turn answer
+      → IsAnswered context pattern reader answer → IsSearched context IsIt entry
+
+pub data IsSearch (context : Context) (case : Case) (text : List ℕ) (entry : Entry) : Type 0 where
+  bad_pattern : (fault : EreError) → fault.kind ≢ kind.OutOfMemory → HasNoTree case text
+      → entry ≡ SearchRefused (search_number context) (search_reason.Pattern fault) → IsSearch context case text entry
+  searched : IsSearched context (IsPatternOf case text) entry → IsSearch context case text entry
+
+-- The name pattern is looked at first. Its case always counts.
+pub data IsSearchIn (context : Context) (case : Case) (name_text text : List ℕ) (entry : Entry) : Type 0 where
+  bad_name_pattern : (fault : EreError) → fault.kind ≢ kind.OutOfMemory → HasNoTree Exact name_text
+      → entry ≡ SearchRefused (search_number context) (search_reason.NamePattern fault) → IsSearchIn context case name_text text entry
+  bad_pattern : (fault : EreError) → fault.kind ≢ kind.OutOfMemory → HasTree Exact name_text → HasNoTree case text
+      → entry ≡ SearchRefused (search_number context) (search_reason.Pattern fault) → IsSearchIn context case name_text text entry
+  searched : IsSearched context (IsPatternWithin case name_text text) entry → IsSearchIn context case name_text text entry
+
+-- An item that is neither a search nor a sync can have this entry, in this state of the documents.
+abbrev pub IsCommandEntry : (List ℕ → List ℕ → Type 0) → ℕ → State → Option (List ℕ) → ℕ → Item → Entry → Type 0
+IsCommandEntry Holds most state loaded line (put name body) entry = IsPut most state name body line entry
+IsCommandEntry Holds most state loaded line (load name path) entry = IsNamed name line entry (HasLoaded Holds most state path loaded line entry)
+IsCommandEntry Holds most state loaded line (remove name) entry = IsNamed name line entry (IsRemove most state name line entry)
+IsCommandEntry Holds most state loaded line publish entry = IsPublish state line entry
+IsCommandEntry Holds most state loaded line (search case text) entry = ⊥
+IsCommandEntry Holds most state loaded line (search_in case name_text text) entry = ⊥
+IsCommandEntry Holds most state loaded line sync entry = ⊥
+IsCommandEntry Holds most state loaded line bad_line entry = entry ≡ Refused line reason.BadLine
+IsCommandEntry Holds most state loaded line bad_put entry = entry ≡ Refused line reason.BadPut
+IsCommandEntry Holds most state loaded line truncated entry = entry ≡ Refused line reason.Truncated
+IsCommandEntry Holds most state loaded line body_not_closed entry = entry ≡ Refused line reason.BodyNotClosed
+
+-- In this context, the item can have this entry.
+unfoldable pub IsEntryOf : (List ℕ → List ℕ → Type 0) → ℕ → Context → ℕ → Item → Entry → Type 0
+IsEntryOf Holds most context line (search case text) entry = IsSearch context case text entry
+IsEntryOf Holds most context line (search_in case name_text text) entry = IsSearchIn context case name_text text entry
+IsEntryOf Holds most context line item entry = IsCommandEntry Holds most (state_before context) context.row.loaded line item entry
+
+-- A sync has no entry, and every other item has one.
+abbrev pub HasEntry : (List ℕ → List ℕ → Type 0) → ℕ → Context → Item → Option Entry → Type 0
+HasEntry Holds most context sync None = Unit {0}
+HasEntry Holds most context sync (Some entry) = ⊥
+HasEntry Holds most context item None = ⊥
+HasEntry Holds most context item (Some entry) = IsEntryOf Holds most context context.row.numbered.line item entry
+
+abbrev pub IsLegalRow : (List ℕ → List ℕ → Type 0) → ℕ → Context → Type 0
+IsLegalRow Holds most context = HasEntry Holds most context context.row.numbered.item context.row.entry
+
+-- The turns of one reader are distinct, and as they rise, its versions never fall.
+pub record IsInTurn (first second : ℕ) (first_version second_version : ℕ) : Type 0 where
+  pub distinct : first ≢ second
+  pub rises : first < second → first_version ≤ second_version
+  pub falls : second < first → second_version ≤ first_version
+
+abbrev pub AreInTurn : List Row → Type 0
+AreInTurn rows =
+    (before middle after : List Row) (row row' : Row) (reader number turn number' turn' : ℕ) (answer answer' : Answer)
+    → rows ≡ before ++ row ∷ (middle ++ row' ∷ after)
+    → row.entry ≡ Some (Found number reader turn answer)
+    → row'.entry ≡ Some (Found number' reader turn' answer')
+    → IsInTurn turn turn' answer.version answer'.version
+
+-- The greatest count of failures that a source can report.
+abbrev pub greatest_failures : ℕ
+greatest_failures = 2 ^ 64 - 1
+
+-- A source's count rose by this number of failures, or as far as the greatest count.
+abbrev pub IsFailedTimes : ℕ → ℕ → ℕ → Type 0
+IsFailedTimes failures before after = (failures + before ≡ after) ⊎ ((after ≡ greatest_failures) × (greatest_failures ≤ failures + before))

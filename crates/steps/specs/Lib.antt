@@ -1,0 +1,5 @@
+pub mod Rows
+pub mod LegalRows
+pub mod Steps
+pub mod StepRows
+pub mod Entries

@@ -1,0 +1,115 @@
+-- The rows of a run between two steps: each item that was taken, with its entry if it has one by now.
+use Rattle.std.specs.Prelude.{◌≡◌, ℕ, ◌+◌, ◌≤◌, List, [], ◌∷◌, ◌++◌, length, map, flat_map, Option, Some, None, false}
+use Rattle.std.specs.List.{AllByRecursion}
+use Rattle.search.specs.Scan.{Answer}
+use Rattle.script.specs.Items.{Item, Numbered, search, search_in}
+use Rattle.transcript.specs.declared.entry.Entry.{Entry}
+use Rattle.transcript.specs.declared.entry.Entry.TheVariants.{Found, SearchRefused}
+use Rattle.transcript.specs.declared.entry.SearchReason.{SearchReason}
+use Rattle.steps.specs.declared.last.Last.{Last}
+use Rattle.steps.specs.Rows.{Row, list_of, commands_of, version_in, published_in, last_or, is_sync, searches_of, count_searches}
+use Rattle.steps.specs.LegalRows.{IsLegalRow, IsInTurn}
+use Rattle.steps.specs.Steps.{RunState, OpenSearch, latest, last_of}
+
+abbrev pub with_its_entry : Entry → Row → Row
+with_its_entry entry row = record row { entry = Some entry }
+
+-- the number of the search that an entry answers or refuses
+pub data IsOfSearch (number : ℕ) : Entry → Type 0 where
+  found : (reader turn : ℕ) (answer : Answer) → IsOfSearch number (Found number reader turn answer)
+  refused : (why : SearchReason) → IsOfSearch number (SearchRefused number why)
+
+-- The rows after one more step: one row more, for the item that was taken; or an open search has got its entry.
+pub data AreNext (rows : List Row) (taken : List Numbered) (written : List Entry) (rows' : List Row) : Type 0 where
+  more : (row : Row) → taken ≡ row.numbered ∷ [] → written ≡ list_of row.entry → rows' ≡ rows ++ row ∷ [] → AreNext rows taken written rows'
+  filled : (before : List Row) (row : Row) (after : List Row) (entry : Entry) → rows ≡ before ++ row ∷ after → row.entry ≡ None
+      → searches_of row.numbered.item ≡ 1 → IsOfSearch (count_searches before + 1) entry → taken ≡ [] → written ≡ entry ∷ []
+      → rows' ≡ before ++ with_its_entry entry row ∷ after → AreNext rows taken written rows'
+
+-- an entry, unless it is that of a search
+abbrev pub unless_of_search : Option Entry → Option Entry
+unless_of_search (Some (Found number reader turn answer)) = None
+unless_of_search (Some (SearchRefused number why)) = None
+unless_of_search entry = entry
+
+abbrev pub unanswered_row : Row → Row
+unanswered_row row = record row { entry = unless_of_search row.entry }
+
+-- the rows without the entries of their searches
+abbrev pub unanswered : List Row → List Row
+unanswered rows = map unanswered_row rows
+
+abbrev pub open_search : ℕ → Item → ℕ → OpenSearch
+open_search number item least = record { number = number; item = item; least = least }
+
+-- the search that an item asks, if it has no entry. count, least: the searches before it, and the version published last
+abbrev pub open_of : ℕ → ℕ → Item → Option Entry → List OpenSearch
+open_of count least (search case text) None = open_search (count + 1) (search case text) least ∷ []
+open_of count least (search_in case name_text text) None = open_search (count + 1) (search_in case name_text text) least ∷ []
+open_of count least item entry = []
+
+-- the searches that have no entry, in their order
+abbrev pub open_in : ℕ → ℕ → List Row → List OpenSearch
+open_in count least [] = []
+open_in count least (row ∷ rows) =
+    open_of count least row.numbered.item row.entry
+    ++ open_in (count + searches_of row.numbered.item) (last_or least (version_in row.entry)) rows
+
+-- an answer of a reader
+pub record Given : Type 0 where
+  pub reader : ℕ
+  pub turn : ℕ
+  pub version : ℕ
+
+abbrev pub given_in : Option Entry → List Given
+given_in (Some (Found number reader turn answer)) = record { reader = reader; turn = turn; version = answer.version } ∷ []
+given_in entry = []
+
+abbrev pub given_of : List Row → List Given
+given_of rows = flat_map (λ row. given_in row.entry) rows
+
+-- numbers that never fall, from the first one on
+abbrev pub Rises : ℕ → List ℕ → Type 0
+Rises from [] = Unit {0}
+Rises from (x ∷ xs) = (from ≤ x) × Rises x xs
+
+abbrev pub HasNoSync : List Row → Type 0
+HasNoSync [] = Unit {0}
+HasNoSync (row ∷ rows) = (is_sync row.numbered.item ≡ false) × HasNoSync rows
+
+-- The row's entry is legal, whatever rows follow, if no version that they publish is older. Or the row is an open search:
+-- no sync follows it, and without readers nothing does. front, back: the rows before and after it, unanswered.
+pub data Stands (Holds : List ℕ → List ℕ → Type 0) (most readers : ℕ) (front : List Row) (row : Row) (back : List Row) : Type 0 where
+  legal : ((before after more : List Row) → unanswered before ≡ front → unanswered after ≡ back ++ more
+      → Rises 0 (published_in (before ++ row ∷ after))
+      → IsLegalRow Holds most (record { readers = readers; before = before; row = row; after = after }))
+      → Stands Holds most readers front row back
+  waits : row.entry ≡ None → searches_of row.numbered.item ≡ 1 → HasNoSync back → (readers ≡ 0 → back ≡ [])
+      → Stands Holds most readers front row back
+
+-- If one reader gave both answers, they are in turn.
+abbrev pub AreTurned : Given → Given → Type 0
+AreTurned first second = first.reader ≡ second.reader → IsInTurn first.turn second.turn first.version second.version
+
+abbrev pub AllTurned : List Given → Type 0
+AllTurned [] = Unit {0}
+AllTurned (first ∷ others) = AllByRecursion (AreTurned first) others × AllTurned others
+
+-- An answer has no later turn and no later version than the last one of its reader.
+pub record IsNoted (lasts : List Last) (answer : Given) : Type 0 where
+  pub turn : answer.turn ≤ (last_of lasts answer.reader).turn
+  pub version : answer.version ≤ (last_of lasts answer.reader).version
+
+-- The rows of a run in this state.
+pub record AreRows (Holds : List ℕ → List ℕ → Type 0) (most readers : ℕ) (s : RunState) (rows : List Row) : Type 0 where
+  pub accepted : s.accepted ≡ commands_of rows
+  pub published : s.published ≡ published_in rows
+  pub rises : Rises 0 s.published
+  pub within : latest s ≤ length s.accepted
+  pub searches : s.searches ≡ count_searches rows
+  pub awaited : s.awaited ≡ open_in 0 0 rows
+  pub readers_count : length s.lasts ≡ readers + 1
+  pub stand : (before : List Row) (row : Row) (after : List Row) → rows ≡ before ++ row ∷ after
+      → Stands Holds most readers (unanswered before) row (unanswered after)
+  pub turns : AllTurned (given_of rows)
+  pub noted : AllByRecursion (IsNoted s.lasts) (given_of rows)

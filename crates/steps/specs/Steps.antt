@@ -1,0 +1,157 @@
+-- Which entries may be written for which items, in which order, whatever the readers and their timing.
+use Rattle.std.specs.Prelude.{◌≡◌, ◌≢◌, ℕ, ◌+◌, ◌<◌, ◌≤◌, ◌⊎◌, List, [], ◌∷◌, ◌++◌, length, take, drop}
+use Rattle.std.specs.Prelude.{Option, Some, Contains, slice_get, slice_set, slice_index_or, false, true, All}
+use Rattle.ere.specs.Limits.{HasNoTree}
+use Rattle.ere.specs.declared.case.Case.{Case}
+use Rattle.ere.specs.declared.case.Case.TheVariants.{Exact}
+use Rattle.ere.specs.declared.error.EreError.{EreError}
+use Rattle.ere.specs.declared.error.EreErrorKind.TheVariants as kind
+use Rattle.index.specs.declared.command.Command.{Command}
+use Rattle.index.specs.State.{state_of}
+use Rattle.search.specs.Pattern.{Pattern, IsPatternOf, IsPatternWithin, HasTree}
+use Rattle.search.specs.Scan.{Answer, IsAnswerOf}
+use Rattle.script.specs.Items.{Item, Numbered, search, search_in}
+use Rattle.transcript.specs.declared.entry.Entry.{Entry}
+use Rattle.transcript.specs.declared.entry.Entry.TheVariants.{Found, SearchRefused}
+use Rattle.transcript.specs.declared.entry.SearchReason.{SearchReason}
+use Rattle.transcript.specs.declared.entry.SearchReason.TheVariants as reason
+use Rattle.steps.specs.declared.last.Last.{Last}
+use Rattle.steps.specs.Rows.{command_of, accepted_by, version_in, last_or, is_sync, searches_of}
+use Rattle.steps.specs.LegalRows.{IsCommandEntry}
+
+-- A search that has no entry yet: its number, from 1, what it asks for, and the version that was published last when it
+-- was asked.
+pub record OpenSearch : Type 0 where
+  pub number : ℕ
+  pub item : Item
+  pub least : ℕ
+
+abbrev pub last : ℕ → ℕ → Last
+last turn version = record { turn = turn; version = version }
+
+-- A run between two steps. accepted: the commands that were accepted. published: the versions that were published, first
+-- to last. searches: how many searches were taken. awaited: those of them that have no entry yet, in their order.
+-- lasts: the last answer of each reader, reader 0 first.
+pub record RunState : Type 0 where
+  pub accepted : List Command
+  pub published : List ℕ
+  pub searches : ℕ
+  pub awaited : List OpenSearch
+  pub lasts : List Last
+
+-- the version that was published last, or 0 before any publish
+abbrev pub latest : RunState → ℕ
+latest s = last_or 0 s.published
+
+abbrev pub last_of : List Last → ℕ → Last
+last_of lasts reader = slice_index_or lasts reader (last 0 0)
+
+-- an item other than a search or a sync has this entry
+abbrev pub with_entry : Item → Option (List ℕ) → Entry → RunState → RunState
+with_entry item loaded entry s = record s {
+  accepted = s.accepted ++ accepted_by (Some entry) (command_of item loaded);
+  published = s.published ++ version_in (Some entry);
+}
+
+-- one more search was taken, and is refused at once
+abbrev pub counted : RunState → RunState
+counted s = record s { searches = s.searches + 1 }
+
+abbrev pub asked : Item → RunState → OpenSearch
+asked item s = record { number = s.searches + 1; item = item; least = latest s }
+
+-- one more search was taken, and is open
+abbrev pub with_search : Item → RunState → RunState
+with_search item s = record s { searches = s.searches + 1; awaited = s.awaited ++ asked item s ∷ [] }
+
+-- the open search at this place has its entry
+abbrev pub without : ℕ → RunState → RunState
+without place s = record s { awaited = take place s.awaited ++ drop (place + 1) s.awaited }
+
+-- the reader has given an answer of this version, in this turn
+abbrev pub with_answer : ℕ → ℕ → ℕ → RunState → RunState
+with_answer reader turn version s = record s { lasts = slice_set s.lasts reader (last turn version) }
+
+-- The search is open, at this place among the open ones.
+abbrev pub IsOpenAt : RunState → ℕ → OpenSearch → Type 0
+IsOpenAt s place wanted = slice_get s.awaited place ≡ Some wanted
+
+-- Without readers, an item is taken only when no search is open. So is a sync, whatever the readers.
+pub data MayTake (readers : ℕ) (s : RunState) (item : Item) : Type 0 where
+  settled : s.awaited ≡ [] → MayTake readers s item
+  beside : 0 < readers → is_sync item ≡ false → MayTake readers s item
+
+-- the pattern that a search asks for
+abbrev pub Asks : Item → Pattern → Type 0
+Asks (search case text) pattern = IsPatternOf case text pattern
+Asks (search_in case name_text text) pattern = IsPatternWithin case name_text text pattern
+Asks _ pattern = ⊥
+
+-- Why a search is refused when it is taken: the fault of its pattern, or lack of memory.
+pub data IsFaultOfSearch (case : Case) (text : List ℕ) (why : SearchReason) : Type 0 where
+  no_memory : why ≡ reason.OutOfMemory → IsFaultOfSearch case text why
+  bad_pattern : (fault : EreError) → fault.kind ≢ kind.OutOfMemory → HasNoTree case text → why ≡ reason.Pattern fault → IsFaultOfSearch case text why
+
+-- The name pattern is looked at first. Its case always counts.
+pub data IsFaultOfSearchIn (case : Case) (name_text text : List ℕ) (why : SearchReason) : Type 0 where
+  no_memory : why ≡ reason.OutOfMemory → IsFaultOfSearchIn case name_text text why
+  bad_name_pattern : (fault : EreError) → fault.kind ≢ kind.OutOfMemory → HasNoTree Exact name_text → why ≡ reason.NamePattern fault
+      → IsFaultOfSearchIn case name_text text why
+  bad_pattern : (fault : EreError) → fault.kind ≢ kind.OutOfMemory → HasTree Exact name_text → HasNoTree case text → why ≡ reason.Pattern fault
+      → IsFaultOfSearchIn case name_text text why
+
+abbrev pub IsFaultOf : Item → SearchReason → Type 0
+IsFaultOf (search case text) why = IsFaultOfSearch case text why
+IsFaultOf (search_in case name_text text) why = IsFaultOfSearchIn case name_text text why
+IsFaultOf _ why = ⊥
+
+-- An answer of a version that is published by now (0 counts as published), no older than what was published before the
+-- search was asked, and no older than the reader's last answer. It lists exactly the lines with a match in the
+-- documents after that version's commands, for a pattern that the search's texts spell.
+pub record IsAnswerNow (s : RunState) (search : OpenSearch) (reader turn : ℕ) (answer : Answer) : Type 0 where
+  pub pattern : Pattern
+  pub asks : Asks search.item pattern
+  pub exact : IsAnswerOf (state_of (take answer.version s.accepted)) pattern answer
+  pub published : (answer.version ≡ 0) ⊎ Contains s.published answer.version
+  pub not_older : search.least ≤ answer.version
+  pub one_of_them : reader < length s.lasts
+  pub later : (last_of s.lasts reader).turn < turn
+  pub no_fall : (last_of s.lasts reader).version ≤ answer.version
+
+-- One step: at most one item is taken, and at most one entry is written. Holds: what the source holds. most: how many
+-- commands are accepted at most. readers: how many readers there are in addition to reader 0.
+pub data IsStep (Holds : List ℕ → List ℕ → Type 0) (most readers : ℕ) (s : RunState) (taken : List Numbered) (written : List Entry)
+    (s' : RunState) : Type 0 where
+  carried_out : (item : Numbered) (loaded : Option (List ℕ)) (entry : Entry) → MayTake readers s item.item
+      → IsCommandEntry Holds most (state_of s.accepted) loaded item.line item.item entry
+      → taken ≡ item ∷ [] → written ≡ entry ∷ [] → s' ≡ with_entry item.item loaded entry s → IsStep Holds most readers s taken written s'
+  asked_for : (item : Numbered) → MayTake readers s item.item → searches_of item.item ≡ 1
+      → taken ≡ item ∷ [] → written ≡ [] → s' ≡ with_search item.item s → IsStep Holds most readers s taken written s'
+  refused : (item : Numbered) (why : SearchReason) → MayTake readers s item.item → IsFaultOf item.item why
+      → taken ≡ item ∷ [] → written ≡ SearchRefused (s.searches + 1) why ∷ [] → s' ≡ counted s → IsStep Holds most readers s taken written s'
+  answered : (place : ℕ) (search : OpenSearch) (reader turn : ℕ) (answer : Answer) → IsOpenAt s place search
+      → IsAnswerNow s search reader turn answer
+      → taken ≡ [] → written ≡ Found search.number reader turn answer ∷ [] → s' ≡ without place (with_answer reader turn answer.version s)
+      → IsStep Holds most readers s taken written s'
+  -- memory ran out for the answer
+  not_answered : (place : ℕ) (search : OpenSearch) → IsOpenAt s place search
+      → taken ≡ [] → written ≡ SearchRefused search.number reason.OutOfMemory ∷ [] → s' ≡ without place s
+      → IsStep Holds most readers s taken written s'
+  sync : (item : Numbered) → is_sync item.item ≡ true → s.awaited ≡ [] → taken ≡ item ∷ [] → written ≡ [] → s' ≡ s
+      → IsStep Holds most readers s taken written s'
+
+-- Before the first item, no reader has answered.
+pub record IsFirst (readers : ℕ) (s : RunState) : Type 0 where
+  pub accepted : s.accepted ≡ []
+  pub published : s.published ≡ []
+  pub searches : s.searches ≡ 0
+  pub awaited : s.awaited ≡ []
+  pub count : length s.lasts ≡ readers + 1
+  pub lasts : All (λ l. l ≡ last 0 0) s.lasts
+
+-- Steps lead from one state to another. They take these items, and write these entries.
+pub data Runs (Holds : List ℕ → List ℕ → Type 0) (most readers : ℕ) (from : RunState) : List Numbered → List Entry → RunState → Type 0 where
+  begins : Runs Holds most readers from [] [] from
+  goes_on : {items items' taken : List Numbered} {entries entries' written : List Entry} {s s' : RunState}
+      → Runs Holds most readers from items entries s → IsStep Holds most readers s taken written s'
+      → items' ≡ items ++ taken → entries' ≡ entries ++ written → Runs Holds most readers from items' entries' s'

@@ -1,0 +1,94 @@
+//! Laws of legal steps. Each is a function that does nothing: its clause is the law.
+
+ghost use Rattle.std.specs.Prelude.{◌≡◌, ℕ, ◌+◌, ◌<◌, ◌≤◌, List, [], ◌∷◌, ◌++◌, Contains, true};
+ghost use Rattle.script.specs.Items.{Numbered as NumberedItem};
+ghost use Rattle.search.specs.Scan.{Answer as GivenAnswer};
+ghost use Rattle.transcript.specs.declared.entry.Entry.{Entry};
+ghost use Rattle.transcript.specs.declared.entry.Entry.TheVariants.{Refused, Found};
+ghost use Rattle.transcript.specs.declared.entry.Reason.TheVariants.{OutOfMemory};
+ghost use Rattle.steps.specs.Rows.{Row, items_of, is_sync, last_or, searches_of, count_failures};
+ghost use Rattle.steps.specs.LegalRows.{IsLegalRow, AreInTurn};
+ghost use Rattle.steps.specs.Steps.{RunState, IsStep, IsFirst, Runs};
+ghost use Rattle.steps.specs.StepRows.{AreRows, AreNext};
+ghost use Rattle.steps.specs.Entries.{count_of, failures_of, versions_of, searches_among, lines_in, command_lines, takes_memory, IsInOrder};
+
+/// What a source of loads can return.
+pub trait Holding {
+    /// The source can return these bytes for this path.
+    ghost holds: { List ℕ → List ℕ → Type 0 };
+}
+
+/// Before the first item there are no rows.
+pub fn first_rows<H: Holding>()
+    ensures { (most readers : ℕ) (s : RunState) → IsFirst readers s → AreRows H.holds most readers s [] }
+{}
+
+/// A step from a state with rows leads to a state with rows, which are one more, or one of which has got its entry.
+pub fn next_rows<H: Holding>()
+    ensures { (most readers : ℕ) (s : RunState) (rows : List Row) (taken : List NumberedItem) (written : List Entry) (s' : RunState)
+        → AreRows H.holds most readers s rows → IsStep H.holds most readers s taken written s'
+        → (rows' : List Row) × AreNext rows taken written rows' × AreRows H.holds most readers s' rows' }
+{}
+
+/// Once no search is open, the rows are legal.
+pub fn rows_are_legal<H: Holding>()
+    ensures legal { (most readers : ℕ) (s : RunState) (rows : List Row) → AreRows H.holds most readers s rows → s.awaited ≡ []
+        → (before : List Row) (row : Row) (after : List Row) → rows ≡ before ++ row ∷ after
+        → IsLegalRow H.holds most (record { readers = readers; before = before; row = row; after = after }) }
+    ensures in_turn { (most readers : ℕ) (s : RunState) (rows : List Row) → AreRows H.holds most readers s rows → AreInTurn rows }
+{}
+
+/// A run has rows: they have its items, and as many failed loads as its entries.
+pub fn runs_have_rows<H: Holding>()
+    ensures { (most readers : ℕ) (from : RunState) (items : List NumberedItem) (entries : List Entry) (s : RunState)
+        → IsFirst readers from → Runs H.holds most readers from items entries s
+        → (rows : List Row) × AreRows H.holds most readers s rows × (items_of rows ≡ items) × (count_failures rows ≡ failures_of entries) }
+{}
+
+/// Once no search is open, each search has one entry.
+pub fn one_entry_each<H: Holding>()
+    ensures one { (most readers : ℕ) (from : RunState) (items : List NumberedItem) (entries : List Entry) (s : RunState)
+        → IsFirst readers from → Runs H.holds most readers from items entries s → s.awaited ≡ []
+        → (number : ℕ) → 0 < number → number ≤ searches_among items → count_of number entries ≡ 1 }
+    ensures no_other { (most readers : ℕ) (from : RunState) (items : List NumberedItem) (entries : List Entry) (s : RunState)
+        → IsFirst readers from → Runs H.holds most readers from items entries s
+        → (count_of 0 entries ≡ 0) × ((number : ℕ) → searches_among items < number → count_of number entries ≡ 0) }
+{}
+
+/// An answer has a version that was published before it, and no reader's versions fall as its turns rise.
+pub fn answers_are_in_order<H: Holding>()
+    ensures { (most readers : ℕ) (from : RunState) (items : List NumberedItem) (entries : List Entry) (s : RunState)
+        → IsFirst readers from → Runs H.holds most readers from items entries s
+        → (before : List Entry) (number reader turn : ℕ) (answer : GivenAnswer) (after : List Entry)
+        → entries ≡ before ++ Found number reader turn answer ∷ after → IsInOrder before reader turn answer }
+{}
+
+/// An answer is no older than what was published when its search was asked.
+pub fn answers_are_not_older<H: Holding>()
+    ensures { (most readers : ℕ) (from : RunState) (items : List NumberedItem) (entries : List Entry) (s : RunState)
+        → IsFirst readers from → Runs H.holds most readers from items entries s
+        → (search : NumberedItem) (s' : RunState) → searches_of search.item ≡ 1 → IsStep H.holds most readers s (search ∷ []) [] s'
+        → (items' : List NumberedItem) (entries' : List Entry) (s'' : RunState) → Runs H.holds most readers s' items' entries' s''
+        → (reader turn : ℕ) (answer : GivenAnswer) → Contains entries' (Found (searches_among items + 1) reader turn answer)
+        → last_or 0 (versions_of entries) ≤ answer.version }
+{}
+
+/// Without readers an item is taken only when no search is open. So is a sync, whatever the readers.
+pub fn nothing_is_open<H: Holding>()
+    ensures alone { (most : ℕ) (s : RunState) (item : NumberedItem) (written : List Entry) (s' : RunState)
+        → IsStep H.holds most 0 s (item ∷ []) written s' → s.awaited ≡ [] }
+    ensures at_sync { (most readers : ℕ) (s : RunState) (item : NumberedItem) (written : List Entry) (s' : RunState)
+        → is_sync item.item ≡ true → IsStep H.holds most readers s (item ∷ []) written s' → s.awaited ≡ [] }
+{}
+
+/// The entries that are not of searches come in the order of their items: those that are neither searches nor syncs.
+pub fn lines_keep_their_order<H: Holding>()
+    ensures { (most readers : ℕ) (from : RunState) (items : List NumberedItem) (entries : List Entry) (s : RunState)
+        → Runs H.holds most readers from items entries s → lines_in entries ≡ command_lines items }
+{}
+
+/// Of the items that are no searches, only puts, loads, removes and publishes are refused for memory.
+pub fn memory_is_taken<H: Holding>()
+    ensures { (most readers : ℕ) (s : RunState) (item : NumberedItem) (line : ℕ) (s' : RunState)
+        → IsStep H.holds most readers s (item ∷ []) (Refused line OutOfMemory ∷ []) s' → takes_memory item.item ≡ true }
+{}

@@ -1,0 +1,10 @@
+//! Which entries a run may write for its items, in which order: legal steps, their rows, and the laws that follow from
+//! them. The crate has definitions and laws, and hardly any code.
+#![tactic(auto)]
+
+mod last;
+mod laws;
+
+pub use last::Last;
+pub use laws::{Holding, answers_are_in_order, answers_are_not_older, first_rows, lines_keep_their_order, memory_is_taken};
+pub use laws::{next_rows, nothing_is_open, one_entry_each, rows_are_legal, runs_have_rows};
