@@ -155,6 +155,13 @@ impl Desk {
         self.accepted == self.limit
     }
 
+    /// The number of commands that were accepted.
+    pub fn accepted(&self) -> u32
+        ensures { result ≡ length self.now.accepted }
+    {
+        self.accepted
+    }
+
     /// Accepts the put of this name and body, and returns the number of accepted commands, with this one. A
     /// refusal returns the first cause, in the order of `PutErrorKind`, hands the name and the body back, and
     /// changes nothing.

@@ -79,6 +79,15 @@ impl Reading {
         self.front.version()
     }
 
+    /// What it has seen, as a publish of it would have handed it out. It takes no memory.
+    pub fn told(&self) -> Told
+        ensures { result ≡ self.now }
+    {
+        Told {
+            front: self.front.again(),
+        }
+    }
+
     /// Enters what is published, once, takes what a search needs, and leaves. No name and no line is looked at. It never
     /// waits.
     ///

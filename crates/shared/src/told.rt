@@ -1,6 +1,7 @@
 //! What a publish hands out.
 
-ghost use Rattle.std.specs.Prelude.{◌≡◌, length};
+ghost use Rattle.std.specs.Prelude.{◌≡◌, length, MatchBool};
+ghost use mathlib.Core.List.{IsPrefix};
 
 use crate::history::Front;
 use std::marker::Model;
@@ -27,5 +28,14 @@ impl Told {
         ensures { result ≡ length self.now.commands }
     {
         self.front.version()
+    }
+
+    /// Whether the commands of this one are a beginning of those of the other, which is of the same opening. If they are
+    /// not, those of the other are a beginning of them. It takes no memory and compares no command.
+    pub fn begins(&self, other: &Told) -> bool
+        requires { other.now.opening ≡ self.now.opening }
+        ensures { MatchBool result (IsPrefix self.now.commands other.now.commands) (IsPrefix other.now.commands self.now.commands) }
+    {
+        self.front.begins(&other.front)
     }
 }

@@ -36,7 +36,9 @@ fn three_commands<R: Abort + Wait>(
 )
     requires { reading.old.opening ≡ desk.old.opening }
 {
+    assert!(rt; desk.accepted() == 0);
     assert!(rt; put(alloc, desk, b"a", b"x") == Some(1));
+    assert!(rt; desk.accepted() == 1);
     let first = published(rt, desk, 1);
     learns(rt, reading, &first, 1);
     assert!(rt; put(alloc, desk, b"b", b"x") == Some(2));
@@ -47,6 +49,12 @@ fn three_commands<R: Abort + Wait>(
     learns(rt, reading, &last, 3);
     learns(rt, reading, &first, 3);
     assert!(rt; finds(alloc, reading, pattern, 3));
+    assert!(rt; first.begins(&last));
+    assert!(rt; !last.begins(&first));
+    let seen = reading.told();
+    assert!(rt; seen.version() == 3);
+    assert!(rt; seen.begins(&last) && last.begins(&seen));
+    assert!(rt; desk.accepted() == 3);
 }
 
 /// Publishes, which must be at this version.
