@@ -1,3 +1,4 @@
 pub mod Stream
 pub mod Laws
+pub mod Owned
 pub mod Private

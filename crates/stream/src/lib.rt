@@ -6,8 +6,10 @@ mod body;
 mod item;
 mod laws;
 mod line;
+mod owned;
 mod stream;
 
 pub use item::{StreamError, StreamItem, TakenItem};
 pub use laws::taken_items_are_one;
+pub use owned::OwnedItem;
 pub use stream::ItemStream;
