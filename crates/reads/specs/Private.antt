@@ -1,0 +1,3 @@
+-- What only the contracts of private functions cite. A clause can cite only `pub` modules.
+pub mod Counting
+pub mod Taking

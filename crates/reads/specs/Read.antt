@@ -1,0 +1,75 @@
+-- What was read of an input.
+use Rattle.std.specs.Prelude.{◌≡◌, ◌-◌, ℕ, Bool, true, false, List, [], ◌∷◌, ◌++◌, length, take, Option, Some, None, OnSome}
+use Rattle.std.specs.Io.KnownBytes.{Consumes, IsAtEnd}
+use Rattle.logbook.specs.Pages.{Book}
+use Rattle.script.specs.Items.{Item, Numbered, numbered, ItemsFrom, IsItemsOf}
+use Rattle.stream.specs.declared.item.StreamError.{StreamError}
+use Rattle.stream.specs.Stream.{StreamState, IsFault}
+use Rattle.stream.specs.Owned.{ShowsOwned}
+use Rattle.reads.specs.declared.item.ReadItem.{ReadItem}
+
+-- a history: its book, and the items that it has
+pub record History : Type 0 where
+  pub book : Book
+  pub read : List ReadItem
+
+-- the item was read last
+abbrev pub EndsWith : List ReadItem → ReadItem → Type 0
+EndsWith read item = read ≡ take (length read - 1) read ++ item ∷ []
+
+-- What was read shows these items, one by one. The body of a put that was not kept can be any that `ShowsOwned` allows.
+pub data AreShown : List ReadItem → List Numbered → Type 0 where
+  none : AreShown [] []
+  one_more : {reads : List ReadItem} {items : List Numbered} (read : ReadItem) (item : Item) → ShowsOwned read.item item → AreShown reads items
+      → AreShown (read ∷ reads) (numbered read.line item ∷ items)
+
+-- Nothing is left of the input, if its bytes were known, or the last item is a fault that ends the reading.
+pub data IsOver (input left : Option (List ℕ)) (items : List Numbered) : Type 0 where
+  at_end : OnSome input (IsAtEnd left) → IsOver input left items
+  at_fault : (others : List Numbered) (line : ℕ) (item : Item) → items ≡ others ++ numbered line item ∷ [] → IsFault item → IsOver input left items
+
+-- What was read so far, how far the stream is, the error that ended the reading, and what is left of the input.
+pub record FeedState : Type 0 where
+  pub read : List ReadItem
+  pub stream : StreamState
+  pub failed : Option StreamError
+  pub left : Option (List ℕ)
+
+abbrev pub feed_state : List ReadItem → StreamState → Option StreamError → Option (List ℕ) → FeedState
+feed_state read stream failed left = record { read = read; stream = stream; failed = failed; left = left }
+
+-- These bytes were read of the input, and their items are those that were read. More is to be read: whatever items follow the
+-- rest, they follow these.
+pub record IsReading (input : Option (List ℕ)) (at : FeedState) : Type 0 where
+  pub script : List ℕ
+  pub items : List Numbered
+  pub consumed : Consumes input at.left script
+  pub shown : AreShown at.read items
+  pub goes_on : (rest : List ℕ) (others : List Numbered) → ItemsFrom at.stream.line rest others → IsItemsOf (script ++ rest) (items ++ others)
+
+-- The reading has ended, and the items of the bytes that were read are those that were read.
+pub record IsWhole (input left : Option (List ℕ)) (read : List ReadItem) : Type 0 where
+  pub script : List ℕ
+  pub items : List Numbered
+  pub consumed : Consumes input left script
+  pub shown : AreShown read items
+  pub whole : IsItemsOf script items
+  pub over : IsOver input left items
+
+-- The reading ended early: the items that were read are those of a beginning of the bytes that were read.
+pub record IsCut (input left : Option (List ℕ)) (read : List ReadItem) : Type 0 where
+  pub script : List ℕ
+  pub others : List ℕ
+  pub items : List Numbered
+  pub consumed : Consumes input left (script ++ others)
+  pub shown : AreShown read items
+  pub whole : IsItemsOf script items
+
+abbrev pub IsFedBy : Option StreamError → Bool → Option (List ℕ) → FeedState → Type 0
+IsFedBy None false input at = IsReading input at
+IsFedBy None true input at = IsWhole input at.left at.read
+IsFedBy (Some error) ended input at = IsCut input at.left at.read
+
+-- The feed has read this of the input, which had these bytes at first if they were known.
+abbrev pub IsFed : Option (List ℕ) → FeedState → Type 0
+IsFed input at = IsFedBy at.failed at.stream.ended input at

@@ -1,0 +1,13 @@
+//! Items that are read from an input, and the history of what was read. Each item that is read goes out as a message,
+//! with evidence of all that was read up to it, which a receiver can check at run time.
+#![tactic(auto)]
+
+mod feed;
+mod history;
+mod item;
+mod message;
+
+pub use feed::Feed;
+pub use history::{Book, Front, Naming, Opened};
+pub use item::ReadItem;
+pub use message::Sent;

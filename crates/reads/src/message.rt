@@ -1,0 +1,40 @@
+//! Messages with an item.
+
+ghost use Rattle.std.specs.Prelude.{◌≡◌, ◌≢◌, [], ◌∷◌, ◌++◌, IfSome, MatchBool};
+ghost use Rattle.reads.specs.Read.{EndsWith};
+
+use crate::history::{Book, Front, Naming};
+use crate::item::ReadItem;
+
+/// An item, and all that was read up to it.
+#[derive(Drop)]
+pub struct Sent<K: Naming> {
+    pub item: ReadItem,
+    /// What was read. It ends with the item.
+    pub read: Front<K>,
+    pub ghost last: { EndsWith read item },
+}
+
+impl<K: Naming> Sent<K> {
+    /// Whether the item is the next one after those of this front. So a receiver that has all messages up to one,
+    /// and the front of the last, knows that it has missed none.
+    pub fn follows(&self, came: &Front<K>) -> bool
+        ensures { MatchBool result (self.now.read ≡ came.now ++ self.now.item ∷ []) (self.now.read ≢ came.now ++ self.now.item ∷ []) }
+    {
+        let count = self.read.len();
+        if count == 0 || count - 1 != came.len() {
+            return false;
+        }
+        came.begins(&self.read)
+    }
+
+    /// The message of an item that was read after those of this front. `None` for the reasons of `Front::with`.
+    pub(crate) fn after(read: &Front<K>, book: &Book<K>, item: ReadItem) -> Option<Sent<K>>
+        ensures { IfSome result (λ sent. (sent.item ≡ item) × (sent.read ≡ read.now ++ item ∷ [])) }
+    {
+        match read.with(book, &item) {
+            Some(read) => Some(Sent { item, read }),
+            None => None,
+        }
+    }
+}
