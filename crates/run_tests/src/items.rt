@@ -72,11 +72,62 @@ const CASES: &[(&[u8], &[u8])] = &[
     (b"put a 1x\nb\n", b"1:bad put;"),
     (b"put a 0000000001\nb\n", b"1:bad put;"),
     (b"putt a 1\nb\n", b"1:bad line;2:bad line;"),
+    (
+        b" publish\nPUBLISH\n #\npu",
+        b"1:bad line;2:bad line;3:bad line;4:bad line;",
+    ),
+    (
+        b"search\nsearch \nsearch a b \nsearches",
+        b"1:search|;2:search|;3:search|a b ;4:bad line;",
+    ),
+    (
+        b"searchin\nsearchin a\nsearchin a \nsearchin a b c\nsearchin  b",
+        b"1:bad line;2:bad line;3:searchin|a|;4:searchin|a|b c;5:searchin||b;",
+    ),
+    (
+        b"isearch\nisearch \nisearch a B \nisearches\nISEARCH",
+        b"1:isearch|;2:isearch|;3:isearch|a B ;4:bad line;5:bad line;",
+    ),
+    (
+        b"isearchin\nisearchin a\nisearchin a \nisearchin A b c\nisearchin  B",
+        b"1:bad line;2:bad line;3:isearchin|a|;4:isearchin|A|b c;5:isearchin||B;",
+    ),
+    (
+        b"load\nload a\nload a \nload a b c\nload  p",
+        b"1:bad line;2:bad line;3:bad line;4:load|a|b c;5:load||p;",
+    ),
+    (
+        b"remove\nremove \nremove a b",
+        b"1:bad line;2:remove|;3:remove|a b;",
+    ),
+    (b"put f 3\nabc\npublish\n", b"1:put|f|abc;3:publish;"),
+    (b"put f 4\na\nb\n\npublish", b"1:put|f|a\nb\n;5:publish;"),
+    (b"put f 8\nput g 1\n\nsync", b"1:put|f|put g 1\n;4:sync;"),
+    (b"put a b 1\nx\npub", b"1:put|a b|x;3:bad line;"),
+    (b"put  5\n12345\n", b"1:put||12345;"),
+    (b"put \xC3\xA9 1\nx", b"1:put|\xC3\xA9|x;"),
+    (b"put f 0\n\nsync", b"1:put|f|;3:sync;"),
+    (b"put f 000000001\nx", b"1:put|f|x;"),
+    (b"puts f 1\nsync", b"1:bad line;2:sync;"),
+    (b"put\nsync", b"1:bad put;"),
+    (b"put \nsync", b"1:bad put;"),
+    (b"put 5\n12345\nsync", b"1:bad put;"),
+    (b"put f \nsync", b"1:bad put;"),
+    (b"put f 1x\nx\nsync", b"1:bad put;"),
+    (b"put f +1\nx\nsync", b"1:bad put;"),
+    (b"put f 1234567890\nx\nsync", b"1:bad put;"),
+    (b"put f 999999999\nx\n", b"1:truncated;"),
+    (b"put f 2\nx", b"1:truncated;"),
+    (b"sync\nput f 0\nx\nsync", b"1:sync;2:body not closed;"),
+    (b"put f 1\nxy\nsync", b"1:body not closed;"),
 ];
 
+/// The reader of scripts returns the same items.
 #[test]
 fn items(rt: HostRuntime) -> Result<(), Fail> {
     for (input, want) in CASES {
+        let items = items_of_script(&rt, rt.alloc(), input)?;
+        assert_eq!(rt; items.as_slice(), *want);
         expect_in_pieces(&rt, rt.alloc(), input, want)?;
     }
     Ok(())

@@ -23,8 +23,6 @@ mod rows;
 #[cfg(test)]
 mod runs;
 #[cfg(test)]
-mod scripts;
-#[cfg(test)]
 mod sessions;
 #[cfg(test)]
 mod sources;

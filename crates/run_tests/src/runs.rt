@@ -4,44 +4,12 @@ use crate::cases::{Case, expect_always, transcript_of};
 use crate::gates::{Rule, Turns};
 use crate::sources::{File, Table};
 use crate::streams::{Output, Stops};
-use crate::words::repeated;
 use std::alloc::Global;
 use std::io::ErrorKind;
 use std::process::Abort;
 use std::test::Fail;
 use transcript::{Transcript, WriteError, write_transcript};
 use tsearch::Source;
-
-/// 121 loads, the first of a body of 600,000 bytes. All succeed, and the source counts no failure.
-#[test]
-fn many_loads(rt: HostRuntime) -> Result<(), Fail> {
-    let alloc = rt.alloc();
-    let large = repeated(alloc, b"", b"\n\n\n\n", 150_000, b"")?;
-    let last = b"publish\nsearch hit\n".as_slice();
-    let script = repeated(alloc, b"load b large\n", b"load a p\n", 120, last)?;
-    let files = [
-        File {
-            path: b"p",
-            bytes: b"hit",
-        },
-        File {
-            path: b"large",
-            bytes: large.as_slice(),
-        },
-    ];
-    let mut source = Table::new(&files, b"", 0);
-    let case = Case {
-        script: script.as_slice(),
-        max_commands: 65_536,
-        stats: false,
-        text: b"search 1 version 121 lines 1\na:1:hit\n",
-        status: 0,
-    };
-    expect_always(&rt, alloc, &case, &mut source)?;
-    assert_eq!(rt; source.reads, 121);
-    assert_eq!(rt; source.failures(), 0);
-    Ok(())
-}
 
 /// The read that fails, or the path for whose bytes there is no memory, and the text of the run.
 const FAULTS: &[(u32, &[u8], &[u8])] = &[
@@ -72,6 +40,7 @@ const FILES: &[File<'static>] = &[File {
     bytes: b"hit",
 }];
 
+/// Each load reads its path once.
 #[test]
 fn faults_of_loads(rt: HostRuntime) -> Result<(), Fail> {
     for (failing, large, text) in FAULTS {
@@ -84,24 +53,9 @@ fn faults_of_loads(rt: HostRuntime) -> Result<(), Fail> {
         };
         let mut source = Table::new(FILES, large, *failing);
         expect_always(&rt, rt.alloc(), &case, &mut source)?;
+        assert_eq!(rt; source.reads, 3);
     }
     Ok(())
-}
-
-/// A load that fails, a pattern that is a byte too long, and a put that the end of the script cuts short.
-#[test]
-fn hostile_script(rt: HostRuntime) -> Result<(), Fail> {
-    let alloc = rt.alloc();
-    let first = b"put f 3\nabc\npublish\nsearch b\nload g missing\nsearch ".as_slice();
-    let script = repeated(alloc, first, b"a", 1025, b"\nput h 10\nxyz")?;
-    let case = Case {
-        script: script.as_slice(),
-        max_commands: 65_536,
-        stats: false,
-        text: b"search 1 version 1 lines 1\nf:1:abc\nline 5 refused: cannot load\nsearch 2 refused: pattern too long at 1024\nline 7 refused: truncated\n",
-        status: 2,
-    };
-    expect_always(&rt, alloc, &case, &mut Table::new(FILES, b"", 0))
 }
 
 /// Writes the transcript to a narrow writer. The writer takes these bytes, and the writing ends like this.

@@ -1,9 +1,7 @@
-//! A session has the bytes and the status of a run.
+//! Sessions over readers and writers in memory.
 
 ghost use Rattle.std.specs.Prelude.{◌<◌, ◌≤◌};
 
-use crate::cases::Case;
-use crate::rows::ROWS;
 use crate::sources::{File, Table};
 use crate::streams::{Input, Output, Stops};
 use live::{LiveError, LiveOptions, serve};
@@ -47,26 +45,5 @@ pub(crate) fn expect_session<R: AllocGlobal + Wait + Abort>(
     let ended = served(rt, rt.alloc(), input, options, &mut out)?;
     assert_eq!(rt; out.bytes.as_slice(), text);
     assert!(rt; ended == Ok(status));
-    Ok(())
-}
-
-/// The row has its text and its status as a session, whatever the length of the pieces in which its bytes arrive.
-fn expect_row<R: AllocGlobal + Wait + Abort>(rt: &R, case: &Case<'_>) -> Result<(), Fail> {
-    let options = LiveOptions {
-        max_commands: case.max_commands,
-        stats: case.stats,
-    };
-    for most in [1, 7, 64] {
-        let input = Input::new(case.script, most);
-        expect_session(rt, input, options, case.text, case.status)?;
-    }
-    Ok(())
-}
-
-#[test]
-fn rows_as_sessions(rt: HostRuntime) -> Result<(), Fail> {
-    for case in ROWS {
-        expect_row(&rt, case)?;
-    }
     Ok(())
 }

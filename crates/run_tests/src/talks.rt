@@ -2,7 +2,6 @@
 
 use crate::sessions::expect_session;
 use crate::streams::{Input, Turn};
-use crate::words::repeated;
 use live::LiveOptions;
 use std::process::Abort;
 use std::sync::Wait;
@@ -119,14 +118,4 @@ fn a_fault_ends_the_session(rt: HostRuntime) -> Result<(), Fail> {
         2,
     )?;
     expect(&rt, OPEN_BODY, b"line 1 refused: body not closed\n", 2)
-}
-
-/// After 20,000 puts of a document, only the last text is found.
-#[test]
-fn replacements(rt: HostRuntime) -> Result<(), Fail> {
-    let round: &[u8] = b"put f 3\nold\npublish\nput f 3\nnew\npublish\n";
-    let script = repeated(rt.alloc(), b"", round, 10_000, b"search old\nsearch new")?;
-    let input = Input::new(script.as_slice(), 1000);
-    let text: &[u8] = b"search 1 version 20000 lines 0\nsearch 2 version 20000 lines 1\nf:1:new\n";
-    expect_session(&rt, input, OPTIONS, text, 0)
 }
