@@ -3,6 +3,7 @@
 
 use crate::fixtures::{document, index_of, lists};
 use index::{Command, Held, Index, Name, NameError};
+use search::Taken;
 use std::alloc::{AllocError, Global};
 use std::process::Abort;
 use std::test::Fail;
@@ -219,10 +220,14 @@ fn a_body_is_shared(rt: HostRuntime) -> Result<(), Fail> {
 /// Compiles only for a type whose values can be given to other threads, and shared by several.
 fn is_for_threads<T: Send + Sync>() {}
 
+/// Compiles only for a type whose values can be given to other threads.
+fn can_go<T: Send>() {}
+
 #[test]
 fn values_for_threads() {
     is_for_threads::<Index>();
     is_for_threads::<Held>();
     is_for_threads::<Name>();
     is_for_threads::<Command>();
+    can_go::<Taken<'static>>();
 }

@@ -16,14 +16,14 @@ pub(crate) fn document(alloc: Global, name: &[u8], body: &[u8]) -> Result<(Name,
 }
 
 /// Applies a command to the index, which has fewer than 5,000.
-pub(crate) fn apply(rt: &impl Abort, index: &mut Index, command: Command) -> Result<(), Fail> {
+fn apply(rt: &impl Abort, index: &mut Index, command: Command) -> Result<(), Fail> {
     assert!(rt; index.version() < 5000);
     index.apply(command)?;
     Ok(())
 }
 
 /// Puts a document into the index.
-pub(crate) fn put(
+fn put(
     rt: &impl Abort,
     alloc: Global,
     index: &mut Index,
@@ -35,12 +35,7 @@ pub(crate) fn put(
 }
 
 /// Removes a document from the index.
-pub(crate) fn remove(
-    rt: &impl Abort,
-    alloc: Global,
-    index: &mut Index,
-    name: &[u8],
-) -> Result<(), Fail> {
+fn remove(rt: &impl Abort, alloc: Global, index: &mut Index, name: &[u8]) -> Result<(), Fail> {
     let name = Name::new(alloc, name)?;
     apply(rt, index, Command::Remove(name))
 }

@@ -7,11 +7,10 @@ ghost use Rattle.ere.specs.declared.case.Case.TheVariants.{Exact};
 ghost use Rattle.search.specs.Pattern.{Pattern, IsPatternOf};
 ghost use Rattle.search.specs.Scan.{IsAnswerOf};
 
-use crate::fixtures::{document, index_of, is_text, put, remove};
+use crate::fixtures::{document, is_text};
 use index::{Body, Command, Index, Name};
-use search::{Answer, Prepared, Taken, find, take};
-use std::alloc::{AllocError, Global};
-use std::process::Abort;
+use search::{Answer, Prepared, take};
+use std::alloc::Global;
 use std::test::Fail;
 
 /// A search that has left the index: two documents are put and a search of them is taken. Then one of the names is
@@ -35,57 +34,6 @@ fn search_left(
     index.remove(removed)?;
     drop(index);
     Ok(taken.answer(alloc)?)
-}
-
-/// Compiles only for a value that can go to another thread.
-fn can_go<T: Send>(_value: &T) {}
-
-/// Whether the index has this answer to the search. The index is dropped.
-fn finds(
-    alloc: Global,
-    index: Index,
-    prepared: &Prepared,
-    want: &[u8],
-) -> Result<bool, AllocError> {
-    let answer = find(alloc, &index, prepared)?;
-    is_text(alloc, &answer, want)
-}
-
-/// Whether the search that was taken has this answer.
-fn answers(alloc: Global, taken: Taken<'_>, want: &[u8]) -> Result<bool, AllocError> {
-    let answer = taken.answer(alloc)?;
-    is_text(alloc, &answer, want)
-}
-
-/// Changes the documents of the index.
-fn change(rt: &impl Abort, alloc: Global, index: &mut Index) -> Result<(), Fail> {
-    put(rt, alloc, index, b"a", b"x4")?;
-    remove(rt, alloc, index, b"b")
-}
-
-/// A search of four documents, and their index, which has changed since.
-fn taken_before<'p>(
-    rt: &impl Abort,
-    alloc: Global,
-    prepared: &'p Prepared,
-) -> Result<(Taken<'p>, Index), Fail> {
-    let mut index = index_of(rt, alloc, b"b x1|a x2|c x3|a2 y")?;
-    let taken = take(alloc, &index, prepared)?;
-    change(rt, alloc, &mut index)?;
-    Ok((taken, index))
-}
-
-/// The answer is that of the documents when the search was taken, whatever happens to the index afterwards.
-#[test]
-fn an_answer_is_of_the_taking(rt: HostRuntime) -> Result<(), Fail> {
-    let prepared = Prepared::within(rt.alloc(), b"^[ab]", b"x")?;
-    let (taken, index) = taken_before(&rt, rt.alloc(), &prepared)?;
-    can_go(&taken);
-    let later = b"search 1 version 6 lines 1 candidates 3 of 3\na:1:x4\n";
-    assert!(rt; finds(rt.alloc(), index, &prepared, later)?);
-    let want = b"search 1 version 4 lines 2 candidates 4 of 4\na:1:x2\nb:1:x1\n";
-    assert!(rt; answers(rt.alloc(), taken, want)?);
-    Ok(())
 }
 
 /// The answer of a search that has left the index.
