@@ -1,2 +1,3 @@
 pub mod Response
 pub mod Reads
+pub mod Laws

@@ -7,6 +7,7 @@ mod disk;
 mod error;
 mod files;
 mod input;
+mod laws;
 mod output;
 mod response;
 mod session;
