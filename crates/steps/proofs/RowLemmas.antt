@@ -238,8 +238,7 @@ sync_later (row ∷ rows) (b ∷ back) more front e none is = by (sync_later row
         → (between : List Row) × (others : List Row) × (unanswered front ≡ (b ∷ back) ++ between) × (unanswered (row ∷ rows) ≡ unanswered front ++ others)
     by within (inl at_once) = let no = sym at_once.0 ∙ ap (λ r. is_sync r.numbered.item) head ∙ none.0 in cc
     by within (inr past) =
-        let rest = within past.0 (cc) none.1 past.1 in
-        (
+        let rest = within past.0 (cc) none.1 past.1 in (
           rest.0,
           rest.1,
           ap unanswered past.2 ∙ two_lists {a = unanswered_row row ∷ []} (ap (λ r. r ∷ []) head) rest.2,

@@ -6,5 +6,7 @@ mod last;
 mod laws;
 
 pub use last::Last;
-pub use laws::{Holding, answers_are_in_order, answers_are_not_older, first_rows, lines_keep_their_order, memory_is_taken};
-pub use laws::{next_rows, nothing_is_open, one_entry_each, rows_are_legal, runs_have_rows};
+pub use laws::{
+    Holding, answers_are_in_order, answers_are_not_older, first_rows, lines_keep_their_order,
+    memory_is_taken, next_rows, nothing_is_open, one_entry_each, rows_are_legal, runs_have_rows,
+};
