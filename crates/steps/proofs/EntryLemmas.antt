@@ -1,5 +1,5 @@
 -- What the entries of items can be, and that they are legal.
-use Rattle.std.proofs.Common.{◌≡◌, ℕ, ◌+◌, ◌≤◌, Bool, true, false, List, [], ◌∷◌, Option, Some, None, refl, sym, ap, subst, arith}
+use Rattle.std.proofs.Common.{◌≡◌, ℕ, ◌+◌, ◌≤◌, true, List, [], Option, Some, None, refl, sym, ap, subst, arith}
 use Rattle.index.specs.State.{State}
 use Rattle.search.specs.Pattern.{Pattern}
 use Rattle.search.specs.Scan.{Answer}
@@ -89,14 +89,6 @@ module _ (Holds : List ℕ → List ℕ → Type 0) (most : ℕ) (state : State)
   command_is_no_search (search case text) entry h = absurd h
   command_is_no_search (search_in case name_text text) entry h = absurd h
   command_is_no_search item entry h = refl
-
-  pub command_is_no_sync : (item : Item) (entry : Entry) → IsCommandEntry Holds most state loaded line item entry → is_sync item ≡ false
-  command_is_no_sync sync entry h = absurd h
-  command_is_no_sync item entry h = refl
-
-pub search_is_no_sync : (item : Item) → searches_of item ≡ 1 → is_sync item ≡ false
-search_is_no_sync sync one = absurd (omega (arith, one))
-search_is_no_sync item one = refl
 
 pub sync_is_no_search : (item : Item) → is_sync item ≡ true → searches_of item ≡ 0
 sync_is_no_search (search case text) is = cc

@@ -1,6 +1,6 @@
 -- The rows of a run in which an open search gets its entry.
-use Rattle.std.proofs.Common.{◌≡◌, ℕ, ◌+◌, ◌≤◌, ◌<◌, ◌⊎◌, inl, inr, Bool, true, false, cond, eqb, ◌==◌, List, [], ◌∷◌, ◌++◌, Option, Some, None}
-use Rattle.std.proofs.Common.{length, take, option_map, IfSome, refl, sym, ap, ◌∙◌, subst, arith, append_assoc, length-append}
+use Rattle.std.proofs.Common.{◌≡◌, ℕ, ◌+◌, ◌≤◌, ◌⊎◌, inl, inr, Bool, true, false, cond, eqb, ◌==◌, List, [], ◌∷◌, ◌++◌, Option, Some, None}
+use Rattle.std.proofs.Common.{length, take, option_map, IfSome, refl, sym, ap, ◌∙◌, subst, arith, append_assoc}
 use Rattle.std.specs.Prelude.{Contains}
 use Rattle.std.specs.List.{AllByRecursion}
 use Rattle.std.proofs.lemmas.List.{append-nil, take-append-le}
@@ -14,7 +14,7 @@ use Rattle.transcript.specs.declared.entry.SearchReason.TheVariants as search_re
 use Rattle.steps.specs.Rows.{Row, commands_of, version_in, published_in, last_or, published_last, before_sync, searches_of, count_searches}
 use Rattle.steps.specs.LegalRows.{Context, HasEntry, IsLegalRow, IsAnswered}
 use Rattle.steps.specs.Steps.{RunState, OpenSearch, latest, Asks, IsAnswerNow}
-use Rattle.steps.specs.StepRows.{with_its_entry, unless_of_search, unanswered, open_search, open_of, open_in, given_in, given_of, Rises}
+use Rattle.steps.specs.StepRows.{with_its_entry, unless_of_search, unanswered, open_in, given_in, given_of, Rises}
 use Rattle.steps.specs.StepRows.{HasNoSync, Stands, legal, waits, AllTurned, IsNoted, AreRows}
 use Rattle.steps.proofs.RowLemmas.{unanswered-append, given_of-append, same_commands, same_published, same_searches, later_commands}
 use Rattle.steps.proofs.RowLemmas.{later_published, published_in-append, published_in-none, published_in-quiet, IsPlace, here, earlier, later, place_of, last_or-append}

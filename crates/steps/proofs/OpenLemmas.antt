@@ -1,6 +1,6 @@
 -- The searches that have no entry yet, and their rows.
 use Rattle.std.proofs.Common.{◌≡◌, ℕ, suc, zero, ◌+◌, ◌⊎◌, inl, inr, List, [], ◌∷◌, ◌++◌, take, drop, Option, Some, None, refl, sym, ap, ◌∙◌}
-use Rattle.std.proofs.Common.{subst, arith, append_assoc, add-one}
+use Rattle.std.proofs.Common.{arith, append_assoc, add-one}
 use Rattle.std.specs.Prelude.{slice_get}
 use Rattle.script.specs.Items.{Item, search, search_in}
 use Rattle.transcript.specs.declared.entry.Entry.{Entry}

@@ -1,5 +1,5 @@
 -- The order of answers and publishes, as they are written.
-use Rattle.std.proofs.Common.{◌≡◌, ◌≢◌, ℕ, ◌+◌, ◌≤◌, ◌<◌, ◌⊎◌, inl, inr, Bool, true, false, cond, eqb, List, [], ◌∷◌, ◌++◌, Some, None, length, take, drop, refl, sym, ap, ◌∙◌, subst, arith}
+use Rattle.std.proofs.Common.{◌≡◌, ◌≢◌, ℕ, ◌+◌, ◌≤◌, ◌⊎◌, inl, inr, true, false, cond, eqb, List, [], ◌∷◌, ◌++◌, Some, take, drop, refl, sym, ap, ◌∙◌, subst, arith}
 use Rattle.std.specs.Prelude.{Contains, count_by}
 use Rattle.std.proofs.lemmas.List.Sums.{sum_by-append}
 use Rattle.std.proofs.lemmas.Bool.Decides.{eqb_tells}
@@ -13,14 +13,14 @@ use Rattle.script.specs.Items.{Numbered}
 use Rattle.transcript.specs.declared.entry.Entry.{Entry}
 use Rattle.transcript.specs.declared.entry.Entry.TheVariants.{Found, SearchRefused}
 use Rattle.transcript.specs.declared.entry.SearchReason.TheVariants as search_reason
-use Rattle.steps.specs.Rows.{version_in, last_or, is_sync, searches_of}
+use Rattle.steps.specs.Rows.{version_in, last_or, searches_of}
 use Rattle.steps.specs.Steps.{RunState, OpenSearch, IsStep, Runs, IsFirst, IsOpenAt, IsAnswerNow, latest, last_of, with_search, asked}
 use Rattle.steps.specs.Steps as steps
 use Rattle.steps.specs.StepRows.{Given, given_in, IsNoted}
 use Rattle.steps.specs.Entries.{versions_of, searches_among, IsInOrder}
 use Rattle.steps.proofs.RowLemmas.{not_empty, split_push}
 use Rattle.steps.proofs.OpenLemmas.{around}
-use Rattle.steps.proofs.TurnLemmas.{still_noted, now_noted, each_within, each_without, each_both, each_map}
+use Rattle.steps.proofs.TurnLemmas.{still_noted, now_noted, each_within, each_without, each_both}
 use Rattle.steps.proofs.EntryLemmas.{plain_entry, plain_by, sync_is_no_search}
 use Rattle.steps.proofs.RunLemmas.{runs_keep}
 use Rattle.steps.proofs.WrittenLemmas.{AreCounted, run_counted}

@@ -1,11 +1,11 @@
 -- The rows of a run with one more row at their end.
-use Rattle.std.proofs.Common.{◌≡◌, ℕ, ◌+◌, ◌≤◌, ◌<◌, ◌⊎◌, inl, inr, false, List, [], ◌∷◌, ◌++◌, None, length, refl, sym, ap, ◌∙◌, subst, arith}
+use Rattle.std.proofs.Common.{◌≡◌, ℕ, ◌+◌, ◌≤◌, ◌<◌, ◌⊎◌, inl, inr, false, List, [], ◌∷◌, ◌++◌, None, length, sym, ap, ◌∙◌, subst, arith}
 use Rattle.std.proofs.Common.{append_assoc, length-append}
 use Rattle.std.specs.List.{AllByRecursion}
 use Rattle.std.proofs.lemmas.List.{append-nil}
-use Rattle.steps.specs.Rows.{Row, commands_of, accepted_by, command_of, version_in, published_in, last_or, is_sync, searches_of, count_searches}
+use Rattle.steps.specs.Rows.{Row, accepted_by, command_of, version_in, published_in, last_or, is_sync, searches_of, count_searches}
 use Rattle.steps.specs.Steps.{RunState, latest}
-use Rattle.steps.specs.StepRows.{unanswered, open_of, open_in, given_in, given_of, Rises, HasNoSync, Stands, legal, waits, AllTurned, IsNoted, AreRows}
+use Rattle.steps.specs.StepRows.{unanswered, open_of, open_in, given_in, given_of, Rises, Stands, legal, waits, AllTurned, IsNoted, AreRows}
 use Rattle.steps.proofs.RowLemmas.{unanswered-append, given_of-append, commands_of-push, published_in-push, count_searches-push, split_push}
 use Rattle.steps.proofs.RowLemmas.{last_or-append, rises_append, no_sync_push}
 use Rattle.steps.proofs.OpenLemmas.{open_in-append, no_open}

@@ -1,6 +1,6 @@
 -- Rows one after the other, and what they add up to.
 use Rattle.std.proofs.Common.{◌≡◌, ℕ, ◌+◌, ◌≤◌, ◌⊎◌, inl, inr, Bool, true, false, cond, List, [], ◌∷◌, ◌++◌, Option, Some, None, refl, sym, ap, ◌∙◌}
-use Rattle.std.proofs.Common.{subst, arith, append_assoc, option_map}
+use Rattle.std.proofs.Common.{arith, append_assoc, option_map}
 use Rattle.std.proofs.lemmas.List.{append-nil, map-append}
 use Rattle.std.proofs.lemmas.Grind.{flat_map-append}
 use Rattle.std.proofs.lemmas.List.Elements.{All-contains, All-from_recursion}
@@ -9,8 +9,8 @@ use Rattle.std.specs.Prelude.{Contains}
 use Rattle.index.specs.declared.command.Command.{Command}
 use Rattle.transcript.specs.declared.entry.Entry.{Entry}
 use Rattle.transcript.specs.declared.entry.Entry.TheVariants.{Found}
-use Rattle.steps.specs.Rows.{Row, items_of, commands_of, accepted_by, command_of, version_in, published_in, last_or, published_last}
-use Rattle.steps.specs.Rows.{is_sync, before_sync, searches_of, count_searches, failures_in, count_failures}
+use Rattle.steps.specs.Rows.{Row, items_of, commands_of, accepted_by, command_of, version_in, published_in, last_or}
+use Rattle.steps.specs.Rows.{is_sync, before_sync, searches_of, count_searches}
 use Rattle.steps.specs.StepRows.{unless_of_search, unanswered_row, unanswered, given_in, given_of, Rises, HasNoSync}
 
 pub two_lists : {X : Type 0} {a a' b b' : List X} → a ≡ a' → b ≡ b' → a ++ b ≡ a' ++ b'
@@ -68,11 +68,6 @@ count_searches-append (row ∷ rows) more = omega (arith, count_searches-append 
 pub count_searches-push : (rows : List Row) (row : Row) → count_searches (rows ++ row ∷ []) ≡ count_searches rows + searches_of row.numbered.item
 unfolding count_searches
 count_searches-push rows row = omega (arith, count_searches-append rows (row ∷ []))
-
-pub count_failures-append : (rows more : List Row) → count_failures (rows ++ more) ≡ count_failures rows + count_failures more
-unfolding count_failures
-count_failures-append [] more = omega arith
-count_failures-append (row ∷ rows) more = omega (arith, count_failures-append rows more)
 
 -- Of the entries of searches nothing depends but the answers.
 

@@ -1,14 +1,18 @@
 -- Runs of several steps, and their rows.
-use Rattle.std.proofs.Common.{◌≡◌, ℕ, ◌+◌, List, [], ◌∷◌, ◌++◌, Option, Some, None, refl, sym, ap, ◌∙◌, subst, arith, append_assoc}
+use Rattle.std.proofs.Common.{◌≡◌, ℕ, List, [], ◌∷◌, ◌++◌, Option, Some, None, refl, sym, ap, ◌∙◌, subst, arith, append_assoc}
 use Rattle.std.proofs.lemmas.List.{append-nil}
 use Rattle.std.proofs.lemmas.List.Sums.{sum_by-append}
+use Rattle.std.proofs.lemmas.List.Sorted.{IsPermutation-refl, IsPermutation-sym, IsPermutation-trans, IsPermutation-middle, IsPermutation-to_front}
+use Rattle.std.proofs.lemmas.List.Sorted.{IsPermutation-append_left, sum_by-IsPermutation}
+use Rattle.std.proofs.lemmas.Grind.{flat_map-append}
+use Rattle.std.specs.Prelude.{IsPermutation}
 use Rattle.script.specs.Items.{Numbered}
 use Rattle.transcript.specs.declared.entry.Entry.{Entry}
-use Rattle.steps.specs.Rows.{Row, items_of, list_of, failures_in, count_failures}
+use Rattle.steps.specs.Rows.{Row, items_of, entries_of, list_of, failures_in, count_failures}
 use Rattle.steps.specs.Steps.{RunState, IsStep, Runs, begins, goes_on, IsFirst}
-use Rattle.steps.specs.StepRows.{AreNext, more, filled, IsOfSearch, found, refused, with_its_entry, AreRows}
+use Rattle.steps.specs.StepRows.{AreNext, more, filled, with_its_entry, AreRows}
 use Rattle.steps.specs.Entries.{failures_of}
-use Rattle.steps.proofs.RowLemmas.{items_of-append, count_failures-append}
+use Rattle.steps.proofs.RowLemmas.{items_of-append}
 use Rattle.steps.proofs.StepLemmas.{first_rows, next_rows}
 
 module _ {Holds : List ℕ → List ℕ → Type 0} {most readers : ℕ} where
@@ -44,35 +48,42 @@ next_items rows taken written rows' (filled before row after entry whole none on
     ap items_of same ∙ items_of-append before (with_its_entry entry row ∷ after) ∙ sym (items_of-append before (row ∷ after))
     ∙ ap items_of (sym whole) ∙ sym (append-nil (items_of rows)) ∙ ap (λ t. items_of rows ++ t) (sym takes)
 
+pub entries_of-append : (rows others : List Row) → entries_of (rows ++ others) ≡ entries_of rows ++ entries_of others
+entries_of-append rows others = flat_map-append (λ r. list_of r.entry) rows others
+
+-- What is written becomes one of the rows' entries.
+pub next_entries : (rows : List Row) (taken : List Numbered) (written : List Entry) (rows' : List Row) → AreNext rows taken written rows'
+    → IsPermutation (entries_of rows') (entries_of rows ++ written)
+next_entries rows taken written rows' (more row takes writes same) =
+    subst (λ l. IsPermutation (entries_of rows') l)
+    (ap entries_of same ∙ entries_of-append rows (row ∷ []) ∙ ap (λ l. entries_of rows ++ l) (append-nil (list_of row.entry) ∙ sym writes))
+    (IsPermutation-refl (entries_of rows'))
+next_entries rows taken written rows' (filled before row after entry whole none one of takes writes same) =
+    let front = entries_of before in
+    let back = entries_of after in
+    let new : entries_of rows' ≡ front ++ entry ∷ back = ap entries_of same ∙ entries_of-append before (with_its_entry entry row ∷ after) in
+    let old : entries_of rows ≡ front ++ back =
+    ap entries_of whole ∙ entries_of-append before (row ∷ after) ∙ ap (λ e. front ++ (list_of e ++ back)) none in
+    subst (λ l. IsPermutation l (entries_of rows ++ written)) (sym new)
+    (subst (λ l. IsPermutation (front ++ entry ∷ back) (l ++ written)) (sym old)
+    (subst (λ l. IsPermutation (front ++ entry ∷ back) ((front ++ back) ++ l)) (sym writes)
+    (IsPermutation-trans (front ++ entry ∷ back) (entry ∷ (front ++ back)) ((front ++ back) ++ entry ∷ [])
+    (IsPermutation-middle front entry back)
+    (IsPermutation-sym ((front ++ back) ++ entry ∷ []) (entry ∷ (front ++ back)) (IsPermutation-to_front (front ++ back) entry)))))
+
 failures_one : (entry : Option Entry) → failures_of (list_of entry) ≡ failures_in entry
 failures_one None = refl
 failures_one (Some entry) = omega arith
 
-of_search_fails_not : (number : ℕ) (entry : Entry) → IsOfSearch number entry → failures_in (Some entry) ≡ 0
-of_search_fails_not number entry (found reader turn answer) = refl
-of_search_fails_not number entry (refused why) = refl
-
-pub next_failures : (rows : List Row) (taken : List Numbered) (written : List Entry) (rows' : List Row) → AreNext rows taken written rows'
-    → count_failures rows' ≡ count_failures rows + failures_of written
+failures_of_rows : (rows : List Row) → failures_of (entries_of rows) ≡ count_failures rows
 unfolding count_failures
-next_failures rows taken written rows' (more row takes writes same) =
+failures_of_rows [] = refl
+failures_of_rows (row ∷ rows) =
     omega (
       arith,
-      ap count_failures same,
-      count_failures-append rows (row ∷ []),
-      ap failures_of writes,
+      sum_by-append (λ entry. failures_in (Some entry)) (list_of row.entry) (entries_of rows),
       failures_one row.entry,
-    )
-next_failures rows taken written rows' (filled before row after entry whole none one of takes writes same) =
-    omega (
-      arith,
-      ap count_failures same,
-      ap count_failures whole,
-      count_failures-append before (row ∷ after),
-      count_failures-append before (with_its_entry entry row ∷ after),
-      ap failures_in none,
-      ap failures_of writes,
-      of_search_fails_not _ entry of,
+      failures_of_rows rows,
     )
 
 -- The rows of a run.
@@ -80,27 +91,27 @@ pub record AreRowsOf (Holds : List ℕ → List ℕ → Type 0) (most readers : 
   pub rows : List Row
   pub are : AreRows Holds most readers s rows
   pub same_items : items_of rows ≡ items
-  pub failures : count_failures rows ≡ failures_of entries
+  pub same_entries : IsPermutation (entries_of rows) entries
 
--- A run has rows.
-pub runs_have_rows : (Holds : List ℕ → List ℕ → Type 0) (most readers : ℕ) (from : RunState) → IsFirst readers from
+pub steps_have_rows : (Holds : List ℕ → List ℕ → Type 0) (most readers : ℕ) (from : RunState) → IsFirst readers from
     → {items : List Numbered} {entries : List Entry} {s : RunState} → Runs Holds most readers from items entries s
     → AreRowsOf Holds most readers items entries s
-unfolding count_failures
-runs_have_rows Holds most readers from first =
+steps_have_rows Holds most readers from first =
     runs_keep Holds most readers from (λ items entries s. AreRowsOf Holds most readers items entries s)
-    (record { rows = []; are = first_rows Holds most readers from first; same_items = refl; failures = refl })
+    (record { rows = []; are = first_rows Holds most readers from first; same_items = refl; same_entries = IsPermutation-refl [] })
     (λ items entries s taken written s' old step.
     let next = next_rows Holds most readers s old.rows old.are taken written s' step in
     record {
       rows = next.0;
       are = next.2;
       same_items = next_items old.rows taken written next.0 next.1 ∙ ap (λ l. l ++ taken) old.same_items;
-      failures =
-          omega (
-            arith,
-            next_failures old.rows taken written next.0 next.1,
-            old.failures,
-            sum_by-append (λ entry. failures_in (Some entry)) entries written,
-          );
+      same_entries =
+          IsPermutation-trans (entries_of next.0) (entries_of old.rows ++ written) (entries ++ written)
+          (next_entries old.rows taken written next.0 next.1)
+          (IsPermutation-append_left written (entries_of old.rows) entries old.same_entries);
     })
+
+-- The rows have as many failed loads as the entries.
+pub same_failures : (rows : List Row) (entries : List Entry) → IsPermutation (entries_of rows) entries → count_failures rows ≡ failures_of entries
+same_failures rows entries same =
+    sym (failures_of_rows rows) ∙ sym (sum_by-IsPermutation (λ entry. failures_in (Some entry)) (entries_of rows) entries same)

@@ -1,5 +1,5 @@
 -- A step's rows, and that rows are legal once no search is open.
-use Rattle.std.proofs.Common.{◌≡◌, ℕ, ◌+◌, ◌≤◌, ◌<◌, ◌⊎◌, inl, inr, true, false, List, [], ◌∷◌, ◌++◌, Option, Some, None, length, take, drop, refl, sym, ap}
+use Rattle.std.proofs.Common.{◌≡◌, ℕ, ◌+◌, ◌<◌, ◌⊎◌, inl, inr, true, false, List, [], ◌∷◌, ◌++◌, Option, Some, None, length, take, drop, refl, sym, ap}
 use Rattle.std.proofs.Common.{◌∙◌, subst, arith, length-set}
 use Rattle.std.specs.List.{AllByRecursion}
 use Rattle.std.proofs.lemmas.List.{append-nil}
@@ -16,12 +16,12 @@ use Rattle.steps.specs.Steps.{RunState, OpenSearch, IsStep, IsFirst, IsOpenAt, I
 use Rattle.steps.specs.Steps.{without, with_answer, last}
 use Rattle.steps.specs.Steps as steps
 use Rattle.steps.specs.StepRows.{AreNext, more, filled, IsOfSearch, found, refused, with_its_entry, unanswered, given_of, given_in, Given, Stands, legal}
-use Rattle.steps.specs.StepRows.{waits, AllTurned, IsNoted, AreRows, Rises, open_of}
+use Rattle.steps.specs.StepRows.{waits, AllTurned, IsNoted, AreRows, Rises}
 use Rattle.steps.proofs.RowLemmas.{not_empty, same_commands, same_searches}
 use Rattle.steps.proofs.OpenLemmas.{open_one, open_none, open_no_search, IsOpenRow, open_row, around, no_open}
 use Rattle.steps.proofs.TurnLemmas.{turned_more, noted_more, rows_in_turn}
-use Rattle.steps.proofs.EntryLemmas.{IsPlain, plain_entry, plain_by, plain_rises, command_is_no_search, command_is_no_sync}
-use Rattle.steps.proofs.EntryLemmas.{search_is_no_sync, sync_is_no_search, fault_is_of_search, legal_sync, legal_command, legal_fault}
+use Rattle.steps.proofs.EntryLemmas.{IsPlain, plain_entry, plain_by, plain_rises, command_is_no_search}
+use Rattle.steps.proofs.EntryLemmas.{sync_is_no_search, fault_is_of_search, legal_sync, legal_command, legal_fault}
 use Rattle.steps.proofs.PushLemmas.{IsPushed, rows_pushed}
 use Rattle.steps.proofs.FillLemmas.{IsFilled, rows_filled, given_without, refusal_stands, answer_stands}
 

@@ -1,14 +1,13 @@
 -- The turns of the readers, from answer to answer.
-use Rattle.std.proofs.Common.{◌≡◌, ◌≢◌, ℕ, ◌≤◌, ◌<◌, ◌⊎◌, inl, inr, List, [], ◌∷◌, ◌++◌, length, Some, refl, sym, ap, ◌∙◌, subst, arith}
+use Rattle.std.proofs.Common.{◌≡◌, ◌≢◌, ℕ, ◌≤◌, ◌<◌, ◌⊎◌, inl, inr, List, [], ◌∷◌, ◌++◌, length, refl, sym, ap, ◌∙◌, subst, arith}
 use Rattle.std.specs.Prelude.{slice_set, eqb, true, false}
 use Rattle.std.specs.List.{AllByRecursion}
 use Rattle.std.proofs.lemmas.Bool.Decides.{eqb_tells}
-use Rattle.std.proofs.lemmas.List.{length-set, get_or-set_same, get_or-set_other}
+use Rattle.std.proofs.lemmas.List.{get_or-set_same, get_or-set_other}
 use Rattle.search.specs.Scan.{Answer}
-use Rattle.transcript.specs.declared.entry.Entry.TheVariants.{Found}
 use Rattle.steps.specs.declared.last.Last.{Last}
 use Rattle.steps.specs.Rows.{Row}
-use Rattle.steps.specs.LegalRows.{IsInTurn, AreInTurn}
+use Rattle.steps.specs.LegalRows.{AreInTurn}
 use Rattle.steps.specs.Steps.{last, last_of}
 use Rattle.steps.specs.StepRows.{Given, given_in, given_of, AreTurned, AllTurned, IsNoted}
 use Rattle.steps.proofs.RowLemmas.{given_of-append}

@@ -1,63 +1,51 @@
 -- What the entries of a run say, in the order of writing.
-use Rattle.std.proofs.Common.{◌≡◌, ◌≢◌, ℕ, ◌+◌, ◌≤◌, ◌<◌, ◌⊎◌, inl, inr, Bool, true, false, cond, eqb, List, [], ◌∷◌, ◌++◌, Option, Some, None, length}
-use Rattle.std.proofs.Common.{take, drop, refl, sym, ap, ◌∙◌, subst, arith, length-set}
-use Rattle.std.specs.Prelude.{Contains, count_by}
-use Rattle.std.proofs.lemmas.List.{append-nil}
-use Rattle.std.proofs.lemmas.List.Elements.{Contains-append_left, Contains-push_cases}
+use Rattle.std.proofs.Common.{◌≡◌, ◌≢◌, ℕ, ◌+◌, ◌≤◌, ◌<◌, ◌⊎◌, inl, inr, true, false, cond, eqb, List, [], ◌∷◌, ◌++◌, Option}
+use Rattle.std.proofs.Common.{take, drop, refl, sym, ap, ◌∙◌, subst, arith}
+use Rattle.std.specs.Prelude.{count_by}
 use Rattle.std.proofs.lemmas.List.Sums.{sum_by-append}
 use Rattle.std.proofs.lemmas.Bool.Decides.{eqb_tells}
 use Rattle.std.proofs.lemmas.Grind.{flat_map-append}
 use Rattle.index.specs.State.{state_of}
-use Rattle.search.specs.Scan.{Answer}
 use Rattle.script.specs.Items.{Item, Numbered, search, search_in, sync}
 use Rattle.transcript.specs.declared.entry.Entry.{Entry}
-use Rattle.transcript.specs.declared.entry.Entry.TheVariants.{Accepted, Refused, Published, Found, SearchRefused}
+use Rattle.transcript.specs.declared.entry.Entry.TheVariants.{Refused}
 use Rattle.transcript.specs.declared.entry.Reason.TheVariants as reason
-use Rattle.transcript.specs.declared.entry.SearchReason.{SearchReason}
-use Rattle.transcript.specs.declared.entry.SearchReason.TheVariants as search_reason
-use Rattle.steps.specs.Rows.{version_in, last_or, is_sync, searches_of}
+use Rattle.steps.specs.Rows.{is_sync, searches_of}
 use Rattle.steps.specs.LegalRows.{IsCommandEntry}
 use Rattle.steps.specs.Steps.{RunState, OpenSearch, IsStep, Runs, IsFirst, IsOpenAt, MayTake, latest, asked}
 use Rattle.steps.specs.Steps as steps
-use Rattle.steps.specs.StepRows.{Given, given_in, IsNoted}
-use Rattle.steps.specs.Entries.{is_of, count_of, versions_of, searches_among, line_in, lines_in, command_line, command_lines, takes_memory}
+use Rattle.steps.specs.Entries.{is_of, count_of, searches_among, line_in, lines_in, command_line, command_lines, takes_memory}
 use Rattle.steps.proofs.OpenLemmas.{around}
-use Rattle.steps.proofs.EntryLemmas.{IsPlain, accepts, refuses, publishes, plain_entry, plain_by, command_is_no_search, command_is_no_sync}
+use Rattle.steps.proofs.EntryLemmas.{IsPlain, accepts, refuses, publishes, plain_entry, plain_by, command_is_no_search}
 use Rattle.steps.proofs.EntryLemmas.{sync_is_no_search, fault_is_of_search}
 use Rattle.steps.proofs.RunLemmas.{runs_keep}
-use Rattle.steps.proofs.TurnLemmas.{equal_or_not}
 
--- An item is taken without readers only when no search is open, and a sync whatever the readers.
+-- One item is taken.
 module _ (Holds : List ℕ → List ℕ → Type 0) (most readers : ℕ) (s : RunState) (item : Numbered) (written : List Entry) (s' : RunState) where
   taken_is : {x : Numbered} → item ∷ [] ≡ x ∷ [] → x ≡ item
   taken_is e = cc
 
-  may_take_alone : readers ≡ 0 → (other : Item) → MayTake readers s other → s.awaited ≡ []
-  may_take_alone none other (steps.settled empty) = empty
-  may_take_alone none other (steps.beside some no_sync) = absurd (omega (arith, some, none))
+  taken_by : IsStep Holds most readers s (item ∷ []) written s' → MayTake readers s item.item
+  taken_by (steps.carried_out other loaded entry may h takes writes same) = subst (λ n. MayTake readers s n.item) (taken_is takes) may
+  taken_by (steps.asked_for other may one takes writes same) = subst (λ n. MayTake readers s n.item) (taken_is takes) may
+  taken_by (steps.refused other why may fault takes writes same) = subst (λ n. MayTake readers s n.item) (taken_is takes) may
+  taken_by (steps.answered place wanted reader turn answer is_open now takes writes same) = cc
+  taken_by (steps.not_answered place wanted is_open takes writes same) = cc
+  taken_by (steps.sync other is empty takes writes same) = steps.settled empty
 
   pub nothing_open_alone : readers ≡ 0 → IsStep Holds most readers s (item ∷ []) written s' → s.awaited ≡ []
-  nothing_open_alone none (steps.carried_out other loaded entry may h takes writes same) = may_take_alone none other.item may
-  nothing_open_alone none (steps.asked_for other may one takes writes same) = may_take_alone none other.item may
-  nothing_open_alone none (steps.refused other why may fault takes writes same) = may_take_alone none other.item may
-  nothing_open_alone none (steps.answered place wanted reader turn answer is_open now takes writes same) = cc
-  nothing_open_alone none (steps.not_answered place wanted is_open takes writes same) = cc
-  nothing_open_alone none (steps.sync other is empty takes writes same) = empty
-
-  may_take_sync : (other : Item) → is_sync other ≡ true → MayTake readers s other → s.awaited ≡ []
-  may_take_sync other is (steps.settled empty) = empty
-  may_take_sync other is (steps.beside some no_sync) = let no = sym is ∙ no_sync in cc
-
-  is_sync_too : {x : Numbered} → is_sync item.item ≡ true → item ∷ [] ≡ x ∷ [] → is_sync x.item ≡ true
-  is_sync_too is e = ap (λ n. is_sync n.item) (taken_is e) ∙ is
+  nothing_open_alone none step = by (taken_by step)
+    where
+      by : MayTake readers s item.item → s.awaited ≡ []
+      by (steps.settled empty) = empty
+      by (steps.beside some no_sync) = absurd (omega (arith, some, none))
 
   pub nothing_open_at_sync : is_sync item.item ≡ true → IsStep Holds most readers s (item ∷ []) written s' → s.awaited ≡ []
-  nothing_open_at_sync is (steps.carried_out other loaded entry may h takes writes same) = may_take_sync other.item (is_sync_too is takes) may
-  nothing_open_at_sync is (steps.asked_for other may one takes writes same) = may_take_sync other.item (is_sync_too is takes) may
-  nothing_open_at_sync is (steps.refused other why may fault takes writes same) = may_take_sync other.item (is_sync_too is takes) may
-  nothing_open_at_sync is (steps.answered place wanted reader turn answer is_open now takes writes same) = cc
-  nothing_open_at_sync is (steps.not_answered place wanted is_open takes writes same) = cc
-  nothing_open_at_sync is (steps.sync other also empty takes writes same) = empty
+  nothing_open_at_sync is step = by (taken_by step)
+    where
+      by : MayTake readers s item.item → s.awaited ≡ []
+      by (steps.settled empty) = empty
+      by (steps.beside some no_sync) = let no = sym is ∙ no_sync in cc
 
   -- Memory runs out for puts, loads, removes and publishes alone.
   pub memory_refusal : (line : ℕ) → written ≡ Refused line reason.OutOfMemory ∷ [] → IsStep Holds most readers s (item ∷ []) written s'
@@ -133,9 +121,26 @@ waiting number awaited = count_by (λ x. eqb x.number number) awaited
 abbrev total : ℕ → List Entry → RunState → ℕ
 total number entries s = count_of number entries + waiting number s.awaited
 
-cond_none : (t : Bool) (n : ℕ) → n ≡ 0 → cond t n 0 ≡ 0
-cond_none true n none = none
-cond_none false n none = refl
+-- how many of these new searches, of which the first has the number after `count`, have this number: at most one
+abbrev new : ℕ → ℕ → ℕ → ℕ
+new count number n = cond (eqb (count + 1) number) n 0
+
+abbrev IsNew : ℕ → ℕ → ℕ → Type 0
+IsNew count number n = ((count + 1 ≡ number) × (new count number n ≡ n)) ⊎ ((count + 1 ≢ number) × (new count number n ≡ 0))
+
+new_or_not : (count number n : ℕ) → IsNew count number n
+new_or_not count number n = by (eqb_tells (count + 1) number)
+  where
+    by : ((eqb (count + 1) number ≡ true) × (count + 1 ≡ number)) ⊎ ((eqb (count + 1) number ≡ false) × (count + 1 ≢ number)) → IsNew count number n
+    by (inl same) = inl (same.1, ap (λ t. cond t n 0) same.0)
+    by (inr other) = inr (other.1, ap (λ t. cond t n 0) other.0)
+
+none_new : (count number n : ℕ) → n ≡ 0 → new count number n ≡ 0
+none_new count number n none = by (new_or_not count number n)
+  where
+    by : IsNew count number n → new count number n ≡ 0
+    by (inl same) = same.1 ∙ none
+    by (inr other) = other.1
 
 waiting-append : (number : ℕ) (xs ys : List OpenSearch) → waiting number (xs ++ ys) ≡ waiting number xs + waiting number ys
 waiting-append number xs ys = sum_by-append (λ x. cond (eqb x.number number) 1 0) xs ys
@@ -155,7 +160,7 @@ waiting_around number s place wanted is_open =
 record IsStepCounted (s : RunState) (taken : List Numbered) (written : List Entry) (s' : RunState) : Type 0 where
   pub few : searches_among taken ≤ 1
   pub searches : s'.searches ≡ s.searches + searches_among taken
-  pub counts : (number : ℕ) → total number written s' ≡ waiting number s.awaited + cond (eqb (s.searches + 1) number) (searches_among taken) 0
+  pub counts : (number : ℕ) → total number written s' ≡ waiting number s.awaited + new s.searches number (searches_among taken)
 
 module _ (Holds : List ℕ → List ℕ → Type 0) (most readers : ℕ) (s : RunState) (taken : List Numbered) (written : List Entry) (s' : RunState) where
   -- an item that is no search
@@ -167,7 +172,7 @@ module _ (Holds : List ℕ → List ℕ → Type 0) (most readers : ℕ) (s : Ru
         few = omega (arith, zero);
         searches = omega (arith, zero, same);
         counts = λ number.
-            omega (arith, counts number, ap (waiting number) same_open, cond_none (eqb (s.searches + 1) number) (searches_among taken) zero);
+            omega (arith, counts number, ap (waiting number) same_open, none_new s.searches number (searches_among taken) zero);
       }
 
   -- an open search has its entry
@@ -185,7 +190,7 @@ module _ (Holds : List ℕ → List ℕ → Type 0) (most readers : ℕ) (s : Ru
               counts number,
               ap (waiting number) left,
               waiting_around number s place wanted is_open,
-              cond_none (eqb (s.searches + 1) number) (searches_among taken) zero,
+              none_new s.searches number (searches_among taken) zero,
             );
       }
 
@@ -208,7 +213,7 @@ module _ (Holds : List ℕ → List ℕ → Type 0) (most readers : ℕ) (s : Ru
               ap (count_of number) writes,
               ap (λ t. waiting number t.awaited) same,
               waiting-append number s.awaited (asked item.item s ∷ []),
-              ap (λ n. cond (eqb (s.searches + 1) number) n 0) is_one,
+              ap (new s.searches number) is_one,
             );
       }
   step_counted (steps.refused item why may fault takes writes same) =
@@ -221,7 +226,7 @@ module _ (Holds : List ℕ → List ℕ → Type 0) (most readers : ℕ) (s : Ru
               arith,
               ap (count_of number) writes,
               ap (λ t. waiting number t.awaited) same,
-              ap (λ n. cond (eqb (s.searches + 1) number) n 0) is_one,
+              ap (new s.searches number) is_one,
             );
       }
   step_counted (steps.answered place wanted reader turn answer is_open now takes writes same) =
@@ -244,43 +249,27 @@ pub record AreCounted (items : List Numbered) (entries : List Entry) (s : RunSta
 
 module _ (items : List Numbered) (entries : List Entry) (s : RunState) (taken : List Numbered) (written : List Entry) (s' : RunState)
     (old : AreCounted items entries s) (step : IsStepCounted s taken written s') where
-  more_by : (number : ℕ) → total number (entries ++ written) s' ≡ total number entries s + cond (eqb (s.searches + 1) number) (searches_among taken) 0
+  more_by : (number : ℕ) → total number (entries ++ written) s' ≡ total number entries s + new s.searches number (searches_among taken)
   more_by number = omega (arith, step.counts number, sum_by-append (λ e. cond (is_of number e) 1 0) entries written)
-
-  new_or_not : (number : ℕ) → ((s.searches + 1 ≡ number) × (cond (eqb (s.searches + 1) number) (searches_among taken) 0 ≡ searches_among taken))
-      ⊎ ((s.searches + 1 ≢ number) × (cond (eqb (s.searches + 1) number) (searches_among taken) 0 ≡ 0))
-  new_or_not number = by (eqb_tells (s.searches + 1) number)
-    where
-      by : ((eqb (s.searches + 1) number ≡ true) × (s.searches + 1 ≡ number)) ⊎ ((eqb (s.searches + 1) number ≡ false) × (s.searches + 1 ≢ number))
-          → ((s.searches + 1 ≡ number) × (cond (eqb (s.searches + 1) number) (searches_among taken) 0 ≡ searches_among taken))
-          ⊎ ((s.searches + 1 ≢ number) × (cond (eqb (s.searches + 1) number) (searches_among taken) 0 ≡ 0))
-      by (inl same) = inl (same.1, ap (λ t. cond t (searches_among taken) 0) same.0)
-      by (inr other) = inr (other.1, ap (λ t. cond t (searches_among taken) 0) other.0)
 
   counted_push : AreCounted (items ++ taken) (entries ++ written) s'
   counted_push = record {
     searches = omega (arith, old.searches, step.searches, sum_by-append (λ item. searches_of item.item) items taken);
-    zero = by_zero (new_or_not 0);
-    past = λ number lt. by_past number lt (new_or_not number);
-    once = λ number some le. by_once number some le (new_or_not number);
+    zero = by_zero (new_or_not s.searches 0 (searches_among taken));
+    past = λ number lt. by_past number lt (new_or_not s.searches number (searches_among taken));
+    once = λ number some le. by_once number some le (new_or_not s.searches number (searches_among taken));
   }
     where
-      by_zero : ((s.searches + 1 ≡ 0) × (cond (eqb (s.searches + 1) 0) (searches_among taken) 0 ≡ searches_among taken))
-          ⊎ ((s.searches + 1 ≢ 0) × (cond (eqb (s.searches + 1) 0) (searches_among taken) 0 ≡ 0)) → total 0 (entries ++ written) s' ≡ 0
+      by_zero : IsNew s.searches 0 (searches_among taken) → total 0 (entries ++ written) s' ≡ 0
       by_zero (inl same) = absurd (omega (arith, same.0))
       by_zero (inr other) = omega (arith, other.1, more_by 0, old.zero)
 
-      by_past : (number : ℕ) → s'.searches < number
-          → ((s.searches + 1 ≡ number) × (cond (eqb (s.searches + 1) number) (searches_among taken) 0 ≡ searches_among taken))
-          ⊎ ((s.searches + 1 ≢ number) × (cond (eqb (s.searches + 1) number) (searches_among taken) 0 ≡ 0))
-          → total number (entries ++ written) s' ≡ 0
+      by_past : (number : ℕ) → s'.searches < number → IsNew s.searches number (searches_among taken) → total number (entries ++ written) s' ≡ 0
       by_past number lt (inl same) =
           omega (arith, same.0, same.1, lt, step.searches, more_by number, old.past number (omega (arith, same.0)))
       by_past number lt (inr other) = omega (arith, other.1, more_by number, old.past number (omega (arith, lt, step.searches)))
 
-      by_once : (number : ℕ) → 0 < number → number ≤ s'.searches
-          → ((s.searches + 1 ≡ number) × (cond (eqb (s.searches + 1) number) (searches_among taken) 0 ≡ searches_among taken))
-          ⊎ ((s.searches + 1 ≢ number) × (cond (eqb (s.searches + 1) number) (searches_among taken) 0 ≡ 0))
+      by_once : (number : ℕ) → 0 < number → number ≤ s'.searches → IsNew s.searches number (searches_among taken)
           → total number (entries ++ written) s' ≡ 1
       by_once number some le (inl same) =
           omega (arith, same.0, same.1, le, step.searches, step.few, more_by number, old.past number (omega (arith, same.0)))

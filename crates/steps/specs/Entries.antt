@@ -61,8 +61,8 @@ takes_memory (remove name) = true
 takes_memory publish = true
 takes_memory item = false
 
--- An answer after these entries: its version was published, or is 0; and of the answers that the same reader gave before,
--- none has a later turn or a later version.
+-- An answer that comes after these entries: its version is among those published before it, or 0. What the same reader
+-- answered before has an earlier turn, and no later version.
 pub record IsInOrder (before : List Entry) (reader turn : ℕ) (answer : Answer) : Type 0 where
   pub published : (answer.version ≡ 0) ⊎ Contains (versions_of before) answer.version
   pub later : (number' turn' : ℕ) (answer' : Answer) → Contains before (Found number' reader turn' answer')

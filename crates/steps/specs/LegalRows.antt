@@ -19,7 +19,7 @@ use Rattle.transcript.specs.declared.entry.Entry.{Entry}
 use Rattle.transcript.specs.declared.entry.Entry.TheVariants.{Accepted, Refused, Published, Found, SearchRefused}
 use Rattle.transcript.specs.declared.entry.Reason.TheVariants as reason
 use Rattle.transcript.specs.declared.entry.SearchReason.TheVariants as search_reason
-use Rattle.steps.specs.Rows.{Row, items_of, entries_of, commands_of, published_in, published_last, before_sync, count_searches, count_failures}
+use Rattle.steps.specs.Rows.{Row, commands_of, published_in, published_last, before_sync, count_searches}
 
 -- What becomes of a command in which nothing is wrong: it is accepted if there is room for it.
 pub data IsRoomFor (most : ℕ) (state : State) (line : ℕ) (entry : Entry) : Type 0 where

@@ -1,12 +1,12 @@
 //! Laws of legal steps. Each is a function that does nothing: its clause is the law.
 
-ghost use Rattle.std.specs.Prelude.{◌≡◌, ℕ, ◌+◌, ◌<◌, ◌≤◌, List, [], ◌∷◌, ◌++◌, Contains, true};
+ghost use Rattle.std.specs.Prelude.{◌≡◌, ℕ, ◌+◌, ◌<◌, ◌≤◌, List, [], ◌∷◌, ◌++◌, Contains, IsPermutation, true};
 ghost use Rattle.script.specs.Items.{Numbered as NumberedItem};
 ghost use Rattle.search.specs.Scan.{Answer as GivenAnswer};
 ghost use Rattle.transcript.specs.declared.entry.Entry.{Entry};
 ghost use Rattle.transcript.specs.declared.entry.Entry.TheVariants.{Refused, Found};
 ghost use Rattle.transcript.specs.declared.entry.Reason.TheVariants.{OutOfMemory};
-ghost use Rattle.steps.specs.Rows.{Row, items_of, is_sync, last_or, searches_of, count_failures};
+ghost use Rattle.steps.specs.Rows.{Row, items_of, entries_of, is_sync, last_or, searches_of, count_failures};
 ghost use Rattle.steps.specs.LegalRows.{IsLegalRow, AreInTurn};
 ghost use Rattle.steps.specs.Steps.{RunState, IsStep, IsFirst, Runs};
 ghost use Rattle.steps.specs.StepRows.{AreRows, AreNext};
@@ -38,11 +38,13 @@ pub fn rows_are_legal<H: Holding>()
     ensures in_turn { (most readers : ℕ) (s : RunState) (rows : List Row) → AreRows H.holds most readers s rows → AreInTurn rows }
 {}
 
-/// A run has rows: they have its items, and as many failed loads as its entries.
-pub fn runs_have_rows<H: Holding>()
+/// A run has rows. They have its items, in their order, and its entries, though not in the order of writing. So they have
+/// as many failed loads.
+pub fn steps_have_rows<H: Holding>()
     ensures { (most readers : ℕ) (from : RunState) (items : List NumberedItem) (entries : List Entry) (s : RunState)
         → IsFirst readers from → Runs H.holds most readers from items entries s
-        → (rows : List Row) × AreRows H.holds most readers s rows × (items_of rows ≡ items) × (count_failures rows ≡ failures_of entries) }
+        → (rows : List Row) × AreRows H.holds most readers s rows × (items_of rows ≡ items) × IsPermutation (entries_of rows) entries
+        × (count_failures rows ≡ failures_of entries) }
 {}
 
 /// Once no search is open, each search has one entry.
