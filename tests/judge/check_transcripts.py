@@ -138,6 +138,65 @@ WRONG = [
 ] + [(REFUSALS, {"max_commands": 1}, b"".join(REFUSED[:left_out] + REFUSED[left_out + 1 :]), 2) for left_out in range(len(REFUSED))]
 
 
+# The same for sessions, whose answers come when they are there.
+SEARCH_BESIDE = b"put a 1\nx\npublish\nsearch x\nwhat\nput a 1\ny\npublish\nsearch x\nsync\nsearch y\n"
+X1, X2, Y3 = b"search 1 version 1 lines 1\na:1:x\n", b"search 2 version 2 lines 0\n", b"search 3 version 2 lines 1\na:1:y\n"
+X1_LATER, WHAT = b"search 1 version 2 lines 0\n", b"line 5 refused: bad line\n"
+
+LEGAL_SESSIONS = [
+    (SEARCH_BESIDE, {}, X1 + WHAT + X2 + Y3, 2),
+    (SEARCH_BESIDE, {}, WHAT + X1 + X2 + Y3, 2),
+    (SEARCH_BESIDE, {}, WHAT + X2 + X1 + Y3, 2),
+    (SEARCH_BESIDE, {}, WHAT + X2 + X1_LATER + Y3, 2),
+    (SEARCH_BESIDE, {"readers": 1}, WHAT + X1_LATER + X2 + Y3, 2),
+    (SEARCH_BESIDE, {"readers": 0}, X1 + WHAT + X2 + Y3, 2),
+    (SEARCH_BESIDE, {"scarce": True}, WHAT + X2 + b"search 1 refused: out of memory\n" + Y3, 2),
+    (SEARCH_BESIDE, {"scarce": True}, X1 + WHAT + b"line 8 refused: out of memory\nsearch 2 version 1 lines 1\na:1:x\nsearch 3 version 1 lines 0\n", 2),
+    (REPLACEMENT, {}, OLD + OLD_AGAIN + NEW + NO_OLD, 0),
+    (BESIDE, {}, BOTH % 3 + BOTH % 1 + ONE % 2, 0),
+    (BESIDE, {}, ONE % 3 + BOTH % 1 + BOTH % 2, 0),
+    (CASES, {}, b"".join(reversed(CASES_ANSWERED)), 0),
+    (REFUSALS, {"max_commands": 1}, b"".join(REFUSED), 2),
+    (REFUSALS, {"max_commands": 1}, b"".join(REFUSED[:8] + REFUSED[9:8:-1] + REFUSED[8:9]), 2),
+]
+
+WRONG_SESSIONS = [
+    # an answer before its search is asked, beyond a sync, or of a search that is answered already
+    (SEARCH_BESIDE, {}, Y3 + WHAT + X1 + X2, 2),
+    (SEARCH_BESIDE, {}, X1 + X2 + WHAT + Y3, 2),
+    (SEARCH_BESIDE, {}, WHAT + X1 + Y3 + X2, 2),
+    (SEARCH_BESIDE, {}, X1 + WHAT + X1 + X2 + Y3, 2),
+    (REPLACEMENT, {}, OLD_AGAIN + OLD + NO_OLD + NEW, 0),
+    # none at all
+    (SEARCH_BESIDE, {}, X1 + WHAT + X2, 2),
+    (SEARCH_BESIDE, {}, WHAT + X1 + Y3, 2),
+    # a version that is not published yet, or older than what was published when the search was asked
+    (SEARCH_BESIDE, {}, X1_LATER + WHAT + X2 + Y3, 2),
+    (SEARCH_BESIDE, {}, WHAT + X1 + b"search 2 version 1 lines 1\na:1:x\n" + Y3, 2),
+    (SEARCH_BESIDE, {}, WHAT + b"search 1 version 3 lines 0\n" + X2 + Y3, 2),
+    # older than what the one reader was answered at
+    (SEARCH_BESIDE, {"readers": 1}, WHAT + X2 + X1 + Y3, 2),
+    # an item that is taken while a search is open, without readers
+    (SEARCH_BESIDE, {"readers": 0}, WHAT + X1 + X2 + Y3, 2),
+    (BESIDE, {"readers": 0}, BOTH % 1 + BOTH % 3 + BOTH % 2, 0),
+    # other entries out of their order, or left out
+    (REFUSALS, {"max_commands": 1}, b"".join(REFUSED[1::-1] + REFUSED[2:]), 2),
+    (REFUSALS, {"max_commands": 1}, b"".join(REFUSED[:7] + REFUSED[8:]), 2),
+    # refused for memory although there is enough, or for a fault that it has not
+    (SEARCH_BESIDE, {}, WHAT + X2 + b"search 1 refused: out of memory\n" + Y3, 2),
+    (SEARCH_BESIDE, {"scarce": True}, WHAT + X2 + b"search 1 refused: bad range at 0\n" + Y3, 2),
+    # another status
+    (REPLACEMENT, {}, OLD + OLD_AGAIN + NEW + NO_OLD, 2),
+]
+
+
+def judged_sessions():
+    """The texts of the tables of sessions that the judge accepts or refuses wrongly, and how many texts there are."""
+    wrong = ["refuses %r: %s" % (text, fault) for script, options, text, status in LEGAL_SESSIONS if (fault := transcripts.fault_of(script, text, status, session=True, **options))]
+    wrong += ["takes %r of %r" % (text, script) for script, options, text, status in WRONG_SESSIONS if not transcripts.fault_of(script, text, status, session=True, **options)]
+    return wrong, len(LEGAL_SESSIONS) + len(WRONG_SESSIONS)
+
+
 def judged_by_hand():
     """The texts of the tables and of tests/cases that the judge accepts or refuses wrongly, and how many texts there are."""
     wrong = ["refuses %r: %s" % (text, fault) for script, options, text, status in LEGAL if (fault := transcripts.fault_of(script, text, status, **options))]
@@ -159,10 +218,14 @@ def judged_by_hand():
 
 
 def fault_of_run(script, readers, **options):
-    """What is wrong with a run of the program, or None."""
+    """What is wrong with a run of the program, or with a session without readers, or None."""
     words = [b"--max-commands", b"%d" % options["max_commands"]] if "max_commands" in options else []
-    done = subprocess.run([PROGRAM, "--readers", str(readers)] + words, input=script, capture_output=True, check=False, timeout=60)
-    return repr(done.stderr) if done.stderr else transcripts.fault_of(script, done.stdout, done.returncode, readers=readers, **options)
+    for start, how in ([b"--readers", b"%d" % readers], {"readers": readers}), ([b"--live"], {"readers": 0, "session": True}):
+        done = subprocess.run([PROGRAM] + start + words, input=script, capture_output=True, check=False, timeout=60)
+        fault = repr(done.stderr) if done.stderr else transcripts.fault_of(script, done.stdout, done.returncode, **how, **options)
+        if fault:
+            return fault
+    return None
 
 
 def beginnings():
@@ -203,7 +266,7 @@ def random_scripts():
 def main():
     need_program()
     counted = Counted()
-    for part, name in (judged_by_hand, "the judge"), (beginnings, "beginnings"), (random_scripts, "random scripts"):
+    for part, name in (judged_by_hand, "the judge"), (judged_sessions, "the judge of sessions"), (beginnings, "beginnings"), (random_scripts, "random scripts"):
         wrong, count = part()
         for what in wrong:
             counted.fails("%s: %s" % (name, what))

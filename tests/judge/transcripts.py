@@ -287,10 +287,103 @@ def check(script, text, readers=2, max_commands=1_000_000, stats=False, files=No
     return 0 if any(entry and entry[4].count(b"\n") > 1 for entry in entries) else 1
 
 
-def fault_of(script, text, status, **options):
-    """Why a run may not have written this text and ended with this status, or None."""
+class Steps:
+    """A session with readers, as far as its text shows. It takes items only when an entry, or the end, asks for it: nothing else
+    forbids that they were taken earlier. So it is legal if any order of steps is."""
+
+    def __init__(self, items, run, readers, table):
+        self.items, self.run, self.readers, self.table = items, run, readers, table
+        self.at = 0  # the next item
+        self.open = {}  # the open searches by their numbers, each with its item and the least version that it may get
+
+    def may_take(self, item):
+        """With no readers an item waits until nothing is open, and a sync always does."""
+        if self.open and (self.readers == 0 or item.kind == "sync"):
+            raise Illegal("the %s %d is taken while search %d is open" % (item.kind, item.number, min(self.open)))
+
+    def take(self):
+        """Takes the next item, which writes nothing: a search is open then, and anything else is accepted."""
+        item = self.items[self.at]
+        self.may_take(item)
+        if item.is_search():
+            if reason_of_search(item, self.table):
+                raise Illegal("search %d is not refused" % item.number)
+            self.open[item.number] = item, self.run.last_published(self.at)
+        else:
+            if None not in self.run.reasons(item):
+                raise Illegal("line %d, a %s, is accepted, and should be %s" % (item.number, item.kind, self.run.reasons(item)[0]))
+            self.run.carry_out(self.at, item)
+        self.at += 1
+
+    def take_before(self, place):
+        if place < self.at:
+            raise Illegal("the entry of item %d comes too late" % (place + 1))
+        while self.at < place:
+            self.take()
+
+    def refuse(self, place, reason):
+        """Takes an item that is refused at once."""
+        self.take_before(place)
+        item = self.items[place]
+        self.may_take(item)
+        if item.is_search():
+            reasons = [reason_of_search(item, self.table)] + (["out of memory"] if self.run.scarce else [])
+        else:
+            reasons = self.run.reasons(item)
+        if reason not in reasons:
+            raise Illegal("%s %d is refused by %r, and should be by %r" % (item.kind, item.number, reason, reasons[0]))
+        self.at += 1
+
+    def answer(self, place, entry, stats):
+        """Answers a search at a version that is published by now, and not older than when it was asked."""
+        number, version = self.items[place].number, entry[3]
+        if number not in self.open:
+            self.take_before(place + 1)
+        item, least = self.open.pop(number)
+        self.open[number] = item, least
+        while version and version not in (published for _, published in self.run.published):
+            if self.at == len(self.items):
+                raise Illegal("search %d is answered at version %d" % (number, version))
+            self.take()
+        if version < least:
+            raise Illegal("search %d is answered at version %d, and should be at %d or later" % (number, version, least))
+        check_answer(item, entry, self.run.states[version], stats, self.table)
+        del self.open[number]
+
+
+def check_session(script, text, readers=2, max_commands=1_000_000, stats=False, files=None, table=None, scarce=False):
+    """As `check`, for a session: each answer is written as soon as it is there, and only the other entries keep the order of
+    their items. An answer has a version that is published by then."""
+    items = items_of(script)
+    places = {("search" if item.is_search() else "line", item.number): place for place, item in enumerate(items)}
+    steps, refused, hit, latest = Steps(items, Run(files or {}, max_commands, scarce), readers, table or {}), False, False, 0
+    for entry in entries_of(text):
+        place = places.get(entry[:2])
+        if place is None:
+            raise Illegal("there is no item for the entry %r" % entry[4][:60])
+        if entry[2] is None:
+            steps.answer(place, entry, stats)
+            if readers == 1 and not scarce and entry[3] < latest:
+                raise Illegal("search %d is answered at version %d, after %d" % (entry[1], entry[3], latest))
+            latest, hit = max(latest, entry[3]), hit or entry[4].count(b"\n") > 1
+            continue
+        refused = True
+        if entry[0] == "search" and entry[1] in steps.open:
+            if not scarce or entry[2] != "out of memory":
+                raise Illegal("search %d is refused by %r after it was taken" % (entry[1], entry[2]))
+            del steps.open[entry[1]]
+        else:
+            steps.refuse(place, entry[2])
+    steps.take_before(len(items))
+    if steps.open:
+        raise Illegal("search %d has no answer" % min(steps.open))
+    return 2 if refused else 0 if hit else 1
+
+
+def fault_of(script, text, status, session=False, **options):
+    """Why a run, or a session, may not have written this text and ended with this status, or None."""
     try:
-        wanted = check(script, text, **options)
+        wanted = check_session(script, text, **options) if session else check(script, text, **options)
     except Illegal as illegal:
         return str(illegal)
     return None if status == wanted else "the status is %d, and should be %d" % (status, wanted)
