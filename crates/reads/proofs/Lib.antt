@@ -1,4 +1,3 @@
 pub mod Beginnings
 pub mod Adding
-pub mod TakingLemmas
 pub mod FeedLemmas

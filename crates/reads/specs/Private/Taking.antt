@@ -1,5 +1,5 @@
 -- An item that is taken from an input, with its own bytes.
-use Rattle.std.specs.Prelude.{◌≡◌, ◌⊎◌, ℕ, List, [], Option, Some, None, Ok, Err, IsTrue, OnSome, ⊤}
+use Rattle.std.specs.Prelude.{◌⊎◌, ℕ, List, [], Option, Some, None, Ok, Err, IsTrue, OnSome, ⊤}
 use Rattle.std.specs.declared.result.Result.{Result}
 use Rattle.std.specs.Io.KnownBytes.{IsAtEnd}
 use Rattle.script.specs.Items.{Item, numbered, ItemsFrom}

@@ -1,4 +1,3 @@
-use Rattle.reads.specs.Read.{IsFed}
 use Rattle.reads.proofs.FeedLemmas.{fed_at_first}
 use Rattle.reads.proofs.feed.Feed.new.Goals as goal
 

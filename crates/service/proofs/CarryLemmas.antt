@@ -1,0 +1,211 @@
+-- Items that are carried out have their entries.
+use Rattle.std.proofs.Common.{◌≡◌, ℕ, inl, List, [], ◌∷◌, ◌++◌, Some, None, Ok, Err, refl, sym, ap, ◌∙◌}
+use Rattle.std.proofs.lemmas.List.{append-nil}
+use Rattle.std.specs.Prelude.{Result, IfOk, IfErr, length}
+use Rattle.index.specs.State.{State, state_of}
+use Rattle.index.specs.declared.command.Command.{Command}
+use Rattle.index.specs.declared.command.Command.TheVariants.{Put, Remove}
+use Rattle.script.specs.Items as item
+use Rattle.shared.specs.Desk.{DeskState}
+use Rattle.shared.specs.History.{Known, known}
+use Rattle.transcript.specs.declared.entry.Entry.{Entry}
+use Rattle.transcript.specs.declared.entry.Entry.TheVariants.{Refused, Published}
+use Rattle.transcript.specs.declared.entry.Reason.{Reason}
+use Rattle.transcript.specs.declared.entry.Reason.TheVariants as reason
+use Rattle.steps.specs.LegalRows.{IsNamed, bad_name, no_memory, named, HasBody, bad_body, with_body, IsRoomFor, full, accepted, IsPut}
+use Rattle.steps.specs.LegalRows.{HasLoaded, IsRemove, no_such_file, is_there}
+use Rattle.steps.specs.LegalRows as legal
+use Rattle.steps.specs.Rows.{accepted_by, version_in, failures_in}
+use Rattle.service.specs.Private.Entries.{entry_of, published_entry_of, desk_after, IsLoaded}
+use Rattle.service.specs.Private.Items.{searches_in, IsEntered, all, nothing}
+use Rattle.service.proofs.ItemLemmas.{counted_same, no_failure_in_body}
+
+-- the entry of a command has no version and is not that of a search; and the desk after the command
+pub no_version : (line : ℕ) (done : Result ℕ Reason) → version_in (Some (entry_of line done)) ≡ []
+no_version line (Ok count) = refl
+no_version line (Err why) = refl
+
+pub no_search_entry : (line : ℕ) (done : Result ℕ Reason) → searches_in (entry_of line done) ≡ 0
+no_search_entry line (Ok count) = refl
+no_search_entry line (Err why) = refl
+
+pub accepted_after : (line : ℕ) (done : Result ℕ Reason) (commands : List Command) (desk : DeskState)
+    → (desk_after done commands desk).accepted ≡ desk.accepted ++ accepted_by (Some (entry_of line done)) commands
+accepted_after line (Ok count) commands desk = refl
+accepted_after line (Err why) commands desk = sym (append-nil desk.accepted)
+
+pub same_opening : (done : Result ℕ Reason) (commands : List Command) (desk : DeskState)
+    → ((desk_after done commands desk).opening ≡ desk.opening) × ((desk_after done commands desk).limit ≡ desk.limit)
+same_opening (Ok count) commands desk = (refl, refl)
+same_opening (Err why) commands desk = (refl, refl)
+
+no_failure_at : {entry entry' : Entry} → entry ≡ entry' → failures_in (Some entry') ≡ 0 → failures_in (Some entry) ≡ 0
+no_failure_at is none = ap (λ e. failures_in (Some e)) is ∙ none
+
+no_failure_in_room : (most : ℕ) (state : State) (line : ℕ) (entry : Entry) → IsRoomFor most state line entry → failures_in (Some entry) ≡ 0
+no_failure_in_room most state line entry (full limit is) = no_failure_at is refl
+no_failure_in_room most state line entry (accepted room is) = no_failure_at is refl
+
+no_failure_named : (name : List ℕ) (line : ℕ) (entry : Entry) (Else : Type 0) → (Else → failures_in (Some entry) ≡ 0)
+    → IsNamed name line entry Else → failures_in (Some entry) ≡ 0
+no_failure_named name line entry Else none (bad_name fault other is_fault is) = no_failure_at is refl
+no_failure_named name line entry Else none (no_memory is_name is) = no_failure_at is refl
+no_failure_named name line entry Else none (named is_name else) = none else
+
+no_failure_in_remove : (most : ℕ) (state : State) (name : List ℕ) (line : ℕ) (entry : Entry) → IsRemove most state name line entry
+    → failures_in (Some entry) ≡ 0
+no_failure_in_remove most state name line entry (no_such_file none is) = no_failure_at is refl
+no_failure_in_remove most state name line entry (is_there there room) = no_failure_in_room most state line entry room
+
+module _ (Holds : List ℕ → List ℕ → Type 0) (desk : DeskState) (told : Known) (failed line : ℕ) (done : Result ℕ Reason) (entry : Entry)
+    (is : entry ≡ entry_of line done) where
+  pub carried_put : (name body : List ℕ) (desk' : DeskState) → IsPut desk.limit (state_of desk.accepted) name body line (entry_of line done)
+      → desk' ≡ desk_after done (Put name body ∷ []) desk
+      → IsEntered Holds desk told failed (item.numbered line (item.put name body)) entry desk' told failed
+  carried_put name body desk' legal_is left = rw (is, left) (record {
+    loaded = None;
+    legal = legal_is;
+    no_search = refl;
+    no_sync = refl;
+    no_search_entry = no_search_entry line done;
+    opening = (same_opening done (Put name body ∷ []) desk).0;
+    limit = (same_opening done (Put name body ∷ []) desk).1;
+    accepted = accepted_after line done (Put name body ∷ []) desk;
+    tells = nothing (no_version line done) refl;
+    counted =
+        counted_same (entry_of line done) failed
+        (no_failure_named name line _ _
+        (λ h. no_failure_in_body desk.limit (state_of desk.accepted) body line (entry_of line done) (inl h)) legal_is);
+  })
+
+  pub carried_load : (name path : List ℕ) (desk' : DeskState) (failed' : ℕ) → IsLoaded Holds desk failed name path done desk' failed'
+      → IsEntered Holds desk told failed (item.numbered line (item.load name path)) entry desk' told failed'
+  carried_load name path desk' failed' load = rw (is, load.left) (record {
+    loaded = load.loaded;
+    legal = load.legal line;
+    no_search = refl;
+    no_sync = refl;
+    no_search_entry = no_search_entry line done;
+    opening = (same_opening done _ desk).0;
+    limit = (same_opening done _ desk).1;
+    accepted = accepted_after line done _ desk;
+    tells = nothing (no_version line done) refl;
+    counted = load.counted line;
+  })
+
+  pub carried_remove : (name : List ℕ) (desk' : DeskState)
+      → IsNamed name line (entry_of line done) (IsRemove desk.limit (state_of desk.accepted) name line (entry_of line done))
+      → desk' ≡ desk_after done (Remove name ∷ []) desk
+      → IsEntered Holds desk told failed (item.numbered line (item.remove name)) entry desk' told failed
+  carried_remove name desk' legal_is left = rw (is, left) (record {
+    loaded = None;
+    legal = legal_is;
+    no_search = refl;
+    no_sync = refl;
+    no_search_entry = no_search_entry line done;
+    opening = (same_opening done (Remove name ∷ []) desk).0;
+    limit = (same_opening done (Remove name ∷ []) desk).1;
+    accepted = accepted_after line done (Remove name ∷ []) desk;
+    tells = nothing (no_version line done) refl;
+    counted =
+        counted_same (entry_of line done) failed
+        (no_failure_named name line _ _ (no_failure_in_remove desk.limit (state_of desk.accepted) name line (entry_of line done))
+        legal_is);
+  })
+
+-- publishes, and lines that are not valid items
+module _ (Holds : List ℕ → List ℕ → Type 0) (desk : DeskState) (told : Known) (failed line : ℕ) (entry : Entry) where
+  pub carried_publish : (desk' : DeskState) (told' : Known) (published : Result ℕ Reason) → entry ≡ published_entry_of line published
+      → IfOk published (λ version. (version ≡ length desk.accepted) × (told' ≡ known desk.opening desk.accepted))
+      → IfErr published (λ why. (why ≡ reason.OutOfMemory) × (told' ≡ told))
+      → desk'.accepted ≡ desk.accepted → (desk'.opening ≡ desk.opening) × (desk'.limit ≡ desk.limit)
+      → IsEntered Holds desk told failed (item.numbered line item.publish) entry desk' told' failed
+  carried_publish desk' told' (Ok version) is' ok err kept others = rw is' (record {
+    loaded = None;
+    legal = legal.published (ap (Published line) ok.0);
+    no_search = refl;
+    no_sync = refl;
+    no_search_entry = refl;
+    opening = others.0;
+    limit = others.1;
+    accepted = kept ∙ sym (append-nil desk.accepted);
+    tells = all line (ap (Published line) ok.0) ok.1;
+    counted = counted_same (Published line version) failed refl;
+  })
+  carried_publish desk' told' (Err why) is' ok err kept others = rw is' (record {
+    loaded = None;
+    legal = legal.no_memory (ap (Refused line) err.0);
+    no_search = refl;
+    no_sync = refl;
+    no_search_entry = refl;
+    opening = others.0;
+    limit = others.1;
+    accepted = kept ∙ sym (append-nil desk.accepted);
+    tells = nothing refl err.1;
+    counted = counted_same (Refused line why) failed (no_failure_at (ap (Refused line) err.0) refl);
+  })
+
+  pub carried_bad_line : entry ≡ Refused line reason.BadLine → IsEntered Holds desk told failed (item.numbered line item.bad_line) entry desk told failed
+  carried_bad_line is =
+      rw is
+      (record {
+        loaded = None;
+        legal = refl;
+        no_search = refl;
+        no_sync = refl;
+        no_search_entry = refl;
+        opening = refl;
+        limit = refl;
+        accepted = sym (append-nil desk.accepted);
+        tells = nothing refl refl;
+        counted = counted_same (Refused line reason.BadLine) failed refl;
+      })
+
+  pub carried_bad_put : entry ≡ Refused line reason.BadPut → IsEntered Holds desk told failed (item.numbered line item.bad_put) entry desk told failed
+  carried_bad_put is =
+      rw is
+      (record {
+        loaded = None;
+        legal = refl;
+        no_search = refl;
+        no_sync = refl;
+        no_search_entry = refl;
+        opening = refl;
+        limit = refl;
+        accepted = sym (append-nil desk.accepted);
+        tells = nothing refl refl;
+        counted = counted_same (Refused line reason.BadPut) failed refl;
+      })
+
+  pub carried_truncated : entry ≡ Refused line reason.Truncated → IsEntered Holds desk told failed (item.numbered line item.truncated) entry desk told failed
+  carried_truncated is =
+      rw is
+      (record {
+        loaded = None;
+        legal = refl;
+        no_search = refl;
+        no_sync = refl;
+        no_search_entry = refl;
+        opening = refl;
+        limit = refl;
+        accepted = sym (append-nil desk.accepted);
+        tells = nothing refl refl;
+        counted = counted_same (Refused line reason.Truncated) failed refl;
+      })
+
+  pub carried_open_body : entry ≡ Refused line reason.BodyNotClosed
+      → IsEntered Holds desk told failed (item.numbered line item.body_not_closed) entry desk told failed
+  carried_open_body is =
+      rw is
+      (record {
+        loaded = None;
+        legal = refl;
+        no_search = refl;
+        no_sync = refl;
+        no_search_entry = refl;
+        opening = refl;
+        limit = refl;
+        accepted = sym (append-nil desk.accepted);
+        tells = nothing refl refl;
+        counted = counted_same (Refused line reason.BodyNotClosed) failed refl;
+      })

@@ -1,0 +1,163 @@
+-- The entries of single items are legal.
+use Rattle.std.proofs.Common.{◌≡◌, ◌≢◌, ℕ, ◌≤◌, ◌<◌, ◌+◌, ◌-◌, ◌⊎◌, inl, inr, Bool, true, false, List, Some, refl, ap, ◌∙◌, arith, MatchBool}
+use Rattle.ere.specs.declared.error.EreError.{EreError}
+use Rattle.ere.specs.declared.error.EreErrorKind.{EreErrorKind}
+use Rattle.ere.specs.declared.error.EreErrorKind.TheVariants as kind
+use Rattle.ere.specs.Limits.{HasNoTree}
+use Rattle.ere.specs.declared.case.Case.{Case}
+use Rattle.ere.specs.declared.case.Case.TheVariants.{Exact}
+use Rattle.index.specs.State.{State}
+use Rattle.index.specs.declared.error.NameError.{NameError}
+use Rattle.index.specs.declared.error.NameError.TheVariants as name
+use Rattle.index.specs.declared.error.BodyErrorKind.TheVariants as body
+use Rattle.std.proofs.Common.{length, ◌^◌}
+use Rattle.steps.specs.Rows.{failures_in}
+use Rattle.index.specs.Text.{greatest_body, IsName, IsNameFault, IsBodyFault}
+use Rattle.search.specs.Pattern.{HasTree}
+use Rattle.transcript.specs.declared.entry.Entry.{Entry}
+use Rattle.transcript.specs.declared.entry.Entry.TheVariants.{Refused}
+use Rattle.transcript.specs.declared.entry.SearchReason.TheVariants as search_reason
+use Rattle.steps.specs.LegalRows.{IsNamed, bad_name, no_memory, named, bad_body, with_body, full, accepted, IsPut, IsRemove, HasLoaded, loaded_body}
+use Rattle.steps.specs.LegalRows.{IsFailedTimes}
+use Rattle.steps.specs.Steps.{IsFaultOfSearch, IsFaultOfSearchIn}
+use Rattle.steps.specs.Steps as steps
+use Rattle.service.specs.Private.Entries.{reason_of_name, reason_of_fault, reason_of_fault_of, HasBodyOrNoMemory, IsRemoveOrNoMemory, IsCounted}
+
+pub named_fault : (error : NameError) (bytes : List ℕ) (line : ℕ) (entry : Entry) (Else : Type 0) → IsNameFault error bytes
+    → entry ≡ Refused line (reason_of_name error) → IsNamed bytes line entry Else
+unfolding IsNameFault
+named_fault name.Empty bytes line entry Else fault is = bad_name name.Empty (λ e. cc) fault is
+named_fault name.TooLong bytes line entry Else fault is = bad_name name.TooLong (λ e. cc) fault is
+named_fault name.BadByte bytes line entry Else fault is = bad_name name.BadByte (λ e. cc) fault is
+named_fault name.OutOfMemory bytes line entry Else fault is = no_memory fault is
+
+pub named_body : (most : ℕ) (state : State) (bytes bytes' : List ℕ) (line : ℕ) (entry : Entry) → IsName bytes
+    → HasBodyOrNoMemory most state bytes' line entry → IsPut most state bytes bytes' line entry
+named_body most state bytes bytes' line entry is (inl body_is) = named is body_is
+named_body most state bytes bytes' line entry is (inr ran_out) = no_memory is ran_out.2
+
+pub named_removed : (most : ℕ) (state : State) (bytes : List ℕ) (line : ℕ) (entry : Entry) → IsName bytes
+    → IsRemoveOrNoMemory most state bytes line entry → IsNamed bytes line entry (IsRemove most state bytes line entry)
+named_removed most state bytes line entry is (inl removed) = named is removed
+named_removed most state bytes line entry is (inr ran_out) = no_memory is ran_out.1
+
+pub named_loaded : (Holds : List ℕ → List ℕ → Type 0) (most : ℕ) (state : State) (bytes path bytes' : List ℕ) (line : ℕ) (entry : Entry)
+    → IsName bytes → Holds path bytes' → HasBodyOrNoMemory most state bytes' line entry
+    → IsNamed bytes line entry (HasLoaded Holds most state path (Some bytes') line entry)
+named_loaded Holds most state bytes path bytes' line entry is held (inl body_is) = named is (loaded_body bytes' refl held body_is)
+named_loaded Holds most state bytes path bytes' line entry is held (inr ran_out) = no_memory is ran_out.2
+
+-- A kind of fault is lack of memory, or it is not.
+memory_or_not : (k : EreErrorKind) → (k ≡ kind.OutOfMemory) ⊎ (k ≡ kind.OutOfMemory → ⊥)
+memory_or_not kind.TooLong = inr (λ e. cc)
+memory_or_not kind.BadByte = inr (λ e. cc)
+memory_or_not kind.BadEscape = inr (λ e. cc)
+memory_or_not kind.BadBracket = inr (λ e. cc)
+memory_or_not kind.BadRange = inr (λ e. cc)
+memory_or_not kind.BadClass = inr (λ e. cc)
+memory_or_not kind.BadInterval = inr (λ e. cc)
+memory_or_not kind.NothingToRepeat = inr (λ e. cc)
+memory_or_not kind.Unclosed = inr (λ e. cc)
+memory_or_not kind.TooDeep = inr (λ e. cc)
+memory_or_not kind.TooLarge = inr (λ e. cc)
+memory_or_not kind.OutOfMemory = inl refl
+
+reason_of_memory : (in_name : Bool) (k : EreErrorKind) (error : EreError) → k ≡ kind.OutOfMemory
+    → reason_of_fault_of in_name k error ≡ search_reason.OutOfMemory
+reason_of_memory in_name k error e = ap (λ j. reason_of_fault_of in_name j error) e
+
+reason_in_name : (k : EreErrorKind) (error : EreError) → (k ≡ kind.OutOfMemory → ⊥) → reason_of_fault_of true k error ≡ search_reason.NamePattern error
+reason_in_name kind.TooLong error h = refl
+reason_in_name kind.BadByte error h = refl
+reason_in_name kind.BadEscape error h = refl
+reason_in_name kind.BadBracket error h = refl
+reason_in_name kind.BadRange error h = refl
+reason_in_name kind.BadClass error h = refl
+reason_in_name kind.BadInterval error h = refl
+reason_in_name kind.NothingToRepeat error h = refl
+reason_in_name kind.Unclosed error h = refl
+reason_in_name kind.TooDeep error h = refl
+reason_in_name kind.TooLarge error h = refl
+reason_in_name kind.OutOfMemory error h = absurd (h refl)
+
+reason_in_pattern : (k : EreErrorKind) (error : EreError) → (k ≡ kind.OutOfMemory → ⊥) → reason_of_fault_of false k error ≡ search_reason.Pattern error
+reason_in_pattern kind.TooLong error h = refl
+reason_in_pattern kind.BadByte error h = refl
+reason_in_pattern kind.BadEscape error h = refl
+reason_in_pattern kind.BadBracket error h = refl
+reason_in_pattern kind.BadRange error h = refl
+reason_in_pattern kind.BadClass error h = refl
+reason_in_pattern kind.BadInterval error h = refl
+reason_in_pattern kind.NothingToRepeat error h = refl
+reason_in_pattern kind.Unclosed error h = refl
+reason_in_pattern kind.TooDeep error h = refl
+reason_in_pattern kind.TooLarge error h = refl
+reason_in_pattern kind.OutOfMemory error h = absurd (h refl)
+
+-- what is met in a pattern that has no tree is why its search is refused
+pub search_fault : (case : Case) (text : List ℕ) (error : EreError) → (error.kind ≢ kind.OutOfMemory → HasNoTree case text)
+    → IsFaultOfSearch case text (reason_of_fault false error)
+search_fault case text error none = by_kind (memory_or_not error.kind)
+  where
+    by_kind : (error.kind ≡ kind.OutOfMemory) ⊎ (error.kind ≡ kind.OutOfMemory → ⊥) → IsFaultOfSearch case text (reason_of_fault false error)
+    by_kind (inl memory) = steps.no_memory (reason_of_memory false error.kind error memory)
+    by_kind (inr fault) = steps.bad_pattern error fault (none fault) (reason_in_pattern error.kind error fault)
+
+pub search_in_fault : (case : Case) (name_text text : List ℕ) (in_name : Bool) (error : EreError)
+    → (error.kind ≢ kind.OutOfMemory → MatchBool in_name (HasNoTree Exact name_text) (HasTree Exact name_text × HasNoTree case text))
+    → IsFaultOfSearchIn case name_text text (reason_of_fault in_name error)
+search_in_fault case name_text text true error none = by_kind (memory_or_not error.kind)
+  where
+    by_kind : (error.kind ≡ kind.OutOfMemory) ⊎ (error.kind ≡ kind.OutOfMemory → ⊥) → IsFaultOfSearchIn case name_text text (reason_of_fault true error)
+    by_kind (inl memory) = steps.no_memory (reason_of_memory true error.kind error memory)
+    by_kind (inr fault) = steps.bad_name_pattern error fault (none fault) (reason_in_name error.kind error fault)
+search_in_fault case name_text text false error none = by_kind (memory_or_not error.kind)
+  where
+    by_kind : (error.kind ≡ kind.OutOfMemory) ⊎ (error.kind ≡ kind.OutOfMemory → ⊥) → IsFaultOfSearchIn case name_text text (reason_of_fault false error)
+    by_kind (inl memory) = steps.no_memory (reason_of_memory false error.kind error memory)
+    by_kind (inr fault) = steps.bad_pattern error fault (none fault).0 (none fault).1 (reason_in_pattern error.kind error fault)
+
+pub too_long_body : (bytes : List ℕ) → greatest_body < length bytes → IsBodyFault body.TooLong bytes
+unfolding IsBodyFault
+too_long_body bytes h = h
+
+-- A refusal for the name or the body does not count as a failure of the source.
+pub no_failure_in_name : (error : NameError) → failures_in (Some (Refused 0 (reason_of_name error))) ≡ 0
+no_failure_in_name name.Empty = refl
+no_failure_in_name name.TooLong = refl
+no_failure_in_name name.BadByte = refl
+no_failure_in_name name.OutOfMemory = refl
+
+no_failure_at : {entry entry' : Entry} → entry ≡ entry' → failures_in (Some entry') ≡ 0 → failures_in (Some entry) ≡ 0
+no_failure_at is none = ap (λ e. failures_in (Some e)) is ∙ none
+
+pub no_failure_in_body : (most : ℕ) (state : State) (bytes : List ℕ) (line : ℕ) (entry : Entry)
+    → HasBodyOrNoMemory most state bytes line entry → failures_in (Some entry) ≡ 0
+no_failure_in_body most state bytes line entry (inl (bad_body fault is_fault is)) = no_failure_at is refl
+no_failure_in_body most state bytes line entry (inl (with_body is_body (full all is))) = no_failure_at is refl
+no_failure_in_body most state bytes line entry (inl (with_body is_body (accepted room is))) = no_failure_at is refl
+no_failure_in_body most state bytes line entry (inr is) = no_failure_at is.2 refl
+
+pub counted_none : (entry : Entry) (failed failed' : ℕ) → failures_in (Some entry) ≡ 0 → failed' ≡ failed → IsCounted (failures_in (Some entry)) failed failed'
+counted_none entry failed failed' none same = record {
+  rises = inl (rw none (omega arith));
+  stays = λ e. same ∙ e;
+}
+
+-- An entry that says that the source failed counts as one failure.
+pub counted_one : (entry : Entry) (failed failed' : ℕ) → failures_in (Some entry) ≡ 1 → failed ≤ failed' → failed' ≤ failed + 1
+    → failed' < 2 ^ 64 → (failed < failed') ⊎ (failed' ≡ 2 ^ 64 - 1) → IsCounted (failures_in (Some entry)) failed failed'
+counted_one entry failed failed' one grows by_one below failure = record {
+  rises = by_failure failure;
+  stays = λ e. omega arith;
+}
+  where
+    by_failure : (failed < failed') ⊎ (failed' ≡ 2 ^ 64 - 1) → IsFailedTimes (failures_in (Some entry)) failed failed'
+    by_failure (inl rises) = inl (rw one (omega arith))
+    by_failure (inr all) = inr (all, rw one (omega arith))
+
+pub counted_same : (entry : Entry) (failed : ℕ) → failures_in (Some entry) ≡ 0 → IsCounted (failures_in (Some entry)) failed failed
+counted_same entry failed none = record {
+  rises = inl (rw none (omega arith));
+  stays = λ e. e;
+}

@@ -1,0 +1,4 @@
+pub mod ItemLemmas
+pub mod CarryLemmas
+pub mod ServiceLemmas
+pub mod CollectedLemmas

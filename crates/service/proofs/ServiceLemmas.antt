@@ -1,0 +1,444 @@
+-- Steps of a service.
+use Rattle.std.proofs.Common.{◌≡◌, ℕ, ◌+◌, ◌<◌, ◌≤◌, ◌⊎◌, inl, inr, List, [], ◌∷◌, ◌++◌, length, take, drop, Option, Some, None, Result, Ok, Err, true, refl, sym, ap, ◌∙◌, subst, arith}
+use Rattle.std.proofs.Common.{append_assoc, length-append, get_or, set}
+use Rattle.std.proofs.lemmas.List.{append-nil, length-set, length-take-le, length-drop, get_or_default}
+use Rattle.std.proofs.lemmas.List.Elements.{All-append, All-take, All-drop, All-set, Contains-append_left, Contains-append_right}
+use Rattle.std.proofs.lemmas.Option.{slice_get_within, get_or_from_slice_get, slice_get-get_or}
+use Rattle.std.proofs.Math.Seq.{take-append_seam}
+use Rattle.std.specs.Prelude.{All, Bool, Contains, IfOk, MatchBool, false, is_ok, slice_get}
+use Rattle.std.specs.List.{HoldsAt}
+use Rattle.std.specs.List.Sorted.{IsSearchInRange}
+use Rattle.std.specs.Ordering.{nat_cmp}
+use Rattle.std.specs.declared.cmp.Ordering.TheVariants.{Equal}
+use mathlib.Core.List.{IsPrefix}
+use Rattle.index.specs.declared.command.Command.{Command}
+use Rattle.index.specs.declared.command.Command.TheVariants.{Put}
+use Rattle.index.specs.State.{state_of}
+use Rattle.search.specs.Scan.{Answer, IsAnswerOf}
+use Rattle.search.specs.Prepared.{pattern_of}
+use Rattle.search.specs.declared.pattern.Prepared.{Prepared}
+use Rattle.script.specs.Items.{Item, Numbered, numbered, put}
+use Rattle.script.specs.Items as item
+use Rattle.shared.specs.Desk.{DeskState}
+use Rattle.shared.specs.History.{Known}
+use Rattle.transcript.specs.declared.entry.Entry.{Entry}
+use Rattle.transcript.specs.declared.entry.Entry.TheVariants.{Refused, Published, Found, SearchRefused}
+use Rattle.transcript.specs.declared.entry.Reason.{Reason}
+use Rattle.transcript.specs.declared.entry.SearchReason.TheVariants as reason
+use Rattle.steps.specs.declared.last.Last.{Last}
+use Rattle.steps.specs.Rows.{accepted_by, command_of, version_in, last_or, searches_of, is_sync}
+use Rattle.steps.specs.LegalRows.{IsPut}
+use Rattle.steps.specs.Steps.{OpenSearch, RunState, IsStep, MayTake, Asks, IsFaultOf, last, last_of, asked}
+use Rattle.steps.specs.Steps as steps
+use Rattle.service.specs.declared.taken.Taken.{Taken}
+use Rattle.service.specs.Service.{ServiceState, run_of, Fits, Steps, Takes, TakesPut, Gives, answered, not_answered, CanStand, versions_in, written_by}
+use Rattle.service.specs.Private.Items.{IsEntered, IsLeft, Tells, all, nothing}
+use Rattle.service.specs.Private.Entries.{entry_of, desk_after}
+use Rattle.service.proofs.CarryLemmas.{carried_put, same_opening}
+use Rattle.service.specs.Private.Closing.{IsService, service_of, with_kept, CanClose, IsAsked, asked_for, refused}
+
+-- the commands that one more entry accepts
+abbrev accepted_in : Numbered → Option (List ℕ) → Entry → List Command
+accepted_in item loaded entry = accepted_by (Some entry) (command_of item.item loaded)
+
+pub prefix_length : {A : Type 0} (xs ys : List A) → IsPrefix xs ys → length xs ≤ length ys
+prefix_length xs ys pre = omega (arith, ap length pre.1, length-append xs pre.0)
+
+last_or-append : (default : ℕ) (xs ys : List ℕ) → last_or default (xs ++ ys) ≡ last_or (last_or default xs) ys
+last_or-append default [] ys = refl
+last_or-append default (x ∷ xs) ys = last_or-append x xs ys
+
+-- the last of some numbers is the default, or one of them
+last_is_one : (default : ℕ) (xs : List ℕ) → (last_or default xs ≡ default) ⊎ Contains xs (last_or default xs)
+last_is_one default [] = inl refl
+last_is_one default (x ∷ xs) = by (last_is_one x xs)
+  where
+    by : (last_or x xs ≡ x) ⊎ Contains xs (last_or x xs) → (last_or x xs ≡ default) ⊎ Contains (x ∷ xs) (last_or x xs)
+    by (inl is) = inr (subst (λ v. Contains (x ∷ xs) v) (sym is) (0, omega arith, refl))
+    by (inr inside) = inr (Contains-append_right (x ∷ []) xs (last_or x xs) inside)
+
+module _ (Holds : List ℕ → List ℕ → Type 0) (desk : DeskState) (told : Known) (failed : ℕ) (item : Numbered) (entry : Entry)
+    (desk' : DeskState) (told' : Known) (failed' : ℕ) (entered : IsEntered Holds desk told failed item entry desk' told' failed')
+    (kept : List ℕ) (searches : ℕ) (awaited : List OpenSearch) (lasts : List Last) where
+  abbrev old : ServiceState
+  old = service_of desk told kept searches awaited lasts
+
+  abbrev new : ServiceState
+  new = service_of desk' told' kept searches awaited lasts
+
+  told_by : Tells desk told entry told' → IsPrefix told.commands desk.accepted
+      → IsPrefix told'.commands desk'.accepted × (length told.commands ≤ length told'.commands)
+  told_by (all line is told_is) begins = (
+    (accepted_in item entered.loaded entry, ap (λ k. k.commands ++ accepted_in item entered.loaded entry) told_is ∙ sym entered.accepted),
+    omega (arith, prefix_length told.commands desk.accepted begins, ap (λ k. length k.commands) told_is),
+  )
+  told_by (nothing none told_is) begins = (
+    (
+      begins.0 ++ accepted_in item entered.loaded entry,
+      ap (λ k. k.commands ++ (begins.0 ++ accepted_in item entered.loaded entry)) told_is
+          ∙ sym (append_assoc told.commands begins.0 (accepted_in item entered.loaded entry))
+          ∙ ap (λ l. l ++ accepted_in item entered.loaded entry) begins.1 ∙ sym entered.accepted,
+    ),
+    omega (arith, ap (λ k. length k.commands) told_is),
+  )
+
+  -- after a command, the service is one
+  pub entered_is_service : IsService old → IsService new
+  entered_is_service is =
+      let now = told_by entered.tells is.begins in
+      record {
+        begins = now.0;
+        least = λ k d lt. omega (arith, is.least k d lt, now.1);
+        versions = λ k d lt. omega (arith, is.versions k d lt, now.1);
+        turns = is.turns;
+        reader_zero = is.reader_zero;
+      }
+
+  latest_by : Tells desk told entry told' → (published : List ℕ) → last_or 0 published ≡ length told.commands
+      → last_or 0 (published ++ version_in (Some entry)) ≡ length told'.commands
+  latest_by (all line is told_is) published latest =
+      last_or-append 0 published (version_in (Some entry)) ∙ ap (λ e. last_or (last_or 0 published) (version_in (Some e))) is
+      ∙ sym (ap (λ k. length k.commands) told_is)
+  latest_by (nothing none told_is) published latest =
+      last_or-append 0 published (version_in (Some entry)) ∙ ap (last_or (last_or 0 published)) none ∙ latest
+      ∙ sym (ap (λ k. length k.commands) told_is)
+
+  -- a command is carried out; kept': what is kept afterwards
+  pub entered_takes : (kept' : List ℕ)
+      → ((version : ℕ) → Contains kept' version → Contains kept version ⊎ Contains (version_in (Some entry)) version)
+      → Takes Holds old item (entry ∷ []) (with_kept kept' new)
+  entered_takes kept' sub published readers fits may = record {
+    step = steps.carried_out item entered.loaded entry may entered.legal refl refl after;
+    fits = record {
+      latest = ap (last_or 0) one ∙ latest_by entered.tells published fits.latest;
+      kept = λ version inside. subst (λ l. (version ≡ 0) ⊎ Contains l version) (sym one) (by version (sub version inside));
+    };
+    limit = entered.limit;
+  }
+    where
+      one : published ++ versions_in (entry ∷ []) ≡ published ++ version_in (Some entry)
+      one = ap (λ l. published ++ l) (append-nil (version_in (Some entry)))
+
+      by : (version : ℕ) → Contains kept version ⊎ Contains (version_in (Some entry)) version
+          → (version ≡ 0) ⊎ Contains (published ++ version_in (Some entry)) version
+      by version (inl was) = older (fits.kept version was)
+        where
+          older : (version ≡ 0) ⊎ Contains published version → (version ≡ 0) ⊎ Contains (published ++ version_in (Some entry)) version
+          older (inl none) = inl none
+          older (inr inside) = inr (Contains-append_left published (version_in (Some entry)) version inside)
+      by version (inr is) = inr (Contains-append_right published (version_in (Some entry)) version is)
+
+      after : run_of (with_kept kept' new) (published ++ versions_in (entry ∷ [])) ≡ steps.with_entry item.item entered.loaded entry (run_of old published)
+      after = rw (entered.accepted, one) refl
+
+-- nothing is published: the versions are as before
+pub fits_still : (was after : ServiceState) (published : List ℕ) → after.told ≡ was.told → after.kept ≡ was.kept → Fits was published → Fits after (published ++ [])
+fits_still was after published told kept fits = record {
+  latest = ap (last_or 0) (append-nil published) ∙ fits.latest ∙ sym (ap length told);
+  kept =
+      λ version inside.
+      subst (λ l. (version ≡ 0) ⊎ Contains l version) (sym (append-nil published)) (fits.kept version (subst (λ l. Contains l version) kept inside));
+}
+
+-- a search is open, or refused
+pub asked_takes : (Holds : List ℕ → List ℕ → Type 0) (old : ServiceState) (item : Numbered) (result : Taken) (new : ServiceState)
+    → searches_of item.item ≡ 1 → IsAsked item.item old result new → Takes Holds old item (written_by result) new
+asked_takes Holds old item result new one (asked_for task is after) published readers fits may = rw (is, after) (record {
+  step =
+      steps.asked_for item may one refl refl
+      (rw (append-nil published)
+      (ap (λ n. record (run_of old published) { searches = old.searches + 1; awaited = old.awaited ++ record { number = old.searches + 1; item = item.item; least = n } ∷ [] })
+      (sym fits.latest)));
+  fits = fits_still old _ published refl refl fits;
+  limit = refl;
+})
+asked_takes Holds old item result new one (refused why fault is) published readers fits may = rw (is.entry, is.left) (record {
+  step = steps.refused item why may fault refl refl (rw (append-nil published) refl);
+  fits = fits_still old _ published refl refl fits;
+  limit = refl;
+})
+
+pub sync_takes : (Holds : List ℕ → List ℕ → Type 0) (old : ServiceState) (item : Numbered) → is_sync item.item ≡ true → Takes Holds old item [] old
+sync_takes Holds old item is published readers fits may = record {
+  step = steps.sync item is (nothing_open may) refl refl (rw (append-nil published) refl);
+  fits = fits_still old old published refl refl fits;
+  limit = refl;
+}
+  where
+    nothing_open : MayTake readers (run_of old published) item.item → old.awaited ≡ []
+    nothing_open (steps.settled none) = none
+    nothing_open (steps.beside some no_sync) = let opposite = sym is ∙ no_sync in cc
+
+-- a put is accepted or refused
+pub put_left : (desk desk' : DeskState) (told : Known) (kept : List ℕ) (searches : ℕ) (awaited : List OpenSearch) (lasts : List Last)
+    (name body : List ℕ) (line : ℕ) (done : Result ℕ Reason) (entry : Entry) → entry ≡ entry_of line done
+    → IsPut desk.limit (state_of desk.accepted) name body line (entry_of line done) → desk' ≡ desk_after done (Put name body ∷ []) desk
+    → TakesPut (service_of desk told kept searches awaited lasts) name body line entry (service_of desk' told kept searches awaited lasts)
+put_left desk desk' told kept searches awaited lasts name body line done entry is legal_is left = rw (is, left) (record { legal = legal_is; left = by done })
+  where
+    with_accepted : List Command → ServiceState
+    with_accepted l = record (service_of desk told kept searches awaited lasts) { accepted = l }
+
+    by : (r : Result ℕ Reason) → service_of (desk_after r (Put name body ∷ []) desk) told kept searches awaited lasts
+        ≡ with_accepted (desk.accepted ++ accepted_by (Some (entry_of line r)) (Put name body ∷ []))
+    by (Ok count) = refl
+    by (Err why) = ap with_accepted (sym (append-nil desk.accepted))
+
+-- so does the run
+pub put_takes : (Holds : List ℕ → List ℕ → Type 0) (old new : ServiceState) (name body : List ℕ) (line : ℕ) (entry : Entry)
+    → TakesPut old name body line entry new → version_in (Some entry) ≡ [] → Takes Holds old (numbered line (put name body)) (entry ∷ []) new
+put_takes Holds old new name body line entry takes none published readers fits may = rw takes.left (record {
+  step =
+      steps.carried_out (numbered line (put name body)) None entry may takes.legal refl refl
+      (rw (none, append-nil published) refl);
+  fits = rw none (fits_still old _ published refl refl fits);
+  limit = refl;
+})
+
+-- an open search is closed: new is old without it, and with these last answers
+module _ (old : ServiceState) (place : ℕ) (search : OpenSearch) (is_open : slice_get old.awaited place ≡ Some search) where
+  abbrev without : List Last → ServiceState
+  without lasts = record old { awaited = take place old.awaited ++ drop (place + 1) old.awaited; lasts = lasts }
+
+  within : place < length old.awaited
+  within = slice_get_within old.awaited place search is_open
+
+  one_less : length (take place old.awaited ++ drop (place + 1) old.awaited) + 1 ≡ length old.awaited
+  one_less = omega (arith, within, length-append (take place old.awaited) (drop (place + 1) old.awaited), length-take-le place old.awaited (omega (arith, within)), length-drop (place + 1) old.awaited)
+
+  still_least : IsService old → All (λ s. s.least ≤ length old.told) (take place old.awaited ++ drop (place + 1) old.awaited)
+  still_least is =
+      All-append (λ s. s.least ≤ length old.told) (take place old.awaited) (drop (place + 1) old.awaited)
+      (All-take (λ s. s.least ≤ length old.told) place old.awaited is.least) (All-drop (λ s. s.least ≤ length old.told) (place + 1) old.awaited is.least)
+
+  pub refused_is_service : IsService old → IsService (without old.lasts)
+  refused_is_service is = record {
+    begins = is.begins;
+    least = still_least is;
+    versions = is.versions;
+    turns = λ k d lt. omega (arith, is.turns k d lt, one_less);
+    reader_zero = is.reader_zero;
+  }
+
+  module _ (reader turn : ℕ) (answer : Answer) (can : CanStand old search reader answer) (next : turn ≡ (last_of old.lasts reader).turn + 1) where
+    abbrev now : List Last
+    now = set old.lasts reader (last turn answer.version)
+
+    pub answered_is_service : IsService old → IsService (without now)
+    answered_is_service is = record {
+      begins = is.begins;
+      least = still_least is;
+      versions = All-set (λ l. l.version ≤ length old.told) old.lasts reader (last turn answer.version) can.seen is.versions;
+      turns =
+          All-set (λ l. l.turn + length (take place old.awaited ++ drop (place + 1) old.awaited) ≤ old.searches) old.lasts reader (last turn answer.version)
+          (omega (arith, is.turns reader (last 0 0) can.one_of_them, one_less, next))
+          (λ k d lt. omega (arith, is.turns k d lt, one_less));
+      reader_zero = omega (arith, is.reader_zero, length-set old.lasts reader (last turn answer.version));
+    }
+
+-- An open search that gets its entry is a step of the run.
+module _ (Holds : List ℕ → List ℕ → Type 0) (old : ServiceState) (published : List ℕ) (readers : ℕ) (fits : Fits old published) where
+  last_published : (version : ℕ) → version ≡ length old.told → (version ≡ 0) ⊎ Contains published version
+  last_published version latest = one (last_is_one 0 published)
+    where
+      one : (last_or 0 published ≡ 0) ⊎ Contains published (last_or 0 published) → (version ≡ 0) ⊎ Contains published version
+      one (inl none) = inl (latest ∙ sym fits.latest ∙ none)
+      one (inr inside) = inr (subst (λ v. Contains published v) (fits.latest ∙ sym latest) inside)
+
+  was_published : (version : ℕ) → (version ≡ length old.told) ⊎ Contains old.kept version → (version ≡ 0) ⊎ Contains published version
+  was_published version (inl latest) = last_published version latest
+  was_published version (inr inside) = fits.kept version inside
+
+  pub gives_step : (entry : Entry) (new : ServiceState) → Gives old entry new → Steps Holds readers old published [] (entry ∷ []) new published
+  gives_step entry new (answered place search reader turn answer is_open can next is after) = rw (is, after) (record {
+    step =
+        steps.answered place search reader turn answer is_open
+        (record {
+          pattern = can.pattern;
+          asks = can.asks;
+          exact = can.exact;
+          published = was_published answer.version can.published;
+          not_older = can.not_older;
+          one_of_them = can.one_of_them;
+          later = omega (arith, next);
+          no_fall = can.no_fall;
+        }) refl refl refl;
+    fits = record { latest = fits.latest; kept = fits.kept };
+    limit = refl;
+  })
+  gives_step entry new (not_answered place search is_open is after) = rw (is, after) (record {
+    step = steps.not_answered place search is_open refl refl refl;
+    fits = record { latest = fits.latest; kept = fits.kept };
+    limit = refl;
+  })
+
+-- what is checked of a reader's answer, and that it is right, make it one that can stand
+pub can_stand : (service : ServiceState) (search : OpenSearch) (reader : ℕ) (answer : Answer) (seen : List Command) (item : Item) (prepared : Prepared)
+    → IsService service → item ≡ search.item → Asks item (pattern_of prepared) → IsAnswerOf (state_of seen) (pattern_of prepared) answer
+    → IsPrefix seen service.told → Contains service.kept answer.version → search.least ≤ answer.version → reader < length service.lasts
+    → (last_of service.lasts reader).version ≤ answer.version → CanStand service search reader answer
+can_stand service search reader answer seen item prepared is same asks right begins kept least within no_fall =
+    let whole : seen ++ (begins.0 ++ is.begins.0) ≡ service.accepted =
+    sym (append_assoc seen begins.0 is.begins.0) ∙ ap (λ l. l ++ is.begins.0) begins.1 ∙ is.begins.1 in
+    let cut : take answer.version service.accepted ≡ seen =
+    ap (λ v. take v service.accepted) right.version ∙ (ap (take (length seen)) (sym whole) ∙ take-append_seam seen (begins.0 ++ is.begins.0)) in
+    record {
+      pattern = pattern_of prepared;
+      asks = subst (λ i. Asks i (pattern_of prepared)) same asks;
+      exact = subst (λ c. IsAnswerOf (state_of c) (pattern_of prepared) answer) (sym cut) right;
+      published = inr kept;
+      seen = omega (arith, right.version, prefix_length seen service.told begins);
+      not_older = least;
+      one_of_them = within;
+      no_fall = no_fall;
+    }
+
+-- so does an answer from what was published last
+pub last_can_stand : (service : ServiceState) (search : OpenSearch) (place : ℕ) (answer : Answer) (item : Item) (prepared : Prepared)
+    → IsService service → slice_get service.awaited place ≡ Some search → item ≡ search.item → Asks item (pattern_of prepared)
+    → IsAnswerOf (state_of service.told) (pattern_of prepared) answer → CanClose service place 0 answer
+last_can_stand service search place answer item prepared is is_open same asks right =
+    let cut : take answer.version service.accepted ≡ service.told =
+    ap (λ v. take v service.accepted) right.version ∙ (ap (take (length service.told)) (sym is.begins.1) ∙ take-append_seam service.told is.begins.0) in
+    let at : get_or service.awaited place search ≡ search = get_or_from_slice_get service.awaited place search search is_open in
+    record {
+      search = search;
+      is_open = is_open;
+      stands = record {
+        pattern = pattern_of prepared;
+        asks = subst (λ i. Asks i (pattern_of prepared)) same asks;
+        exact = subst (λ c. IsAnswerOf (state_of c) (pattern_of prepared) answer) (sym cut) right;
+        published = inl right.version;
+        seen = omega (arith, right.version);
+        not_older = omega (arith, right.version, ap (λ s. s.least) at, is.least place search (slice_get_within service.awaited place search is_open));
+        one_of_them = is.reader_zero;
+        no_fall = omega (arith, right.version, is.versions 0 (last 0 0) is.reader_zero);
+      };
+    }
+
+-- any search can be refused for memory
+pub memory_is_fault : (item : Item) → searches_of item ≡ 1 → IsFaultOf item reason.OutOfMemory
+memory_is_fault (item.search case text) one = steps.no_memory refl
+memory_is_fault (item.search_in case name_text text) one = steps.no_memory refl
+memory_is_fault (item.put name body) one = absurd (omega (arith, one))
+memory_is_fault (item.load name path) one = absurd (omega (arith, one))
+memory_is_fault (item.remove name) one = absurd (omega (arith, one))
+memory_is_fault item.publish one = absurd (omega (arith, one))
+memory_is_fault item.sync one = absurd (omega (arith, one))
+memory_is_fault item.bad_line one = absurd (omega (arith, one))
+memory_is_fault item.bad_put one = absurd (omega (arith, one))
+memory_is_fault item.truncated one = absurd (omega (arith, one))
+memory_is_fault item.body_not_closed one = absurd (omega (arith, one))
+
+-- a version that a binary search finds is in the list
+pub found_in_list : ((x y : ℕ) → nat_cmp x y ≡ Equal → x ≡ y) → (versions : List ℕ) (v n : ℕ) (r : Result ℕ ℕ) → n ≡ length versions
+    → IsSearchInRange r n → IfOk r (HoldsAt (λ y. nat_cmp y v ≡ Equal) versions)
+    → MatchBool (is_ok r) (Contains versions v) (Unit {0})
+found_in_list same versions v n (Ok k) same_length bound ok = (k, subst (λ m. k < m) same_length bound, same (get_or versions k v) v (ok v))
+found_in_list same versions v n (Err k) same_length bound ok = tt
+
+pub if_true : {P Q : Type 0} (b : Bool) → (Q → P) → MatchBool b Q (Unit {0}) → MatchBool b P (Unit {0})
+if_true true f m = f m
+if_true false f m = m
+
+-- an answer of a reader can close the search at a place
+pub can_close : (service : ServiceState) (place reader version : ℕ) (search : OpenSearch) (l : Last) (answer : Answer) (seen : List Command) (asked_item : Item)
+    (prepared : Prepared) → IsService service → place < length service.awaited → search ≡ get_or service.awaited place search → asked_item ≡ search.item
+    → Asks asked_item (pattern_of prepared) → IsAnswerOf (state_of seen) (pattern_of prepared) answer → IsPrefix seen service.told
+    → version ≡ answer.version → Contains service.kept version → search.least ≤ version → reader < length service.lasts
+    → l ≡ get_or service.lasts reader l → l.version ≤ version → CanClose service place reader answer
+can_close service place reader version search l answer seen asked_item prepared is within here same asks right begins is_version kept least one_of_them last_is no_fall =
+    let its : l ≡ last_of service.lasts reader = last_is ∙ get_or_default service.lasts reader l (last 0 0) one_of_them in
+    record {
+      search = search;
+      is_open = slice_get-get_or service.awaited place search within ∙ ap Some (sym here);
+      stands =
+          can_stand service search reader answer seen asked_item prepared is same asks right begins
+          (subst (λ v. Contains service.kept v) is_version kept) (omega (arith, least, is_version)) one_of_them
+          (omega (arith, ap (λ x. x.version) its, no_fall, is_version));
+    }
+
+-- a search is closed with an answer
+module _ (inside : ServiceState) (place reader : ℕ) (answer : Answer) (closes : CanClose inside place reader answer) (number version : ℕ)
+    (found : OpenSearch) (l : Last) (here : found ≡ get_or inside.awaited place found) (is_number : number ≡ found.number)
+    (last_is : l ≡ get_or inside.lasts reader l) (is_version : version ≡ answer.version) (awaited' : List OpenSearch)
+    (left : awaited' ≡ take place inside.awaited ++ drop (place + 1) inside.awaited) where
+  abbrev after_answer : ServiceState
+  after_answer = record inside { awaited = awaited'; lasts = set inside.lasts reader (last (l.turn + 1) version) }
+
+  same_search : found ≡ closes.search
+  same_search = here ∙ get_or_from_slice_get inside.awaited place closes.search found closes.is_open
+
+  its_turn : l.turn + 1 ≡ (last_of inside.lasts reader).turn + 1
+  its_turn = ap (λ x. x.turn + 1) (last_is ∙ get_or_default inside.lasts reader l (last 0 0) closes.stands.one_of_them)
+
+  pub gives_answer : Gives inside (Found number reader (l.turn + 1) answer) after_answer
+  gives_answer =
+      answered place closes.search reader (l.turn + 1) answer closes.is_open closes.stands its_turn
+      (ap (λ n. Found n reader (l.turn + 1) answer) (is_number ∙ ap (λ s. s.number) same_search))
+      (rw (left, is_version) refl)
+
+  pub answer_is_service : IsService inside → IsService after_answer
+  answer_is_service is =
+      rw (left, is_version)
+      (answered_is_service inside place closes.search closes.is_open reader (l.turn + 1) answer closes.stands its_turn is)
+
+-- a search is closed without one
+module _ (inside : ServiceState) (place number : ℕ) (within : place < length inside.awaited) (found : OpenSearch)
+    (here : found ≡ get_or inside.awaited place found) (is_number : number ≡ found.number) (awaited' : List OpenSearch)
+    (left : awaited' ≡ take place inside.awaited ++ drop (place + 1) inside.awaited) where
+  abbrev after_refusal : ServiceState
+  after_refusal = record inside { awaited = awaited' }
+
+  is_open : slice_get inside.awaited place ≡ Some found
+  is_open = slice_get-get_or inside.awaited place found within ∙ ap Some (sym here)
+
+  pub gives_refusal : Gives inside (SearchRefused number reason.OutOfMemory) after_refusal
+  gives_refusal = not_answered place found is_open (ap (λ n. SearchRefused n reason.OutOfMemory) is_number) (rw left refl)
+
+  pub refusal_is_service : IsService inside → IsService after_refusal
+  refusal_is_service is = rw left (refused_is_service inside place found is_open is)
+
+pub put_is_service : (desk desk' : DeskState) (told : Known) (kept : List ℕ) (searches : ℕ) (awaited : List OpenSearch) (lasts : List Last)
+    (name body : List ℕ) (line : ℕ) (done : Result ℕ Reason) → IsPut desk.limit (state_of desk.accepted) name body line (entry_of line done)
+    → desk' ≡ desk_after done (Put name body ∷ []) desk → IsService (service_of desk told kept searches awaited lasts)
+    → IsService (service_of desk' told kept searches awaited lasts)
+put_is_service desk desk' told kept searches awaited lasts name body line done legal left =
+    entered_is_service (λ path bytes. Unit {0}) desk told 0 (numbered line (put name body)) (entry_of line done) desk' told 0
+    (carried_put (λ path bytes. Unit {0}) desk told 0 line done (entry_of line done) refl name body desk' legal left) kept searches awaited lasts
+
+pub same_opening_after : (done : Result ℕ Reason) (commands : List Command) (desk desk' : DeskState) → desk' ≡ desk_after done commands desk
+    → desk'.opening ≡ desk.opening
+same_opening_after done commands desk desk' left = ap (λ d. d.opening) left ∙ (same_opening done commands desk).0
+
+-- a put that is refused leaves the service as it is
+pub refused_put : (service : ServiceState) (name body : List ℕ) (line : ℕ) (why : Reason) (entry : Entry) → entry ≡ entry_of line (Err why)
+    → IsPut service.limit (state_of service.accepted) name body line (Refused line why) → TakesPut service name body line entry service
+refused_put service name body line why entry is legal = rw is (record {
+  legal = legal;
+  left = ap (λ l. record service { accepted = l }) (sym (append-nil service.accepted));
+})
+
+-- what is in the rest of a list is in the list
+pub contains_later : (x : ℕ) (xs : List ℕ) (v : ℕ) → Contains xs v → Contains (x ∷ xs) v
+contains_later x xs v inside = Contains-append_right (x ∷ []) xs v inside
+
+-- after a publish, what is kept was kept before, or is its version
+pub kept_note : (old kept' : List ℕ) (entry : Entry) (line v : ℕ) → entry ≡ Published line v
+    → ((version : ℕ) → Contains kept' version → Contains old version ⊎ (version ≡ v))
+    → (version : ℕ) → Contains kept' version → Contains old version ⊎ Contains (version_in (Some entry)) version
+kept_note old kept' entry line v is sub version inside = by (sub version inside)
+  where
+    by : Contains old version ⊎ (version ≡ v) → Contains old version ⊎ Contains (version_in (Some entry)) version
+    by (inl was) = inl was
+    by (inr same) = inr (rw (is, same) (0, omega arith, refl))
+
+pub either_map : {P P' Q : Type 0} → (P → P') → P ⊎ Q → P' ⊎ Q
+either_map f (inl p) = inl (f p)
+either_map f (inr q) = inr q
+
+-- the desk and what was told of are as they were
+pub left_same : (desk : DeskState) (told : Known) (failed : ℕ) (desk' : DeskState) (told' : Known) (failed' : ℕ) (kept : List ℕ) (searches : ℕ)
+    (awaited : List OpenSearch) (lasts : List Last) → IsLeft desk told failed desk' told' failed'
+    → service_of desk' told' kept searches awaited lasts ≡ service_of desk told kept searches awaited lasts
+left_same desk told failed desk' told' failed' kept searches awaited lasts left = rw (left.0, left.1) refl

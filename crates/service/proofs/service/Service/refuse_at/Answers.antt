@@ -1,0 +1,18 @@
+use Rattle.std.proofs.Common.{ap, sym, subst, ◌<◌, length}
+use Rattle.service.proofs.ServiceLemmas.{gives_refusal, refusal_is_service}
+use Rattle.service.proofs.service.Service.refuse_at.Goals as goal
+
+pub returns-clause-gives : goal.returns-clause-gives
+returns-clause-gives g c =
+    rw (← c.self.view_is)
+    (gives_refusal _ c.args.place _ (subst (λ s. c.args.place < length s.awaited) (sym c.self.view_is) c.requires) c.remove-search.result
+    c.remove-search.ensures.value (ap (λ s. s.number) c.search.view_is) _ c.remove-search.ensures.by_index.2)
+
+pub invariant_of-self : goal.invariant_of-self
+invariant_of-self g c = (
+  c.self.invariant.0,
+  c.self.invariant.1,
+  c.self.invariant.2,
+  refusal_is_service _ c.args.place _ (subst (λ s. c.args.place < length s.awaited) (sym c.self.view_is) c.requires) c.remove-search.result
+      c.remove-search.ensures.value (ap (λ s. s.number) c.search.view_is) _ c.remove-search.ensures.by_index.2 c.self.invariant.3,
+)

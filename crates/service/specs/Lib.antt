@@ -1,0 +1,4 @@
+pub mod Service
+pub mod Opening
+pub mod Collected
+pub mod Private

@@ -1,0 +1,5 @@
+-- What only the contracts of private functions cite. A clause can cite only `pub` modules.
+pub mod Entries
+pub mod Items
+pub mod Requests
+pub mod Closing

@@ -1,0 +1,66 @@
+-- Open searches that get their entries.
+use Rattle.std.specs.Prelude.{◌≡◌, ℕ, ◌+◌, ◌<◌, ◌≤◌, List, [], ◌∷◌, ◌++◌, length, All, Some, slice_get}
+use mathlib.Core.List.{IsPrefix}
+use Rattle.search.specs.Scan.{Answer}
+use Rattle.script.specs.Items.{Item}
+use Rattle.steps.specs.Steps.{OpenSearch, IsFaultOf, last}
+use Rattle.steps.specs.declared.last.Last.{Last}
+use Rattle.shared.specs.Desk.{DeskState}
+use Rattle.shared.specs.History.{Known}
+use Rattle.transcript.specs.declared.entry.Entry.TheVariants.{SearchRefused}
+use Rattle.transcript.specs.declared.entry.SearchReason.{SearchReason}
+use Rattle.service.specs.Service.{ServiceState, CanStand}
+use Rattle.service.specs.declared.request.Task.{Task}
+use Rattle.service.specs.declared.taken.Taken.{Taken}
+use Rattle.service.specs.declared.taken.Taken.TheVariants as taken
+
+-- What holds of every service.
+pub record IsService (service : ServiceState) : Type 0 where
+  pub begins : IsPrefix service.told service.accepted
+  pub least : All (λ search. search.least ≤ length service.told) service.awaited
+  pub versions : All (λ l. l.version ≤ length service.told) service.lasts
+  pub turns : All (λ l. l.turn + length service.awaited ≤ service.searches) service.lasts
+  pub reader_zero : 0 < length service.lasts
+
+-- the service with these parts
+abbrev pub service_of : DeskState → Known → List ℕ → ℕ → List OpenSearch → List Last → ServiceState
+service_of desk told kept searches awaited lasts = record {
+  limit = desk.limit;
+  accepted = desk.accepted;
+  told = told.commands;
+  kept = kept;
+  searches = searches;
+  awaited = awaited;
+  lasts = lasts;
+}
+
+abbrev pub with_kept : List ℕ → ServiceState → ServiceState
+with_kept kept service = record service { kept = kept }
+
+-- No reader has answered, and there is reader 0.
+pub record IsUnused (lasts : List Last) : Type 0 where
+  pub reader_zero : 0 < length lasts
+  pub unused : All (λ l. l ≡ last 0 0) lasts
+
+-- The search at this place can get this answer.
+pub record CanClose (service : ServiceState) (place reader : ℕ) (answer : Answer) : Type 0 where
+  pub search : OpenSearch
+  pub is_open : slice_get service.awaited place ≡ Some search
+  pub stands : CanStand service search reader answer
+
+-- one more search was taken, and is open
+abbrev pub with_search : Item → ServiceState → ServiceState
+with_search item service = record service {
+  searches = service.searches + 1;
+  awaited = service.awaited ++ record { number = service.searches + 1; item = item; least = length service.told } ∷ [];
+}
+
+-- one more search was taken, and is refused
+pub record IsRefused (why : SearchReason) (old : ServiceState) (result : Taken) (new : ServiceState) : Type 0 where
+  pub entry : result ≡ taken.Entry (SearchRefused (old.searches + 1) why)
+  pub left : new ≡ record old { searches = old.searches + 1 }
+
+-- A search was taken: it is open, or refused.
+pub data IsAsked (item : Item) (old : ServiceState) (result : Taken) (new : ServiceState) : Type 0 where
+  asked_for : (task : Task) → result ≡ taken.Search task → new ≡ with_search item old → IsAsked item old result new
+  refused : (why : SearchReason) → IsFaultOf item why → IsRefused why old result new → IsAsked item old result new

@@ -1,0 +1,75 @@
+-- The entries of commands and publishes.
+use Rattle.std.specs.Prelude.{◌≡◌, ℕ, ◌<◌, ◌⊎◌, Bool, true, false, List, ◌++◌, Option, Some, Result, Ok, Err}
+use Rattle.ere.specs.declared.error.EreError.{EreError}
+use Rattle.ere.specs.declared.error.EreErrorKind.{EreErrorKind}
+use Rattle.ere.specs.declared.error.EreErrorKind.TheVariants as kind
+use Rattle.index.specs.declared.command.Command.{Command}
+use Rattle.index.specs.declared.error.NameError.{NameError}
+use Rattle.index.specs.declared.error.NameError.TheVariants as name
+use Rattle.index.specs.State.{State, state_of}
+use Rattle.index.specs.Text.{IsBody}
+use Rattle.script.specs.Items.{load}
+use Rattle.shared.specs.Desk.{DeskState}
+use Rattle.transcript.specs.declared.entry.Entry.{Entry}
+use Rattle.transcript.specs.declared.entry.Entry.TheVariants.{Accepted, Refused, Published}
+use Rattle.transcript.specs.declared.entry.Reason.{Reason}
+use Rattle.transcript.specs.declared.entry.Reason.TheVariants as reason
+use Rattle.transcript.specs.declared.entry.SearchReason.{SearchReason}
+use Rattle.transcript.specs.declared.entry.SearchReason.TheVariants as search_reason
+use Rattle.steps.specs.LegalRows.{IsRoomFor, HasBody, IsRemove, IsNamed, HasLoaded, IsFailedTimes, greatest_failures}
+use Rattle.steps.specs.Rows.{command_of, failures_in}
+
+abbrev pub reason_of_name : NameError → Reason
+reason_of_name name.OutOfMemory = reason.OutOfMemory
+reason_of_name error = reason.Name error
+
+abbrev pub reason_of_fault_of : Bool → EreErrorKind → EreError → SearchReason
+reason_of_fault_of in_name kind.OutOfMemory error = search_reason.OutOfMemory
+reason_of_fault_of true _ error = search_reason.NamePattern error
+reason_of_fault_of false _ error = search_reason.Pattern error
+
+abbrev pub reason_of_fault : Bool → EreError → SearchReason
+reason_of_fault in_name error = reason_of_fault_of in_name error.kind error
+
+-- the entry of a command that was accepted or refused
+abbrev pub entry_of : ℕ → Result ℕ Reason → Entry
+entry_of line (Ok commands) = Accepted line commands
+entry_of line (Err why) = Refused line why
+
+-- the entry of a publish
+abbrev pub published_entry_of : ℕ → Result ℕ Reason → Entry
+published_entry_of line (Ok version) = Published line version
+published_entry_of line (Err why) = Refused line why
+
+-- the desk after these commands were accepted or refused
+abbrev pub desk_after : Result ℕ Reason → List Command → DeskState → DeskState
+desk_after (Ok count) commands desk = record desk { accepted = desk.accepted ++ commands }
+desk_after (Err why) commands desk = desk
+
+abbrev pub RanOut : ℕ → Entry → Type 0
+RanOut line entry = entry ≡ Refused line reason.OutOfMemory
+
+-- Refused as full exactly if the limit is reached. If it is not, memory can run out.
+abbrev pub IsAccepted : ℕ → State → ℕ → Entry → Type 0
+IsAccepted most state line entry = IsRoomFor most state line entry ⊎ ((state.version < most) × RanOut line entry)
+
+-- The faults of a body come first, then the room.
+abbrev pub HasBodyOrNoMemory : ℕ → State → List ℕ → ℕ → Entry → Type 0
+HasBodyOrNoMemory most state body line entry = HasBody most state body line entry ⊎ (IsBody body × (state.version < most) × RanOut line entry)
+
+-- A remove needs a document of that name, and then room. If there is room, memory can run out.
+abbrev pub IsRemoveOrNoMemory : ℕ → State → List ℕ → ℕ → Entry → Type 0
+IsRemoveOrNoMemory most state name line entry = IsRemove most state name line entry ⊎ ((state.version < most) × RanOut line entry)
+
+-- A source's count rose by this number of failures, and no longer changes once it is the greatest.
+pub record IsCounted (failures failed failed' : ℕ) : Type 0 where
+  pub rises : IsFailedTimes failures failed failed'
+  pub stays : failed ≡ greatest_failures → failed' ≡ greatest_failures
+
+-- A load: the source is asked once, unless the load is refused at its name, and failed exactly if the entry says so.
+pub record IsLoaded (Holds : List ℕ → List ℕ → Type 0) (desk : DeskState) (failed : ℕ) (name path : List ℕ) (done : Result ℕ Reason)
+    (desk' : DeskState) (failed' : ℕ) : Type 0 where
+  pub loaded : Option (List ℕ)
+  pub legal : (line : ℕ) → IsNamed name line (entry_of line done) (HasLoaded Holds desk.limit (state_of desk.accepted) path loaded line (entry_of line done))
+  pub left : desk' ≡ desk_after done (command_of (load name path) loaded) desk
+  pub counted : (line : ℕ) → IsCounted (failures_in (Some (entry_of line done))) failed failed'

@@ -1,0 +1,128 @@
+-- A service between two steps.
+use Rattle.std.specs.Prelude.{◌≡◌, ℕ, ◌+◌, ◌⊎◌, ◌≤◌, ◌<◌, List, [], ◌∷◌, ◌++◌, length, take, drop, replicate, flat_map, Contains}
+use Rattle.std.specs.Prelude.{Option, Some, true, false, slice_get, slice_set}
+use Rattle.index.specs.declared.command.Command.{Command}
+use Rattle.index.specs.declared.command.Command.TheVariants.{Put}
+use Rattle.index.specs.State.{state_of}
+use Rattle.search.specs.Pattern.{Pattern}
+use Rattle.search.specs.Scan.{Answer, IsAnswerOf}
+use Rattle.script.specs.Items.{Item, Numbered}
+use Rattle.service.specs.declared.taken.Taken.{Taken}
+use Rattle.service.specs.declared.taken.Taken.TheVariants as taken
+use Rattle.transcript.specs.declared.entry.Entry.{Entry}
+use Rattle.transcript.specs.declared.entry.Entry.TheVariants.{Found, SearchRefused}
+use Rattle.transcript.specs.declared.entry.SearchReason.TheVariants as reason
+use Rattle.steps.specs.declared.last.Last.{Last}
+use Rattle.steps.specs.LegalRows.{IsPut}
+use Rattle.steps.specs.Rows.{accepted_by, version_in, last_or, failures_in, list_of, is_sync, searches_of}
+use Rattle.steps.specs.Steps.{OpenSearch, RunState, IsStep, MayTake, Asks, last, last_of}
+
+-- limit: how many commands are accepted at most. accepted: the accepted commands. told: those that were published last.
+-- kept: versions that were published, of which no open search needs any other. searches, awaited, lasts: as in a run.
+pub record ServiceState : Type 0 where
+  pub limit : ℕ
+  pub accepted : List Command
+  pub told : List Command
+  pub kept : List ℕ
+  pub searches : ℕ
+  pub awaited : List OpenSearch
+  pub lasts : List Last
+
+-- before the first item
+abbrev pub first_service : ℕ → ℕ → ServiceState
+first_service limit readers = record {
+  limit = limit;
+  accepted = [];
+  told = [];
+  kept = 0 ∷ [];
+  searches = 0;
+  awaited = [];
+  lasts = replicate (readers + 1) (last 0 0);
+}
+
+-- the run that the service is in, after publishes of these versions
+abbrev pub run_of : ServiceState → List ℕ → RunState
+run_of service published = record {
+  accepted = service.accepted;
+  published = published;
+  searches = service.searches;
+  awaited = service.awaited;
+  lasts = service.lasts;
+}
+
+-- These versions were published, the last of them by the last publish.
+pub record Fits (service : ServiceState) (published : List ℕ) : Type 0 where
+  pub latest : last_or 0 published ≡ length service.told
+  pub kept : (version : ℕ) → Contains service.kept version → (version ≡ 0) ⊎ Contains published version
+
+abbrev pub versions_in : List Entry → List ℕ
+versions_in entries = flat_map (λ entry. version_in (Some entry)) entries
+
+-- A step of the service is a legal step of its run.
+pub record Steps (Holds : List ℕ → List ℕ → Type 0) (readers : ℕ) (old : ServiceState) (published : List ℕ) (taken : List Numbered) (written : List Entry)
+    (new : ServiceState) (published' : List ℕ) : Type 0 where
+  pub step : IsStep Holds old.limit readers (run_of old published) taken written (run_of new published')
+  pub fits : Fits new published'
+  pub limit : new.limit ≡ old.limit
+
+-- An item was taken, and these entries are to be written.
+abbrev pub Takes : (List ℕ → List ℕ → Type 0) → ServiceState → Numbered → List Entry → ServiceState → Type 0
+Takes Holds old item written new =
+    (published : List ℕ) (readers : ℕ) → Fits old published → MayTake readers (run_of old published) item.item
+    → Steps Holds readers old published (item ∷ []) written new (published ++ versions_in written)
+
+-- A put was taken: it is accepted or refused, and the service has its command if it is accepted.
+pub record TakesPut (old : ServiceState) (name body : List ℕ) (line : ℕ) (entry : Entry) (new : ServiceState) : Type 0 where
+  pub legal : IsPut old.limit (state_of old.accepted) name body line entry
+  pub left : new ≡ record old { accepted = old.accepted ++ accepted_by (Some entry) (Put name body ∷ []) }
+
+-- An answer that the open search can get: of a version that is kept, or was published last, no older than what was
+-- published before the search was asked and than the reader's last answer, for a pattern that the search's texts spell.
+pub record CanStand (service : ServiceState) (search : OpenSearch) (reader : ℕ) (answer : Answer) : Type 0 where
+  pub pattern : Pattern
+  pub asks : Asks search.item pattern
+  pub exact : IsAnswerOf (state_of (take answer.version service.accepted)) pattern answer
+  pub published : (answer.version ≡ length service.told) ⊎ Contains service.kept answer.version
+  pub seen : answer.version ≤ length service.told
+  pub not_older : search.least ≤ answer.version
+  pub one_of_them : reader < length service.lasts
+  pub no_fall : (last_of service.lasts reader).version ≤ answer.version
+
+-- An open search got its entry: an answer, or the refusal for want of memory.
+pub data Gives (old : ServiceState) (entry : Entry) (new : ServiceState) : Type 0 where
+  answered : (place : ℕ) (search : OpenSearch) (reader turn : ℕ) (answer : Answer) → slice_get old.awaited place ≡ Some search
+      → CanStand old search reader answer → turn ≡ (last_of old.lasts reader).turn + 1 → entry ≡ Found search.number reader turn answer
+      → new ≡ record old { awaited = take place old.awaited ++ drop (place + 1) old.awaited; lasts = slice_set old.lasts reader (last turn answer.version) }
+      → Gives old entry new
+  not_answered : (place : ℕ) (search : OpenSearch) → slice_get old.awaited place ≡ Some search → entry ≡ SearchRefused search.number reason.OutOfMemory
+      → new ≡ record old { awaited = take place old.awaited ++ drop (place + 1) old.awaited } → Gives old entry new
+
+-- the entries that an item has at once
+abbrev pub written_by : Taken → List Entry
+written_by (taken.Entry entry) = entry ∷ []
+written_by (taken.Search task) = []
+written_by taken.Sync = []
+
+-- how many loads failed
+abbrev pub failures_by : Taken → ℕ
+failures_by (taken.Entry entry) = failures_in (Some entry)
+failures_by (taken.Search task) = 0
+failures_by taken.Sync = 0
+
+-- Only a search is open, and only a sync has no entry.
+abbrev pub IsKind : Item → Taken → Type 0
+IsKind item (taken.Entry entry) = is_sync item ≡ false
+IsKind item (taken.Search task) = searches_of item ≡ 1
+IsKind item taken.Sync = is_sync item ≡ true
+
+-- An item was taken, and its entry is to be written: at once, or after its search was open for a moment.
+pub data TakesAlone (Holds : List ℕ → List ℕ → Type 0) (old : ServiceState) (item : Numbered) (entry : Option Entry) (new : ServiceState) : Type 0 where
+  at_once : Takes Holds old item (list_of entry) new → TakesAlone Holds old item entry new
+  answered : (given : Entry) (between : ServiceState) → searches_of item.item ≡ 1 → entry ≡ Some given → Takes Holds old item [] between → Gives between given new
+      → TakesAlone Holds old item entry new
+
+-- after a search that is open, one is
+abbrev pub HasOpened : Taken → ServiceState → Type 0
+HasOpened (taken.Entry entry) new = Unit {0}
+HasOpened (taken.Search task) new = 0 < length new.awaited
+HasOpened taken.Sync new = Unit {0}

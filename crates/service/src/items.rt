@@ -1,0 +1,228 @@
+//! The items of a script, carried out.
+
+ghost use Rattle.std.specs.Prelude.{◌≡◌, ℕ, ◌+◌, ◌<◌, ◌^◌, ◌≤◌, List, [], ◌∷◌, length, IfOk, IfErr};
+ghost use Rattle.index.specs.declared.command.Command.TheVariants.{Put as put_command, Remove as remove_command};
+ghost use Rattle.index.specs.State.{State, state_of};
+ghost use Rattle.index.specs.Text.{greatest_body};
+ghost use Rattle.script.specs.Reading.{shown_item};
+ghost use Rattle.script.specs.Items.{numbered as numbered_item};
+ghost use Rattle.shared.specs.Desk.{DeskState, IsPutFault};
+ghost use Rattle.shared.specs.History.{known};
+ghost use Rattle.steps.specs.LegalRows.{IsPut, IsNamed, IsRemove};
+ghost use Rattle.service.specs.Private.Entries.{reason_of_name, entry_of, published_entry_of, desk_after, HasBodyOrNoMemory, IsRemoveOrNoMemory, IsLoaded};
+ghost use Rattle.service.specs.Private.Items.{IsCarriedOut};
+
+use crate::source::{Fault, Source};
+use index::{Body, BodyErrorKind, MAX_BODY, Name, NameError};
+use script::{Item, Numbered};
+use shared::{Desk, PutErrorKind, RemoveError, Told};
+use std::alloc::Global;
+use std::sync::Wait;
+use transcript::{Entry, Reason};
+
+/// Why a line with this name is refused: the name is invalid, or memory ran out.
+fn reason_of_name(error: NameError) -> Reason
+    ensures { result ≡ reason_of_name error }
+{
+    match error {
+        NameError::OutOfMemory => Reason::OutOfMemory,
+        error => Reason::Name(error),
+    }
+}
+
+fn put_body(desk: &mut Desk, name: Name, bytes: Vec<u8>) -> Result<u32, Reason>
+    ensures entry { (line : ℕ) → HasBodyOrNoMemory desk.old.limit (state_of desk.old.accepted) bytes.items line (entry_of line result) }
+    ensures desk { desk.new ≡ desk_after result (put_command name bytes.items ∷ []) desk.old }
+{
+    let body = match Body::new(bytes) {
+        Ok(body) => body,
+        Err(error) => return Err(Reason::Body(error.kind)),
+    };
+    match desk.put(name, body) {
+        Ok(commands) => Ok(commands),
+        Err(refused) => match refused.kind {
+            PutErrorKind::Full => Err(Reason::Full),
+            PutErrorKind::OutOfMemory => Err(Reason::OutOfMemory),
+        },
+    }
+}
+
+fn put(alloc: Global, desk: &mut Desk, name: &[u8], body: &[u8]) -> Result<u32, Reason>
+    ensures entry { (line : ℕ) → IsPut desk.old.limit (state_of desk.old.accepted) name.now body.now line (entry_of line result) }
+    ensures desk { desk.new ≡ desk_after result (put_command name.now body.now ∷ []) desk.old }
+{
+    let name = match Name::new(alloc, name) {
+        Ok(name) => name,
+        Err(error) => return Err(reason_of_name(error)),
+    };
+    if body.len() > MAX_BODY {
+        return Err(Reason::Body(BodyErrorKind::TooLong));
+    }
+    match Vec::from_slice(alloc, body) {
+        Ok(bytes) => put_body(desk, name, bytes),
+        Err(_) => Err(Reason::OutOfMemory),
+    }
+}
+
+/// Puts a body that was already read.
+pub fn put_read(alloc: Global, desk: &mut Desk, name: &[u8], body: Vec<u8>) -> Result<u32, Reason>
+    ensures entry { (line : ℕ) → IsPut desk.old.limit (state_of desk.old.accepted) name.now body.items line (entry_of line result) }
+    ensures desk { desk.new ≡ desk_after result (put_command name.now body.items ∷ []) desk.old }
+{
+    match Name::new(alloc, name) {
+        Ok(name) => put_body(desk, name, body),
+        Err(error) => Err(reason_of_name(error)),
+    }
+}
+
+/// Why a put whose body is too long is refused: for its name, if that is not valid, and otherwise for the body.
+pub fn reason_of_long_put(alloc: Global, name: &[u8]) -> Reason
+    ensures { (most : ℕ) (state : State) (body : List ℕ) (line : ℕ)
+        → greatest_body < length body → IsPut most state name.now body line (Entry.Refused line result) }
+{
+    match Name::new(alloc, name) {
+        Ok(_) => Reason::Body(BodyErrorKind::TooLong),
+        Err(error) => reason_of_name(error),
+    }
+}
+
+/// Why a put is refused if there is no memory for its bytes: for its name, if that is not valid, and otherwise for
+/// lack of memory.
+pub fn reason_of_lost_put(alloc: Global, name: &[u8]) -> Reason
+    ensures { (most : ℕ) (state : State) (body : List ℕ) (line : ℕ) → IsPut most state name.now body line (Entry.Refused line result) }
+{
+    match Name::new(alloc, name) {
+        Ok(_) => Reason::OutOfMemory,
+        Err(error) => reason_of_name(error),
+    }
+}
+
+/// Loads a body and puts it. The source is asked for the body once, unless the line is refused at its name.
+/// `CannotLoad` means that the source failed.
+fn load<S: Source>(
+    alloc: Global,
+    desk: &mut Desk,
+    source: &mut S,
+    name: &[u8],
+    path: &[u8],
+) -> Result<u32, Reason>
+    ensures counted { S.failed source.old ≤ S.failed source.new }
+    ensures entry { IsLoaded (S.holds source.old) desk.old (S.failed source.old) name.now path.now result desk.new (S.failed source.new) }
+    ensures same { (path body : List ℕ) → (S.holds source.new path body → S.holds source.old path body)
+        × (S.holds source.old path body → S.holds source.new path body) }
+{
+    let name = match Name::new(alloc, name) {
+        Ok(name) => name,
+        Err(error) => return Err(reason_of_name(error)),
+    };
+    match source.read(alloc, path) {
+        Ok(bytes) => put_body(desk, name, bytes),
+        Err(Fault::Failed) => Err(Reason::CannotLoad),
+        Err(Fault::OutOfMemory) => Err(Reason::OutOfMemory),
+    }
+}
+
+fn remove(alloc: Global, desk: &mut Desk, name: &[u8]) -> Result<u32, Reason>
+    ensures entry { (line : ℕ) → IsNamed name.now line (entry_of line result)
+        (IsRemove desk.old.limit (state_of desk.old.accepted) name.now line (entry_of line result)) }
+    ensures desk { desk.new ≡ desk_after result (remove_command name.now ∷ []) desk.old }
+{
+    match Name::new(alloc, name) {
+        Ok(name) => remove_named(desk, &name),
+        Err(error) => Err(reason_of_name(error)),
+    }
+}
+
+/// Removes the document of this name.
+fn remove_named(desk: &mut Desk, name: &Name) -> Result<u32, Reason>
+    ensures entry { (line : ℕ) → IsRemoveOrNoMemory desk.old.limit (state_of desk.old.accepted) name.now line (entry_of line result) }
+    ensures desk { desk.new ≡ desk_after result (remove_command name.now ∷ []) desk.old }
+{
+    match desk.remove(name) {
+        Ok(commands) => Ok(commands),
+        Err(RemoveError::NoSuchFile) => Err(Reason::NoSuchFile),
+        Err(RemoveError::Full) => Err(Reason::Full),
+        Err(RemoveError::OutOfMemory) => Err(Reason::OutOfMemory),
+    }
+}
+
+/// The entry of a command.
+pub fn entry_of(line: u32, done: Result<u32, Reason>) -> Entry
+    ensures { result ≡ entry_of line done }
+{
+    match done {
+        Ok(commands) => Entry::Accepted { line, commands },
+        Err(reason) => Entry::Refused { line, reason },
+    }
+}
+
+/// Publishes all accepted commands, and keeps what the publish hands out in `told`. Returns the version.
+fn publish<R: Wait>(rt: &R, desk: &mut Desk, told: &mut Told) -> Result<u32, Reason>
+    ensures ok { IfOk result (λ version. (version ≡ length desk.old.accepted) × (told.new ≡ known desk.old.opening desk.old.accepted)) }
+    ensures err { IfErr result (λ reason. (reason ≡ Reason.OutOfMemory) × (told.new ≡ told.old)) }
+    ensures accepted { desk.new.accepted ≡ desk.old.accepted }
+    ensures opening { (desk.new.opening ≡ desk.old.opening) × (desk.new.limit ≡ desk.old.limit) }
+{
+    match desk.publish(rt) {
+        Ok(published) => {
+            let version = published.version();
+            *told = published;
+            Ok(version)
+        }
+        Err(_) => Err(Reason::OutOfMemory),
+    }
+}
+
+fn publish_entry(line: u32, done: Result<u32, Reason>) -> Entry
+    ensures { result ≡ published_entry_of line done }
+{
+    match done {
+        Ok(version) => Entry::Published { line, version },
+        Err(reason) => Entry::Refused { line, reason },
+    }
+}
+
+/// What became of an item.
+#[derive(Drop)]
+pub enum Outcome {
+    /// It was carried out, or refused.
+    Entry(Entry),
+    /// It is a search, which a reading is to answer.
+    Search,
+    /// It is a sync: the searches before it are to be answered before anything after it is carried out.
+    Sync,
+}
+
+/// Carries out an item at the desk, and keeps what a publish hands out in `told`. Searches and syncs are left to the
+/// caller.
+pub fn carry_out<R: Wait, S: Source>(
+    rt: &R,
+    alloc: Global,
+    desk: &mut Desk,
+    told: &mut Told,
+    source: &mut S,
+    item: Numbered<'_>,
+) -> Outcome
+    ensures done { IsCarriedOut (S.holds source.old) desk.old told.old (S.failed source.old)
+        (numbered_item item.entry.line (shown_item item.entry.item)) result desk.new told.new (S.failed source.new) }
+    ensures same { (path body : List ℕ) → (S.holds source.new path body → S.holds source.old path body)
+        × (S.holds source.old path body → S.holds source.new path body) }
+    ensures counted { S.failed source.old ≤ S.failed source.new }
+{
+    let line = item.line;
+    match item.item {
+        Item::Put { name, body } => Outcome::Entry(entry_of(line, put(alloc, desk, name, body))),
+        Item::Load { name, path } => {
+            Outcome::Entry(entry_of(line, load(alloc, desk, source, name, path)))
+        }
+        Item::Remove { name } => Outcome::Entry(entry_of(line, remove(alloc, desk, name))),
+        Item::Publish => Outcome::Entry(publish_entry(line, publish(rt, desk, told))),
+        Item::Search { .. } => Outcome::Search,
+        Item::SearchIn { .. } => Outcome::Search,
+        Item::Sync => Outcome::Sync,
+        Item::BadLine => Outcome::Entry(entry_of(line, Err(Reason::BadLine))),
+        Item::BadPut => Outcome::Entry(entry_of(line, Err(Reason::BadPut))),
+        Item::Truncated => Outcome::Entry(entry_of(line, Err(Reason::Truncated))),
+        Item::BodyNotClosed => Outcome::Entry(entry_of(line, Err(Reason::BodyNotClosed))),
+    }
+}

@@ -1,0 +1,28 @@
+//! The state machine of runs and sessions. A `Service` takes items and answers, one after the other, and says which entry
+//! each of them gets. It starts no thread and writes nothing. A `Reader` answers searches for it, in any thread.
+#![tactic(auto)]
+
+mod collected;
+mod done;
+mod gate;
+mod items;
+mod naming;
+mod open_search;
+mod opening;
+mod question;
+mod reader;
+mod request;
+mod service;
+mod source;
+mod taken;
+
+pub use collected::Collected;
+pub use done::Done;
+pub use gate::{Gate, Point};
+pub use naming::Naming;
+pub use opening::{Opened, open};
+pub use reader::Reader;
+pub use request::Task;
+pub use service::Service;
+pub use source::{Fault, Source};
+pub use taken::Taken;

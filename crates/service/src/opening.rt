@@ -1,0 +1,142 @@
+//! Services and their readers, opened together.
+
+ghost use Rattle.std.specs.Prelude.{◌≡◌, ℕ, ◌+◌, ◌<◌, ◌≤◌, [], ◌∷◌, All, IfOk, length, replicate};
+ghost use Rattle.shared.specs.declared.opening.TheConstants.{MAX_COMMANDS};
+ghost use Rattle.shared.specs.Desk.{desk_state};
+ghost use Rattle.shared.specs.History.{known};
+ghost use Rattle.steps.specs.Steps.{last};
+ghost use Rattle.service.specs.Service.{first_service};
+ghost use Rattle.service.specs.Opening.{opened_state};
+
+use crate::naming::Naming;
+use crate::reader::Reader;
+use crate::service::Service;
+use shared::{Desk, OpenError, Reading, Told};
+use std::alloc::{AllocError, Global};
+use std::collections::VecDeque;
+use std::marker::{Model, PhantomData};
+use std::sync::Wait;
+use steps::Last;
+
+/// A desk and its readings, before the first item. They have no name in types yet. Contracts see them as their opening, the
+/// greatest number of commands, and the number of readers. It must be named.
+pub struct Opened {
+    desk: Desk,
+    told: Told,
+    /// The reading of reader 0.
+    reading: Reading,
+    readings: Vec<Reading>,
+}
+
+impl Model for Opened {
+    ghost use Rattle.std.specs.Prelude.{◌≡◌, ◌≤◌, [], All, length};
+    ghost use Rattle.shared.specs.History.{known};
+    ghost use Rattle.service.specs.Opening.{OpenedState, opened_state};
+
+    ghost Value = { OpenedState };
+
+    ghost view = { λ o. opened_state o.desk.opening o.desk.limit (length o.readings.items) };
+
+    ghost invariant = { λ o. (o.desk.accepted ≡ []) × (o.told ≡ known o.desk.opening []) × (o.reading ≡ known o.desk.opening [])
+        × All (λ reading. reading ≡ known o.desk.opening []) o.readings.items × (length o.readings.items ≤ 16) };
+}
+
+/// Opens a service for at most `max_commands` commands (1 to 4,294,967,294), with `readers` readers in addition to reader 0
+/// (0 to 16). `NoPlace` means that a reader got no place, and `OutOfMemory` that memory ran out.
+pub fn open<R: Wait>(
+    rt: &R,
+    alloc: Global,
+    max_commands: u32,
+    readers: u32,
+) -> Result<Opened, OpenError>
+    requires commands { (0 < max_commands) × (max_commands ≤ MAX_COMMANDS) }
+    requires readers { readers ≤ 16 }
+    ensures { IfOk result (λ opened. opened ≡ opened_state opened.opening max_commands readers) }
+{
+    let (mut desk, mut readings) = shared::open(rt, alloc, max_commands, readers as usize + 1)?;
+    match (readings.pop(), desk.publish(rt)) {
+        (Some(reading), Ok(told)) => Ok(Opened {
+            desk,
+            told,
+            reading,
+            readings,
+        }),
+        _ => {
+            desk.close(rt);
+            Err(OpenError::OutOfMemory)
+        }
+    }
+}
+
+impl Opened {
+    /// The service, and its readers. An `Err` means that memory ran out for their lists.
+    pub fn named<J: Naming, R: Wait>(
+        self,
+        rt: &R,
+        alloc: Global,
+    ) -> Result<(Service<J>, Vec<Reader<J>>), AllocError>
+        requires { self.opening ≡ J.book }
+        ensures service { IfOk result (λ named. named.0 ≡ first_service self.limit self.readers) }
+        ensures count { IfOk result (λ named. length named.1.items ≡ self.readers) }
+    {
+        let Opened {
+            desk,
+            told,
+            reading,
+            readings,
+        } = self;
+        match parts(alloc, readings) {
+            Ok((readers, kept, lasts)) => {
+                let service = Service::new(alloc, desk, told, reading, kept, lasts);
+                Ok((service, readers))
+            }
+            Err(error) => {
+                desk.close(rt);
+                Err(error)
+            }
+        }
+    }
+}
+
+/// Readers with these readings, numbered from 1, and the lists of a service with so many readers before its first item.
+fn parts<J: Naming>(
+    alloc: Global,
+    readings: Vec<Reading>,
+) -> Result<(Vec<Reader<J>>, VecDeque<u32>, Vec<Last>), AllocError>
+    requires opening { All (λ reading. reading.opening ≡ J.book) readings.items }
+    requires few { length readings.items ≤ 16 }
+    ensures readers { IfOk result (λ parts. length parts.0.items ≡ length readings.items) }
+    ensures kept { IfOk result (λ parts. parts.1.items ≡ 0 ∷ []) }
+    ensures lasts { IfOk result (λ parts. parts.2.items ≡ replicate (length readings.items + 1) (last 0 0)) }
+{
+    let first = Last {
+        turn: 0,
+        version: 0,
+    };
+    let lasts = vec![in alloc; first; readings.len() + 1]?;
+    let mut kept = VecDeque::new(alloc);
+    kept.push_back(0)?;
+    let readers = readers_of(alloc, readings)?;
+    Ok((readers, kept, lasts))
+}
+
+/// Readers with these readings, numbered from 1.
+fn readers_of<J: Naming>(
+    alloc: Global,
+    readings: Vec<Reading>,
+) -> Result<Vec<Reader<J>>, AllocError>
+    requires opening { All (λ reading. reading.opening ≡ J.book) readings.items }
+    requires few { length readings.items ≤ 16 }
+    ensures count { IfOk result (λ readers. length readers.items ≡ length readings.items) }
+{
+    let mut readers = Vec::with_capacity(alloc, readings.len())?;
+    for reading in readings {
+        let number = readers.len() as u32 + 1;
+        readers.push(Reader {
+            reading,
+            number,
+            of: PhantomData,
+        })?;
+    }
+    Ok(readers)
+}

@@ -1,0 +1,15 @@
+//! What became of items.
+
+use crate::request::Task;
+use transcript::Entry;
+
+/// What became of an item.
+#[derive(Drop)]
+pub enum Taken {
+    /// It has its entry.
+    Entry(Entry),
+    /// It is a search, which is open now. A reader is to answer it, or `Service::answer_here`.
+    Search(Task),
+    /// It is a sync, which has no entry.
+    Sync,
+}

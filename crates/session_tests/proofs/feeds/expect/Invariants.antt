@@ -1,0 +1,5 @@
+use Rattle.session_tests.proofs.feeds.expect.Given as goal
+
+-- the history that was just opened
+abbrev pub ghosts-expect_as : goal.ghosts-expect_as
+ghosts-expect_as g a = record { book = a.opened.book }

@@ -1,0 +1,191 @@
+//! Items that are read with their own bytes, as messages that carry what was read.
+
+ghost use Rattle.std.specs.Prelude.{◌≡◌};
+
+use crate::inputs::{Input, repeated};
+use ere::Case;
+use reads::{Feed, Front, Naming, Opened, ReadItem};
+use script::Item;
+use std::alloc::{AllocError, Global};
+use std::io::{BufReader, ErrorKind};
+use std::marker::Brand;
+use std::process::Abort;
+use std::test::Fail;
+use stream::{OwnedItem, StreamError};
+
+/// The form of an item, and its words.
+type Words<'a> = (&'static [u8], &'a [u8], &'a [u8]);
+
+fn form_in(case: Case, exact: &'static [u8], ignoring: &'static [u8]) -> &'static [u8] {
+    match case {
+        Case::Exact => exact,
+        Case::Ignore => ignoring,
+    }
+}
+
+fn words_of_lent(item: Item<'_>) -> Words<'_> {
+    match item {
+        Item::Put { name, body } => (b"put", name, body),
+        Item::Load { name, path } => (b"load", name, path),
+        Item::Remove { name } => (b"remove", name, b""),
+        Item::Search { case, pattern } => (form_in(case, b"search", b"isearch"), pattern, b""),
+        Item::SearchIn {
+            case,
+            name_pattern,
+            pattern,
+        } => (
+            form_in(case, b"searchin", b"isearchin"),
+            name_pattern,
+            pattern,
+        ),
+        Item::Publish => (b"publish", b"", b""),
+        Item::Sync => (b"sync", b"", b""),
+        Item::BadLine => (b"bad line", b"", b""),
+        Item::BadPut => (b"bad put", b"", b""),
+        Item::Truncated => (b"truncated", b"", b""),
+        Item::BodyNotClosed => (b"body not closed", b"", b""),
+    }
+}
+
+fn words_of(item: &OwnedItem) -> Words<'_> {
+    match item.lend() {
+        Some(lent) => words_of_lent(lent),
+        None => match item {
+            OwnedItem::LongPut { name } => (b"long put", name.as_slice(), b""),
+            OwnedItem::LostPut { name } => (b"lost put", name.as_slice(), b""),
+            _ => (b"not lent", b"", b""),
+        },
+    }
+}
+
+/// Appends the last digit of a line's number, a colon, the item and a semicolon: `3:put|NAME|BODY;`.
+fn append_item(out: &mut Vec<u8>, read: &ReadItem) -> Result<(), AllocError> {
+    let (form, first, second) = words_of(&read.item);
+    out.extend_from_slice(&[b'0' + (read.line % 10) as u8, b':'])?;
+    out.extend_from_slice(form)?;
+    out.extend_from_slice(b"|")?;
+    out.extend_from_slice(first)?;
+    out.extend_from_slice(b"|")?;
+    out.extend_from_slice(second)?;
+    out.extend_from_slice(b";")
+}
+
+/// Receives the messages of a feed, of which there are fewer than 1,000, and appends their items. Each follows the one
+/// before. Returns how the reading ended.
+fn receive<K: Naming, R: Abort>(
+    rt: &R,
+    feed: &mut Feed<K, BufReader<Input<'_>>>,
+    front: Front<K>,
+    items: &mut Vec<u8>,
+) -> Result<Result<(), StreamError>, Fail> {
+    let mut came = front;
+    for _ in 0..1000 {
+        match feed.next() {
+            Ok(Some(sent)) => {
+                assert!(rt; sent.follows(&came));
+                append_item(items, &sent.item)?;
+                came = sent.read;
+            }
+            Ok(None) => {
+                assert!(rt; came.is_same(&feed.front()));
+                return Ok(Ok(()));
+            }
+            Err(error) => {
+                assert!(rt; came.is_same(&feed.front()));
+                return Ok(Err(error));
+            }
+        }
+    }
+    Err(Fail::from("over a thousand items"))
+}
+
+/// The items of an input are these, and its reading ends like this, twice.
+fn expect_as<K: Naming, R: Abort>(
+    rt: &R,
+    alloc: Global,
+    opened: Opened,
+    input: Input<'_>,
+    items: &[u8],
+    end: Result<(), StreamError>,
+) -> Result<(), Fail>
+    requires { opened.book ≡ K.book }
+{
+    let (book, front) = opened.named::<K>();
+    let read = front.again();
+    let mut feed = Feed::new(alloc, book, read, BufReader::new(alloc, input)?);
+    let mut came = Vec::new(alloc);
+    let ended = receive(rt, &mut feed, front, &mut came)?;
+    assert_eq!(rt; came.as_slice(), items);
+    assert!(rt; ended == end);
+    let last = feed.front();
+    let again = receive(rt, &mut feed, last, &mut came)?;
+    assert_eq!(rt; came.as_slice(), items);
+    assert!(rt; again == end);
+    Ok(())
+}
+
+fn expect<R: Abort>(
+    rt: &R,
+    alloc: Global,
+    input: Input<'_>,
+    items: &[u8],
+    end: Result<(), StreamError>,
+) -> Result<(), Fail> {
+    expect_as::<Brand, R>(rt, alloc, Opened::new(), input, items, end)
+}
+
+/// Inputs, and their items.
+const INPUTS: &[(&[u8], &[u8])] = &[
+    (b"", b""),
+    (b"\n# c\n", b""),
+    (b"publish", b"1:publish||;"),
+    (
+        b"put a 3\nx\ny\nload b p q\nremove c d\npublish\n",
+        b"1:put|a|x\ny;4:load|b|p q;5:remove|c d|;6:publish||;",
+    ),
+    (
+        b"search x y\nisearch X\nsearchin n p q\nisearchin N P\nsync\n\nnonsense\n",
+        b"1:search|x y|;2:isearch|X|;3:searchin|n|p q;4:isearchin|N|P;5:sync||;7:bad line||;",
+    ),
+    (b"put a b 0\n\nput c 1\nx", b"1:put|a b|;3:put|c|x;"),
+    (b"sync\nput a\nsync\n", b"1:sync||;2:bad put||;"),
+    (b"put a 1\nxy\nsync\n", b"1:body not closed||;"),
+    (b"put a 3\nx\n", b"1:truncated||;"),
+];
+
+#[test]
+fn inputs(rt: HostRuntime) -> Result<(), Fail> {
+    for (bytes, items) in INPUTS {
+        for most in [1, 1000] {
+            expect(&rt, rt.alloc(), Input::new(bytes, most), items, Ok(()))?;
+        }
+    }
+    Ok(())
+}
+
+#[test]
+fn long_put(rt: HostRuntime) -> Result<(), Fail> {
+    let alloc = rt.alloc();
+    let bytes = repeated(alloc, b"put a 1048577\n", &[b'x'; 1024], 1024, b"x\nsync\n")?;
+    let input = Input::new(bytes.as_slice(), 1000);
+    expect(&rt, alloc, input, b"1:long put|a|;3:sync||;", Ok(()))
+}
+
+/// A read that fails ends the reading, and an interrupted read is tried again.
+#[test]
+fn failing_reads(rt: HostRuntime) -> Result<(), Fail> {
+    let bytes: &[u8] = b"publish\nsync\n";
+    for (read, items) in [
+        (1, b"" as &[u8]),
+        (8, b""),
+        (9, b"1:publish||;"),
+        (13, b"1:publish||;"),
+        (14, b"1:publish||;2:sync||;"),
+    ] {
+        let input = Input::failing(bytes, 1, read, ErrorKind::BrokenPipe);
+        expect(&rt, rt.alloc(), input, items, Err(StreamError::CannotRead))?;
+        let input = Input::failing(bytes, 1, read, ErrorKind::Interrupted);
+        expect(&rt, rt.alloc(), input, b"1:publish||;2:sync||;", Ok(()))?;
+    }
+    Ok(())
+}
