@@ -27,8 +27,8 @@ LENGTHS = {"1 KB": (900, 1_100), "10 KB": (9_000, 11_000), "100 KB": (80_000, 12
 class Session:
     """A session whose client waits for the answer to each search."""
 
-    def __init__(self):
-        self.process = subprocess.Popen([PROGRAM, "--live"], stdin=subprocess.PIPE, stdout=subprocess.PIPE, bufsize=0)
+    def __init__(self, *words):
+        self.process = subprocess.Popen([PROGRAM, "--live", *words], stdin=subprocess.PIPE, stdout=subprocess.PIPE, bufsize=0)
         self.searches = 0
 
     def ask(self, items):

@@ -2,7 +2,7 @@
 
 Prints the time from the script's first byte to the first publish, that of `cindex`, the resident memory, and for each
 pattern the lines found, the candidates, and the time of a search by tsearch and by the other tools, with their output in
-a file: the least and the median of five runs, in milliseconds. tsearch is a session that has all files; a run of it is a
+a file: the least and the median of five runs, in milliseconds. tsearch is a session without readers that has all files; a run of it is a
 batch of copies of the search, from before they are sent until their last byte is in the file, divided by their number.
 The other tools are whole commands. All use one thread except the second `rg`, which uses as many as it likes. Nothing is
 asserted.
@@ -92,7 +92,7 @@ class Session:
         self.size = {}
         self.searches = 0
         with open(self.path, "ab") as out:
-            words = [timed.PROGRAM, "--live", "--stats", "--max-commands", "1000000"]
+            words = [timed.PROGRAM, "--live", "--readers", "0", "--stats", "--max-commands", "1000000"]
             self.process = subprocess.Popen(words, stdin=subprocess.PIPE, stdout=out)
         with open(script, "rb") as items:
             shutil.copyfileobj(items, self.process.stdin)

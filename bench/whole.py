@@ -1,6 +1,6 @@
 """The measurements of the built program in one run: python3 bench/whole.py FOLDER FOLDER..
 
-Runs trees.py and live.py over each folder, and readers.py over the first one, one after the other. Prints the date, the
+Runs trees.py and live.py over each folder, and readers.py and sessions.py over the first one, one after the other. Prints the date, the
 machine and the versions of the other tools first, the seconds of each script after it, and at the end how much of the
 processors' time was busy and how much of it the host took. Nothing else should run meanwhile.
 """
@@ -48,7 +48,7 @@ def main():
     print("%d processors: %s" % (os.cpu_count(), processor()))
     for words in (["rg", "--version"], ["grep", "--version"], ["dpkg-query", "-W", "codesearch"]):
         print(first_line(words))
-    runs = [("trees.py", [folder]) for folder in folders] + [("live.py", folders), ("readers.py", folders[:1])]
+    runs = [("trees.py", [folder]) for folder in folders] + [("live.py", folders)] + [(script, folders[:1]) for script in ("readers.py", "sessions.py")]
     before = ticks()
     status = max(run(script, of) for script, of in runs)
     total, used, stolen = (after - first for after, first in zip(ticks(), before))

@@ -49,11 +49,11 @@ def faults_of_call(test):
     return [None]
 
 
-def run_tests(tests, faults_of=faults_of_call, at_once=1):
-    """Runs the tests of a script that has the names of tests as its arguments: all of them, or those that are named, so many
-    at once. Counts what is wrong with each by `faults_of`, and ends the script."""
+def run_tests(tests, faults_of=faults_of_call, at_once=1, wanted=None):
+    """Runs the tests of a script that has the names of tests as its arguments, unless they are given as `wanted`: all of them, or
+    those that are named, so many at once. Counts what is wrong with each by `faults_of`, and ends the script."""
     need_program()
-    wanted = sys.argv[1:]
+    wanted = sys.argv[1:] if wanted is None else wanted
     missing = sorted(set(wanted) - {test.__name__ for test in tests})
     if missing:
         sys.exit(f"{script_name()}: no such test: {', '.join(missing)}")

@@ -1,8 +1,8 @@
 #!/usr/bin/env python3
 """What searches of the built program find, and which documents are their candidates, while documents come, are replaced and go.
 
-The hits and candidates that must come are those of the documents that the commands so far leave. Each script is run without readers
-and as a session.
+The hits and candidates that must come are those of the documents that the commands so far leave. Each script is run without readers,
+and as a session without readers and with two. A sync follows each search, so the answers come in their order.
 
 Usage: tests/documents.py [NAME..]   The last line counts: N passed, M failed.
 """
@@ -14,7 +14,7 @@ from built import PROGRAM, put
 from counted import Wrong, run_tests
 
 SECONDS = 60
-WAYS = (["--readers", "0"], ["--live"])
+WAYS = (["--readers", "0"], ["--live", "--readers", "0"], ["--live", "--readers", "2"])
 MIB = 1_048_576
 
 
@@ -49,7 +49,7 @@ class Script:
     def search(self, pattern, names, candidates=None):
         """A publish and a search that finds all lines of the documents of these names, which are of one line each. Its
         candidates are these, or as many as are given."""
-        self.parts.append(b"publish\nsearch %s\n" % pattern)
+        self.parts.append(b"publish\nsearch %s\nsync\n" % pattern)
         found = [b"%s:1:%s" % (name, self.documents[name]) for name in sorted(names)]
         self.wanted.append((found, len(found) if candidates is None else candidates, len(self.documents)))
 

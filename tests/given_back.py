@@ -2,7 +2,8 @@
 """Loses documents in sessions of the built program (--live), and compares the memory before and after.
 
 A session has two copies of its documents, and a publish brings one of them up to date. So what was removed is gone from
-both after two publishes. Then most of the memory that the documents took must be given back, or used for others.
+both after two publishes. Then most of the memory that the documents took must be given back, or used for others. Each test is
+made with sessions without readers and with two.
 
 Usage: tests/given_back.py [NAME..]   The last line counts: N passed, M failed.
 """
@@ -11,7 +12,7 @@ import random
 
 from built import put
 from counted import Wrong, run_tests
-from live import MEBIBYTE, Session
+from live import MEBIBYTE, READERS, faults_with_each
 
 # The part of the memory that may stay.
 PART = 1 / 4
@@ -54,11 +55,11 @@ class Documents:
         return full, self.memory(b"".join(b"remove %s\n" % name for name in reversed(names)))
 
 
-def lists_of_many_trigrams():
+def lists_of_many_trigrams(start):
     """Each of nearly four million trigrams has a list, in both copies. They come and go twice."""
     source = random.Random(1)
     bodies = [random_body(source, MEBIBYTE) for _ in range(4)]
-    with Session() as session:
+    with start() as session:
         documents = Documents(session, [])
         for _ in range(2):
             full, left = documents.come_and_go(bodies)
@@ -67,14 +68,14 @@ def lists_of_many_trigrams():
         session.end(0)
 
 
-def lists_of_many_numbers():
+def lists_of_many_numbers(start):
     """The lists of one text after the other get 3,000 numbers and lose them. A document of each text stays.
 
     What is given back is in many small pieces, so the system need not see it. But the next text's lists must use it.
     """
     source = random.Random(2)
     texts = [words(source, 200) for _ in range(4)]
-    with Session() as session:
+    with start() as session:
         documents = Documents(session, texts)
         first, *later = [documents.come_and_go([text] * 3_000)[0] for text in texts]
         if later[-1] - first > PART * (first - documents.begin):
@@ -83,4 +84,5 @@ def lists_of_many_numbers():
 
 
 if __name__ == "__main__":
-    run_tests([lists_of_many_trigrams, lists_of_many_numbers])
+    TESTS = [lists_of_many_trigrams, lists_of_many_numbers]
+    run_tests(TESTS, faults_with_each(TESTS, READERS), len(TESTS))

@@ -28,7 +28,7 @@ from counted import Counted, Wrong
 
 SECONDS = 300
 SCRIPT, SESSION = "script", "session"
-WORDS = {SCRIPT: ["--readers", "0", "--max-commands", "1000000"], SESSION: ["--live"]}
+WORDS = {SCRIPT: ["--readers", "0", "--max-commands", "1000000"], SESSION: ["--live", "--readers", "0"]}
 BOTH = (SCRIPT, SESSION)
 MOST = 4.8
 # What grows with a logarithm, or not at all.

@@ -3,7 +3,9 @@
 
 A client here waits for each answer before it sends what follows. If an answer waited for a byte after its item, it
 would never come, and the test would fail at its limit of time. The texts that must come are written by hand, or are
-what a run writes for the same script, which tests/run.py and tests/judge/check_transcripts.py check.
+what a run writes for the same script, which tests/run.py and tests/judge/check_transcripts.py check. Each test of WITH_EACH
+is made with each number of readers of READERS, and as many tests at once as there are processors. The clients of
+tests/sessions/ do not wait for each answer.
 
 Usage: tests/live.py [NAME..]   The last line counts: N passed, M failed.
 """
@@ -11,6 +13,7 @@ Usage: tests/live.py [NAME..]   The last line counts: N passed, M failed.
 import collections
 import concurrent.futures
 import fcntl
+import functools
 import os
 import pathlib
 import select
@@ -23,11 +26,12 @@ import threading
 import time
 
 from built import PROGRAM, TOP
-from counted import Wrong, run_tests
+from counted import Wrong, faults_of_call, run_tests
 from judge import transcripts
 
 CLIENT = TOP / "examples/live_folder.py"
 EXAMPLES = sorted((TOP / "examples").glob("*.script"))
+READERS = ["2", "0"]
 SECONDS = 60
 # How many seconds a test waits before it concludes that nothing comes.
 QUIET = 0.05
@@ -67,12 +71,12 @@ TALK_PATTERNS = {b"(": "group not closed at 0"}
 class Session:
     """A session of the program, whose output is read with a limit of time. It ends with the block that uses it."""
 
-    def __init__(self, *words, program=None):
+    def __init__(self, *words, program=None, output=subprocess.PIPE):
         pipe = subprocess.PIPE
         command = program or [str(PROGRAM), "--live"]
-        self.process = subprocess.Popen([*command, *words], cwd=TOP, stdin=pipe, stdout=pipe, stderr=pipe, bufsize=0)
+        self.process = subprocess.Popen([*command, *words], cwd=TOP, stdin=pipe, stdout=output, stderr=pipe, bufsize=0)
         self.pid = self.process.pid
-        self.input, self.output = self.process.stdin.fileno(), self.process.stdout.fileno()
+        self.input, self.output = self.process.stdin.fileno(), self.process.stdout and self.process.stdout.fileno()
         os.set_blocking(self.input, False)
         self.lines, self.begun = collections.deque(), b""
 
@@ -83,7 +87,8 @@ class Session:
         self.process.kill()
         self.process.wait()
         for stream in (self.process.stdin, self.process.stdout, self.process.stderr):
-            stream.close()
+            if stream:
+                stream.close()
 
     def send(self, data):
         data = memoryview(data)
@@ -114,6 +119,13 @@ class Session:
             self.lines.extend(line + b"\n" for line in whole)
         return self.lines.popleft()
 
+    def read_entry(self):
+        """One whole entry: a refusal, or an answer with its lines."""
+        first = self.read_line()
+        words = first.split()
+        lines = int(words[5]) if words[2] == b"version" else 0
+        return first + b"".join(self.read_line() for _ in range(lines))
+
     def expect(self, wanted):
         """Reads as many lines as a text has. They must be the text."""
         same("the text", b"".join(self.read_line() for _ in range(wanted.count(b"\n"))), wanted)
@@ -134,8 +146,8 @@ class Session:
             got = self.process.wait(SECONDS)
         except subprocess.TimeoutExpired:
             raise Wrong(f"did not end in {SECONDS} seconds") from None
-        left = b"".join(self.lines) + self.begun
-        same("what is left of the output", left if self.process.stdout.closed else left + self.process.stdout.read(), b"")
+        left, output = b"".join(self.lines) + self.begun, self.process.stdout
+        same("what is left of the output", left + output.read() if output and not output.closed else left, b"")
         same("standard error", self.process.stderr.read(), messages)
         same("the status", got, status)
 
@@ -155,25 +167,25 @@ def run(words, script):
     return done.returncode, done.stdout, done.stderr
 
 
-def client_that_waits_for_each_answer():
-    with Session() as session:
+def client_that_waits_for_each_answer(start):
+    with start() as session:
         for item, wanted in TALK:
             session.ask(item, wanted)
         session.end(2)
-    with Session("--stats") as session:
+    with start("--stats") as session:
         session.ask(b"put a 3\nabc\npublish\nsearch b\n", b"search 1 version 1 lines 1 candidates 1 of 1\na:1:abc\n")
         session.ask(b"search abd\n", b"search 2 version 1 lines 0 candidates 0 of 1\n")
         session.end(0)
-    with Session("--max-commands", "1") as session:
+    with start("--max-commands", "1") as session:
         session.ask(b"put a 1\nx\nput b 1\nx\n", b"line 3 refused: full\n")
         session.end(2)
-    with Session() as session:
+    with start() as session:
         session.ask(b"search x\n", b"search 1 version 0 lines 0\n")
         session.end(1)
 
 
-def nothing_comes_before_an_item_is_whole():
-    with Session() as session:
+def nothing_comes_before_an_item_is_whole(start):
+    with start() as session:
         for begin, end, wanted in [
             (b"search x", b"\n", b"search 1 version 0 lines 0\n"),
             (b"put a 3\nx\0y", b"\n", b"line 2 refused: byte 0 in body\n"),
@@ -186,8 +198,8 @@ def nothing_comes_before_an_item_is_whole():
         session.end(2)
 
 
-def bytes_one_by_one():
-    with Session() as session:
+def bytes_one_by_one(start):
+    with start() as session:
         for item, wanted in TALK:
             for byte in item:
                 session.send_byte(bytes([byte]))
@@ -199,14 +211,14 @@ def bytes_one_by_one():
         session.end(2)
 
 
-def faults_end_a_session_whose_input_is_open():
+def faults_end_a_session_whose_input_is_open(start):
     for begin, last, wanted in [
         (b"put a 1", b"\n", None),
         (b"put", b"\n", b"line 2 refused: bad put\n"),
         (b"put a", b"\n", b"line 2 refused: bad put\n"),
         (b"put a 3\nabc", b"d", b"line 2 refused: body not closed\n"),
     ]:
-        with Session() as session:
+        with start() as session:
             session.send(b"\n" + begin)
             session.expect_quiet()
             session.send(last)
@@ -221,19 +233,20 @@ def faults_end_a_session_whose_input_is_open():
 
 
 def check_cut(script, patterns, cut):
-    """A session over the beginning of a script must write what a run of it writes, and that must be legal."""
+    """A session without readers over the beginning of a script must write what a run of it writes, and that must be legal. So must
+    what a session with readers writes."""
     begin = script[:cut]
-    status, text, messages = run(["--live"], begin)
-    same(f"messages, cut at {cut}", messages, b"")
-    same(f"text and status, cut at {cut}", (text, status), run(["--readers", "0"], begin)[1::-1])
-    if status not in (0, 1, 2):
-        raise Wrong(f"cut at {cut}, the status is {status}")
-    try:
-        fault = transcripts.fault_of(begin, text, status, readers=0, max_commands=1_000_000, files=transcripts.Files(), table=patterns)
-    except transcripts.NotPlain:
-        return
-    if fault:
-        raise Wrong(f"cut at {cut}, {fault}")
+    alone = run(["--live", "--readers", "0"], begin)
+    same(f"status and text, cut at {cut}", alone, run(["--readers", "0"], begin))
+    for readers, (status, text, messages) in (0, alone), (2, run(["--live"], begin)):
+        same(f"messages, cut at {cut}", messages, b"")
+        options = {"readers": readers, "files": transcripts.Files(), "table": patterns}
+        try:
+            fault = transcripts.fault_of(begin, text, status, session=True, **options)
+        except transcripts.NotPlain:
+            return
+        if fault:
+            raise Wrong(f"cut at {cut}, with {readers} readers: {fault}")
 
 
 def input_cut_at_every_byte():
@@ -244,8 +257,8 @@ def input_cut_at_every_byte():
             job.result()
 
 
-def replacements_leave_memory_level():
-    with Session() as session:
+def replacements_leave_memory_level(start):
+    with start() as session:
         filler = b"".join(b"of no use %d\n" % number for number in range(300))
         for number in range(1, REPLACEMENTS + 1):
             body = filler + b"text %d\n" % number
@@ -261,10 +274,10 @@ def replacements_leave_memory_level():
         session.end(0)
 
 
-def client_that_reads_slowly():
+def client_that_reads_slowly(start):
     lines = [b"%015d\n" % number for number in range(MEBIBYTE // 16)]
     wanted = b"search 1 version 1 lines %d\n" % len(lines) + b"".join(b"big:%d:%s" % pair for pair in enumerate(lines, 1))
-    with Session() as session:
+    with start() as session:
         session.send(b"put big %d\n%s\npublish\nsearch .\n" % (MEBIBYTE, b"".join(lines)))
         time.sleep(0.3)
         text = b""
@@ -280,10 +293,10 @@ def client_that_reads_slowly():
         session.end(0)
 
 
-def large_answer_leaves_memory_level():
+def large_answer_leaves_memory_level(start):
     """The text of an answer of 20 MB is freed once it is written."""
     lines = b"\n" * MEBIBYTE
-    with Session() as session:
+    with start() as session:
         session.send(b"put a %d\n%s\nput b %d\n%s\npublish\n" % (MEBIBYTE, lines, MEBIBYTE, lines))
         session.ask(b"search x\n", b"search 1 version 2 lines 0\n")
         early = session.memory("VmRSS")
@@ -298,30 +311,30 @@ def large_answer_leaves_memory_level():
         session.end(0)
 
 
-def client_that_goes_away():
-    with Session() as session:
+def client_that_goes_away(start):
+    with start() as session:
         session.send(b"put a 1\nx\npublish\n")
         session.process.stdout.close()
         session.send(b"search x\n")
         # the input is still open
         session.end(2, close=False)
-    with Session() as session:
+    with start() as session:
         body = b"x\n" * 100_000
         session.send(b"put a %d\n%s\npublish\nsearch x\n" % (len(body), body))
         session.read(1_000)
         session.process.stdout.close()
         session.end(2, close=False)
-    with Session() as session:
+    with start() as session:
         session.process.stdout.close()
         session.send(b"what\n")
         session.end(2, close=False)
 
 
-def session_from_a_fifo():
+def session_from_a_fifo(start):
     with tempfile.TemporaryDirectory() as folder:
         path = os.path.join(folder, "fifo")
         os.mkfifo(path)
-        with Session(path) as session:
+        with start(path) as session:
             # Opening a FIFO for writing alone waits until something reads it. So this opens it for reading too.
             fifo = os.open(path, os.O_RDWR)
             session.process.stdin.close()
@@ -335,24 +348,43 @@ def session_from_a_fifo():
 
 
 def options_of_a_session():
-    with Session("--readers", "2") as session:
-        begin = b"error: the argument '--readers <N>' cannot be used with '--live' unless N is 0"
-        # nothing is sent: it ends without reading, and a write could find the pipe closed
-        same("the status", session.process.wait(SECONDS), 2)
-        same("the output", session.process.stdout.read(), b"")
-        same("the message", session.process.stderr.read()[: len(begin)], begin)
-    with Session("--readers", "0") as session:
-        session.ask(b"search x\n", b"search 1 version 0 lines 0\n")
-        session.end(1)
-    with Session("nothing/here") as session:
-        session.end(2, b"tsearch: cannot read the script: nothing/here: No such file or directory\n")
-    with Session(".") as session:
-        session.end(2, b"tsearch: cannot read the script: .: Is a directory\n")
+    for words, begin in [
+        (["--readers", "17"], b"error: invalid value '17' for '--readers <N>'"),
+        (["--readers"], b"error: a value is required for '--readers <N>'"),
+    ]:
+        with Session(*words) as session:
+            # nothing is sent: it ends without reading, and a write could find the pipe closed
+            same("the status", session.process.wait(SECONDS), 2)
+            same("the output", session.process.stdout.read(), b"")
+            same("the message", session.process.stderr.read()[: len(begin)], begin)
+    for words in [], ["--readers", "0"], ["--readers", "1"], ["--readers", "2"], ["--readers", "16"]:
+        with Session(*words) as session:
+            session.ask(b"search x\n", b"search 1 version 0 lines 0\n")
+            session.end(1)
+        with Session(*words, "nothing/here") as session:
+            session.end(2, b"tsearch: cannot read the script: nothing/here: No such file or directory\n")
+        with Session(*words, ".") as session:
+            session.end(2, b"tsearch: cannot read the script: .: Is a directory\n")
 
 
-def input_longer_than_a_script():
+def threads_that_cannot_be_started():
+    """A session with readers has a thread for each, and one that reads. Where the system has no room for the stacks of all of them,
+    fewer readers or none answer, and a client that waits for each answer sees no difference."""
+    limited = ["bash", "-c", 'ulimit -s 100000 && ulimit -v "$0" && exec "$@"']
+    for room, readers, wanted in (10_000_000, 2, [4]), (250_000, 1, [3]), (250_000, 2, [1, 2, 3]), (150_000, 2, [1, 2]), (60_000, 2, [1]), (60_000, 0, [1]):
+        program = [*limited, str(room), str(PROGRAM), "--live", "--readers", str(readers)]
+        with Session(program=program) as session:
+            for item, text in TALK:
+                session.ask(item, text)
+            threads = len(list(pathlib.Path(f"/proc/{session.pid}/task").iterdir()))
+            if threads not in wanted:
+                raise Wrong(f"with {room} KB and {readers} readers there are {threads} threads")
+            session.end(2)
+
+
+def input_longer_than_a_script(start):
     """Comments, and bodies that are too long, are passed over and not kept. The lines are counted all the same."""
-    with Session() as session:
+    with start() as session:
         comment = b"#" * (MEBIBYTE - 1) + b"\n"
         for _ in range(70):
             session.send(comment)
@@ -379,9 +411,9 @@ def send_line(session, begin, end, length):
     session.send(end + b"\n")
 
 
-def line_of_the_greatest_length():
+def line_of_the_greatest_length(start):
     """A line of the greatest length is an item like any other, and its memory is freed at the next item."""
-    with Session() as session:
+    with start() as session:
         session.ask(b"put a 1\nx\npublish\nsearch x\n", b"search 1 version 1 lines 1\na:1:x\n")
         early = session.memory("VmRSS")
         for begin, end, wanted in [
@@ -405,8 +437,8 @@ def line_of_the_greatest_length():
         session.end(2)
 
 
-def line_longer_than_any():
-    with Session() as session:
+def line_longer_than_any(start):
+    with start() as session:
         session.ask(b"search x\n", b"search 1 version 0 lines 0\n")
         one_too_many = b"search " + b"x" * (GREATEST_LINE - len(b"search ") + 1)
         threading.Thread(target=send_all, args=(session, one_too_many), daemon=True).start()
@@ -490,24 +522,39 @@ def client_of_a_folder():
             client.end(0)
 
 
-TESTS = [
+WITH_EACH = [
     client_that_waits_for_each_answer,
     nothing_comes_before_an_item_is_whole,
     bytes_one_by_one,
     faults_end_a_session_whose_input_is_open,
-    input_cut_at_every_byte,
     replacements_leave_memory_level,
     client_that_reads_slowly,
     large_answer_leaves_memory_level,
     client_that_goes_away,
     session_from_a_fifo,
-    options_of_a_session,
     input_longer_than_a_script,
     line_of_the_greatest_length,
     line_longer_than_any,
-    client_of_a_folder,
 ]
+ONCE = [input_cut_at_every_byte, options_of_a_session, threads_that_cannot_be_started, client_of_a_folder]
+
+
+def faults_with_each(tests, numbers):
+    """What finds what is wrong with a test, or None: for one of these tests, with each number of readers. Such a test is given what
+    starts a session; any other test is made once."""
+
+    def faults_of(test):
+        if test not in tests:
+            return faults_of_call(test)
+        faults = []
+        for readers in numbers:
+            made = functools.partial(test, functools.partial(Session, "--readers", readers))
+            made.__name__ = f"{test.__name__} with {readers} readers"
+            faults += faults_of_call(made)
+        return faults
+
+    return faults_of
 
 
 if __name__ == "__main__":
-    run_tests(TESTS)
+    run_tests(WITH_EACH + ONCE, faults_with_each(WITH_EACH, READERS), os.cpu_count())

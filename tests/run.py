@@ -17,10 +17,14 @@ some of these files:
 Each case is run in a new folder with each of several numbers of readers, and must come out the same. Without a bash
 script it is also run without such a number. The number comes before the arguments, or is READERS for a bash script. A
 case whose arguments set the readers or ask for the help, or whose bash script does not use READERS, is run once. Each
-other case, except those of WHOLE_SCRIPTS, is also run as a session, and must come out the same: with --live before its
-arguments, and a bash script with 0 for READERS and a PROGRAM that puts --live before its own. An example NAME.script of
-examples/ is run from the top of the repository, as FILE, and must write NAME.stdout and end with NAME.status. As many
-cases run at once as there are processors.
+other case, except those of WHOLE_SCRIPTS, is also run as a session, with each of these numbers: with --live before its
+arguments, or for a bash script with a PROGRAM that puts --live before its own. An example NAME.script of examples/ is run
+from the top of the repository, as FILE, and must write NAME.stdout and end with NAME.status. As many cases run at once as
+there are processors.
+
+A session without readers must come out as a run. With readers its answers may come in another order, so what it writes for
+a script is judged (judge/transcripts.py): the entries must be those of NAME.stdout, in an order that a session may have. A
+bash script of SEVERAL_ANSWERS compares its answers in their order itself, and is run as a session without readers only.
 
 The case `architecture` runs nothing: it compares docs/ARCHITECTURE.md with the sources. Each line of an example must be in
 the test that the document names, each function of the ways of a put, a search and a session in one of the files that are
@@ -32,10 +36,13 @@ up to the first answer, and those after the prompt `> ` of the client, which an 
 way: with the script on standard input, a session, and the client.
 
 With --compiled, the cases run on the program that is compiled with checks, with no readers and as sessions, and nothing else runs.
+With --again, each case and example runs N times with 16 readers, as a run and as a session, or 50 times without N; nothing else runs.
 
-Usage: tests/run.py [--compiled] [NAME..]   The last line counts: N passed, M failed.
+Usage: tests/run.py [--compiled] [--again [N]] [NAME..]   The last line counts: N passed, M failed.
 """
 
+import argparse
+import collections
 import concurrent.futures
 import os
 import pathlib
@@ -49,19 +56,33 @@ import tempfile
 from built import PROGRAM as PROVED
 from built import TOP, need_program
 from counted import Counted, Wrong
+from judge import transcripts
 
-COMPILED = "--compiled" in sys.argv[1:]
-PROGRAM = TOP / "out/compiled/tsearch" if COMPILED else PROVED
+
+def words_given():
+    words = argparse.ArgumentParser(description="Runs the cases and the examples.")
+    words.add_argument("--compiled", action="store_true")
+    words.add_argument("--again", type=int, nargs="?", const=50, default=0)
+    words.add_argument("names", nargs="*")
+    return words.parse_args()
+
+
+GIVEN = words_given()
+PROGRAM = TOP / "out/compiled/tsearch" if GIVEN.compiled else PROVED
 CASES = TOP / "tests/cases"
 EXAMPLES = TOP / "examples"
 ARCHITECTURE = TOP / "docs/architecture"
 README = TOP / "README"
 FIRST_WAY = "## A put, from the script to the index\n"
 EMBEDDING = "## Using the crates by themselves\n"
-READERS = ["0"] if COMPILED else ["0", "1", "2", "16"]
+READERS = ["0"] if GIVEN.compiled else ["16"] if GIVEN.again else ["0", "1", "2", "16"]
+SESSIONS = ["0", "2"] if GIVEN.compiled else READERS
 SUFFIXES = {".script", ".args", ".run", ".setup", ".stdout", ".stdout-has", ".stderr", ".stderr-has", ".status"}
 LIVE = "--live"
 SECONDS = 120
+
+# How a case is run: whether as a session, and with how many readers. None is without a number.
+Way = collections.namedtuple("Way", "live readers")
 
 # Cases of what holds for a script that is read whole, and not for a session.
 WHOLE_SCRIPTS = {
@@ -72,6 +93,23 @@ WHOLE_SCRIPTS = {
     "script_too_long",
     "script_too_long_on_standard_input",
     "standard_input_is_read_to_one_byte_over_the_limit",
+}
+
+# Cases whose bash scripts compare the answers of several searches in their order.
+SEVERAL_ANSWERS = {
+    "first_line_of_the_output_is_enough",
+    "folder_step_by_step",
+    "high_trees_and_long_lines",
+    "last_of_many_texts",
+    "load_of_a_file_that_grows_and_shrinks",
+    "many_searches",
+    "many_searches_of_a_large_body",
+    "patterns_of_forty_branches",
+    "patterns_on_the_page",
+    "script_over_a_megabyte",
+    "scripts_on_the_page",
+    "searches_beside_publishes",
+    "statuses_of_the_help",
 }
 
 
@@ -108,13 +146,36 @@ def compare_stream(base, stream, text):
         raise Wrong(f"{stream} is {text[:2000]!r}, and should be {wanted[:2000]!r}")
 
 
-def compare(base, result):
-    status, stdout, stderr = result
+def compare_end(base, status, stderr):
+    """Compares the status and what was written to standard error."""
     wanted = int(read_bytes(base.with_suffix(".status")) or b"0")
-    compare_stream(base, "stdout", stdout)
     compare_stream(base, "stderr", stderr)
     if status != wanted:
         raise Wrong(f"the status is {status}, and should be {wanted}")
+
+
+def compare(base, result):
+    status, stdout, stderr = result
+    compare_stream(base, "stdout", stdout)
+    compare_end(base, status, stderr)
+
+
+def judge(base, way, folder, result):
+    """Judges what a session with readers has written for the case's script."""
+    status, stdout, stderr = result
+    compare_end(base, status, stderr)
+    words = words_of(base)
+    options = {"max_commands": int(words[words.index("--max-commands") + 1])} if "--max-commands" in words else {}
+    wanted, files = read_bytes(base.with_suffix(".stdout")), transcripts.Files(folder)
+    options.update(readers=int(way.readers or 2), stats="--stats" in words, files=files, known=wanted)
+    fault = transcripts.fault_of(base.with_suffix(".script").read_bytes(), stdout, status, session=True, **options)
+    if fault:
+        raise Wrong(f"{fault}; stdout is {stdout[:2000]!r}")
+
+
+def is_judged(base, way):
+    """Whether the entries may come in another order than in the case's file."""
+    return way.live and way.readers != "0" and base.with_suffix(".script").exists() and base.with_suffix(".stdout").exists()
 
 
 def words_of(base):
@@ -139,60 +200,80 @@ def make_live_program(folder):
     return program
 
 
-def run_once(base, readers):
-    """Runs a case with a number of readers, or without one, or as a session."""
+def run_once(base, way):
+    """Runs a case in one way."""
     script = base.with_suffix(".script")
     own_run = base.with_suffix(".run")
     setup = base.with_suffix(".setup")
     with tempfile.TemporaryDirectory() as folder, tempfile.TemporaryDirectory() as other:
-        env = dict(os.environ, PROGRAM=str(PROGRAM), SCRIPT=str(script), TOP=str(TOP), READERS=readers or "", LC_ALL="C")
-        if readers == LIVE:
-            env.update(PROGRAM=str(make_live_program(pathlib.Path(other))), READERS="0")
+        env = dict(os.environ, PROGRAM=str(PROGRAM), SCRIPT=str(script), TOP=str(TOP), READERS=way.readers or "", LC_ALL="C")
         if setup.exists():
             made = run(["bash", "-eu", str(setup)], folder, b"", env)
             if made[0] != 0:
                 raise Wrong(f"its setup failed: {made[2]!r}")
         if own_run.exists():
+            if way.live:
+                env.update(PROGRAM=str(make_live_program(pathlib.Path(other))))
             compare(base, run(["bash", "-u", str(own_run)], folder, b"", env))
             return
         words = words_of(base)
         stdin = b"" if "{script}" in words else read_bytes(script)
-        options = [LIVE] if readers == LIVE else ["--readers", readers] if readers else []
         words = [str(script) if word == "{script}" else word for word in words]
-        compare(base, run([str(PROGRAM), *options, *words], folder, stdin, env))
+        result = run([str(PROGRAM), *options_of(way), *words], folder, stdin, env)
+        if is_judged(base, way):
+            judge(base, way, folder, result)
+        else:
+            compare(base, result)
+
+
+def options_of(way):
+    return ([LIVE] if way.live else []) + (["--readers", way.readers] if way.readers else [])
 
 
 def ways_to_run(base):
-    """The numbers of readers that a case is run with. None means without a number, and LIVE as a session."""
+    """The ways in which a case is run."""
     own_run = base.with_suffix(".run")
-    live = [] if base.name in WHOLE_SCRIPTS else [LIVE]
-    if own_run.exists():
-        return READERS + live if "$READERS" in own_run.read_text() else [None]
-    fixed = any(word.startswith("--readers") or word == "--help" for word in words_of(base))
-    return [None] if fixed else [None] + READERS + live
+    text = own_run.read_text() if own_run.exists() else ""
+    fixed = "--help" in words_of(base) or any(word.startswith("--readers") for word in words_of(base))
+    if fixed or (text and "$READERS" not in text):
+        return [Way(False, None)]
+    without_number = [] if text or GIVEN.again else [None]
+    sessions = [] if base.name in WHOLE_SCRIPTS else SESSIONS + without_number
+    if base.name in SEVERAL_ANSWERS:
+        sessions = [number for number in sessions if number == "0"]
+    return [Way(False, number) for number in without_number + READERS] + [Way(True, number) for number in sessions]
 
 
-def words_on(readers):
+def words_on(way):
     """How a case was run, for the message that it failed."""
-    return "" if readers is None else "as a session: " if readers == LIVE else f"with {readers} readers: "
+    words = (["as a session"] if way.live else []) + ([f"with {way.readers} readers"] if way.readers else [])
+    return f"{' '.join(words)}: " if words else ""
+
+
+def run_in_ways(ways, run_in_way):
+    """Runs a case in each way. What is wrong has the way before it."""
+    for way in ways:
+        try:
+            run_in_way(way)
+        except Wrong as wrong:
+            raise Wrong(f"{words_on(way)}{wrong}") from None
 
 
 def run_case(base):
-    for readers in ways_to_run(base):
-        try:
-            run_once(base, readers)
-        except Wrong as wrong:
-            raise Wrong(f"{words_on(readers)}{wrong}") from None
+    run_in_ways(ways_to_run(base), lambda way: run_once(base, way))
+
+
+def run_example_once(base, way):
+    result = run([str(PROGRAM), *options_of(way), str(base.with_suffix(".script").relative_to(TOP))], TOP, b"")
+    if is_judged(base, way):
+        judge(base, way, TOP, result)
+    else:
+        compare(base, result)
 
 
 def run_example(base):
-    script = base.with_suffix(".script").relative_to(TOP)
-    for readers in READERS + [LIVE]:
-        options = [LIVE] if readers == LIVE else ["--readers", readers]
-        try:
-            compare(base, run([str(PROGRAM), *options, str(script)], TOP, b""))
-        except Wrong as wrong:
-            raise Wrong(f"{words_on(readers)}{wrong}") from None
+    ways = [Way(False, number) for number in READERS] + [Way(True, number) for number in SESSIONS]
+    run_in_ways(ways, lambda way: run_example_once(base, way))
 
 
 def lines_of_function(path, name):
@@ -329,21 +410,24 @@ def fault_of(job):
     return None
 
 
-def main():
-    need_program(PROGRAM, f"./tsearch {'--help' if COMPILED else '--prove'}")
+def jobs_to_do():
+    """What is run or compared, each with the path of its case."""
     examples = sorted(path.with_suffix("") for path in EXAMPLES.glob("*.script"))
     jobs = [(run_case, base) for base in cases_of_folders()] + [(run_example, base) for base in examples]
-    if COMPILED:
-        jobs.append((compare_failed_check, CASES / "failed_check"))
-    else:
-        jobs += [(compare_architecture, ARCHITECTURE), (compare_readme, README)]
-    wanted = [word for word in sys.argv[1:] if word != "--compiled"]
-    missing = sorted(set(wanted) - {base.name for _, base in jobs})
+    if GIVEN.compiled:
+        return jobs + [(compare_failed_check, CASES / "failed_check")]
+    return jobs * GIVEN.again or jobs + [(compare_architecture, ARCHITECTURE), (compare_readme, README)]
+
+
+def main():
+    need_program(PROGRAM, f"./tsearch {'--help' if GIVEN.compiled else '--prove'}")
+    jobs = jobs_to_do()
+    missing = sorted(set(GIVEN.names) - {base.name for _, base in jobs})
     if missing:
         sys.exit(f"tests/run.py: no such case: {', '.join(missing)}")
     counted = Counted()
     with concurrent.futures.ThreadPoolExecutor(os.cpu_count()) as pool:
-        counted.judge(pool.map(fault_of, [job for job in jobs if not wanted or job[1].name in wanted]))
+        counted.judge(pool.map(fault_of, [job for job in jobs if not GIVEN.names or job[1].name in GIVEN.names]))
     counted.end()
 
 

@@ -1,5 +1,6 @@
 #!/usr/bin/env python3
-"""Runs every beginning of the scripts of examples/ and every change of one byte of them, and judges what is written.
+"""Runs every beginning of the scripts of examples/ and every change of one byte of them, and judges what is written. One after the other is
+run without readers, run with two, and sent to a session with two.
 
 Each byte is left out, doubled, and replaced by each byte of a list or, with --all, by each other byte. Each run must end within ten
 seconds with one of the program's statuses and no message, and its text must be legal by transcripts.py. If a change makes a pattern
@@ -46,23 +47,32 @@ def changed(script, every):
                 yield "byte %d as %d" % (at, byte), script[:at] + bytes([byte]) + script[at + 1 :]
 
 
-def judge(script, readers):
+# The words that the program is started with, and what they mean to the judge.
+WAYS = [
+    (["--readers", "0"], {"readers": 0}),
+    (["--readers", "2"], {"readers": 2}),
+    (["--live", "--readers", "2"], {"readers": 2, "session": True}),
+]
+
+
+def judge(script, words, how):
     """Runs a script, and returns whether its text was judged, and what is wrong or None."""
     try:
-        done = subprocess.run([PROGRAM, "--readers", str(readers)], input=script, cwd=TOP, capture_output=True, check=False, timeout=SECONDS)
+        done = subprocess.run([PROGRAM, *words], input=script, cwd=TOP, capture_output=True, check=False, timeout=SECONDS)
     except subprocess.TimeoutExpired:
         return "judged", "did not end in %d seconds" % SECONDS
     if done.stderr or done.returncode not in (0, 1, 2):
         return "judged", "status %d, %r" % (done.returncode, done.stderr)
     try:
-        return "judged", transcripts.fault_of(script, done.stdout, done.returncode, readers=readers, files=transcripts.Files(), table=TABLE)
+        return "judged", transcripts.fault_of(script, done.stdout, done.returncode, **how, files=transcripts.Files(), table=TABLE)
     except transcripts.NotPlain:
         return "not judged, since a pattern is not plain", None
 
 
-def fault_of(name, what, script, readers):
-    judged, fault = judge(script, readers)
-    return judged, "%s, %s: %s" % (name, what, fault) if fault else None
+def fault_of(name, what, script, way):
+    words, how = way
+    judged, fault = judge(script, words, how)
+    return judged, "%s, %s, with %s: %s" % (name, what, " ".join(words), fault) if fault else None
 
 
 def main():
@@ -77,7 +87,7 @@ def main():
     scripts = [(path.name, *change) for path in paths for change in changed(path.read_bytes(), given.all)]
     with concurrent.futures.ThreadPoolExecutor(os.cpu_count()) as pool:
         chosen = scripts[:: given.every]
-        for judged, fault in pool.map(lambda job: fault_of(*job[1], (0, 2)[job[0] % 2]), enumerate(chosen)):
+        for judged, fault in pool.map(lambda job: fault_of(*job[1], WAYS[job[0] % len(WAYS)]), enumerate(chosen)):
             counts[judged] += 1
             counted.judge([fault])
     print(", ".join("%d %s" % (count, what) for what, count in counts.items()))

@@ -3,11 +3,15 @@
 
 First the judge itself is tested: it must accept the texts of tests/cases and examples, which are written by hand, and refuse each
 text of a table, each wrong in one thing. Then every beginning of a script with a replacement, a pending put and syncs is run with
-several numbers of readers. So are random scripts, with few syncs between searches and later publishes. Every text must be legal.
+several numbers of readers, and is sent to sessions with as many. So are random scripts, with few syncs between searches and later
+publishes. Every text must be legal. As many scripts are tried at once as there are processors.
 
-Usage: tests/judge/check_transcripts.py   The last line counts: N passed, M failed.
+Usage: tests/judge/check_transcripts.py [--scripts N]   The last line counts: N passed, M failed. N is the number of random scripts.
 """
 
+import argparse
+import concurrent.futures
+import os
 import pathlib
 import random
 import subprocess
@@ -20,7 +24,8 @@ from counted import Counted  # noqa: E402
 from judge import transcripts  # noqa: E402
 
 READERS = [0, 1, 2, 16]
-RANDOM_SCRIPTS = 400
+RANDOM_SCRIPTS = 5000
+SECONDS = 60
 
 REPLACEMENT = b"put f 3\nold\npublish\nsearch old\nsync\nput f 3\nnew\nsearch old\nsync\npublish\nsearch old\nsearch new\n"
 OLD, OLD_AGAIN = b"search 1 version 1 lines 1\nf:1:old\n", b"search 2 version 1 lines 1\nf:1:old\n"
@@ -30,6 +35,10 @@ NO_OLD, NEW = b"search 3 version 2 lines 0\n", b"search 4 version 2 lines 1\nf:1
 BESIDE = b"put a 1\nx\nput b 1\nx\npublish\nsearch x\nsearch x\nsearch x\nput a 1\ny\npublish\n"
 BOTH = b"search %d version 2 lines 2\na:1:x\nb:1:x\n"
 ONE = b"search %d version 3 lines 1\nb:1:x\n"
+
+# Three publishes after three searches, which find nothing at any of them.
+THRICE = b"put a 1\nx\npublish\nsearch q\nsearch q\nsearch q\nput a 1\nx\npublish\nput a 1\nx\npublish\n"
+AT_1, AT_2, AT_3 = [b"search %%d version %d lines 0\n" % version for version in (1, 2, 3)]
 
 REFUSALS = b"put  1\nx\nremove a\nput a 1\nx\nput b 3\nx\0y\nput b 1\ny\nremove b\nload c p\nwhat\nsearch \0\npublish\nsearch (x|y)$\nput a 3\nx\n"
 REFUSED = [
@@ -75,7 +84,11 @@ LEGAL = [
     (BESIDE, {}, BOTH % 1 + BOTH % 2 + BOTH % 3, 0),
     (BESIDE, {}, BOTH % 1 + ONE % 2 + ONE % 3, 0),
     (BESIDE, {}, BOTH % 1 + ONE % 2 + BOTH % 3, 0),
-    (BESIDE, {"scarce": True}, ONE % 1 + BOTH % 2 + BOTH % 3, 0),
+    (BESIDE, {}, ONE % 1 + BOTH % 2 + BOTH % 3, 0),
+    (BESIDE, {"readers": 1}, BOTH % 1 + BOTH % 2 + ONE % 3, 0),
+    (THRICE, {}, AT_3 % 1 + AT_1 % 2 + AT_2 % 3, 1),
+    (THRICE, {"readers": 3}, AT_3 % 1 + AT_2 % 2 + AT_1 % 3, 1),
+    (BESIDE, {"readers": 1, "scarce": True}, ONE % 1 + BOTH % 2 + BOTH % 3, 0),
     (REFUSALS, {"max_commands": 1}, b"".join(REFUSED), 2),
     (CASES, {}, b"".join(CASES_ANSWERED), 0),
 ]
@@ -100,8 +113,9 @@ WRONG = [
     (BESIDE, {}, b"search 1 version 1 lines 1\na:1:x\n" + BOTH % 2 + BOTH % 3, 0),
     # a publish from after the search, with no readers
     (BESIDE, {"readers": 0}, BOTH % 1 + BOTH % 2 + ONE % 3, 0),
-    # older than what its reader was answered at
-    (BESIDE, {}, ONE % 1 + BOTH % 2 + BOTH % 3, 0),
+    # older than what the one reader, or each of two, was answered at
+    (BESIDE, {"readers": 1}, ONE % 1 + BOTH % 2 + BOTH % 3, 0),
+    (THRICE, {}, AT_3 % 1 + AT_2 % 2 + AT_1 % 3, 1),
     # the lines of another version, too few, too many, in another order, under another name or number, or of another text
     (REPLACEMENT, {}, OLD + OLD_AGAIN + NO_OLD + b"search 4 version 2 lines 0\n", 0),
     (REPLACEMENT, {}, OLD + OLD_AGAIN + b"search 3 version 2 lines 1\nf:1:old\n" + NEW, 0),
@@ -142,6 +156,13 @@ WRONG = [
 SEARCH_BESIDE = b"put a 1\nx\npublish\nsearch x\nwhat\nput a 1\ny\npublish\nsearch x\nsync\nsearch y\n"
 X1, X2, Y3 = b"search 1 version 1 lines 1\na:1:x\n", b"search 2 version 2 lines 0\n", b"search 3 version 2 lines 1\na:1:y\n"
 X1_LATER, WHAT = b"search 1 version 2 lines 0\n", b"line 5 refused: bad line\n"
+NOT_WHOLE = {"scarce": True, "whole": False}
+
+# What the searches of a script must be answered by, since their patterns are not plain. The first search can have one version alone.
+NOT_PLAIN = b"put a 1\nx\npublish\nsearch [[:alpha:]]\nsearch [b-a]\nsync\nput b 1\ny\npublish\nsearch [[:alpha:]]\nsearch [[:digit:]]\n"
+ALPHA, RANGE = b"search 1 version 1 lines 1\na:1:x\n", b"search 2 refused: bad range at 1\n"
+LATER_ALPHA, DIGIT = b"search 3 version 2 lines 2\na:1:x\nb:1:y\n", b"search 4 version 2 lines 0\n"
+KNOWN = {"known": ALPHA + RANGE + LATER_ALPHA + DIGIT}
 
 LEGAL_SESSIONS = [
     (SEARCH_BESIDE, {}, X1 + WHAT + X2 + Y3, 2),
@@ -152,12 +173,24 @@ LEGAL_SESSIONS = [
     (SEARCH_BESIDE, {"readers": 0}, X1 + WHAT + X2 + Y3, 2),
     (SEARCH_BESIDE, {"scarce": True}, WHAT + X2 + b"search 1 refused: out of memory\n" + Y3, 2),
     (SEARCH_BESIDE, {"scarce": True}, X1 + WHAT + b"line 8 refused: out of memory\nsearch 2 version 1 lines 1\na:1:x\nsearch 3 version 1 lines 0\n", 2),
+    (SEARCH_BESIDE, {"scarce": True}, b"search 1 refused: out of memory\n" + WHAT + b"search 2 refused: out of memory\n" + Y3, 2),
     (REPLACEMENT, {}, OLD + OLD_AGAIN + NEW + NO_OLD, 0),
+    (THRICE, {}, AT_3 % 1 + AT_1 % 2 + AT_2 % 3, 1),
+    (THRICE, {}, AT_2 % 3 + AT_1 % 2 + AT_3 % 1, 1),
+    (THRICE, {"readers": 3}, AT_3 % 1 + AT_2 % 2 + AT_1 % 3, 1),
+    (THRICE, {"scarce": True}, AT_3 % 1 + AT_2 % 2 + AT_1 % 3, 1),
+    (NOT_PLAIN, KNOWN, ALPHA + RANGE + LATER_ALPHA + DIGIT, 2),
+    (NOT_PLAIN, KNOWN, RANGE + ALPHA + DIGIT + LATER_ALPHA, 2),
     (BESIDE, {}, BOTH % 3 + BOTH % 1 + ONE % 2, 0),
     (BESIDE, {}, ONE % 3 + BOTH % 1 + BOTH % 2, 0),
     (CASES, {}, b"".join(reversed(CASES_ANSWERED)), 0),
     (REFUSALS, {"max_commands": 1}, b"".join(REFUSED), 2),
     (REFUSALS, {"max_commands": 1}, b"".join(REFUSED[:8] + REFUSED[9:8:-1] + REFUSED[8:9]), 2),
+    # sessions that ended early
+    (SEARCH_BESIDE, NOT_WHOLE, b"", 2),
+    (SEARCH_BESIDE, NOT_WHOLE, WHAT, 2),
+    (SEARCH_BESIDE, NOT_WHOLE, WHAT + X2, 2),
+    (SEARCH_BESIDE, dict(NOT_WHOLE, readers=0), X1 + WHAT, 2),
 ]
 
 WRONG_SESSIONS = [
@@ -166,6 +199,9 @@ WRONG_SESSIONS = [
     (SEARCH_BESIDE, {}, X1 + X2 + WHAT + Y3, 2),
     (SEARCH_BESIDE, {}, WHAT + X1 + Y3 + X2, 2),
     (SEARCH_BESIDE, {}, X1 + WHAT + X1 + X2 + Y3, 2),
+    (SEARCH_BESIDE, {}, X1 + X1 + WHAT + X2 + Y3, 2),
+    (SEARCH_BESIDE, {}, X1 + WHAT + X2 + Y3 + X2, 2),
+    (SEARCH_BESIDE, {"scarce": True}, X1 + WHAT + X2 + b"search 2 refused: out of memory\n" + Y3, 2),
     (REPLACEMENT, {}, OLD_AGAIN + OLD + NO_OLD + NEW, 0),
     # none at all
     (SEARCH_BESIDE, {}, X1 + WHAT + X2, 2),
@@ -174,8 +210,21 @@ WRONG_SESSIONS = [
     (SEARCH_BESIDE, {}, X1_LATER + WHAT + X2 + Y3, 2),
     (SEARCH_BESIDE, {}, WHAT + X1 + b"search 2 version 1 lines 1\na:1:x\n" + Y3, 2),
     (SEARCH_BESIDE, {}, WHAT + b"search 1 version 3 lines 0\n" + X2 + Y3, 2),
-    # older than what the one reader was answered at
+    # older than what the one reader, or each of two, was answered at
     (SEARCH_BESIDE, {"readers": 1}, WHAT + X2 + X1 + Y3, 2),
+    (THRICE, {}, AT_3 % 1 + AT_2 % 2 + AT_1 % 3, 1),
+    # not the known answer, or the known refusal, or in a place that a sync does not leave to it
+    (NOT_PLAIN, KNOWN, ALPHA + RANGE + b"search 3 version 2 lines 1\na:1:x\n" + DIGIT, 2),
+    (NOT_PLAIN, KNOWN, ALPHA + b"search 2 refused: bad range at 2\n" + LATER_ALPHA + DIGIT, 2),
+    (NOT_PLAIN, KNOWN, RANGE + LATER_ALPHA + ALPHA + DIGIT, 2),
+    (NOT_PLAIN, dict(KNOWN, readers=0), RANGE + ALPHA + LATER_ALPHA + DIGIT, 2),
+    # sessions that ended early, but not so: an answer that is cut, comes too early or is from another version, a refusal left out
+    (SEARCH_BESIDE, NOT_WHOLE, WHAT + X1[:-1], 2),
+    (SEARCH_BESIDE, NOT_WHOLE, WHAT + Y3, 2),
+    (SEARCH_BESIDE, NOT_WHOLE, X2, 2),
+    (SEARCH_BESIDE, NOT_WHOLE, WHAT + b"search 2 version 1 lines 1\na:1:x\n", 2),
+    (SEARCH_BESIDE, dict(NOT_WHOLE, readers=0), WHAT, 2),
+    (SEARCH_BESIDE, NOT_WHOLE, WHAT, 0),
     # an item that is taken while a search is open, without readers
     (SEARCH_BESIDE, {"readers": 0}, WHAT + X1 + X2 + Y3, 2),
     (BESIDE, {"readers": 0}, BOTH % 1 + BOTH % 3 + BOTH % 2, 0),
@@ -217,25 +266,34 @@ def judged_by_hand():
     return wrong, count
 
 
-def fault_of_run(script, readers, **options):
-    """What is wrong with a run of the program, or with a session without readers, or None."""
+def fault_of_way(start, script, how, options):
+    """What is wrong with what the program does with a script if it is started with these words, or None."""
     words = [b"--max-commands", b"%d" % options["max_commands"]] if "max_commands" in options else []
-    for start, how in ([b"--readers", b"%d" % readers], {"readers": readers}), ([b"--live"], {"readers": 0, "session": True}):
-        done = subprocess.run([PROGRAM] + start + words, input=script, capture_output=True, check=False, timeout=60)
-        fault = repr(done.stderr) if done.stderr else transcripts.fault_of(script, done.stdout, done.returncode, **how, **options)
-        if fault:
-            return fault
-    return None
+    done = subprocess.run([PROGRAM] + start + words, input=script, capture_output=True, check=False, timeout=SECONDS)
+    fault = repr(done.stderr) if done.stderr else transcripts.fault_of(script, done.stdout, done.returncode, **how, **options)
+    return fault and "%r with %s and %s: %s" % (script, b" ".join(start).decode(), options, fault)
+
+
+def faults_of_script(script, readers, sessions, **options):
+    """What is wrong with a run of a script with so many readers, and with its sessions with each of some numbers: None if nothing is."""
+    yield fault_of_way([b"--readers", b"%d" % readers], script, {"readers": readers}, options)
+    for number in sessions:
+        how = {"readers": number, "session": True}
+        yield fault_of_way([b"--live", b"--readers", b"%d" % number], script, how, options)
+
+
+def judged_scripts(pool, tries):
+    """The texts of these scripts that are not legal, and how many texts there are. A try is the words of `faults_of_script`."""
+    jobs = [pool.submit(lambda words, options: list(faults_of_script(*words, **options)), *one) for one in tries]
+    faults = [fault for job in jobs for fault in job.result()]
+    return [fault for fault in faults if fault], len(faults)
 
 
 def beginnings():
-    """The beginnings of the script whose texts are not legal, and how many runs there were."""
-    wrong = []
+    """Each beginning of the script, with each number of readers."""
     for readers in READERS:
         for length in range(len(REPLACEMENT) + 1):
-            fault = fault_of_run(REPLACEMENT[:length], readers)
-            wrong += ["the first %d bytes with %d readers: %s" % (length, readers, fault)] if fault else []
-    return wrong, len(READERS) * (len(REPLACEMENT) + 1)
+            yield (REPLACEMENT[:length], readers, [readers]), {}
 
 
 def random_item(chance):
@@ -252,25 +310,32 @@ def random_item(chance):
     )
 
 
-def random_scripts():
-    """The random scripts whose texts are not legal, and how many runs there were."""
-    chance, wrong = random.Random(1), []
-    for number in range(RANDOM_SCRIPTS):
+def random_scripts(count):
+    """So many random scripts, each with one number of readers as a run and with all as sessions."""
+    chance = random.Random(1)
+    for number in range(count):
         script = b"".join(random_item(chance) + b"\n" for _ in range(chance.randrange(60)))
-        most, readers = chance.choice([5, 1000]), READERS[number % len(READERS)]
-        fault = fault_of_run(script, readers, max_commands=most)
-        wrong += ["%r with %d readers and %d commands: %s" % (script, readers, most, fault)] if fault else []
-    return wrong, RANDOM_SCRIPTS
+        yield (script, READERS[number % len(READERS)], READERS), {"max_commands": chance.choice([5, 1000])}
 
 
 def main():
+    words = argparse.ArgumentParser(description="Judges texts of the program.")
+    words.add_argument("--scripts", type=int, default=RANDOM_SCRIPTS)
+    scripts = words.parse_args().scripts
     need_program()
     counted = Counted()
-    for part, name in (judged_by_hand, "the judge"), (judged_sessions, "the judge of sessions"), (beginnings, "beginnings"), (random_scripts, "random scripts"):
-        wrong, count = part()
-        for what in wrong:
-            counted.fails("%s: %s" % (name, what))
-        counted.passes(count - len(wrong))
+    with concurrent.futures.ThreadPoolExecutor(os.cpu_count()) as pool:
+        parts = [
+            ("the judge", judged_by_hand),
+            ("the judge of sessions", judged_sessions),
+            ("beginnings", lambda: judged_scripts(pool, beginnings())),
+            ("random scripts", lambda: judged_scripts(pool, random_scripts(scripts))),
+        ]
+        for name, part in parts:
+            wrong, count = part()
+            for what in wrong:
+                counted.fails("%s: %s" % (name, what))
+            counted.passes(count - len(wrong))
     counted.end()
 
 

@@ -8,7 +8,8 @@ Lines are matched by Python's `re`, but only for plain patterns: bytes, `.`, set
 contain no other group, `|`, `^`, `$`, and a backslash before one of these marks. For these, `re` and an extended regular expression
 mean the same, since the only question is whether a line has a match: which match is found does not matter; a line contains no line
 feed, so `.` and `[^a]` mean the same and `$` matches only at the end of the line; and both take an anchor in a group as an anchor.
-All other patterns must be in a table, written by hand by the caller, that says what the program makes of them.
+All other patterns must be in a table, written by hand by the caller, that says what the program makes of them. A caller that knows a
+text of the script gives it instead: its searches must then have the same entries, and only the order of the entries is judged.
 """
 
 import os
@@ -40,14 +41,20 @@ class Illegal(Exception):
 
 
 class Files:
-    """The files that a load may find from the top of the repository."""
+    """The files that a load may find from a folder."""
+
+    def __init__(self, folder=TOP):
+        self.folder = folder
 
     def __contains__(self, path):
         return self.get(path) is not None
 
     def get(self, path):
         try:
-            with open(os.path.join(TOP, path.decode()), "rb") as file:
+            path = os.path.join(self.folder, path.decode())
+            if not os.path.isfile(path):
+                return None
+            with open(path, "rb") as file:
                 return file.read()
         except (OSError, ValueError):
             return None
@@ -58,6 +65,7 @@ class Item:
 
     def __init__(self, kind, number, **words):
         self.kind, self.number, self.words = kind, number, words
+        self.known = None  # the entry of a search, where a text of the script is known
 
     def is_search(self):
         return self.kind in SEARCHES
@@ -220,6 +228,10 @@ def answer(item, documents, version, table):
 
 def check_answer(item, entry, documents, stats, table):
     version, text = entry[3], entry[4]
+    if item.known:
+        if text != item.known[4]:
+            raise Illegal("search %d is answered by %r, and should be by %r" % (item.number, text[:300], item.known[4][:300]))
+        return
     head, lines, names = answer(item, documents, version, table)
     first, _, rest = text.partition(b"\n")
     counts = HEAD.match(text)
@@ -233,11 +245,23 @@ def check_answer(item, entry, documents, stats, table):
 
 def reason_of_search(item, table):
     """The reason with which a search must be refused, or None. The name pattern is looked at first."""
+    if item.known:
+        return item.known[2]
     if item.words["name"] is not None:
         reason = fault_of_pattern(item.words["name"], table)
         if reason:
             return "name pattern: " + reason
     return fault_of_pattern(item.words["pattern"], table)
+
+
+def items_with_entries(script, known):
+    """The items of a script, and their places by what entries name them by. If a text is known, each search has its entry."""
+    items = items_of(script)
+    places = {("search" if item.is_search() else "line", item.number): place for place, item in enumerate(items)}
+    for entry in entries_of(known or b""):
+        if entry[0] == "search":
+            items[places[entry[:2]]].known = entry
+    return items, places
 
 
 def pair(items, text):
@@ -252,11 +276,12 @@ def pair(items, text):
     return entries
 
 
-def check(script, text, readers=2, max_commands=1_000_000, stats=False, files=None, table=None, scarce=False):
+def check(script, text, readers=2, max_commands=1_000_000, stats=False, files=None, table=None, scarce=False, known=None):
     """Returns the status with which the run must end if the text is legal, and raises Illegal if it is not. `files` are the
     bytes by their paths, `table` the patterns that are not plain, each with the reason of its refusal or its spelling for `re`.
-    Where memory is scarce, it may be refused to any item, and any reader may answer a search."""
-    items, table = items_of(script), table or {}
+    Where memory is scarce, it may be refused to any item, and any reader may answer a search. `known` is a text whose entries the
+    searches must have."""
+    items, table = items_with_entries(script, known)[0], table or {}
     entries = pair(items, text)
     run = Run(files or {}, max_commands, scarce)
     for place, (item, entry) in enumerate(zip(items, entries)):
@@ -267,7 +292,7 @@ def check(script, text, readers=2, max_commands=1_000_000, stats=False, files=No
             raise Illegal("line %d, a %s, is %s, and should be %s" % (item.number, item.kind, reason or "accepted", " or ".join(map(str, run.reasons(item)))))
         if reason is None:
             run.carry_out(place, item)
-    answered = {}
+    shares = Shares(0 if scarce else readers)
     for place, (item, entry) in enumerate(zip(items, entries)):
         if not item.is_search():
             continue
@@ -277,14 +302,32 @@ def check(script, text, readers=2, max_commands=1_000_000, stats=False, files=No
             if entry[2] != reason_of_search(item, table) and not (scarce and entry[2] == "out of memory"):
                 raise Illegal("search %d is refused by %r, and should be by %r" % (item.number, entry[2], reason_of_search(item, table)))
             continue
-        reader = (item.number - 1) % readers if readers and not scarce else item.number
-        if entry[3] not in run.versions(place, items, readers) or entry[3] < answered.get(reader, 0):
+        if entry[3] not in run.versions(place, items, readers):
             raise Illegal("search %d is answered at version %d" % (item.number, entry[3]))
-        answered[reader] = entry[3]
+        shares.take(item.number, entry[3])
         check_answer(item, entry, run.states[entry[3]], stats, table)
     if any(entry and entry[2] for entry in entries):
         return 2
     return 0 if any(entry and entry[4].count(b"\n") > 1 for entry in entries) else 1
+
+
+class Shares:
+    """The answers of each of so many readers. The text does not show which reader answers a search. But the versions of each reader do
+    not fall, and a run's readers take the searches in their order. So there must be a way to share out the answers: each to the reader
+    that was answered last at the latest version that is not later. Without readers, nothing is asked here."""
+
+    def __init__(self, readers):
+        self.readers, self.lasts = readers, []
+
+    def take(self, number, version):
+        if self.readers == 0:
+            return
+        earlier = [last for last in self.lasts if last <= version]
+        if earlier:
+            self.lasts.remove(max(earlier))
+        elif len(self.lasts) == self.readers:
+            raise Illegal("search %d is answered at version %d, and every reader was answered at a later one" % (number, version))
+        self.lasts.append(version)
 
 
 class Steps:
@@ -295,6 +338,7 @@ class Steps:
         self.items, self.run, self.readers, self.table = items, run, readers, table
         self.at = 0  # the next item
         self.open = {}  # the open searches by their numbers, each with its item and the least version that it may get
+        self.shares = Shares(0 if run.scarce else readers)
 
     def may_take(self, item):
         """With no readers an item waits until nothing is open, and a sync always does."""
@@ -338,9 +382,9 @@ class Steps:
         """Answers a search at a version that is published by now, and not older than when it was asked."""
         number, version = self.items[place].number, entry[3]
         if number not in self.open:
-            self.take_before(place + 1)
-        item, least = self.open.pop(number)
-        self.open[number] = item, least
+            self.take_before(place)
+            self.take()
+        item, least = self.open[number]
         while version and version not in (published for _, published in self.run.published):
             if self.at == len(self.items):
                 raise Illegal("search %d is answered at version %d" % (number, version))
@@ -349,23 +393,22 @@ class Steps:
             raise Illegal("search %d is answered at version %d, and should be at %d or later" % (number, version, least))
         check_answer(item, entry, self.run.states[version], stats, self.table)
         del self.open[number]
+        self.shares.take(number, version)
 
 
-def check_session(script, text, readers=2, max_commands=1_000_000, stats=False, files=None, table=None, scarce=False):
+def check_session(script, text, readers=2, max_commands=1_000_000, stats=False, files=None, table=None, scarce=False, known=None, whole=True):
     """As `check`, for a session: each answer is written as soon as it is there, and only the other entries keep the order of
-    their items. An answer has a version that is published by then."""
-    items = items_of(script)
-    places = {("search" if item.is_search() else "line", item.number): place for place, item in enumerate(items)}
-    steps, refused, hit, latest = Steps(items, Run(files or {}, max_commands, scarce), readers, table or {}), False, False, 0
+    their items. An answer has a version that is published by then. If the text is not whole, since the session ended early, searches
+    may still be open and items left."""
+    items, places = items_with_entries(script, known)
+    steps, refused, hit = Steps(items, Run(files or {}, max_commands, scarce), readers, table or {}), False, False
     for entry in entries_of(text):
         place = places.get(entry[:2])
         if place is None:
             raise Illegal("there is no item for the entry %r" % entry[4][:60])
         if entry[2] is None:
             steps.answer(place, entry, stats)
-            if readers == 1 and not scarce and entry[3] < latest:
-                raise Illegal("search %d is answered at version %d, after %d" % (entry[1], entry[3], latest))
-            latest, hit = max(latest, entry[3]), hit or entry[4].count(b"\n") > 1
+            hit = hit or entry[4].count(b"\n") > 1
             continue
         refused = True
         if entry[0] == "search" and entry[1] in steps.open:
@@ -374,6 +417,8 @@ def check_session(script, text, readers=2, max_commands=1_000_000, stats=False, 
             del steps.open[entry[1]]
         else:
             steps.refuse(place, entry[2])
+    if not whole:
+        return 2
     steps.take_before(len(items))
     if steps.open:
         raise Illegal("search %d has no answer" % min(steps.open))

@@ -1,10 +1,11 @@
 #!/usr/bin/env python3
 """Refuses each request for memory of runs of the built program in turn, and judges what they write.
 
-The script has a replacement, a pending put and syncs; it is run with no readers, with two, and as a session. With the Nth request
-refused, a run says that memory ran out, or it writes a text that is legal (transcripts.py) if any item may be refused for memory.
-No run says that a reader has no place, since there are as many places as readers. The library of counting.py counts the
-requests. With readers, the requests of two threads come in a different order each time, so these runs are repeated.
+The script has a replacement, a pending put and syncs; it is run with no readers and with two, and as a session with each. With the Nth
+request refused, a run says that memory ran out, or it writes a text that is legal (transcripts.py) if any item may be refused for memory.
+A session that says that memory ran out has written a legal beginning, with whole entries. None says that a reader has no place, since
+there are as many places as readers. The library of counting.py counts the requests. With readers, the requests of the threads come in
+a different order each time, so these runs are repeated.
 
 Then a body is searched that is so large that the pattern is compiled, which takes some hundreds of requests in a row. If one of
 them is refused, the body is searched line by line and the answer stays the same; with stars inside stars, in the pattern or in the
@@ -12,12 +13,14 @@ name pattern, the search is refused.
 
 Finally, large requests are refused and small ones are not. It is then known which item gets no memory, and so what must
 be written: a put, a load or a search with no room is refused with its line or number, and the next item is carried out.
-A script with no room ends the run. In a session, so does a line with no room, or the text of an answer.
+A script with no room ends the run. In a session, so does a line with no room, or the text of an answer. As many runs go on at
+once as there are processors.
 
 Usage: tests/refused/refused_runs.py   The last line counts: N passed, M failed.
 """
 
 import collections
+import concurrent.futures
 import itertools
 import os
 import pathlib
@@ -35,12 +38,13 @@ from judge.check_transcripts import NEW, NO_OLD, OLD, OLD_AGAIN, REPLACEMENT  # 
 from refused import counting  # noqa: E402
 
 WANTED = OLD + OLD_AGAIN + NO_OLD + NEW
-# What a session may have written when it fails at an item.
-WHOLE_ANSWERS = [b"", OLD, OLD + OLD_AGAIN, OLD + OLD_AGAIN + NO_OLD, WANTED]
 NO_MEMORY = b"tsearch: out of memory\n"
-NO_READERS, TWO_READERS, SESSION = ["--readers", "0"], ["--readers", "2"], ["--live"]
+NO_READERS, TWO_READERS = ["--readers", "0"], ["--readers", "2"]
+SESSION, READING = ["--live"] + NO_READERS, ["--live"] + TWO_READERS
 # How often each request is refused.
-TIMES = [(NO_READERS, 1), (TWO_READERS, 5), (SESSION, 1)]
+TIMES = [(NO_READERS, 1), (TWO_READERS, 5), (SESSION, 1), (READING, 5)]
+# With readers, a run can make some more requests than the one before.
+MORE = 20
 
 # A body that is too large to be matched line by line, and searches of it, with the outcome if there is no memory to compile the pattern,
 # or in the last search the name pattern, and how many requests that takes at least.
@@ -60,19 +64,20 @@ MANY = b"x\n" * 50_000 + b"y\n"
 
 # Puts of LONG over an older document of the same name. Its 100,000 line feeds count in the number of the last line.
 LONG_PUT = put(b"a", LONG)
-LONG_PUTS = b"put a 3\nold\npublish\n" + LONG_PUT + b"publish\nsearch old\n" + LONG_PUT + b"publish\nsearch ^last\nwhat\n"
+# A sync after each search makes the answers of a session with readers come in their order.
+LONG_PUTS = b"put a 3\nold\npublish\n" + LONG_PUT + b"publish\nsearch old\nsync\n" + LONG_PUT + b"publish\nsearch ^last\nsync\nwhat\n"
 NO_ROOM, OLD_LEFT = b"line 4 refused: out of memory\n", b"search 1 version 1 lines 1\na:1:old\n"
-NO_ROOM_AGAIN, NOTHING_NEW = b"line 100008 refused: out of memory\n", b"search 2 version 1 lines 0\n"
-NEW_LAST, BAD_LINE = b"search 2 version 2 lines 1\na:100000:last line\n", b"line 200012 refused: bad line\n"
+NO_ROOM_AGAIN, NOTHING_NEW = b"line 100009 refused: out of memory\n", b"search 2 version 1 lines 0\n"
+NEW_LAST, BAD_LINE = b"search 2 version 2 lines 1\na:100000:last line\n", b"line 200014 refused: bad line\n"
 
 # A line and an answer for whose texts a session has no room, after an answer.
-ANSWERED = b"put a 3\nold\npublish\nsearch old\n"
+ANSWERED = b"put a 3\nold\npublish\nsearch old\nsync\n"
 LONG_LINE = ANSWERED + b"#" * len(LONG) + b"\nsearch old\n"
 WIDE_LINE = b"x" * 16_000
-WIDE_ANSWER = ANSWERED + b"".join(b"put w%d 16000\n%s\n" % (number, WIDE_LINE) for number in range(60)) + b"publish\nsearch x\nsearch old\n"
+WIDE_ANSWER = ANSWERED + b"".join(b"put w%d 16000\n%s\n" % (number, WIDE_LINE) for number in range(60)) + b"publish\nsearch x\nsync\nsearch old\n"
 
 # Searches of MANY, of which the second and the third have many hits.
-MANY_HITS = b"put m %d\n%s\npublish\nsearch y\nsearch x\nsearch x\nsearch y\n" % (len(MANY), MANY)
+MANY_HITS = b"put m %d\n%s\npublish\nsearch y\nsync\nsearch x\nsync\nsearch x\nsync\nsearch y\n" % (len(MANY), MANY)
 FEW_FIRST, FEW_LAST = b"search 1 version 1 lines 1\nm:50001:y\n", b"search 4 version 1 lines 1\nm:50001:y\n"
 HITS = b"version 1 lines 50000\n" + b"".join(b"m:%d:x\n" % number for number in range(1, 50_001))
 SECOND, THIRD = b"search 2 " + HITS, b"search 3 " + HITS
@@ -88,35 +93,55 @@ def run(library, script, words, refused, least=0):
     return done.returncode, done.stdout, messages, int(count)
 
 
+def judged(words, text, **options):
+    """What is wrong with a text of the script with a replacement that a run or a session has written, or None."""
+    how = {"readers": 2 if words in (TWO_READERS, READING) else 0, "session": words in (SESSION, READING)}
+    return transcripts.fault_of(REPLACEMENT, text, 2 if b"refused" in text or options.get("whole") is False else 0, **how, **options)
+
+
 def outcome(words, status, text, messages):
     """What became of a run of the script with a replacement, and why that is not allowed, or None."""
     if messages == NO_MEMORY:
-        good = status == 2 and (text in WHOLE_ANSWERS if words == SESSION else WANTED.startswith(text))
-        return messages.decode().strip(), None if good else "status %d, and %r is written" % (status, text)
+        is_session = words in (SESSION, READING)
+        fault = judged(words, text, whole=False) if is_session else None if WANTED.startswith(text) else "no beginning"
+        return messages.decode().strip(), f"{fault}: status {status}, and {text!r} is written" if fault or status != 2 else None
     if messages:
         return "other words", repr(messages)
-    if (status, text) == (0, WANTED):
-        return "the same", None
+    if b"out of memory" not in text:
+        return "the same", judged(words, text) or (f"the status is {status}" if status else None)
     if text.count(b"out of memory") != 1:
         return "several items refused", repr(text)
-    return "an item refused", transcripts.fault_of(REPLACEMENT, text, status, readers=2 if words == TWO_READERS else 0, scarce=True)
+    return "an item refused", judged(words, text, scarce=True) or (None if status == 2 else f"the status is {status}")
 
 
-def each_request(library, words):
-    """Refuses each request in turn until a run makes fewer. Returns the outcomes, each with what is wrong with it or None."""
-    refused, seen = 0, []
-    while True:
-        status, text, messages, count = run(library, REPLACEMENT, words, refused)
-        what, fault = outcome(words, status, text, messages)
-        if not 0 < refused <= count and what != "the same":
-            fault = "nothing is refused"
-        seen.append((what, "request %d with %s: %s" % (refused, " ".join(words), fault) if fault else None))
-        if refused > count:
-            return seen
-        refused += 1
+def outcome_of_request(library, words, refused):
+    """What became of the run of the script with a replacement whose request with this number is refused, and what is wrong, or None."""
+    status, text, messages, count = run(library, REPLACEMENT, words, refused)
+    what, fault = outcome(words, status, text, messages)
+    if not 0 < refused <= count and what != "the same":
+        fault = "nothing is refused"
+    return what, "request %d with %s: %s" % (refused, " ".join(words), fault) if fault else None
 
 
-def each_request_of_a_search(library, search):
+def each_request(pool, library, words):
+    """Refuses each request in turn, and some more than there are. Returns the outcomes, each with what is wrong with it or None."""
+    *_, count = run(library, REPLACEMENT, words, 0)
+    return list(pool.map(lambda refused: outcome_of_request(library, words, refused), range(count + MORE)))
+
+
+def outcome_of_a_search(library, script, wanted, refused):
+    """What became of the run of a search whose request with this number is refused, and how many there were."""
+    status, text, messages, count = run(library, script, NO_READERS, refused)
+    if (status, text, messages) == (0, wanted, b""):
+        return "the same", count
+    if (status, text, messages) == (2, b"search 1 refused: out of memory\n", b""):
+        return "the search refused", count
+    if status == 2 and messages == NO_MEMORY and wanted.startswith(text):
+        return "the run refused", count
+    return "a line refused" if re.match(rb"line \d+ refused: out of memory\nsearch 1 ", text) and status == 2 else "wrong", count
+
+
+def each_request_of_a_search(pool, library, search):
     """Refuses each request of a search of the large body in turn. Returns the outcomes in order."""
     word, _, pattern = search.partition(b" ")
     if word == b"searchin":
@@ -125,18 +150,8 @@ def each_request_of_a_search(library, search):
     lines = [b"b:%d:%s\n" % (number, line) for number, line in enumerate(LARGE.split(b"\n"), 1) if re.search(pattern, line, flags)]
     wanted = b"search 1 version 1 lines %d\n%s" % (len(lines), b"".join(lines))
     script = b"put b %d\n%s\npublish\n%s\n" % (len(LARGE), LARGE, search)
-    seen, count = [], 0
-    while len(seen) <= count:
-        status, text, messages, count = run(library, script, NO_READERS, len(seen) + 1)
-        if (status, text, messages) == (0, wanted, b""):
-            seen.append("the same")
-        elif (status, text, messages) == (2, b"search 1 refused: out of memory\n", b""):
-            seen.append("the search refused")
-        elif status == 2 and messages == NO_MEMORY and wanted.startswith(text):
-            seen.append("the run refused")
-        else:
-            seen.append("a line refused" if re.match(rb"line \d+ refused: out of memory\nsearch 1 ", text) and status == 2 else "wrong")
-    return seen
+    _, count = outcome_of_a_search(library, script, wanted, 0)
+    return list(pool.map(lambda refused: outcome_of_a_search(library, script, wanted, refused)[0], range(1, count + 2)))
 
 
 def runs_of_no_room(folder):
@@ -147,17 +162,19 @@ def runs_of_no_room(folder):
         file.write(LONG)
     loads = b"put a 3\nold\npublish\nload a %s\npublish\nsearch old\n" % os.fsencode(path)
     no_room_once, no_room = NO_ROOM + OLD_LEFT + NEW_LAST + BAD_LINE, NO_ROOM + OLD_LEFT + NO_ROOM_AGAIN + NOTHING_NEW + BAD_LINE
-    yield "long puts", LONG_PUTS, SESSION, 1, (2, no_room_once, b"")
-    yield "long puts", LONG_PUTS, SESSION, EVERY, (2, no_room, b"")
+    for words in SESSION, READING:
+        yield "long puts", LONG_PUTS, words, 1, (2, no_room_once, b"")
+        yield "long puts", LONG_PUTS, words, EVERY, (2, no_room, b"")
+        yield "a long line", LONG_LINE, words, EVERY, (2, OLD_LEFT, NO_MEMORY)
+        yield "a wide answer", WIDE_ANSWER, words, EVERY, (2, OLD_LEFT, NO_MEMORY)
     for words in NO_READERS, TWO_READERS:
         yield "a long script", LONG_PUTS, words, EVERY, (2, b"", NO_MEMORY)
-    yield "a long line", LONG_LINE, SESSION, EVERY, (2, OLD_LEFT, NO_MEMORY)
-    yield "a wide answer", WIDE_ANSWER, SESSION, EVERY, (2, OLD_LEFT, NO_MEMORY)
-    for words in NO_READERS, TWO_READERS, SESSION:
+    for words in NO_READERS, TWO_READERS, SESSION, READING:
         yield "a long load", loads, words, EVERY, (2, NO_ROOM + OLD_LEFT, b"")
         yield "many hits", MANY_HITS, words, EVERY, (2, FEW_FIRST + SECOND_REFUSED + THIRD_REFUSED + FEW_LAST, b"")
     # the reader that is refused leaves its search to reader 0
-    yield "many hits", MANY_HITS, TWO_READERS, 1, (0, FEW_FIRST + SECOND + THIRD + FEW_LAST, b"")
+    for words in TWO_READERS, READING:
+        yield "many hits", MANY_HITS, words, 1, (0, FEW_FIRST + SECOND + THIRD + FEW_LAST, b"")
 
 
 def fault_of_no_room(library, name, script, words, refused, wanted):
@@ -172,21 +189,21 @@ def fault_of_no_room(library, name, script, words, refused, wanted):
 def main():
     need_program()
     counted = Counted()
-    with tempfile.TemporaryDirectory() as folder:
+    with tempfile.TemporaryDirectory() as folder, concurrent.futures.ThreadPoolExecutor(os.cpu_count()) as pool:
         library = counting.build(folder)
         for words, times in TIMES:
-            seen = [it for _ in range(times) for it in each_request(library, words)]
+            seen = [it for _ in range(times) for it in each_request(pool, library, words)]
             outcomes = collections.Counter(what for what, _ in seen)
             print("%s: %s" % (" ".join(words), ", ".join("%s %d" % pair for pair in sorted(outcomes.items()))))
             counted.judge(fault for _, fault in seen)
         for search, (wanted, least) in SEARCHES.items():
-            seen = each_request_of_a_search(library, search)
+            seen = each_request_of_a_search(pool, library, search)
             length, what = max((len(list(group)), what) for what, group in itertools.groupby(seen))
             print("%s: %s, %d of them in a row" % (search.decode(), wanted, length))
             counted.judge("%s: a wrong outcome" % search.decode() if it == "wrong" else None for it in seen)
             short = what != wanted or length < least
             counted.judge(["%s: %d times %s in a row" % (search.decode(), length, what) if short else None])
-        counted.judge(fault_of_no_room(library, *case) for case in runs_of_no_room(folder))
+        counted.judge(pool.map(lambda case: fault_of_no_room(library, *case), runs_of_no_room(folder)))
     counted.end()
 
 

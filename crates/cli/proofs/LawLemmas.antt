@@ -1,12 +1,11 @@
 -- Settings are determined by the arguments that spell them.
-use Rattle.std.proofs.Common.{◌≡◌, ◌∙◌, ap, sym, refl, subst, inl, inr, true, false, Bool, [], ◌∷◌, codes}
+use Rattle.std.proofs.Common.{◌≡◌, ◌∙◌, sym, refl, subst, inl, inr, true, false, Bool, [], ◌∷◌, codes}
 use Rattle.std.specs.Prelude.{◌↔◌}
 use Rattle.clap.specs.Kinds.{IsAmong, Kinds}
-use Rattle.clap.specs.Walk.{one_of}
 use Rattle.clap.specs.declared.error.kind.ErrorKind.{ErrorKind}
 use Rattle.clap.specs.declared.error.kind.ErrorKind.TheVariants.{DisplayHelp, DisplayVersion}
 use Rattle.clap.proofs.OnLiterals.{clap_on_literals}
-use Rattle.cli.specs.CommandLine.{AskForHelp, AskForVersion, SpellSettings, default_readers, found_in, number_or}
+use Rattle.cli.specs.CommandLine.{AskForHelp, AskForVersion, SpellSettings}
 use Rattle.cli.specs.declared.arguments.Settings.{Settings}
 use Rattle.cli.specs.Laws.{OptionsAskForThemselves, SettingsAreOne, SettingsStandAlone, option_alone}
 
@@ -17,17 +16,13 @@ same_truth P false true h h' = h.1 (h'.0 refl)
 same_truth P false false h h' = refl
 
 pub one_spelling : SettingsAreOne
-one_spelling arguments one other is is' =
-    let live : one.live ≡ other.live = same_truth _ one.live other.live is.found.live is'.found.live in
-    record {
-      live = live;
-      readers =
-          is.found.readers ∙ ap (λ (l : Bool). number_or (default_readers l) (one_of (codes "readers") (found_in arguments))) live
-          ∙ sym is'.found.readers;
-      max_commands = is.found.max_commands ∙ sym is'.found.max_commands;
-      stats = same_truth _ one.stats other.stats is.found.stats is'.found.stats;
-      file = is.found.file ∙ sym is'.found.file;
-    }
+one_spelling arguments one other is is' = record {
+  live = same_truth _ one.live other.live is.found.live is'.found.live;
+  readers = is.found.readers ∙ sym is'.found.readers;
+  max_commands = is.found.max_commands ∙ sym is'.found.max_commands;
+  stats = same_truth _ one.stats other.stats is.found.stats is'.found.stats;
+  file = is.found.file ∙ sym is'.found.file;
+}
 
 pub no_request : SettingsStandAlone
 no_request arguments settings is = (subst (IsAmong DisplayHelp) is.taken, subst (IsAmong DisplayVersion) is.taken)

@@ -1,16 +1,14 @@
 -- The command line `tsearch [--readers N] [--stats] [--max-commands N] [--live] [FILE]`, and what arguments ask for with it.
-use Rattle.std.specs.Prelude.{◌≡◌, ◌≢◌, ◌≤◌, ◌<◌, ◌↔◌, ◌==◌, ◌&&◌, if◌then◌else◌, not, ℕ, Bool, List, [], ◌∷◌, Option, Some, None, true}
-use Rattle.std.specs.Prelude.{false, codes, option_map, pos, ⊤}
-use Rattle.std.specs.Str.{bytes_eq}
+use Rattle.std.specs.Prelude.{◌≡◌, ◌≢◌, ◌≤◌, ◌<◌, ◌↔◌, ℕ, List, [], Option, Some, None, true, codes, option_map, pos, ⊤}
 use Rattle.std.specs.Str.Parse.{digits_value, without_leading_plus}
-use Rattle.clap.specs.Kinds.{IsAmong, Kinds, or_else}
+use Rattle.clap.specs.Kinds.{IsAmong, Kinds}
 use Rattle.clap.specs.Faults.{fault_of}
 use Rattle.clap.specs.Simple.{App, matches_of, new_app, new_rule, with_rule}
 use Rattle.clap.specs.Values.{kind_of}
 use Rattle.clap.specs.Walk.{Row, Rule, Text, first_of, one_of}
 use Rattle.clap.specs.declared.builder.action.ArgAction.TheVariants.{SetTrue}
 use Rattle.clap.specs.declared.builder.value_parser.ValueParser.TheVariants.{Signed}
-use Rattle.clap.specs.declared.error.kind.ErrorKind.TheVariants.{ArgumentConflict, DisplayHelp, DisplayVersion}
+use Rattle.clap.specs.declared.error.kind.ErrorKind.TheVariants.{DisplayHelp, DisplayVersion}
 use Rattle.cli.specs.declared.arguments.Request.{Request}
 use Rattle.cli.specs.declared.arguments.Request.TheVariants.{Run, Help, Version}
 use Rattle.cli.specs.declared.arguments.Settings.{Settings}
@@ -48,29 +46,14 @@ abbrev pub number_or : ℕ → Option Text → ℕ
 number_or default (Some text) = digits_value 10 (without_leading_plus text)
 number_or default None = default
 
--- whether a flag's text says that it is set
-abbrev pub is_set : Option Text → Bool
-is_set (Some text) = bytes_eq text (codes "true")
-is_set None = false
-
--- a session has no readers; `--readers 0` is allowed
-abbrev pub session_faults : List Row → Kinds
-session_faults found =
-    if is_set (one_of (codes "live") found) && not (number_or 0 (one_of (codes "readers") found) == 0)
-    then ArgumentConflict ∷ [] else []
-
--- what is wrong with the arguments, if anything is: what `clap` refuses, or else readers of a session
+-- what is wrong with the arguments, if anything is: what `clap` refuses
 abbrev pub faults_of : List Text → Kinds
-faults_of arguments = or_else (fault_of command_line arguments) (session_faults (found_in arguments))
-
--- the default of a run and of a session
-abbrev pub default_readers : Bool → ℕ
-default_readers live = if live then 0 else DEFAULT_READERS
+faults_of arguments = fault_of command_line arguments
 
 -- The settings are those that are found, each under its name, and the defaults for those that are not found.
 pub record IsSettingsIn (found : List Row) (settings : Settings) : Type 0 where
   pub live : (settings.live ≡ true) ↔ (one_of (codes "live") found ≡ Some (codes "true"))
-  pub readers : settings.readers ≡ number_or (default_readers settings.live) (one_of (codes "readers") found)
+  pub readers : settings.readers ≡ number_or DEFAULT_READERS (one_of (codes "readers") found)
   pub max_commands : settings.max_commands ≡ number_or DEFAULT_MAX_COMMANDS (one_of (codes "max-commands") found)
   pub stats : (settings.stats ≡ true) ↔ (one_of (codes "stats") found ≡ Some (codes "true"))
   pub file : option_map (λ path. path.now) settings.file ≡ first_of (codes "FILE") found
@@ -85,7 +68,6 @@ pub record SpellSettings (arguments : List Text) (settings : Settings) : Type 0 
   pub taken : faults_of arguments ≡ []
   pub found : IsSettingsIn (found_in arguments) settings
   pub limits : IsInLimits settings
-  pub alone : settings.live ≡ true → settings.readers ≡ 0
 
 -- The arguments ask for the help.
 abbrev pub AskForHelp : List Text → Type 0

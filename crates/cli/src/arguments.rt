@@ -4,9 +4,7 @@ ghost use Rattle.std.specs.Prelude.{◌≡◌, IfOk, IfErr, map, string_bytes};
 ghost use Rattle.clap.specs.Faults.{fault_of};
 ghost use Rattle.clap.specs.Kinds.{FailsBy};
 ghost use Rattle.clap.specs.Simple.{app_of};
-ghost use Rattle.clap.specs.Values.{kind_of};
-ghost use Rattle.cli.specs.CommandLine.{IsInLimits, IsRefusalOf, IsRequestOf, IsSettingsIn, SpellSettings};
-ghost use Rattle.cli.specs.CommandLine.{command_line, default_readers, faults_of, found_in};
+ghost use Rattle.cli.specs.CommandLine.{IsInLimits, IsRefusalOf, IsRequestOf, IsSettingsIn, command_line, found_in};
 
 use crate::error::ArgumentError;
 use crate::help::{HELP, VERSION};
@@ -20,7 +18,7 @@ use std::alloc::{AllocError, Global};
 pub struct Settings<'a> {
     /// `--live`: whether it is a session, which carries out each item of the script as it comes.
     pub live: bool,
-    /// `--readers`: how many readers there are, 0 to 16, by default 2. It is 0 in a session.
+    /// `--readers`: how many readers there are, 0 to 16, by default 2.
     pub readers: u32,
     /// `--max-commands`: how many commands are accepted at most, 1 to 4,294,967,294, by default 1,000,000.
     pub max_commands: u32,
@@ -43,8 +41,7 @@ pub enum Request<'a> {
 
 /// Reads the arguments. The first one is the program's name.
 ///
-/// `Refused` means that `clap` refuses them, or that they ask for a session with readers. `OutOfMemory` means that
-/// memory ran out.
+/// `Refused` means that `clap` refuses them, and `OutOfMemory` that memory ran out.
 pub fn read_arguments<'a>(
     alloc: Global,
     arguments: &'a [String],
@@ -52,7 +49,7 @@ pub fn read_arguments<'a>(
     ensures request { IfOk result (IsRequestOf (map string_bytes arguments.entry.now)) }
     ensures refused { IfErr result (IsRefusalOf (map string_bytes arguments.entry.now)) }
 {
-    match parse(alloc, arguments) {
+    match read_settings(alloc, arguments) {
         Ok(settings) => Ok(Request::Run(settings)),
         Err(error) => match error.kind() {
             ErrorKind::DisplayHelp => Ok(Request::Help),
@@ -76,28 +73,6 @@ pub fn not_text(alloc: Global) -> ArgumentError {
     }
 }
 
-/// Reads the settings from the arguments, and refuses a session with readers.
-#[tactic(auto, using(crate::proofs::SessionLemmas::spells, crate::proofs::SessionLemmas::conflicts))]
-fn parse<'a>(alloc: Global, arguments: &'a [String]) -> Result<Settings<'a>, Error>
-    ensures settings { IfOk result (SpellSettings (map string_bytes arguments.entry.now)) }
-    ensures kinds { FailsBy (faults_of (map string_bytes arguments.entry.now)) result }
-{
-    match read_settings(alloc, arguments) {
-        Ok(settings) if settings.live && settings.readers != 0 => Err(readers_of_session(alloc)?),
-        Ok(settings) => Ok(settings),
-        Err(error) => Err(error),
-    }
-}
-
-/// The error that refuses a session with readers. An `Err` means that memory ran out.
-fn readers_of_session(alloc: Global) -> Result<Error, AllocError>
-    ensures kind { IfOk result (λ error. kind_of error ≡ ErrorKind.ArgumentConflict) }
-{
-    let message = "the argument '--readers <N>' cannot be used with '--live' unless N is 0: \
-        a session answers each search at once";
-    command(alloc)?.error(ErrorKind::ArgumentConflict, message)
-}
-
 /// Reads the settings from the arguments, with the defaults for those that are missing.
 fn read_settings<'a>(alloc: Global, arguments: &'a [String]) -> Result<Settings<'a>, Error>
     ensures found { IfOk result (IsSettingsIn (found_in (map string_bytes arguments.entry.now))) }
@@ -108,21 +83,14 @@ fn read_settings<'a>(alloc: Global, arguments: &'a [String]) -> Result<Settings<
     let readers = matches.get_one::<u32>("readers");
     let max_commands = matches.get_one::<u32>("max-commands");
     let stats = matches.get_one::<bool>("stats");
-    let live = matches.get_one::<bool>("live").unwrap_or(false);
+    let live = matches.get_one::<bool>("live");
     Ok(Settings {
-        live,
-        readers: readers.unwrap_or(default_readers(live)),
+        live: live.unwrap_or(false),
+        readers: readers.unwrap_or(DEFAULT_READERS),
         max_commands: max_commands.unwrap_or(DEFAULT_MAX_COMMANDS),
         stats: stats.unwrap_or(false),
         file: matches.get_str("FILE"),
     })
-}
-
-/// The number of readers if the arguments give none.
-fn default_readers(live: bool) -> u32
-    ensures { result ≡ default_readers live }
-{
-    if live { 0 } else { DEFAULT_READERS }
 }
 
 /// The command line that `clap` reads the arguments by. An `Err` means that memory ran out.

@@ -18,8 +18,8 @@ Options:
                           their trigrams, and how many there are
       --max-commands <N>  How many puts, loads and removes are accepted, 1 to 4294967294
                           [default: 1000000]
-      --live              Carries out each line as it arrives, and writes its output before waiting
-                          for the next line. Each search is answered at once
+      --live              Carries out each line as it arrives, and writes each answer as soon as it
+                          is there, whichever search was asked first
   -h, --help              Shows this help
   -V, --version           Shows the version
 

@@ -3,7 +3,7 @@
 /// The greatest number of readers.
 pub const MAX_READERS: u32 = 16;
 
-/// The number of readers of a run if the arguments give none.
+/// The number of readers if the arguments give none.
 pub const DEFAULT_READERS: u32 = 2;
 
 /// The greatest number of accepted commands that the arguments can ask for.

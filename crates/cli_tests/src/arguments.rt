@@ -56,36 +56,49 @@ fn each_option_is_read_by_its_name(rt: HostRuntime) -> Result<(), Fail> {
     assert_gives(&rt, rt.alloc(), &texts, wanted)
 }
 
-#[test]
-fn a_session_has_defaults_of_its_own(rt: HostRuntime) -> Result<(), Fail> {
-    let wanted = Settings {
+/// A session with this many readers, and the defaults for the rest.
+fn session<'a>(readers: u32) -> Settings<'a> {
+    Settings {
         live: true,
-        readers: 0,
+        readers,
         max_commands: 1_000_000,
         stats: false,
         file: None,
-    };
-    assert_gives(&rt, rt.alloc(), &["--live"], wanted)?;
-    assert_gives(&rt, rt.alloc(), &["--readers", "0", "--live"], wanted)?;
-    let with_all = Settings {
+    }
+}
+
+#[test]
+fn a_session_has_the_defaults_of_a_run(rt: HostRuntime) -> Result<(), Fail> {
+    assert_gives(&rt, rt.alloc(), &["--live"], session(2))?;
+    let with_others = Settings {
         live: true,
-        readers: 0,
+        readers: 2,
         max_commands: 65536,
         stats: true,
         file: Some("a"),
     };
     let texts = ["--live", "--stats", "--max-commands", "65536", "a"];
-    assert_gives(&rt, rt.alloc(), &texts, with_all)
+    assert_gives(&rt, rt.alloc(), &texts, with_others)
 }
 
 #[test]
-fn readers_of_a_session_are_refused_by_name(rt: HostRuntime) -> Result<(), Fail> {
-    let begin =
-        "error: the argument '--readers <N>' cannot be used with '--live' unless N is 0: a session answers each search at once\n";
-    assert_refused(&rt, rt.alloc(), &["--readers", "2", "--live"], begin)?;
-    assert_refused(&rt, rt.alloc(), &["--live", "--readers=16", "a"], begin)?;
-    let number = "error: invalid value '17' for '--readers <N>'";
-    assert_refused(&rt, rt.alloc(), &["--live", "--readers", "17"], number)?;
+fn a_session_takes_readers(rt: HostRuntime) -> Result<(), Fail> {
+    assert_gives(&rt, rt.alloc(), &["--live", "--readers", "0"], session(0))?;
+    assert_gives(&rt, rt.alloc(), &["--live", "--readers", "16"], session(16))?;
+    assert_gives(&rt, rt.alloc(), &["--readers", "0", "--live"], session(0))?;
+    assert_gives(&rt, rt.alloc(), &["--readers", "3", "--live"], session(3))?;
+    let with_file = Settings {
+        file: Some("a"),
+        ..session(16)
+    };
+    assert_gives(&rt, rt.alloc(), &["--live", "--readers=16", "a"], with_file)?;
+    let begin = "error: invalid value '17' for '--readers <N>'";
+    assert_refused(&rt, rt.alloc(), &["--live", "--readers", "17"], begin)?;
+    assert_refused(&rt, rt.alloc(), &["--readers", "17", "--live"], begin)
+}
+
+#[test]
+fn live_is_given_once_and_without_a_value(rt: HostRuntime) -> Result<(), Fail> {
     let twice = "error: the argument '--live' cannot be used multiple times";
     assert_refused(&rt, rt.alloc(), &["--live", "--live"], twice)?;
     let value = "error: unexpected value";

@@ -1,1 +1,3 @@
-pub mod ServeLemmas
+pub mod SourceLemmas
+pub mod CarryLemmas
+pub mod SessionLemmas

@@ -2,6 +2,7 @@
 
 ghost use Rattle.std.specs.Prelude.{◌≡◌};
 
+use reads::InboxError;
 use shared::OpenError;
 use stream::StreamError;
 use thiserror::Error;
@@ -10,7 +11,7 @@ use transcript::WriteError;
 /// Why a session ends without a status.
 #[derive(Clone, Copy, Debug, PartialEq, Eq, Error)]
 pub enum LiveError {
-    /// The input could not be read.
+    /// The input could not be read, or an item did not come, which never happens.
     #[error("tsearch: cannot read the script")]
     CannotRead,
     /// The output failed, or took no byte.
@@ -22,7 +23,7 @@ pub enum LiveError {
     /// Memory ran out for a line, for the text of an entry, or for the session itself.
     #[error("tsearch: out of memory")]
     OutOfMemory,
-    /// Reader 0 got no place.
+    /// A reader got no place.
     #[error("tsearch: no place for a reader")]
     NoPlace,
     /// A line has over 67,108,864 bytes.
@@ -31,7 +32,7 @@ pub enum LiveError {
     /// The number of a line would not fit in 32 bits.
     #[error("tsearch: too many lines")]
     TooManyLines,
-    /// There were 4,294,967,295 searches, the most that a session can count. No item is read after the last of them.
+    /// There were 4,294,967,295 searches, the most that a session can count. No item is carried out after the last of them.
     #[error("tsearch: too many searches")]
     TooManySearches,
 }
@@ -73,5 +74,15 @@ pub(crate) fn of_writing(error: WriteError) -> LiveError
         WriteError::Failed | WriteError::Stopped => LiveError::CannotWrite,
         WriteError::Closed => LiveError::OutputClosed,
         WriteError::OutOfMemory => LiveError::OutOfMemory,
+    }
+}
+
+/// The error of a session that cannot take in what came.
+pub(crate) fn of_inbox(error: InboxError) -> LiveError
+    ensures memory { error ≡ InboxError.OutOfMemory → result ≡ LiveError.OutOfMemory }
+{
+    match error {
+        InboxError::Lost => LiveError::CannotRead,
+        InboxError::OutOfMemory => LiveError::OutOfMemory,
     }
 }

@@ -1,8 +1,9 @@
-//! `live`: a session that stays open. It reads items as they come, carries out each one and writes its text before it
-//! waits for the next one.
+//! `live`: a session that stays open. It takes items as they come, and writes each entry as soon as it is known.
 #![tactic(auto)]
 
+mod crew;
 mod error;
+mod items;
 mod marks;
 mod serving;
 mod session;

@@ -1,98 +1,189 @@
 //! A session, from its first item to its last.
 
-ghost use Rattle.std.specs.Prelude.{◌≡◌, ℕ, ◌<◌, ◌≤◌, List, IfOk, OnErr};
+ghost use Rattle.std.specs.Prelude.{◌≡◌, ◌≢◌, ℕ, ◌<◌, ◌≤◌, List, [], None, IfOk, OnErr};
+ghost use Rattle.reads.specs.Read.{EndsBy, IsReadOf, inbox_state};
+ghost use Rattle.service.specs.Opening.{opened_state};
+ghost use Rattle.service.specs.Service.{first_service};
 ghost use Rattle.shared.specs.declared.opening.TheConstants.{MAX_COMMANDS};
-ghost use Rattle.tsearch.specs.Lone.{first_state};
+ghost use Rattle.live.specs.Private.Serving.{status_by};
 ghost use Rattle.live.specs.Served.{IsServed, IsBroken};
 
-use crate::error::{LiveError, of_opening};
-use crate::session::{Plan, Session, advance};
+use crate::crew::Crew;
+use crate::error::{LiveError, of_opening, of_reading};
+use crate::items::step;
+use crate::marks::Marks;
+use crate::session::{Plan, Written};
+use reads::{Feed, Inbox};
+use service::{Gate, Reader, Service, Source, open};
 use std::alloc::Global;
 use std::io::{BufRead, Write};
+use std::marker::Brand;
 use std::sync::Wait;
-use tsearch::{LoneRun, Source};
+use std::thread::Threads;
 
 /// How a session is run.
 #[derive(Clone, Copy, Debug, PartialEq, Eq)]
 pub struct LiveOptions {
+    /// How many readers there are in addition to reader 0, each with a thread of its own, 0 to 16.
+    pub readers: u32,
     /// How many commands are accepted at most, 1 to 4,294,967,294.
     pub max_commands: u32,
     /// Whether each answer also shows its number of candidates and of documents.
     pub stats: bool,
 }
 
-/// Serves a session: takes items from the input as they come, carries each one out, and writes its text, until the
-/// input ends or a fault ends the reading. Returns the status of the session: 2 if anything was refused, otherwise 0
-/// if some search has a hit, and otherwise 1, as `transcript::status` does for a run.
+/// Serves a session: takes items from the input as they come, carries each one out, and writes the text of each entry as
+/// soon as it is known, until the input ends or a fault ends the reading, and no search is open. Returns the status of the
+/// session: 2 if anything was refused, otherwise 0 if some search has a hit, and otherwise 1, as `transcript::status` does
+/// for a run.
 ///
-/// All text that an item causes is written and flushed before a byte after the item is waited for, and no byte is
-/// waited for that the item does not need. Reader 0 answers each search at once; no threads are started. Neither
-/// the script nor the entries are kept.
+/// The calling thread carries out the items and writes. With readers, a thread reads the input, and each reader answers
+/// searches in a thread of its own, so a search holds up neither the items after it nor, while another reader is free,
+/// other searches. Its answer is written when it comes. A sync, and what follows it, waits until no search is open.
+/// Without readers, or if no thread can be started, the calling thread reads, and answers each search at once. A reader
+/// calls the gate at each point of a search.
 ///
-/// What is written is the text of a transcript that is legal for the bytes that were read, with no readers
-/// (`docs/DEFINITIONS.md`). After an `Err`, which says why the session ended early, it is a beginning of such a text,
-/// for a beginning of those bytes. The source holds afterwards what it held before, and its count of failures has not
-/// fallen.
+/// Each text is written whole and flushed. At most 16 items are read ahead and 256 searches are open, so a reader of the
+/// output that stops also stops the input. Neither the script nor the entries are kept.
 ///
-/// `NoPlace` means that reader 0 got no place, `CannotRead` that the input failed, `CannotWrite` that the output
-/// failed or took no byte, `OutputClosed` that nobody reads the output any more, and `OutOfMemory` that memory ran
-/// out for the session itself, for a line, or for the text of an entry. `LineTooLong`, `TooManyLines` and `TooManySearches` mean that a limit was reached, which `LiveError`
-/// states.
-pub fn serve<R: Wait, S: Source, I: BufRead, O: Write>(
+/// What is written is the text of the entries of legal steps that take exactly the items of the bytes that were read
+/// (`docs/DEFINITIONS.md`). After an `Err`, which says why the session ended early, it is a beginning of such a text, for
+/// some of the items. The source holds afterwards what it held before, and its count of failures has not fallen.
+///
+/// The threads are not waited for. After an `Err` the one that reads may still wait for the input: it ends when its read
+/// returns, or with the process.
+///
+/// `NoPlace` means that a reader got no place, `CannotRead` that the input failed, `CannotWrite` that the output failed or
+/// took no byte, `OutputClosed` that nobody reads the output any more, and `OutOfMemory` that memory ran out for the session
+/// itself, for a line, or for the text of an entry. `LineTooLong`, `TooManyLines` and `TooManySearches` mean that a limit
+/// was reached, which `LiveError` states. What was read before the input failed, or before there was no memory for a line,
+/// or before a limit of lines, is carried out first, and all searches are answered. After any other error, searches that
+/// are open have no answer.
+pub fn serve<
+    R: Threads + Wait + Sync + Send + Copy + 'static,
+    S: Source,
+    I: BufRead + Drop + Send + 'static,
+    O: Write,
+    G: Gate + Copy + Send + 'static,
+>(
     rt: &R,
     alloc: Global,
-    input: &mut I,
+    input: I,
     options: LiveOptions,
     source: &mut S,
     out: &mut O,
+    gate: G,
 ) -> Result<u8, LiveError>
+    requires readers { options.readers ≤ 16 }
     requires commands { (0 < options.max_commands) × (options.max_commands ≤ MAX_COMMANDS) }
     ensures ok { IfOk result (IsServed options (S.holds source.old) (S.failed source.old) (S.failed source.new)
-        (I.remaining input.old) (I.remaining input.new) (O.contents out.old) (O.contents out.new)) }
+        (I.remaining input) (O.contents out.old) (O.contents out.new)) }
     ensures err { OnErr result (IsBroken options (S.holds source.old) (S.failed source.old) (S.failed source.new)
-        (I.remaining input.old) (I.remaining input.new) (O.contents out.old) (O.contents out.new)) }
+        (I.remaining input) (O.contents out.old) (O.contents out.new)) }
     ensures same { (path body : List ℕ) → (S.holds source.new path body → S.holds source.old path body)
         × (S.holds source.old path body → S.holds source.new path body) }
     ensures counted { S.failed source.old ≤ S.failed source.new }
 {
-    let mut run = match LoneRun::open(rt, alloc, options.max_commands) {
-        Ok(run) => run,
+    let opened = match open(rt, alloc, options.max_commands, options.readers) {
+        Ok(opened) => opened,
         Err(error) => return Err(of_opening(error)),
     };
-    let served = serve_items(rt, alloc, &mut run, options, input, source, out);
-    run.close(rt);
+    let history = reads::Opened::new();
+    serve_as::<Brand, Brand, R, S, I, O, G>(
+        rt, alloc, opened, history, input, options, source, out, gate,
+    )
+}
+
+/// Serves a session under the names of its opening and of its reading.
+fn serve_as<
+    J: service::Naming + Send + Sync + 'static,
+    K: reads::Naming + Send + Sync + 'static,
+    R: Threads + Wait + Sync + Send + Copy + 'static,
+    S: Source,
+    I: BufRead + Drop + Send + 'static,
+    O: Write,
+    G: Gate + Copy + Send + 'static,
+>(
+    rt: &R,
+    alloc: Global,
+    opened: service::Opened,
+    history: reads::Opened,
+    input: I,
+    options: LiveOptions,
+    source: &mut S,
+    out: &mut O,
+    gate: G,
+) -> Result<u8, LiveError>
+    requires opened { opened ≡ opened_state J.book options.max_commands options.readers }
+    requires history { history.book ≡ K.book }
+    requires input { I.remaining input ≡ K.input }
+    ensures ok { IfOk result (IsServed options (S.holds source.old) (S.failed source.old) (S.failed source.new)
+        K.input (O.contents out.old) (O.contents out.new)) }
+    ensures err { OnErr result (IsBroken options (S.holds source.old) (S.failed source.old) (S.failed source.new)
+        K.input (O.contents out.old) (O.contents out.new)) }
+    ensures same { (path body : List ℕ) → (S.holds source.new path body → S.holds source.old path body)
+        × (S.holds source.old path body → S.holds source.new path body) }
+    ensures counted { S.failed source.old ≤ S.failed source.new }
+{
+    let Ok((service, readers)) = opened.named::<J, R>(rt, alloc) else {
+        return Err(LiveError::OutOfMemory);
+    };
+    let mut service = service;
+    let (book, front) = history.named::<K>();
+    let inbox = Inbox::new(alloc, front.again());
+    let feed = Feed::new(alloc, book, front, input);
+    let crew = Crew::start(rt, alloc, feed, readers, gate);
+    let plan = Plan { rt, alloc, options };
+    let served = serve_all(&plan, &mut service, crew, inbox, source, out);
+    service.close(rt);
     served
 }
 
-/// Serves a session with a run that is before its first item.
-fn serve_items<R: Wait, S: Source, I: BufRead, O: Write>(
-    rt: &R,
-    alloc: Global,
-    run: &mut LoneRun,
-    options: LiveOptions,
-    input: &mut I,
+/// Serves a session with a service before its first item.
+fn serve_all<J: service::Naming, K: reads::Naming, R: Wait, S: Source, I: BufRead + Drop, O: Write>(
+    plan: &Plan<'_, R>,
+    service: &mut Service<J>,
+    crew: Crew<J, K, I>,
+    inbox: Inbox<K>,
     source: &mut S,
     out: &mut O,
 ) -> Result<u8, LiveError>
-    requires { run.old ≡ first_state options.max_commands }
-    ensures ok { IfOk result (IsServed options (S.holds source.old) (S.failed source.old) (S.failed source.new)
-        (I.remaining input.old) (I.remaining input.new) (O.contents out.old) (O.contents out.new)) }
-    ensures err { OnErr result (IsBroken options (S.holds source.old) (S.failed source.old) (S.failed source.new)
-        (I.remaining input.old) (I.remaining input.new) (O.contents out.old) (O.contents out.new)) }
+    requires first { service.old ≡ first_service plan.now.options.max_commands plan.now.options.readers }
+    requires inbox { inbox ≡ inbox_state [] [] None }
+    requires read { IsReadOf K.input inbox.came }
+    ensures ok { IfOk result (IsServed plan.now.options (S.holds source.old) (S.failed source.old) (S.failed source.new)
+        K.input (O.contents out.old) (O.contents out.new)) }
+    ensures err { OnErr result (IsBroken plan.now.options (S.holds source.old) (S.failed source.old) (S.failed source.new)
+        K.input (O.contents out.old) (O.contents out.new)) }
     ensures same { (path body : List ℕ) → (S.holds source.new path body → S.holds source.old path body)
         × (S.holds source.old path body → S.holds source.new path body) }
     ensures counted { S.failed source.old ≤ S.failed source.new }
 {
-    let plan = Plan {
-        rt,
-        alloc,
-        stats: options.stats,
-    };
-    let mut session = Session::new(alloc);
-    for _ in rt.forever() {
-        if !advance(&plan, run, &mut session, input, source, out)? {
-            return Ok(session.marks.status());
+    let mut crew = crew;
+    let mut inbox = inbox;
+    let mut written = Written::new(plan.alloc);
+    for _ in plan.rt.forever() {
+        if !step(
+            plan,
+            service,
+            &mut crew,
+            &mut inbox,
+            &mut written,
+            source,
+            out,
+        )? {
+            return status_at_end(&inbox, written.marks);
         }
     }
     unreachable!()
+}
+
+/// The status, unless an error ended the reading.
+fn status_at_end<K: reads::Naming>(inbox: &Inbox<K>, marks: Marks) -> Result<u8, LiveError>
+    ensures { IfOk result (λ status. (status ≡ status_by marks) × (inbox.now.over ≢ None → EndsBy K.input inbox.now.came None)) }
+{
+    match inbox.over() {
+        Some(Some(error)) => Err(of_reading(error)),
+        _ => Ok(marks.status()),
+    }
 }

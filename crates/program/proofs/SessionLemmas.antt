@@ -21,20 +21,19 @@ pub unread : {T A : Type 0} (remaining : T → Option (List ℕ)) (r : BufReader
 unread remaining r inner is empty capacity =
     rw capacity (ap (λ (bytes : List ℕ). prepend_known bytes (remaining r.inner)) empty ∙ nothing_before (remaining r.inner) ∙ ap remaining is)
 
-pub served_from : (options : LiveOptions) (Holds : List ℕ → List ℕ → Type 0) (failed failed' : ℕ) (known whole left old new : Option (List ℕ)) (status : ℕ)
-    → known ≡ whole → IsServed options Holds failed failed' known left old new status
-    → (left : Option (List ℕ)) × IsServed options Holds failed failed' whole left old new status
-served_from options Holds failed failed' known whole left old new status same served =
-    (left, subst (λ (input : Option (List ℕ)). IsServed options Holds failed failed' input left old new status) same served)
+pub served_from : (options : LiveOptions) (Holds : List ℕ → List ℕ → Type 0) (failed failed' : ℕ) (known whole old new : Option (List ℕ)) (status : ℕ)
+    → known ≡ whole → IsServed options Holds failed failed' known old new status → IsServed options Holds failed failed' whole old new status
+served_from options Holds failed failed' known whole old new status same served =
+    subst (λ (input : Option (List ℕ)). IsServed options Holds failed failed' input old new status) same served
 
 module _ (opens : List ℕ → Option (List ℕ) → Type 0) (has_file : List ℕ → Type 0) (input : Option (List ℕ)) (failed failed' : ℕ)
     (old new : Option (List ℕ)) where
-  pub broken_from : (settings : Settings) (known whole left : Option (List ℕ)) (e : ProgramError) → known ≡ whole → IsFaultOfSession e
-      → IsBroken (live_options_of settings) (IsLoadFrom opens has_file) failed failed' known left old new
+  pub broken_from : (settings : Settings) (known whole : Option (List ℕ)) (e : ProgramError) → known ≡ whole → IsFaultOfSession e
+      → IsBroken (live_options_of settings) (IsLoadFrom opens has_file) failed failed' known old new
       → EndsOver opens has_file failed failed' old new whole settings e
-  broken_from settings known whole left e same fault is =
-      broken left fault
-      (subst (λ (bytes : Option (List ℕ)). IsBroken (live_options_of settings) (IsLoadFrom opens has_file) failed failed' bytes left old new) same is)
+  broken_from settings known whole e same fault is =
+      broken fault
+      (subst (λ (bytes : Option (List ℕ)). IsBroken (live_options_of settings) (IsLoadFrom opens has_file) failed failed' bytes old new) same is)
 
   pub session_ended : (settings : Settings) (all : Option (List ℕ)) (result : Result ℕ ProgramError) → IsInputFrom opens input settings.file all
       → IfErr result (EndsOver opens has_file failed failed' old new all settings)

@@ -20,7 +20,7 @@ abbrev pub options_of : Settings → Options
 options_of settings = record { readers = settings.readers; max_commands = settings.max_commands }
 
 abbrev pub live_options_of : Settings → LiveOptions
-live_options_of settings = record { max_commands = settings.max_commands; stats = settings.stats }
+live_options_of settings = record { readers = settings.readers; max_commands = settings.max_commands; stats = settings.stats }
 
 -- The errors of an input: it cannot be opened or read.
 abbrev pub IsFaultOfInput : ProgramError → Type 0
@@ -55,8 +55,8 @@ IsFaultOfSession e = IsFaultOfInput e
 pub data EndsOver (opens : List ℕ → Option (List ℕ) → Type 0) (has_file : List ℕ → Type 0) (failed failed' : ℕ) (old new : Option (List ℕ))
     (all : Option (List ℕ)) (settings : Settings) (e : ProgramError) : Type 0 where
   not_begun : IsFaultOfInput e → Appends old new [] → EndsOver opens has_file failed failed' old new all settings e
-  broken : (left : Option (List ℕ)) → IsFaultOfSession e
-      → IsBroken (live_options_of settings) (IsLoadFrom opens has_file) failed failed' all left old new → EndsOver opens has_file failed failed' old new all settings e
+  broken : IsFaultOfSession e → IsBroken (live_options_of settings) (IsLoadFrom opens has_file) failed failed' all old new
+      → EndsOver opens has_file failed failed' old new all settings e
 
 -- opens: the bytes of the files. has_file: where regular files were seen. input: what standard input has left. failed,
 -- failed': how often files have failed, before and after. old, new: what has been written, before and after.
@@ -75,9 +75,8 @@ module _ (opens : List ℕ → Option (List ℕ) → Type 0) (has_file : List �
   -- A session as the settings say, read from their file or from the input.
   pub record IsSessionOf (settings : Settings) (status : ℕ) : Type 0 where
     pub all : Option (List ℕ)
-    pub left : Option (List ℕ)
     pub is_input : IsInputFrom opens input settings.file all
-    pub served : IsServed (live_options_of settings) (IsLoadFrom opens has_file) failed failed' all left old new status
+    pub served : IsServed (live_options_of settings) (IsLoadFrom opens has_file) failed failed' all old new status
 
   -- What arguments lead to: those that spell settings to their run, or to their session if they ask for one, those that ask
   -- for the help to the help and 0, and those that ask for the version to the version and 0.

@@ -7,9 +7,11 @@ ghost use Rattle.program.specs.Response.{IsFaultOfInput};
 
 use crate::disk::{Disk, read_at_most, read_path};
 use crate::error::ProgramError;
+use crossbeam_channel::{Receiver, Sender, bounded};
 use script::MAX_SCRIPT;
 use std::alloc::{AllocError, Global};
 use std::io::{self, ErrorKind, Read};
+use std::sync::Wait;
 
 /// Reads the script from the file at the path `file`, or from `input` if there is no path. If the script has over
 /// `MAX_SCRIPT` bytes, only one byte more than that is read.
@@ -66,37 +68,38 @@ fn without_number(text: &str) -> &str {
     }
 }
 
-/// A reader that keeps the error that it met last, so that it can be shown.
+/// A reader that tells the error that ends it, so that it can be shown. An interrupted read does not end it.
 #[derive(Drop)]
-pub struct Noted<I> {
+pub struct Noted<R, I> {
+    rt: R,
     reader: I,
-    error: Option<io::Error>,
+    errors: Sender<io::Error>,
 }
 
-impl<I: Read> Noted<I> {
-    /// The reader, which has met no error yet.
-    pub fn new(reader: I) -> Noted<I>
-        ensures { result.reader ≡ reader }
+impl<R: Wait + Drop, I: Read + Drop> Noted<R, I> {
+    /// The reader, and where its error comes. An `Err` means that memory ran out.
+    pub fn new(
+        rt: R,
+        alloc: Global,
+        reader: I,
+    ) -> Result<(Noted<R, I>, Receiver<io::Error>), AllocError>
+        ensures { IfOk result (λ noted. noted.0.reader ≡ reader) }
     {
-        Noted {
-            reader,
-            error: None,
-        }
-    }
-
-    /// The error that the reader met last.
-    pub fn error(&self) -> Option<io::Error> {
-        self.error
+        let (errors, met) = bounded(alloc, 1)?;
+        let noted = Noted { rt, reader, errors };
+        Ok((noted, met))
     }
 }
 
-impl<I: Read> Read for Noted<I> {
+impl<R: Wait, I: Read> Read for Noted<R, I> {
     ghost remaining = { λ noted. I.remaining noted.reader };
 
     fn read(&mut self, buf: &mut [u8]) -> io::Result<usize> {
         let read = self.reader.read(buf);
         if let Err(error) = &read {
-            self.error = Some(*error);
+            if error.kind() != ErrorKind::Interrupted {
+                let _ = self.errors.try_send(&self.rt, *error);
+            }
         }
         read
     }

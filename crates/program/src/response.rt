@@ -35,7 +35,12 @@ const REFUSED: u8 = 2;
 /// written if the arguments are refused, if the script cannot be read or if the run has no transcript; otherwise a
 /// beginning of the text. If standard error fails too, only the status shows it.
 #[tactic(auto, using(crate::proofs::ResponseLemmas::refused_have_none))]
-pub fn respond<R: Eprint + Threads + Wait + Sync, D: Disk, I: Read + Drop, O: Write>(
+pub fn respond<
+    R: Eprint + Threads + Wait + Sync + Send + Copy + Drop + 'static,
+    D: Disk,
+    I: Read + Drop + Send + 'static,
+    O: Write,
+>(
     rt: &R,
     alloc: Global,
     arguments: &[String],
@@ -43,6 +48,8 @@ pub fn respond<R: Eprint + Threads + Wait + Sync, D: Disk, I: Read + Drop, O: Wr
     input: I,
     out: &mut O,
 ) -> (u8, Option<ProgramError>)
+where
+    D::File: Send + 'static,
     ensures responded { IfNone result.1 (IsResponse (D.opens source.old.disk.now) (D.has_file source.old.disk.now)
         (I.remaining input) source.old.failures source.new.failures (O.contents out.old) (O.contents out.new)
         (map string_bytes arguments.now) result.0) }
@@ -73,7 +80,12 @@ pub fn report<R: Eprint>(rt: &R, error: &ProgramError) -> u8
 
 /// Does what the arguments ask for. Returns the status.
 #[tactic(auto, using(crate::proofs::OutputLemmas::nothing_written))]
-fn response<R: Threads + Wait + Sync, D: Disk, I: Read + Drop, O: Write>(
+fn response<
+    R: Threads + Wait + Sync + Send + Copy + Drop + 'static,
+    D: Disk,
+    I: Read + Drop + Send + 'static,
+    O: Write,
+>(
     rt: &R,
     alloc: Global,
     arguments: &[String],
@@ -81,6 +93,8 @@ fn response<R: Threads + Wait + Sync, D: Disk, I: Read + Drop, O: Write>(
     input: I,
     out: &mut O,
 ) -> Result<u8, ProgramError>
+where
+    D::File: Send + 'static,
     ensures responded { IfOk result (IsResponse (D.opens source.old.disk.now) (D.has_file source.old.disk.now) (I.remaining input)
         source.old.failures source.new.failures (O.contents out.old) (O.contents out.new) (map string_bytes arguments.now)) }
     ensures failed { IfErr result (IsFailure (D.opens source.old.disk.now) (D.has_file source.old.disk.now) (I.remaining input)
@@ -98,7 +112,8 @@ fn response<R: Threads + Wait + Sync, D: Disk, I: Read + Drop, O: Write>(
 }
 
 /// A gate that is always open: the readers of the program never wait.
-struct Open;
+#[derive(Clone, Copy)]
+pub struct Open;
 
 impl Gate for Open {
     fn turn(&self, _search: u32, _point: Point) {}

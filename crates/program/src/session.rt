@@ -10,11 +10,13 @@ use crate::disk::Disk;
 use crate::error::ProgramError;
 use crate::files::FileSource;
 use crate::input::{Noted, fault_of_script};
+use crate::response::Open;
 use cli::Settings;
 use live::{LiveError, LiveOptions, serve};
 use std::alloc::Global;
 use std::io::{self, BufReader, Read, Write};
 use std::sync::Wait;
+use std::thread::Threads;
 
 /// Input is read in parts of at most this many bytes.
 const INPUT_BUFFER: usize = 65536;
@@ -25,7 +27,12 @@ const INPUT_BUFFER: usize = 65536;
 /// for opening it or for the buffer, `OutputClosed` that nobody reads the output any more, and `Live` that the session
 /// ended early for another reason.
 #[tactic(auto, using(crate::proofs::OutputLemmas::nothing_written, crate::proofs::SessionLemmas::session_ended))]
-pub fn serve_session<R: Wait, D: Disk, I: Read + Drop, O: Write>(
+pub fn serve_session<
+    R: Threads + Wait + Sync + Send + Copy + Drop + 'static,
+    D: Disk,
+    I: Read + Drop + Send + 'static,
+    O: Write,
+>(
     rt: &R,
     alloc: Global,
     settings: &Settings<'_>,
@@ -33,6 +40,8 @@ pub fn serve_session<R: Wait, D: Disk, I: Read + Drop, O: Write>(
     input: I,
     out: &mut O,
 ) -> Result<u8, ProgramError>
+where
+    D::File: Send + 'static,
     requires limits { IsInLimits settings.now }
     ensures served { IfOk result (IsSessionOf (D.opens source.old.disk.now) (D.has_file source.old.disk.now) (I.remaining input)
         source.old.failures source.new.failures (O.contents out.old) (O.contents out.new) settings.now) }
@@ -50,7 +59,12 @@ pub fn serve_session<R: Wait, D: Disk, I: Read + Drop, O: Write>(
 
 /// Serves a session from a reader.
 #[tactic(auto, using(crate::proofs::OutputLemmas::nothing_written))]
-fn serve_reader<R: Wait, D: Disk, I: Read + Drop, O: Write>(
+fn serve_reader<
+    R: Threads + Wait + Sync + Send + Copy + Drop + 'static,
+    D: Disk,
+    I: Read + Drop + Send + 'static,
+    O: Write,
+>(
     rt: &R,
     alloc: Global,
     settings: &Settings<'_>,
@@ -59,23 +73,27 @@ fn serve_reader<R: Wait, D: Disk, I: Read + Drop, O: Write>(
     out: &mut O,
 ) -> Result<u8, ProgramError>
     requires limits { IsInLimits settings.now }
-    ensures served { IfOk result (λ status. (left : Option (List ℕ)) × IsServed (live_options_of settings.now)
+    ensures served { IfOk result (IsServed (live_options_of settings.now)
         (IsLoadFrom (D.opens source.old.disk.now) (D.has_file source.old.disk.now)) source.old.failures source.new.failures
-        (I.remaining input) left (O.contents out.old) (O.contents out.new) status) }
+        (I.remaining input) (O.contents out.old) (O.contents out.new)) }
     ensures failed { IfErr result (EndsOver (D.opens source.old.disk.now) (D.has_file source.old.disk.now)
         source.old.failures source.new.failures (O.contents out.old) (O.contents out.new) (I.remaining input) settings.now) }
 {
-    let mut reader = match BufReader::with_capacity(alloc, INPUT_BUFFER, Noted::new(input)) {
+    let Ok((noted, met)) = Noted::new(*rt, alloc, input) else {
+        return Err(ProgramError::OutOfMemory);
+    };
+    let reader = match BufReader::with_capacity(alloc, INPUT_BUFFER, noted) {
         Ok(reader) => reader,
         Err(_) => return Err(ProgramError::OutOfMemory),
     };
     let options = LiveOptions {
+        readers: settings.readers,
         max_commands: settings.max_commands,
         stats: settings.stats,
     };
-    match serve(rt, alloc, &mut reader, options, source, out) {
+    match serve(rt, alloc, reader, options, source, out, Open) {
         Ok(status) => Ok(status),
-        Err(error) => Err(fault_of_session(alloc, settings.file, error, reader.get_ref().error())),
+        Err(error) => Err(fault_of_session(alloc, settings.file, error, met.try_recv(rt).ok())),
     }
 }
 

@@ -1,24 +1,22 @@
 -- A feed goes on from item to item, and ends.
-use Rattle.std.proofs.Common.{◌≡◌, ℕ, ◌⊎◌, inl, inr, Bool, true, false, List, [], ◌∷◌, ◌++◌, Option, Some, None, refl, sym, subst, ◌∙◌, append_assoc, append-nil}
-use Rattle.std.specs.Prelude.{OnSome, IsTrue}
+use Rattle.std.proofs.Common.{◌≡◌, ℕ, ◌⊎◌, inl, inr, Bool, true, false, List, [], ◌∷◌, ◌++◌, Option, Some, None, refl, sym, subst, append_assoc, append-nil, rules}
+use Rattle.std.specs.Prelude.{OnSome}
 use Rattle.std.specs.Io.KnownBytes.{Consumes, IsAtEnd}
 use Rattle.std.proofs.KnownBytes.{Consumes-nil, Consumes-trans}
-use Rattle.script.specs.Items.{Item, Numbered, numbered, ItemsFrom, done, IsItemsOf}
+use Rattle.script.specs.Items.{Item, Numbered, numbered, done, IsItemsOf}
 use Rattle.stream.specs.declared.item.StreamError.{StreamError}
-use Rattle.stream.specs.Stream.{StreamState, stream_at, IsItemOf, IsFault}
+use Rattle.stream.specs.Stream.{StreamState, IsItemOf, IsFault}
 use Rattle.stream.specs.Owned.{ShowsOwned}
 use Rattle.stream.proofs.EndLemmas.{end_later}
 use Rattle.reads.specs.declared.item.ReadItem.{ReadItem}
-use Rattle.reads.specs.Read.{AreShown, none, one_more, IsOver, at_end, at_fault, FeedState, feed_state, IsReading, IsWhole, IsCut, IsFedBy, IsFed}
+use Rattle.reads.specs.Read.{AreShown, none, one_more, IsOver, at_end, at_fault, FeedState, feed_state, IsReading, IsCut, IsReadOf, IsFedBy, IsFed}
 use Rattle.reads.specs.Private.Taking.{TakesRead}
 
--- Nothing was read yet.
-pub fed_at_first : (input : Option (List ℕ)) → IsFed input (feed_state [] (stream_at 1 false) None input)
-fed_at_first input = record { script = []; items = []; consumed = Consumes-nil input; shown = none; goes_on = λ rest others h. h }
-
-pub no_error : (failed : Option StreamError) → ((error : StreamError) → failed ≡ Some error → ⊥) → failed ≡ None
-no_error None not_some = refl
-no_error (Some error) not_some = absurd (not_some error refl)
+-- No items are read of any input.
+pub read_nothing : (input : Option (List ℕ)) (read : List ReadItem) → read ≡ [] → IsReadOf input read
+read_nothing input read is =
+    subst (IsReadOf input) (sym is)
+    (input, record { script = []; others = []; items = []; consumed = Consumes-nil input; shown = none; whole = done })
 
 -- one more item at the end
 pub shown-append : (reads : List ReadItem) (items : List Numbered) (read : ReadItem) (item : Item) → ShowsOwned read.item item → AreShown reads items
@@ -45,17 +43,6 @@ module _ (input : Option (List ℕ)) (at : FeedState) (reading : IsReading input
     whole =
         subst (λ s. IsItemsOf s reading.items) (append-nil reading.script)
         (subst (λ l. IsItemsOf (reading.script ++ []) l) (append-nil reading.items) (reading.goes_on [] [] done));
-  }
-
-  -- Only empty lines and comments were left.
-  whole_now : ItemsFrom at.stream.line bytes [] → OnSome at.left (IsAtEnd left) → IsWhole input left at.read
-  whole_now nothing end = record {
-    script = reading.script ++ bytes;
-    items = reading.items;
-    consumed = consumed_now;
-    shown = reading.shown;
-    whole = subst (λ l. IsItemsOf (reading.script ++ bytes) l) (append-nil reading.items) (reading.goes_on bytes [] nothing);
-    over = at_end (ended_now end);
   }
 
   -- An item was read.
@@ -101,12 +88,6 @@ module _ (input : Option (List ℕ)) (at : FeedState) (fed : IsFed input at) (un
   reading_of going false is reads = reads
   reading_of going true is reads = absurd (going is)
 
-  whole_of : ItemsFrom at.stream.line bytes [] → IsTrue at.stream.ended ⊎ OnSome at.left (IsAtEnd left) → (at.stream.ended ≡ true → left ≡ at.left)
-      → (ended : Bool) → at.stream.ended ≡ ended → IsFedBy None ended input at → IsWhole input left at.read
-  whole_of nothing (inl over) same false is reads = absurd (let both : false ≡ true = sym is ∙ over in cc)
-  whole_of nothing (inr end) same false is reads = whole_now input at reads bytes left taken nothing end
-  whole_of nothing end same true is reads = subst (λ l. IsWhole input l at.read) (sym (same is)) reads
-
   -- An item was read,
   pub fed_item : (read : ReadItem) (new : StreamState) → TakesRead at.stream read new bytes at.left left → (at.stream.ended ≡ true → ⊥)
       → (reads : List ReadItem) → reads ≡ at.read ++ read ∷ [] → (failed : Option StreamError) → failed ≡ None
@@ -116,13 +97,16 @@ module _ (input : Option (List ℕ)) (at : FeedState) (fed : IsFed input at) (un
       (subst (λ r. IsFed input (feed_state r new None left)) (sym is)
       (fed_now input at (reading_of going at.stream.ended refl fed_by) bytes left taken read new takes new.ended refl))
 
-  -- or the end of the reading was reached,
-  pub fed_none : (new : StreamState) → ItemsFrom at.stream.line bytes [] × IsTrue new.ended × (IsTrue at.stream.ended ⊎ OnSome at.left (IsAtEnd left))
-      → (at.stream.ended ≡ true → left ≡ at.left) → (failed : Option StreamError) → failed ≡ None → IsFed input (feed_state at.read new failed left)
-  fed_none new next same failed clean =
-      subst (λ f. IsFed input (feed_state at.read new f left)) (sym clean)
-      (subst (λ e. IsFedBy None e input (feed_state at.read new None left)) (sym next.1) (whole_of next.0 next.2 same at.stream.ended refl fed_by))
-
   -- or there was an error.
   pub fed_error : (at.stream.ended ≡ true → ⊥) → IsCut input left at.read
   fed_error going = cut_now input at (reading_of going at.stream.ended refl fed_by) bytes left taken
+
+module _ (input : Option (List ℕ)) (at : FeedState) where
+  read_by : (failed : Option StreamError) (ended : Bool) → IsFedBy failed ended input at → IsReadOf input at.read
+  read_by None false reading = (at.left, cut_now input at reading [] at.left (Consumes-nil at.left))
+  read_by None true whole = (at.left, search rules)
+  read_by (Some error) ended cut = (at.left, cut)
+
+  -- What a feed has read is read of its input.
+  pub read_of : IsFed input at → IsReadOf input at.read
+  read_of = read_by at.failed at.stream.ended

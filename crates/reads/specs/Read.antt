@@ -65,6 +65,10 @@ pub record IsCut (input left : Option (List ℕ)) (read : List ReadItem) : Type 
   pub shown : AreShown read items
   pub whole : IsItemsOf script items
 
+-- These items were read of the input.
+abbrev pub IsReadOf : Option (List ℕ) → List ReadItem → Type 0
+IsReadOf input read = (left : Option (List ℕ)) × IsCut input left read
+
 abbrev pub IsFedBy : Option StreamError → Bool → Option (List ℕ) → FeedState → Type 0
 IsFedBy None false input at = IsReading input at
 IsFedBy None true input at = IsWhole input at.left at.read
@@ -73,3 +77,34 @@ IsFedBy (Some error) ended input at = IsCut input at.left at.read
 -- The feed has read this of the input, which had these bytes at first if they were known.
 abbrev pub IsFed : Option (List ℕ) → FeedState → Type 0
 IsFed input at = IsFedBy at.failed at.stream.ended input at
+
+-- How a reading ended, after these items: with an error, or at the end of the input or a fault that ends it.
+pub record EndState : Type 0 where
+  pub read : List ReadItem
+  pub failed : Option StreamError
+
+abbrev pub end_state : List ReadItem → Option StreamError → EndState
+end_state read failed = record { read = read; failed = failed }
+
+abbrev pub EndsBy : Option (List ℕ) → List ReadItem → Option StreamError → Type 0
+EndsBy input read None = (left : Option (List ℕ)) × IsWhole input left read
+EndsBy input read (Some error) = Unit {0}
+
+-- What came of a reading: the items that are not taken yet, all items, and how the reading ended, if it did.
+pub record InboxState : Type 0 where
+  pub held : List ReadItem
+  pub came : List ReadItem
+  pub over : Option (Option StreamError)
+
+abbrev pub inbox_state : List ReadItem → List ReadItem → Option (Option StreamError) → InboxState
+inbox_state held came over = record { held = held; came = came; over = over }
+
+-- If the reading has ended, it ended after what came.
+abbrev pub EndsIf : Option (List ℕ) → List ReadItem → Option (Option StreamError) → Type 0
+EndsIf input came None = Unit {0}
+EndsIf input came (Some failed) = EndsBy input came failed
+
+-- An item came, after all that came before it, or the end of the reading.
+pub data CameIn (old new : InboxState) : Type 0 where
+  item : (read : ReadItem) → new ≡ inbox_state (old.held ++ read ∷ []) (old.came ++ read ∷ []) None → CameIn old new
+  over : (failed : Option StreamError) → new ≡ inbox_state old.held old.came (Some failed) → CameIn old new

@@ -1,21 +1,22 @@
 //! The reading of an input.
 
-ghost use Rattle.std.specs.Prelude.{◌≡◌, ℕ, true, false, List, [], ◌∷◌, ◌++◌, Option, Some, None, Ok, Err, IfOk, IfErr, OnOk, MatchOption, IsTrue};
+ghost use Rattle.std.specs.Prelude.{◌≡◌, ℕ, true, false, List, [], Option, None, Ok};
 ghost use Rattle.std.specs.Io.KnownBytes.{Consumes};
 ghost use Rattle.stream.specs.Stream.{stream_at};
-ghost use Rattle.stream.specs.declared.item.StreamError.{StreamError as StreamErrorValue};
-ghost use Rattle.reads.specs.Read.{feed_state, IsFed};
+ghost use Rattle.reads.specs.Read.{feed_state, end_state};
+ghost use Rattle.reads.specs.Next.{Comes, HasEnded};
 ghost use Rattle.reads.specs.Private.Taking.{IsNextRead};
 
 use crate::history::{Book, Front, Naming};
 use crate::item::ReadItem;
-use crate::message::Sent;
+use crate::message::{Ended, Next, Sent};
 use std::alloc::Global;
 use std::io::BufRead;
 use std::marker::Model;
 use stream::{ItemStream, OwnedItem, StreamError};
 
-/// An input that is read item by item, with the history of what was read. Contracts see it as its state (`FeedState`).
+/// An input that is read item by item, with the history of what was read. Contracts see it as its state (`FeedState`), and
+/// what it has read is known to be of the input that the history is of.
 #[derive(Drop)]
 pub struct Feed<K: Naming, I: BufRead + Drop> {
     alloc: Global,
@@ -30,19 +31,21 @@ pub struct Feed<K: Naming, I: BufRead + Drop> {
 }
 
 impl<K: Naming, I: BufRead + Drop> Model for Feed<K, I> {
-    ghost use Rattle.reads.specs.Read.{FeedState, feed_state};
+    ghost use Rattle.reads.specs.Read.{FeedState, feed_state, IsFed};
 
     ghost Value = { FeedState };
 
     ghost view = { λ f. feed_state f.read f.stream f.failed (I.remaining f.input) };
+
+    ghost invariant = { λ f. IsFed K.input (feed_state f.read f.stream f.failed (I.remaining f.input)) };
 }
 
 impl<K: Naming, I: BufRead + Drop> Feed<K, I> {
     /// A feed at the first byte of an input, and with an empty history.
     pub fn new(alloc: Global, book: Book<K>, read: Front<K>, input: I) -> Feed<K, I>
-        requires { read ≡ [] }
-        ensures state { result ≡ feed_state [] (stream_at 1 false) None (I.remaining input) }
-        ensures fed { IsFed (I.remaining input) result }
+        requires read { read ≡ [] }
+        requires input { I.remaining input ≡ K.input }
+        ensures { result ≡ feed_state [] (stream_at 1 false) None (I.remaining input) }
     {
         Feed {
             alloc,
@@ -62,23 +65,15 @@ impl<K: Naming, I: BufRead + Drop> Feed<K, I> {
         self.read.again()
     }
 
-    /// Reads the next item, as `stream::ItemStream::next_item` does, and returns its message. `None` means that the
-    /// reading has ended: the input is at its end, or the last item is a fault after which nothing is read.
-    ///
-    /// # Errors
-    ///
-    /// Those of `next_item`, and `OutOfMemory` also if there is no memory for the item. The reading ends at an error,
-    /// and each later call returns the same error.
-    pub fn next(&mut self) -> Result<Option<Sent<K>>, StreamError>
-        ensures fed { (start : Option (List ℕ)) → IsFed start self.old → IsFed start self.new }
-        ensures ok { IfOk result (λ next. (self.new.failed ≡ None) × MatchOption next
-            ((self.new.read ≡ self.old.read) × (self.new.stream.ended ≡ true))
-            (λ sent. (self.new.read ≡ self.old.read ++ sent.item ∷ []) × (sent.read ≡ self.new.read))) }
-        ensures err { IfErr result (λ error. (self.new.failed ≡ Some error) × (self.new.read ≡ self.old.read)) }
-        ensures over { (error : StreamErrorValue) → self.old.failed ≡ Some error → (result ≡ Err error) × (self.new ≡ self.old) }
+    /// Reads the next item, as `stream::ItemStream::next_item` does, and returns its message, or how the reading ended: at the
+    /// end of the input, after a fault that ends it, or with an error. The errors are those of `next_item`, and `OutOfMemory`
+    /// also if there is no memory for the item. Nothing is read after the end, and each later call returns the same end.
+    pub fn next(&mut self) -> Next<K>
+        ensures comes { Comes self.old result self.new }
+        ensures over { HasEnded self.old → (result ≡ Next.End (end_state self.old.read self.old.failed)) × (self.new.left ≡ self.old.left) }
     {
-        if let Some(error) = self.failed {
-            return Err(error);
+        if self.failed.is_some() {
+            return self.end();
         }
         match take_item(
             self.alloc,
@@ -89,19 +84,30 @@ impl<K: Naming, I: BufRead + Drop> Feed<K, I> {
             Ok(Some(item)) => match Sent::after(&self.read, &self.book, item) {
                 Some(sent) => {
                     self.read = sent.read.again();
-                    Ok(Some(sent))
+                    Next::Item(sent)
                 }
                 None => {
                     self.failed = Some(StreamError::OutOfMemory);
-                    Err(StreamError::OutOfMemory)
+                    self.end()
                 }
             },
-            Ok(None) => Ok(None),
+            Ok(None) => self.end(),
             Err(error) => {
                 self.failed = Some(error);
-                Err(error)
+                self.end()
             }
         }
+    }
+
+    /// How the reading ended.
+    fn end(&self) -> Next<K>
+        requires { self.now.failed ≡ None → self.now.stream.ended ≡ true }
+        ensures { result ≡ Next.End (end_state self.now.read self.now.failed) }
+    {
+        Next::End(Ended {
+            read: self.read.again(),
+            failed: self.failed,
+        })
     }
 }
 

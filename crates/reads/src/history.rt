@@ -5,6 +5,7 @@
 
 ghost use Rattle.std.specs.Prelude.{◌≡◌, ◌≢◌, ◌<◌, [], ◌∷◌, ◌++◌, length, IfSome, MatchBool};
 ghost use mathlib.Core.List.{IsPrefix};
+ghost use Rattle.reads.specs.Read.{IsReadOf};
 ghost use Rattle.reads.specs.Private.Counting.{head_of};
 
 use crate::item::ReadItem;
@@ -58,16 +59,24 @@ impl Plain<ReadItem, ReadItem, u64> for Add {
     ghost state = { λ item. None };
 }
 
-/// Names a history in types, so that a message says which history it is about. The history that a call opens is
-/// named by the call's proof.
+/// Names a history in types, so that a message says which history it is about, and which input that history is of. The
+/// history that a call opens, and its input, are named by the call's proof.
 pub trait Naming {
+    ghost use Rattle.std.specs.Prelude.{ℕ, List, Option};
     ghost use Rattle.logbook.specs.Pages.{Book as BookName};
 
     ghost book: { BookName };
+
+    /// The bytes of the input, if they are known.
+    ghost input: { Option (List ℕ) };
 }
 
 impl Naming for Brand {
+    ghost use Rattle.std.specs.Prelude.{None};
+
     ghost book = { record { number = 0; log_name = 0; cells_name = 0 } };
+
+    ghost input = { None };
 }
 
 /// An empty history that has no name yet. Contracts see it as a `History`.
@@ -127,7 +136,7 @@ pub struct Book<K: Naming> {
     ghost head_is: { head ≡ head_of K.book },
 }
 
-/// A beginning of a history, known to whoever has it. Contracts see it as its items.
+/// A beginning of a history, known to whoever has it: items that were read of the input. Contracts see it as its items.
 #[derive(Drop)]
 pub struct Front<K: Naming> {
     /// The number of items.
@@ -139,18 +148,20 @@ pub struct Front<K: Naming> {
 impl<K: Naming> Model for Front<K> {
     ghost use Rattle.std.specs.Prelude.{◌≡◌, List, length};
     ghost use Rattle.reads.specs.declared.item.ReadItem.{ReadItem};
+    ghost use Rattle.reads.specs.Read.{IsReadOf};
 
     ghost Value = { List ReadItem };
 
     ghost view = { λ f. f.seen.log };
 
-    ghost invariant = { λ f. (f.count ≡ length f.seen.log) × (f.seen.book ≡ K.book) };
+    ghost invariant = { λ f. (f.count ≡ length f.seen.log) × (f.seen.book ≡ K.book) × IsReadOf K.input f.seen.log };
 }
 
 impl<K: Naming> Front<K> {
     /// The number of items.
     pub fn len(&self) -> u64
-        ensures { result ≡ length self.now }
+        ensures len { result ≡ length self.now }
+        ensures read { IsReadOf K.input self.now }
     {
         self.count
     }
@@ -188,6 +199,7 @@ impl<K: Naming> Front<K> {
     /// The front after one more item. `None` if the history continues after this front, or the number of items would
     /// not fit in 64 bits. The one who reads meets neither: only it has the book.
     pub(crate) fn with(&self, book: &Book<K>, item: &ReadItem) -> Option<Front<K>>
+        requires { IsReadOf K.input (self.now ++ item.now ∷ []) }
         ensures { IfSome result (λ front. front ≡ self.now ++ item.now ∷ []) }
     {
         let count = self.count.checked_add(1)?;

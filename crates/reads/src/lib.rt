@@ -4,10 +4,12 @@
 
 mod feed;
 mod history;
+mod inbox;
 mod item;
 mod message;
 
 pub use feed::Feed;
 pub use history::{Book, Front, Naming, Opened};
+pub use inbox::{Inbox, InboxError};
 pub use item::ReadItem;
-pub use message::Sent;
+pub use message::{Ended, Next, Sent};

@@ -1,10 +1,12 @@
-//! Messages with an item.
+//! Messages: an item, or the end of the reading.
 
 ghost use Rattle.std.specs.Prelude.{◌≡◌, ◌≢◌, [], ◌∷◌, ◌++◌, IfSome, MatchBool};
-ghost use Rattle.reads.specs.Read.{EndsWith};
+ghost use Rattle.reads.specs.Read.{EndsWith, IsReadOf};
 
 use crate::history::{Book, Front, Naming};
 use crate::item::ReadItem;
+use std::marker::Model;
+use stream::StreamError;
 
 /// An item, and all that was read up to it.
 #[derive(Drop)]
@@ -19,7 +21,8 @@ impl<K: Naming> Sent<K> {
     /// Whether the item is the next one after those of this front. So a receiver that has all messages up to one,
     /// and the front of the last, knows that it has missed none.
     pub fn follows(&self, came: &Front<K>) -> bool
-        ensures { MatchBool result (self.now.read ≡ came.now ++ self.now.item ∷ []) (self.now.read ≢ came.now ++ self.now.item ∷ []) }
+        ensures follows { MatchBool result (self.now.read ≡ came.now ++ self.now.item ∷ []) (self.now.read ≢ came.now ++ self.now.item ∷ []) }
+        ensures read { IsReadOf K.input self.now.read }
     {
         let count = self.read.len();
         if count == 0 || count - 1 != came.len() {
@@ -30,6 +33,7 @@ impl<K: Naming> Sent<K> {
 
     /// The message of an item that was read after those of this front. `None` for the reasons of `Front::with`.
     pub(crate) fn after(read: &Front<K>, book: &Book<K>, item: ReadItem) -> Option<Sent<K>>
+        requires { IsReadOf K.input (read.now ++ item ∷ []) }
         ensures { IfSome result (λ sent. (sent.item ≡ item) × (sent.read ≡ read.now ++ item ∷ [])) }
     {
         match read.with(book, &item) {
@@ -37,4 +41,29 @@ impl<K: Naming> Sent<K> {
             None => None,
         }
     }
+}
+
+/// The end of a reading, after all that was read. Contracts see it as an `EndState`.
+#[derive(Drop)]
+pub struct Ended<K: Naming> {
+    pub(crate) read: Front<K>,
+    /// The error that ended the reading, if one did.
+    pub(crate) failed: Option<StreamError>,
+}
+
+impl<K: Naming> Model for Ended<K> {
+    ghost use Rattle.reads.specs.Read.{EndState, EndsBy};
+
+    ghost Value = { EndState };
+
+    ghost view = { λ e. record { read = e.read; failed = e.failed } };
+
+    ghost invariant = { λ e. EndsBy K.input e.read e.failed };
+}
+
+/// What comes of a reading.
+#[derive(Drop)]
+pub enum Next<K: Naming> {
+    Item(Sent<K>),
+    End(Ended<K>),
 }

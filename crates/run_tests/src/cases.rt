@@ -8,8 +8,8 @@ use std::sync::Wait;
 use std::test::Fail;
 use std::thread::Threads;
 use transcript::{Entry, Transcript, status, write_transcript};
-use tsearch::Options;
 use tsearch::run::run;
+use tsearch::{Gate, Options};
 
 /// A script, how it is run, and its outcome.
 #[derive(Clone, Copy)]
@@ -21,17 +21,14 @@ pub(crate) struct Case<'a> {
     pub(crate) status: u8,
 }
 
-/// The number of an answered search, that of its reader, and the reader's turn.
-pub(crate) type Turn = (u32, u32, u32);
-
 /// The script's transcript with `readers` readers.
-pub(crate) fn transcript_of<R: Threads + Wait + Abort + Sync>(
+pub(crate) fn transcript_of<R: Threads + Wait + Abort + Sync, G: Gate>(
     rt: &R,
     alloc: Global,
     case: &Case<'_>,
     readers: u32,
     source: &mut Table<'_>,
-    gate: &Turns,
+    gate: &G,
 ) -> Result<Transcript, Fail> {
     let max_commands = case.max_commands;
     assert!(rt; readers <= 16 && 0 < max_commands && max_commands <= 1_000_000);
@@ -42,46 +39,73 @@ pub(crate) fn transcript_of<R: Threads + Wait + Abort + Sync>(
     Ok(run(rt, alloc, case.script, options, source, gate)?)
 }
 
-/// The case has its text and its status with `readers` readers, and its searches have these turns, if any are given.
-pub(crate) fn expect<R: Threads + Wait + Abort + Sync>(
+/// The case has its text and its status with `readers` readers, and each reader has its turns.
+pub(crate) fn expect<R: Threads + Wait + Abort + Sync, G: Gate>(
     rt: &R,
     alloc: Global,
     case: &Case<'_>,
     readers: u32,
-    turns: &[Turn],
     source: &mut Table<'_>,
-    gate: &Turns,
+    gate: &G,
 ) -> Result<(), Fail> {
     let transcript = transcript_of(rt, alloc, case, readers, source, gate)?;
     let mut text = Vec::new(alloc);
     write_transcript(alloc, &transcript, case.stats, &mut text)?;
     assert_eq!(rt; text.as_slice(), case.text, "{readers} readers");
     assert!(rt; status(&transcript) == case.status, "{readers} readers");
-    assert!(rt; turns.is_empty() || has_turns(&transcript, turns));
+    assert!(rt; has_turns(&transcript, readers), "{readers} readers");
     Ok(())
 }
 
-/// Whether the searches that were answered have these turns.
-fn has_turns(transcript: &Transcript, turns: &[Turn]) -> bool {
-    let mut left = turns;
+/// Whether each answer of a run with `readers` readers is the next one of its reader.
+fn has_turns(transcript: &Transcript, readers: u32) -> bool {
+    let mut lasts = Lasts::new(readers);
     for entry in &transcript.entries {
         if let Entry::Found {
-            search,
             reader,
             turn,
+            answer,
             ..
         } = entry
         {
-            let Some((first, later)) = left.split_first() else {
-                return false;
-            };
-            if *first != (*search, *reader, *turn) {
+            if !lasts.goes_on(*reader, *turn, answer.version()) {
                 return false;
             }
-            left = later;
         }
     }
-    left.is_empty()
+    true
+}
+
+/// The last answers of the readers of a run. Each reader answers its searches in their order.
+#[derive(Clone, Copy)]
+pub(crate) struct Lasts {
+    readers: u32,
+    /// The turn of each reader's last answer, and its version. Reader 0 is the first.
+    lasts: [(u32, u32); 17],
+}
+
+impl Lasts {
+    pub(crate) fn new(readers: u32) -> Lasts {
+        Lasts {
+            readers,
+            lasts: [(0, 0); 17],
+        }
+    }
+
+    /// Takes the next answer. Returns whether it comes from one of the readers, which is reader 0 only if there are no
+    /// others, with its next turn, and is no older than its last.
+    pub(crate) fn goes_on(&mut self, reader: u32, turn: u32, version: u32) -> bool {
+        let Some(last) = self.lasts.get_mut(reader as usize) else {
+            return false;
+        };
+        let (last_turn, seen) = *last;
+        *last = (turn, version);
+        let least = self.readers.min(1);
+        least <= reader
+            && reader <= self.readers
+            && turn.checked_sub(1) == Some(last_turn)
+            && seen <= version
+    }
 }
 
 /// The case has its text and its status with any number of readers, whether they answer at once or late.
@@ -94,7 +118,7 @@ pub(crate) fn expect_always<R: Threads + Wait + Abort + Sync>(
     for readers in [0, 1, 2, 16] {
         for rule in [Rule::Open, Rule::Late] {
             source.reads = 0;
-            expect(rt, alloc, case, readers, &[], source, &Turns::new(rule))?;
+            expect(rt, alloc, case, readers, source, &Turns::new(rule))?;
         }
     }
     Ok(())

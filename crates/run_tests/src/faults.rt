@@ -1,17 +1,15 @@
 //! Readers and writers that fail in the middle of a session.
 
+use crate::gates::{Rule, Turns};
 use crate::sessions::served;
+use crate::sources::Table;
 use crate::streams::{Input, Output, Stops};
-use live::{LiveError, LiveOptions};
+use live::LiveError;
 use std::io::ErrorKind;
 use std::process::Abort;
 use std::sync::Wait;
 use std::test::Fail;
-
-const OPTIONS: LiveOptions = LiveOptions {
-    max_commands: 1_000_000,
-    stats: false,
-};
+use std::thread::Threads;
 
 const SCRIPT: &[u8] = b"put f 2\nab\npublish\nsearch a\nsync\nload g q\nsearch b\nsearch c\n";
 
@@ -23,13 +21,21 @@ const TEXTS: &[&[u8]] = &[
     b"search 3 version 1 lines 0\n",
 ];
 
+/// The same texts, as they also come if two readers answer the last two searches.
+const EXCHANGED: &[&[u8]] = &[
+    b"search 1 version 1 lines 1\nf:1:ab\n",
+    b"line 6 refused: cannot load\n",
+    b"search 3 version 1 lines 0\n",
+    b"search 2 version 1 lines 1\nf:1:ab\n",
+];
+
 /// How many bytes are read when each text is written.
 const ENDS: &[usize] = &[28, 42, 51, 60];
 
-/// Whether these are the first `count` texts.
-fn are_first_texts(bytes: &[u8], count: usize) -> bool {
+/// Whether these are the first `count` of the texts.
+fn are_first(bytes: &[u8], texts: &[&[u8]], count: usize) -> bool {
     let mut rest = bytes;
-    for text in TEXTS.iter().take(count) {
+    for text in texts.iter().take(count) {
         match rest.strip_prefix(*text) {
             Some(after) => rest = after,
             None => return false,
@@ -38,21 +44,36 @@ fn are_first_texts(bytes: &[u8], count: usize) -> bool {
     rest.is_empty()
 }
 
+/// The numbers of readers, and when they answer.
+const CREWS: [(u32, Rule); 7] = [
+    (0, Rule::Open),
+    (1, Rule::Open),
+    (1, Rule::Late),
+    (2, Rule::Open),
+    (2, Rule::Late),
+    (16, Rule::Open),
+    (16, Rule::Late),
+];
+
 /// A session over the script writes the first `count` texts, and ends like this.
-fn expect_texts<R: AllocGlobal + Wait + Abort>(
+fn expect_texts<R: AllocGlobal + Threads + Wait + Abort + Sync + Send + Copy + 'static>(
     rt: &R,
-    input: Input<'_>,
+    input: Input<'static>,
+    (readers, rule): (u32, Rule),
     stops: Stops,
     count: usize,
     end: Result<u8, LiveError>,
 ) -> Result<(), Fail> {
+    let gate = Turns::lent(rt.alloc(), rule)?;
+    let mut source = Table::new(&[], b"", 0);
     let mut out = Output::new(rt.alloc(), stops, None);
-    let ended = served(rt, rt.alloc(), input, OPTIONS, &mut out)?;
+    let ended = served(rt, rt.alloc(), input, readers, &mut source, &mut out, gate)?;
+    let bytes = out.bytes.as_slice();
     assert!(rt;
-        are_first_texts(out.bytes.as_slice(), count),
-        "{count} texts"
+        are_first(bytes, TEXTS, count) || readers > 1 && are_first(bytes, EXCHANGED, count),
+        "{count} texts, {readers} readers"
     );
-    assert!(rt; ended == end, "{count} texts");
+    assert!(rt; ended == end, "{count} texts, {readers} readers");
     Ok(())
 }
 
@@ -109,8 +130,11 @@ fn writers(rt: HostRuntime) -> Result<(), Fail> {
                 at - 1
             };
             let end = if at == 5 { Ok(2) } else { Err(*error) };
-            let input = Input::new(SCRIPT, 1000);
-            expect_texts(&rt, input, stops_at(*stop, at, *kind), count as usize, end)?;
+            let stops = stops_at(*stop, at, *kind);
+            for crew in CREWS {
+                let input = Input::new(SCRIPT, 1000);
+                expect_texts(&rt, input, crew, stops, count as usize, end)?;
+            }
         }
     }
     Ok(())
@@ -122,7 +146,10 @@ fn interrupted_writers(rt: HostRuntime) -> Result<(), Fail> {
     for stop in [Stop::Fails, Stop::FlushFails] {
         for at in 1..6u32 {
             let stops = stops_at(stop, at, ErrorKind::Interrupted);
-            expect_texts(&rt, Input::new(SCRIPT, 1000), stops, TEXTS.len(), Ok(2))?;
+            for crew in CREWS {
+                let input = Input::new(SCRIPT, 1000);
+                expect_texts(&rt, input, crew, stops, TEXTS.len(), Ok(2))?;
+            }
         }
     }
     Ok(())
@@ -132,8 +159,10 @@ fn interrupted_writers(rt: HostRuntime) -> Result<(), Fail> {
 #[test]
 fn interrupted_readers(rt: HostRuntime) -> Result<(), Fail> {
     for read in 1..62 {
-        let input = Input::failing(SCRIPT, 1, read, ErrorKind::Interrupted);
-        expect_texts(&rt, input, Stops::NEVER, TEXTS.len(), Ok(2))?;
+        for crew in CREWS {
+            let input = Input::failing(SCRIPT, 1, read, ErrorKind::Interrupted);
+            expect_texts(&rt, input, crew, Stops::NEVER, TEXTS.len(), Ok(2))?;
+        }
     }
     Ok(())
 }
@@ -154,9 +183,11 @@ fn texts_before(read: usize) -> usize {
 fn readers(rt: HostRuntime) -> Result<(), Fail> {
     assert_eq!(rt; SCRIPT.len(), 60);
     for read in 1..62 {
-        let input = Input::failing(SCRIPT, 1, read, ErrorKind::BrokenPipe);
-        let end = Err(LiveError::CannotRead);
-        expect_texts(&rt, input, Stops::NEVER, texts_before(read), end)?;
+        for crew in CREWS {
+            let input = Input::failing(SCRIPT, 1, read, ErrorKind::BrokenPipe);
+            let end = Err(LiveError::CannotRead);
+            expect_texts(&rt, input, crew, Stops::NEVER, texts_before(read), end)?;
+        }
     }
     Ok(())
 }

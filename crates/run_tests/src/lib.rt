@@ -17,13 +17,15 @@ mod gates;
 #[cfg(test)]
 mod items;
 #[cfg(test)]
-mod reads;
+mod many;
 #[cfg(test)]
 mod rows;
 #[cfg(test)]
 mod runs;
 #[cfg(test)]
 mod sessions;
+#[cfg(test)]
+mod source_reads;
 #[cfg(test)]
 mod sources;
 #[cfg(test)]

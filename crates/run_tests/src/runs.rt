@@ -35,7 +35,7 @@ const FAULTS: &[(u32, &[u8], &[u8])] = &[
     ),
 ];
 
-const FILES: &[File<'static>] = &[File {
+const HIT: &[File<'static>] = &[File {
     path: b"p",
     bytes: b"hit",
 }];
@@ -51,7 +51,7 @@ fn faults_of_loads(rt: HostRuntime) -> Result<(), Fail> {
             text,
             status: 2,
         };
-        let mut source = Table::new(FILES, large, *failing);
+        let mut source = Table::new(HIT, large, *failing);
         expect_always(&rt, rt.alloc(), &case, &mut source)?;
         assert_eq!(rt; source.reads, 3);
     }

@@ -11,6 +11,18 @@ pub(crate) struct File<'a> {
     pub(crate) bytes: &'a [u8],
 }
 
+/// The files of tests in which a search is held.
+pub(crate) const FILES: &[File<'static>] = &[
+    File {
+        path: b"q",
+        bytes: b"w",
+    },
+    File {
+        path: b"p",
+        bytes: b"z",
+    },
+];
+
 /// A table of files. A read fails if its path is not in the table, or if it is the one that is chosen to fail. With a
 /// gate, the table returns `q` only once a search is held there, and releases the search when it is asked for `p`.
 #[derive(Drop)]

@@ -13,8 +13,11 @@ pub(crate) struct Turn {
     pub(crate) sent: &'static [u8],
 }
 
+/// No output is as long as this.
+pub(crate) const AWAY: usize = usize::MAX;
+
 /// A reader of bytes, or of what a client sends. Before it sends more, the client looks at how much it has been
-/// shown. If that is not what it waits for, it goes away: the read fails.
+/// shown. If no look finds what it waits for, it goes away: the read fails.
 #[derive(Drop)]
 pub(crate) struct Input<'a> {
     /// What is left of the bytes, or of a turn.
@@ -22,8 +25,10 @@ pub(crate) struct Input<'a> {
     turns: &'a [Turn],
     /// The turn that comes next.
     turn: usize,
-    /// The length of what was flushed.
-    pub(crate) flushed: Option<&'a AtomicUsize>,
+    /// The length of what was flushed, or `AWAY` once the client has gone away.
+    flushed: Option<&'a AtomicUsize>,
+    /// How often the client looks before it goes away.
+    looks: u64,
     /// A read returns at most this many bytes.
     most: usize,
     pub(crate) reads: usize,
@@ -50,6 +55,7 @@ impl<'a> Input<'a> {
             turns: &[],
             turn: 0,
             flushed: None,
+            looks: 0,
             most,
             reads: 0,
             failing,
@@ -58,12 +64,18 @@ impl<'a> Input<'a> {
     }
 
     /// A client that has sent nothing yet.
-    pub(crate) fn of_client(turns: &'a [Turn], flushed: &'a AtomicUsize, most: usize) -> Input<'a> {
+    pub(crate) fn of_client(
+        turns: &'a [Turn],
+        flushed: &'a AtomicUsize,
+        looks: u64,
+        most: usize,
+    ) -> Input<'a> {
         Input {
             rest: &[],
             turns,
             turn: 0,
             flushed: Some(flushed),
+            looks,
             most,
             reads: 0,
             failing: 0,
@@ -82,10 +94,21 @@ impl<'a> Input<'a> {
         self.turn = self.turn.saturating_add(1);
         self.rest = turn.sent;
         match self.flushed {
-            Some(flushed) => flushed.load(Ordering::SeqCst) == turn.shown,
+            Some(flushed) => is_shown(flushed, turn.shown, self.looks),
             None => true,
         }
     }
+}
+
+/// Whether one of `looks` looks finds that so much was flushed.
+fn is_shown(flushed: &AtomicUsize, shown: usize, looks: u64) -> bool {
+    for _ in 0..looks {
+        if flushed.load(Ordering::SeqCst) == shown {
+            return true;
+        }
+    }
+    flushed.store(AWAY, Ordering::SeqCst);
+    false
 }
 
 impl Read for Input<'_> {

@@ -15,6 +15,7 @@ use Rattle.index.specs.declared.command.Command.{Command}
 use Rattle.index.specs.declared.command.Command.TheVariants.{Put}
 use Rattle.index.specs.State.{state_of}
 use Rattle.search.specs.Scan.{Answer, IsAnswerOf}
+use Rattle.search.specs.Pattern.{Pattern}
 use Rattle.search.specs.Prepared.{pattern_of}
 use Rattle.search.specs.declared.pattern.Prepared.{Prepared}
 use Rattle.script.specs.Items.{Item, Numbered, numbered, put}
@@ -273,19 +274,19 @@ module _ (Holds : List ℕ → List ℕ → Type 0) (old : ServiceState) (publis
   })
 
 -- what is checked of a reader's answer, and that it is right, make it one that can stand
-pub can_stand : (service : ServiceState) (search : OpenSearch) (reader : ℕ) (answer : Answer) (seen : List Command) (item : Item) (prepared : Prepared)
-    → IsService service → item ≡ search.item → Asks item (pattern_of prepared) → IsAnswerOf (state_of seen) (pattern_of prepared) answer
+pub can_stand : (service : ServiceState) (search : OpenSearch) (reader : ℕ) (answer : Answer) (seen : List Command) (item : Item) (pattern : Pattern)
+    → IsService service → item ≡ search.item → Asks item pattern → IsAnswerOf (state_of seen) pattern answer
     → IsPrefix seen service.told → Contains service.kept answer.version → search.least ≤ answer.version → reader < length service.lasts
     → (last_of service.lasts reader).version ≤ answer.version → CanStand service search reader answer
-can_stand service search reader answer seen item prepared is same asks right begins kept least within no_fall =
+can_stand service search reader answer seen item pattern is same asks right begins kept least within no_fall =
     let whole : seen ++ (begins.0 ++ is.begins.0) ≡ service.accepted =
     sym (append_assoc seen begins.0 is.begins.0) ∙ ap (λ l. l ++ is.begins.0) begins.1 ∙ is.begins.1 in
     let cut : take answer.version service.accepted ≡ seen =
     ap (λ v. take v service.accepted) right.version ∙ (ap (take (length seen)) (sym whole) ∙ take-append_seam seen (begins.0 ++ is.begins.0)) in
     record {
-      pattern = pattern_of prepared;
-      asks = subst (λ i. Asks i (pattern_of prepared)) same asks;
-      exact = subst (λ c. IsAnswerOf (state_of c) (pattern_of prepared) answer) (sym cut) right;
+      pattern = pattern;
+      asks = subst (λ i. Asks i pattern) same asks;
+      exact = subst (λ c. IsAnswerOf (state_of c) pattern answer) (sym cut) right;
       published = inr kept;
       seen = omega (arith, right.version, prefix_length seen service.told begins);
       not_older = least;
@@ -343,17 +344,17 @@ if_true false f m = m
 
 -- an answer of a reader can close the search at a place
 pub can_close : (service : ServiceState) (place reader version : ℕ) (search : OpenSearch) (l : Last) (answer : Answer) (seen : List Command) (asked_item : Item)
-    (prepared : Prepared) → IsService service → place < length service.awaited → search ≡ get_or service.awaited place search → asked_item ≡ search.item
-    → Asks asked_item (pattern_of prepared) → IsAnswerOf (state_of seen) (pattern_of prepared) answer → IsPrefix seen service.told
+    (pattern : Pattern) → IsService service → place < length service.awaited → search ≡ get_or service.awaited place search → asked_item ≡ search.item
+    → Asks asked_item pattern → IsAnswerOf (state_of seen) pattern answer → IsPrefix seen service.told
     → version ≡ answer.version → Contains service.kept version → search.least ≤ version → reader < length service.lasts
     → l ≡ get_or service.lasts reader l → l.version ≤ version → CanClose service place reader answer
-can_close service place reader version search l answer seen asked_item prepared is within here same asks right begins is_version kept least one_of_them last_is no_fall =
+can_close service place reader version search l answer seen asked_item pattern is within here same asks right begins is_version kept least one_of_them last_is no_fall =
     let its : l ≡ last_of service.lasts reader = last_is ∙ get_or_default service.lasts reader l (last 0 0) one_of_them in
     record {
       search = search;
       is_open = slice_get-get_or service.awaited place search within ∙ ap Some (sym here);
       stands =
-          can_stand service search reader answer seen asked_item prepared is same asks right begins
+          can_stand service search reader answer seen asked_item pattern is same asks right begins
           (subst (λ v. Contains service.kept v) is_version kept) (omega (arith, least, is_version)) one_of_them
           (omega (arith, ap (λ x. x.version) its, no_fall, is_version));
     }

@@ -114,15 +114,3 @@ abbrev pub IsKind : Item → Taken → Type 0
 IsKind item (taken.Entry entry) = is_sync item ≡ false
 IsKind item (taken.Search task) = searches_of item ≡ 1
 IsKind item taken.Sync = is_sync item ≡ true
-
--- An item was taken, and its entry is to be written: at once, or after its search was open for a moment.
-pub data TakesAlone (Holds : List ℕ → List ℕ → Type 0) (old : ServiceState) (item : Numbered) (entry : Option Entry) (new : ServiceState) : Type 0 where
-  at_once : Takes Holds old item (list_of entry) new → TakesAlone Holds old item entry new
-  answered : (given : Entry) (between : ServiceState) → searches_of item.item ≡ 1 → entry ≡ Some given → Takes Holds old item [] between → Gives between given new
-      → TakesAlone Holds old item entry new
-
--- after a search that is open, one is
-abbrev pub HasOpened : Taken → ServiceState → Type 0
-HasOpened (taken.Entry entry) new = Unit {0}
-HasOpened (taken.Search task) new = 0 < length new.awaited
-HasOpened taken.Sync new = Unit {0}

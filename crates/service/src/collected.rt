@@ -56,10 +56,12 @@ impl Collected {
 
     /// Replaces the entry of the search that this one is of. Without such a search nothing changes.
     pub fn fill(&mut self, entry: Entry)
-        requires { 0 < number_in entry }
-        ensures { self.new ≡ filled entry self.old }
+        ensures { 0 < number_in entry → self.new ≡ filled entry self.old }
     {
         let number = number_of(&entry);
+        if number == 0 {
+            return;
+        }
         if let Some(place) = self.places.get(number as usize - 1) {
             if let Some(slot) = self.entries.get_mut(*place) {
                 *slot = entry;

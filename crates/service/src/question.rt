@@ -66,6 +66,25 @@ impl Question {
         })
     }
 
+    /// The search, borrowed.
+    pub(crate) fn lend(&self) -> Item<'_>
+        ensures same { shown_item result ≡ self.now }
+        ensures search { searches_of (shown_item result) ≡ 1 }
+    {
+        let pattern = self.pattern.as_slice();
+        match &self.name_pattern {
+            None => Item::Search {
+                case: self.case,
+                pattern,
+            },
+            Some(text) => Item::SearchIn {
+                case: self.case,
+                name_pattern: text.as_slice(),
+                pattern,
+            },
+        }
+    }
+
     /// Whether both ask for the same.
     pub(crate) fn is_same(&self, other: &Question) -> bool
         ensures { MatchBool result (self.now ≡ other.now) Unit }

@@ -8,7 +8,7 @@ ghost use Rattle.search.specs.Scan.{IsAnswerOf};
 use crate::done::Done;
 use crate::gate::{Gate, Point};
 use crate::naming::Naming;
-use crate::request::Task;
+use crate::request::{Request, Task};
 use search::{Answer, Prepared};
 use shared::{Reading, SearchError};
 use std::alloc::Global;
@@ -30,10 +30,14 @@ impl<J: Naming> Reader<J> {
         gate.turn(number, Point::Begin);
         let answer = search(alloc, &mut self.reading, &request.prepared, gate, number);
         gate.turn(number, Point::Done);
+        let Request {
+            question,
+            prepared: _,
+        } = request;
         Done {
             number,
             reader: self.number,
-            request,
+            question,
             seen: self.reading.told(),
             answer: answer.ok(),
             of: PhantomData,

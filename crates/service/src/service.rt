@@ -14,8 +14,9 @@ ghost use Rattle.transcript.specs.declared.entry.Entry.TheVariants.{Found as fou
 ghost use Rattle.transcript.specs.declared.entry.SearchReason.TheVariants.{OutOfMemory as out_of_memory};
 ghost use Rattle.steps.specs.Rows.{searches_of, version_in, failures_in};
 ghost use Rattle.steps.specs.Steps.{OpenSearch as OpenSearchValue, last_of};
-ghost use Rattle.service.specs.Service.{ServiceState, Takes, TakesAlone, TakesPut, Gives, written_by, failures_by, IsKind, HasOpened};
+ghost use Rattle.service.specs.Service.{ServiceState, Takes, TakesPut, Gives, written_by, failures_by, IsKind};
 ghost use Rattle.service.specs.Private.Entries.{IsCounted};
+ghost use Rattle.service.specs.Private.Requests.{IsFound};
 ghost use Rattle.service.specs.Private.Closing.{CanClose, IsUnused, IsAsked, IsRefused, with_kept, with_search};
 
 use crate::done::Done;
@@ -56,6 +57,8 @@ pub struct Service<J: Naming> {
     awaited: Vec<OpenSearch>,
     /// The last answer of each reader, reader 0 first.
     lasts: Vec<Last>,
+    /// Whether one of the two copies of the index lacks what was published last.
+    behind: bool,
     of: PhantomData<J>,
 }
 
@@ -96,8 +99,16 @@ impl<J: Naming> Service<J> {
             searches: 0,
             awaited: Vec::new(alloc),
             lasts,
+            behind: false,
             of: PhantomData,
         }
+    }
+
+    /// How many searches have been taken. The last of them has this number.
+    pub fn searches(&self) -> u32
+        ensures { result ≡ self.now.searches }
+    {
+        self.searches
     }
 
     /// How many searches are open.
@@ -127,8 +138,8 @@ impl<J: Naming> Service<J> {
         ensures takes { Takes (S.holds source.old) self.old (numbered_item item.entry.line (shown_item item.entry.item))
             (written_by result) self.new }
         ensures kind { IsKind (shown_item item.entry.item) result }
-        ensures open { HasOpened result self.new }
         ensures counted { IsCounted (failures_by result) (S.failed source.old) (S.failed source.new) }
+        ensures no_less { S.failed source.old ≤ S.failed source.new }
         ensures same { (path body : List ℕ) → (S.holds source.new path body → S.holds source.old path body)
             × (S.holds source.old path body → S.holds source.new path body) }
         ensures few { self.new.searches ≤ self.old.searches + 1 }
@@ -140,32 +151,6 @@ impl<J: Naming> Service<J> {
             }
             Outcome::Search => self.ask(alloc, item.item),
             Outcome::Sync => Taken::Sync,
-        }
-    }
-
-    /// Takes the next item without readers: a search is answered at once, as reader 0, or refused if memory runs out. `None`
-    /// for a sync.
-    pub fn take_alone<R: Wait, S: Source>(
-        &mut self,
-        rt: &R,
-        alloc: Global,
-        source: &mut S,
-        item: Numbered<'_>,
-    ) -> Option<Entry>
-        requires { self.old.searches + 1 < 2 ^ 32 }
-        ensures takes { TakesAlone (S.holds source.old) self.old (numbered_item item.entry.line (shown_item item.entry.item)) result self.new }
-        ensures counted { IsCounted (failures_in result) (S.failed source.old) (S.failed source.new) }
-        ensures same { (path body : List ℕ) → (S.holds source.new path body → S.holds source.old path body)
-            × (S.holds source.old path body → S.holds source.new path body) }
-        ensures few { self.new.searches ≤ self.old.searches + 1 }
-    {
-        match self.take(rt, alloc, source, item) {
-            Taken::Entry(entry) => Some(entry),
-            Taken::Search(task) => {
-                let last = self.awaited.len() - 1;
-                Some(self.answer_at(rt, alloc, last, &task.request))
-            }
-            Taken::Sync => None,
         }
     }
 
@@ -202,6 +187,7 @@ impl<J: Naming> Service<J> {
             let least = self.least_needed(*version);
             forget_below(&mut self.kept, least);
             keep(&mut self.kept, *version);
+            self.behind = true;
         }
     }
 
@@ -268,8 +254,8 @@ impl<J: Naming> Service<J> {
     }
 
     /// The entry of the search that a reader has answered. If the answer is not accepted, or memory ran out for it, the
-    /// search is answered here, from what was published last; if memory runs out for that too, it is refused. `None` means
-    /// that the search is not open.
+    /// patterns are read again and the search is answered here, from what was published last; if memory runs out for that
+    /// too, it is refused. `None` means that the search is not open.
     pub fn answered<R: Wait>(&mut self, rt: &R, alloc: Global, done: Done<J>) -> Option<Entry>
         ensures some { IfSome result (λ entry. Gives self.old entry self.new) }
         ensures none { IfNone result (self.new ≡ self.old) }
@@ -279,17 +265,17 @@ impl<J: Naming> Service<J> {
         let Done {
             number: _,
             reader,
-            request,
+            question,
             seen,
             answer,
             of: _,
         } = done;
         if let Some(answer) = answer {
-            if self.can_stand(place, reader, &request, &seen, &answer) {
+            if self.can_stand(place, reader, &question, &seen, &answer) {
                 return Some(self.close_with(place, reader, answer));
             }
         }
-        Some(self.answer_at(rt, alloc, place, &request))
+        Some(self.answer_anew(rt, alloc, place))
     }
 
     /// Answers an open search here, as reader 0, from what was published last. It is refused if memory runs out. `None`
@@ -317,24 +303,37 @@ impl<J: Naming> Service<J> {
         &self,
         place: usize,
         reader: u32,
-        request: &Request,
+        question: &Question,
         seen: &Told,
         answer: &Answer,
     ) -> bool
         requires place { place < length self.now.awaited }
         requires opening { seen.now.opening ≡ J.book }
-        requires exact { IsAnswerOf (state_of seen.now.commands) (pattern_of request.now.prepared) answer.now }
+        requires exact { IsFound question.now seen.now.commands answer.now }
         ensures { MatchBool result (CanClose self.now place reader answer.now) Unit }
     {
         let search = &self.awaited[place];
         let version = answer.version();
-        if !request.question.is_same(&search.question) || version < search.least {
+        if !question.is_same(&search.question) || version < search.least {
             return false;
         }
         if reader as usize >= self.lasts.len() || version < self.lasts[reader as usize].version {
             return false;
         }
         seen.begins(&self.told) && self.kept.binary_search(&version).is_ok()
+    }
+
+    /// Reads the patterns of the search at this place again, and answers it here, as reader 0, or refuses it if memory runs
+    /// out.
+    fn answer_anew<R: Wait>(&mut self, rt: &R, alloc: Global, place: usize) -> Entry
+        requires { place < length self.old.awaited }
+        ensures gives { Gives self.old result self.new }
+        ensures searches { self.new.searches ≡ self.old.searches }
+    {
+        match Request::read(alloc, self.awaited[place].question.lend()) {
+            Ok(request) => self.answer_at(rt, alloc, place, &request),
+            Err(_) => self.refuse_at(place),
+        }
     }
 
     /// Answers the search at this place here, as reader 0, or refuses it if memory runs out.
@@ -391,13 +390,23 @@ impl<J: Naming> Service<J> {
         }
     }
 
-    /// Brings both copies of the index up to date, so that the next publish has nothing of this one left to do. It is for a
-    /// time when nothing else waits.
+    /// Brings both copies of the index up to date after a publish, so that the next one has nothing of it left to do. It is
+    /// for a time when nothing else waits. It does nothing if a command was accepted since, or if a search is open that was
+    /// asked since: its answer comes first.
     pub fn catch_up<R: Wait>(&mut self, rt: &R)
         ensures { self.new ≡ self.old }
     {
-        if self.told.version() == self.desk.accepted() {
+        if self.behind && self.told.version() == self.desk.accepted() && !self.is_asked() {
+            self.behind = false;
             let _ = self.desk.publish(rt);
+        }
+    }
+
+    /// Whether a search is open that was asked after the last publish.
+    fn is_asked(&self) -> bool {
+        match self.awaited.last() {
+            Some(search) => search.least == self.told.version(),
+            None => false,
         }
     }
 
@@ -411,6 +420,7 @@ impl<J: Naming> Service<J> {
             searches: _,
             awaited: _,
             lasts: _,
+            behind: _,
             of: _,
         } = self;
         desk.close(rt);

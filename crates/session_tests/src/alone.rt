@@ -2,7 +2,7 @@
 
 ghost use Rattle.std.specs.Prelude.{◌≡◌};
 
-use crate::fixtures::{NoFiles, write};
+use crate::fixtures::{NoFiles, take_alone, write};
 use script::{MAX_SCRIPT, ScriptReader};
 use service::{Naming, Opened, Service, open};
 use std::alloc::Global;
@@ -27,7 +27,7 @@ fn carry_out<J: Naming, R: Abort + Wait>(
             break;
         };
         assert!(rt; !service.is_full());
-        let entry = service.take_alone(rt, alloc, &mut source, item);
+        let entry = take_alone(rt, alloc, service, &mut source, item);
         assert!(rt; service.open_searches() == 0);
         if let Some(entry) = entry {
             assert!(rt; write(text, &entry));

@@ -1,10 +1,10 @@
 //! Items that are read with their own bytes, as messages that carry what was read.
 
-ghost use Rattle.std.specs.Prelude.{◌≡◌};
+ghost use Rattle.std.specs.Prelude.{◌≡◌, None};
 
 use crate::inputs::{Input, repeated};
 use ere::Case;
-use reads::{Feed, Front, Naming, Opened, ReadItem};
+use reads::{Feed, Inbox, Naming, Next, Opened, ReadItem};
 use script::Item;
 use std::alloc::{AllocError, Global};
 use std::io::{BufReader, ErrorKind};
@@ -59,7 +59,7 @@ fn words_of(item: &OwnedItem) -> Words<'_> {
 }
 
 /// Appends the last digit of a line's number, a colon, the item and a semicolon: `3:put|NAME|BODY;`.
-fn append_item(out: &mut Vec<u8>, read: &ReadItem) -> Result<(), AllocError> {
+pub(crate) fn append_item(out: &mut Vec<u8>, read: &ReadItem) -> Result<(), AllocError> {
     let (form, first, second) = words_of(&read.item);
     out.extend_from_slice(&[b'0' + (read.line % 10) as u8, b':'])?;
     out.extend_from_slice(form)?;
@@ -70,57 +70,53 @@ fn append_item(out: &mut Vec<u8>, read: &ReadItem) -> Result<(), AllocError> {
     out.extend_from_slice(b";")
 }
 
-/// Receives the messages of a feed, of which there are fewer than 1,000, and appends their items. Each follows the one
-/// before. Returns how the reading ended.
+/// What a feed reads next. If it is the end, and `again`, it is read once more.
+fn next_of<K: Naming>(feed: &mut Feed<K, BufReader<Input<'_>>>, again: bool) -> Next<K> {
+    match feed.next() {
+        Next::End(_) if again => feed.next(),
+        next => next,
+    }
+}
+
+/// Receives what a feed reads, which is fewer than 1,000 items, and appends the items. Returns how the reading ended.
 fn receive<K: Naming, R: Abort>(
     rt: &R,
     feed: &mut Feed<K, BufReader<Input<'_>>>,
-    front: Front<K>,
+    inbox: &mut Inbox<K>,
+    again: bool,
     items: &mut Vec<u8>,
-) -> Result<Result<(), StreamError>, Fail> {
-    let mut came = front;
+) -> Result<Option<StreamError>, Fail> {
     for _ in 0..1000 {
-        match feed.next() {
-            Ok(Some(sent)) => {
-                assert!(rt; sent.follows(&came));
-                append_item(items, &sent.item)?;
-                came = sent.read;
-            }
-            Ok(None) => {
-                assert!(rt; came.is_same(&feed.front()));
-                return Ok(Ok(()));
-            }
-            Err(error) => {
-                assert!(rt; came.is_same(&feed.front()));
-                return Ok(Err(error));
-            }
+        assert!(rt; inbox.take_in(next_of(feed, again)).is_ok());
+        match inbox.next_ready(true) {
+            Some(read) => append_item(items, &read)?,
+            None => return Ok(inbox.over().expect(rt, "the end")),
         }
     }
     Err(Fail::from("over a thousand items"))
 }
 
-/// The items of an input are these, and its reading ends like this, twice.
+/// The items of an input are these, and its reading ends like this. If `again`, it is the second end that is received.
 fn expect_as<K: Naming, R: Abort>(
     rt: &R,
     alloc: Global,
     opened: Opened,
     input: Input<'_>,
+    again: bool,
     items: &[u8],
-    end: Result<(), StreamError>,
+    end: Option<StreamError>,
 ) -> Result<(), Fail>
-    requires { opened.book ≡ K.book }
+    requires book { opened.book ≡ K.book }
+    requires input { K.input ≡ None }
 {
     let (book, front) = opened.named::<K>();
     let read = front.again();
     let mut feed = Feed::new(alloc, book, read, BufReader::new(alloc, input)?);
+    let mut inbox = Inbox::new(alloc, front);
     let mut came = Vec::new(alloc);
-    let ended = receive(rt, &mut feed, front, &mut came)?;
+    let ended = receive(rt, &mut feed, &mut inbox, again, &mut came)?;
     assert_eq!(rt; came.as_slice(), items);
     assert!(rt; ended == end);
-    let last = feed.front();
-    let again = receive(rt, &mut feed, last, &mut came)?;
-    assert_eq!(rt; came.as_slice(), items);
-    assert!(rt; again == end);
     Ok(())
 }
 
@@ -128,10 +124,11 @@ fn expect<R: Abort>(
     rt: &R,
     alloc: Global,
     input: Input<'_>,
+    again: bool,
     items: &[u8],
-    end: Result<(), StreamError>,
+    end: Option<StreamError>,
 ) -> Result<(), Fail> {
-    expect_as::<Brand, R>(rt, alloc, Opened::new(), input, items, end)
+    expect_as::<Brand, R>(rt, alloc, Opened::new(), input, again, items, end)
 }
 
 /// Inputs, and their items.
@@ -157,7 +154,9 @@ const INPUTS: &[(&[u8], &[u8])] = &[
 fn inputs(rt: HostRuntime) -> Result<(), Fail> {
     for (bytes, items) in INPUTS {
         for most in [1, 1000] {
-            expect(&rt, rt.alloc(), Input::new(bytes, most), items, Ok(()))?;
+            for again in [false, true] {
+                expect(&rt, rt.alloc(), Input::new(bytes, most), again, items, None)?;
+            }
         }
     }
     Ok(())
@@ -168,7 +167,7 @@ fn long_put(rt: HostRuntime) -> Result<(), Fail> {
     let alloc = rt.alloc();
     let bytes = repeated(alloc, b"put a 1048577\n", &[b'x'; 1024], 1024, b"x\nsync\n")?;
     let input = Input::new(bytes.as_slice(), 1000);
-    expect(&rt, alloc, input, b"1:long put|a|;3:sync||;", Ok(()))
+    expect(&rt, alloc, input, false, b"1:long put|a|;3:sync||;", None)
 }
 
 /// A read that fails ends the reading, and an interrupted read is tried again.
@@ -182,10 +181,26 @@ fn failing_reads(rt: HostRuntime) -> Result<(), Fail> {
         (13, b"1:publish||;"),
         (14, b"1:publish||;2:sync||;"),
     ] {
-        let input = Input::failing(bytes, 1, read, ErrorKind::BrokenPipe);
-        expect(&rt, rt.alloc(), input, items, Err(StreamError::CannotRead))?;
-        let input = Input::failing(bytes, 1, read, ErrorKind::Interrupted);
-        expect(&rt, rt.alloc(), input, b"1:publish||;2:sync||;", Ok(()))?;
+        for again in [false, true] {
+            let input = Input::failing(bytes, 1, read, ErrorKind::BrokenPipe);
+            expect(
+                &rt,
+                rt.alloc(),
+                input,
+                again,
+                items,
+                Some(StreamError::CannotRead),
+            )?;
+            let input = Input::failing(bytes, 1, read, ErrorKind::Interrupted);
+            expect(
+                &rt,
+                rt.alloc(),
+                input,
+                again,
+                b"1:publish||;2:sync||;",
+                None,
+            )?;
+        }
     }
     Ok(())
 }

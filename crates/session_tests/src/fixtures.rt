@@ -1,7 +1,11 @@
 //! What several tests start from.
 
-use service::{Fault, Gate, Point, Source};
+ghost use Rattle.std.specs.Prelude.{◌+◌, ◌<◌, ◌^◌};
+
+use script::Numbered;
+use service::{Fault, Gate, Naming, Point, Service, Source, Taken};
 use std::alloc::Global;
+use std::sync::Wait;
 use transcript::{Entry, append_entry};
 
 /// A source with no files.
@@ -35,4 +39,21 @@ impl Gate for Open {
 /// Appends the text of an entry, or a line for an entry that has none: `accepted N`, or `published`.
 pub(crate) fn write(text: &mut Vec<u8>, entry: &Entry) -> bool {
     append_entry(entry, false, text).is_ok()
+}
+
+/// Takes an item without readers: a search is answered at once.
+pub(crate) fn take_alone<J: Naming, R: Wait>(
+    rt: &R,
+    alloc: Global,
+    service: &mut Service<J>,
+    source: &mut NoFiles,
+    item: Numbered<'_>,
+) -> Option<Entry>
+    requires { service.old.searches + 1 < 2 ^ 32 }
+{
+    match service.take(rt, alloc, source, item) {
+        Taken::Entry(entry) => Some(entry),
+        Taken::Search(task) => service.answer_here(rt, alloc, &task),
+        Taken::Sync => None,
+    }
 }

@@ -14,6 +14,8 @@ mod feeds;
 #[cfg(test)]
 mod fixtures;
 #[cfg(test)]
+mod inboxes;
+#[cfg(test)]
 mod inputs;
 #[cfg(test)]
 mod many;

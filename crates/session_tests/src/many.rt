@@ -2,7 +2,7 @@
 
 ghost use Rattle.std.specs.Prelude.{◌≡◌};
 
-use crate::fixtures::{NoFiles, Open};
+use crate::fixtures::{NoFiles, Open, take_alone};
 use crate::inputs::repeated;
 use script::{MAX_SCRIPT, ScriptReader};
 use service::{Naming, Opened, Reader, Service, Taken, Task, open};
@@ -40,7 +40,7 @@ fn last_alone<J: Naming, R: Abort + Wait>(
             break;
         };
         assert!(rt; !service.is_full());
-        if let Some(entry) = service.take_alone(rt, alloc, &mut source, item) {
+        if let Some(entry) = take_alone(rt, alloc, &mut service, &mut source, item) {
             last = number_and_turn(&entry);
         }
     }

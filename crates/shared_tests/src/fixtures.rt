@@ -3,14 +3,10 @@
 ghost use Rattle.std.specs.Prelude.{◌≡◌, ◌<◌, ◌≤◌};
 ghost use Rattle.shared.specs.declared.opening.TheConstants.{MAX_COMMANDS};
 
-use readers::{Given, Prepared};
-use shared::{Body, Desk, Name, Reading, open};
+use shared::{Body, Desk, Name, Prepared, Reading, open};
 use std::alloc::Global;
 use std::process::Abort;
 use std::sync::Wait;
-
-/// The number of a search, its reader's turn, the version of the answer, and how many lines it has.
-pub(crate) type Row = (u32, u32, u32, usize);
 
 /// A desk for this many commands, and a reading.
 pub(crate) fn one_reading<R: Abort + Wait>(rt: &R, alloc: Global, commands: u32) -> (Desk, Reading)
@@ -68,37 +64,4 @@ pub(crate) fn publish<R: Wait>(
 /// The pattern, prepared for searches.
 pub(crate) fn prepared(alloc: Global, pattern: &[u8]) -> Option<Prepared> {
     Prepared::new(alloc, pattern).ok()
-}
-
-/// A search for each of these letters, and none for a `-`.
-pub(crate) fn searches(alloc: Global, letters: &[u8]) -> Option<Vec<Option<Prepared>>> {
-    let mut searches = Vec::new(alloc);
-    for letter in letters {
-        let search = match *letter {
-            b'-' => None,
-            letter => Some(prepared(alloc, &[letter])?),
-        };
-        searches.push(search).ok()?;
-    }
-    Some(searches)
-}
-
-/// Whether these answers were given.
-pub(crate) fn are_given(given: &[Given], rows: &[Row]) -> bool {
-    if given.len() != rows.len() {
-        return false;
-    }
-    for (given, row) in given.iter().zip(rows.iter()) {
-        if !is_given(given, *row) {
-            return false;
-        }
-    }
-    true
-}
-
-fn is_given(given: &Given, row: Row) -> bool {
-    given.search == row.0
-        && given.turn == row.1
-        && given.answer.version() == row.2
-        && given.answer.hits().len() == row.3
 }

@@ -1,20 +1,14 @@
-//! Tests of the desk, its readings and its workers, by call, on one thread and on several.
+//! Tests of the desk and its readings, by call, on one thread and on several.
 //!
 //! They are a separate crate because a crate with tests is proved twice: with its tests and without.
 #![tactic(auto)]
 
 #[cfg(test)]
-mod answers;
-#[cfg(test)]
 mod calls;
 #[cfg(test)]
 mod fixtures;
 #[cfg(test)]
-mod gates;
-#[cfg(test)]
 mod matching;
-#[cfg(test)]
-mod name_matching;
 #[cfg(test)]
 mod service;
 #[cfg(test)]

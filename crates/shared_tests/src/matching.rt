@@ -1,62 +1,111 @@
-//! A publish does not wait for a reading that is matching lines.
+//! A publish does not wait for a search that is matching names or lines.
 
-use crate::fixtures::{are_given, one_reading, publish, searches};
-use crate::gates::HeldMatching;
-use readers::{Prepared, Reading, Report, Worker};
-use shared::Desk;
+use crate::fixtures::{one_reading, publish, put};
+use shared::{Answer, Desk, Prepared, Reading};
 use std::alloc::Global;
+use std::process::Abort;
 use std::sync::Wait;
-use std::thread;
-use std::thread::Threads;
+use std::sync::atomic::{AtomicU64, Ordering};
+use std::thread::{Threads, join};
 
-/// The name and the body of each put during the matching.
-const CHANGES: &[(u8, u8)] = &[(b'f', b'y'), (b'g', b'w'), (b'h', b'v')];
+/// How many documents have names and lines that are slow to match.
+const SLOW_DOCUMENTS: u32 = 30;
 
-/// While a worker is held between taking its documents and matching their lines, the desk publishes three times.
-/// The worker then answers from what it took.
+/// How many documents are published while a search is matching.
+const PUBLISHES: u32 = 30;
+
+/// A pattern that takes milliseconds for each of the slow names and lines. It matches none of them.
+const SLOW_PATTERN: &[u8] = b"x(a|([ab]?){255}{15}c|d$)*e";
+
+/// How often a thread looks at a search before it gives up.
+const LOOKS: u64 = 2_000_000_000;
+
+/// How far a search is: it has taken its candidates, or has its answer.
+const TAKEN: u64 = 1;
+
+const DONE: u64 = 2;
+
 #[test]
-fn publish_during_matching(rt: HostRuntime) {
-    let alloc = rt.alloc();
-    let (mut desk, reading) = one_reading(&rt, alloc, 4);
-    assert!(rt; publish(&rt, alloc, &mut desk, b"f", b"x"));
-    let searches = searches(alloc, b"x").expect(&rt, "a pattern");
-    let gate = HeldMatching::new();
-    let report = report_beside(&rt, alloc, &mut desk, reading, &searches, &gate);
-    desk.close(&rt);
-    let report = report.expect(&rt, "a report beside three publishes");
-    assert!(rt; !gate.matching.is_given_up() && !gate.released.is_given_up());
-    assert!(rt; are_given(&report.given, &[(1, 1, 1, 1)]));
+fn publish_during_name_matching(rt: HostRuntime) {
+    expect_beside(&rt, rt.alloc(), SLOW_PATTERN, b"x");
 }
 
-/// Publishes three times, while the worker is held before it matches.
-fn report_beside<R: Threads + Wait + Sync>(
+#[test]
+fn publish_during_line_matching(rt: HostRuntime) {
+    expect_beside(&rt, rt.alloc(), b"x", SLOW_PATTERN);
+}
+
+/// From the time that a search has left the published copy, the desk publishes many times. At the end of that the
+/// search still has no answer, so the publishes went through while names or lines were matched. Its answer is that of
+/// before.
+///
+/// If they were matched inside the published copy, the search would have its answer long before the last publish.
+fn expect_beside<R: Threads + Wait + Abort + Sync>(
     rt: &R,
     alloc: Global,
-    desk: &mut Desk,
-    reading: Reading,
-    searches: &[Option<Prepared>],
-    gate: &HeldMatching,
-) -> Option<Report> {
-    thread::scope(thread::scope_env(), rt, |scope| {
-        let worker = Worker::start(scope, rt, alloc, searches, gate, reading, 0).ok()?;
-        let sent = worker.send(rt, 1);
-        gate.matching.wait();
-        let published = publish_thrice(rt, alloc, desk);
-        gate.released.raise();
-        let report = worker.join(rt);
-        if sent && published {
-            Some(report)
-        } else {
-            None
-        }
-    })
+    name_pattern: &[u8],
+    pattern: &[u8],
+) {
+    let prepared = Prepared::within(alloc, name_pattern, pattern);
+    let prepared = prepared.ok().expect(rt, "two patterns");
+    let (mut desk, reading) = one_reading(rt, alloc, SLOW_DOCUMENTS + PUBLISHES + 1);
+    assert!(rt; put_slow_documents(alloc, &mut desk).is_some());
+    assert!(rt; publish(rt, alloc, &mut desk, b"xe", b"xe"));
+    let progress = AtomicU64::new(0);
+    let (answer, is_beside) = join(
+        rt,
+        || search(alloc, reading, &prepared, &progress),
+        || publish_beside(rt, alloc, &mut desk, &progress),
+    );
+    desk.close(rt);
+    let answer = answer.expect(rt, "an answer");
+    assert!(rt; is_beside);
+    assert!(rt; answer.version() == SLOW_DOCUMENTS + 1);
+    assert!(rt; answer.hits().len() == 1);
 }
 
-fn publish_thrice<R: Wait>(rt: &R, alloc: Global, desk: &mut Desk) -> bool {
-    for change in CHANGES {
-        if !publish(rt, alloc, desk, &[change.0], &[change.1]) {
+/// Puts documents whose names and lines are a number and then the start of a match that never ends.
+fn put_slow_documents(alloc: Global, desk: &mut Desk) -> Option<()> {
+    for number in 0..SLOW_DOCUMENTS {
+        let text = format!(in alloc; "{number}x").ok()?;
+        let mut slow = Vec::from_slice(alloc, text.as_bytes()).ok()?;
+        for _ in 0..249 {
+            slow.push(b'a').ok()?;
+        }
+        put(alloc, desk, &slow, &slow)?;
+    }
+    Some(())
+}
+
+fn search(
+    alloc: Global,
+    mut reading: Reading,
+    prepared: &Prepared,
+    progress: &AtomicU64,
+) -> Option<Answer> {
+    let taken = reading.take(alloc, prepared).ok()?;
+    progress.store(TAKEN, Ordering::SeqCst);
+    let answer = taken.answer(alloc).ok()?;
+    progress.store(DONE, Ordering::SeqCst);
+    Some(answer)
+}
+
+/// Publishes many times once the search has taken its candidates. Returns whether it has no answer after that.
+fn publish_beside<R: Wait>(rt: &R, alloc: Global, desk: &mut Desk, progress: &AtomicU64) -> bool {
+    wait_until_taken(progress);
+    for _ in 0..PUBLISHES {
+        if !publish(rt, alloc, desk, b"f", b"y") {
             return false;
         }
     }
-    true
+    progress.load(Ordering::SeqCst) == TAKEN
+}
+
+/// Returns once the search has taken its candidates, or after many looks.
+fn wait_until_taken(progress: &AtomicU64) {
+    for _ in 0..LOOKS {
+        if progress.load(Ordering::SeqCst) != 0 {
+            return;
+        }
+    }
 }

@@ -68,6 +68,19 @@ pub record IsFilled (Holds : List ℕ → List ℕ → Type 0) (most readers : �
   pub turns : AllTurned (given_of before ++ (given_in (Some entry) ++ given_of after))
   pub noted : AllByRecursion (IsNoted s'.lasts) (given_of before ++ (given_in (Some entry) ++ given_of after))
 
+-- No sync follows an open row, and without readers nothing does.
+pub after_open : (Holds : List ℕ → List ℕ → Type 0) (most readers : ℕ) (s : RunState) (rows : List Row) → AreRows Holds most readers s rows
+    → (before : List Row) (row : Row) (after : List Row) → rows ≡ before ++ row ∷ after → row.entry ≡ None → searches_of row.numbered.item ≡ 1
+    → HasNoSync (unanswered after) × (readers ≡ 0 → unanswered after ≡ [])
+after_open Holds most readers s rows are before row after whole none one = by (are.stand before row after whole)
+  where
+    by : Stands Holds most readers (unanswered before) row (unanswered after)
+        → HasNoSync (unanswered after) × (readers ≡ 0 → unanswered after ≡ [])
+    by (waits also also_one no_sync alone) = (no_sync, alone)
+    by (legal is) =
+        absurd (not_legal_yet Holds most _ row.numbered.item row.entry none one
+        (is before after [] refl (sym (append-nil (unanswered after))) (subst (Rises 0) (are.published ∙ ap published_in whole) are.rises)))
+
 module _ (Holds : List ℕ → List ℕ → Type 0) (most readers : ℕ) (s : RunState) (rows : List Row) (front : List OpenSearch) (search : OpenSearch)
     (back : List OpenSearch) (are : AreRows Holds most readers s rows) (at : IsOpenRow 0 0 rows front search back) where
   -- without answers of its own, the open row adds none
@@ -141,17 +154,8 @@ module _ (Holds : List ℕ → List ℕ → Type 0) (most readers : ℕ) (s : Ru
       subst (λ n. HasEntry Holds most context at.row.numbered.item (Some (SearchRefused n search_reason.OutOfMemory))) (sym (number_is before' e))
       (legal_fault Holds most context at.row.numbered.item search_reason.OutOfMemory (memory_fault at.row.numbered.item at.one)))
 
-  -- no sync follows the open row, and without readers nothing does
   waiting : HasNoSync (unanswered at.after) × (readers ≡ 0 → unanswered at.after ≡ [])
-  waiting = by (are.stand at.before at.row at.after at.whole)
-    where
-      by : Stands Holds most readers (unanswered at.before) at.row (unanswered at.after)
-          → HasNoSync (unanswered at.after) × (readers ≡ 0 → unanswered at.after ≡ [])
-      by (waits none one no_sync alone) = (no_sync, alone)
-      by (legal is) =
-          absurd (not_legal_yet Holds most _ at.row.numbered.item at.row.entry at.none at.one
-          (is at.before at.after [] refl (sym (append-nil (unanswered at.after)))
-          (subst (Rises 0) (are.published ∙ ap published_in at.whole) are.rises)))
+  waiting = after_open Holds most readers s rows are at.before at.row at.after at.whole at.none at.one
 
   -- A version that is published by now is no later than the latest.
   seen : (version : ℕ) → (version ≡ 0) ⊎ Contains s.published version → version ≤ latest s

@@ -2,6 +2,7 @@ pub mod RowLemmas
 pub mod OpenLemmas
 pub mod TurnLemmas
 pub mod EntryLemmas
+pub mod SourceLemmas
 pub mod PushLemmas
 pub mod FillLemmas
 pub mod StepLemmas

@@ -10,9 +10,10 @@ use Rattle.script.specs.Items.{Numbered}
 use Rattle.transcript.specs.declared.entry.Entry.{Entry}
 use Rattle.steps.specs.Rows.{Row, items_of, entries_of, list_of, failures_in, count_failures}
 use Rattle.steps.specs.Steps.{RunState, IsStep, Runs, begins, goes_on, IsFirst}
-use Rattle.steps.specs.StepRows.{AreNext, more, filled, with_its_entry, AreRows}
+use Rattle.steps.specs.StepRows.{AreNext, more, filled, with_its_entry, unanswered, AreRows}
 use Rattle.steps.specs.Entries.{failures_of}
 use Rattle.steps.proofs.RowLemmas.{items_of-append}
+use Rattle.steps.proofs.FillLemmas.{after_open}
 use Rattle.steps.proofs.StepLemmas.{first_rows, next_rows}
 
 module _ {Holds : List ℕ → List ℕ → Type 0} {most readers : ℕ} where
@@ -51,25 +52,49 @@ next_items rows taken written rows' (filled before row after entry whole none on
 pub entries_of-append : (rows others : List Row) → entries_of (rows ++ others) ≡ entries_of rows ++ entries_of others
 entries_of-append rows others = flat_map-append (λ r. list_of r.entry) rows others
 
+-- the entry of one more row comes last
+entries_more : (rows : List Row) (row : Row) (written : List Entry) (rows' : List Row) → written ≡ list_of row.entry → rows' ≡ rows ++ row ∷ []
+    → entries_of rows' ≡ entries_of rows ++ written
+entries_more rows row written rows' writes same =
+    ap entries_of same ∙ entries_of-append rows (row ∷ []) ∙ ap (λ l. entries_of rows ++ l) (append-nil (list_of row.entry) ∙ sym writes)
+
+-- a row has no entry
+entries_without : (rows before : List Row) (row : Row) (after : List Row) → rows ≡ before ++ row ∷ after → row.entry ≡ None
+    → entries_of rows ≡ entries_of before ++ entries_of after
+entries_without rows before row after whole none =
+    ap entries_of whole ∙ entries_of-append before (row ∷ after) ∙ ap (λ e. entries_of before ++ (list_of e ++ entries_of after)) none
+
 -- What is written becomes one of the rows' entries.
 pub next_entries : (rows : List Row) (taken : List Numbered) (written : List Entry) (rows' : List Row) → AreNext rows taken written rows'
     → IsPermutation (entries_of rows') (entries_of rows ++ written)
 next_entries rows taken written rows' (more row takes writes same) =
-    subst (λ l. IsPermutation (entries_of rows') l)
-    (ap entries_of same ∙ entries_of-append rows (row ∷ []) ∙ ap (λ l. entries_of rows ++ l) (append-nil (list_of row.entry) ∙ sym writes))
-    (IsPermutation-refl (entries_of rows'))
+    subst (λ l. IsPermutation (entries_of rows') l) (entries_more rows row written rows' writes same) (IsPermutation-refl (entries_of rows'))
 next_entries rows taken written rows' (filled before row after entry whole none one of takes writes same) =
     let front = entries_of before in
     let back = entries_of after in
     let new : entries_of rows' ≡ front ++ entry ∷ back = ap entries_of same ∙ entries_of-append before (with_its_entry entry row ∷ after) in
-    let old : entries_of rows ≡ front ++ back =
-    ap entries_of whole ∙ entries_of-append before (row ∷ after) ∙ ap (λ e. front ++ (list_of e ++ back)) none in
+    let old : entries_of rows ≡ front ++ back = entries_without rows before row after whole none in
     subst (λ l. IsPermutation l (entries_of rows ++ written)) (sym new)
     (subst (λ l. IsPermutation (front ++ entry ∷ back) (l ++ written)) (sym old)
     (subst (λ l. IsPermutation (front ++ entry ∷ back) ((front ++ back) ++ l)) (sym writes)
     (IsPermutation-trans (front ++ entry ∷ back) (entry ∷ (front ++ back)) ((front ++ back) ++ entry ∷ [])
     (IsPermutation-middle front entry back)
     (IsPermutation-sym ((front ++ back) ++ entry ∷ []) (entry ∷ (front ++ back)) (IsPermutation-to_front (front ++ back) entry)))))
+
+no_entries : (rows : List Row) → unanswered rows ≡ [] → entries_of rows ≡ []
+no_entries [] nothing = refl
+no_entries (row ∷ rows) nothing = cc
+
+-- Without readers, what is written becomes the last one of the rows' entries.
+next_in_order : (Holds : List ℕ → List ℕ → Type 0) (most readers : ℕ) (s : RunState) (rows : List Row) → AreRows Holds most readers s rows → readers ≡ 0
+    → (taken : List Numbered) (written : List Entry) (rows' : List Row) → AreNext rows taken written rows' → entries_of rows' ≡ entries_of rows ++ written
+next_in_order Holds most readers s rows are alone taken written rows' (more row takes writes same) = entries_more rows row written rows' writes same
+next_in_order Holds most readers s rows are alone taken written rows' (filled before row after entry whole none one of takes writes same) =
+    let front = entries_of before in
+    let nothing : entries_of after ≡ [] = no_entries after ((after_open Holds most readers s rows are before row after whole none one).1 alone) in
+    let old : entries_of rows ≡ front = entries_without rows before row after whole none ∙ ap (λ l. front ++ l) nothing ∙ append-nil front in
+    ap entries_of same ∙ entries_of-append before (with_its_entry entry row ∷ after) ∙ ap (λ l. front ++ entry ∷ l) nothing
+    ∙ ap (λ l. l ++ entry ∷ []) (sym old) ∙ ap (λ l. entries_of rows ++ l) (sym writes)
 
 failures_one : (entry : Option Entry) → failures_of (list_of entry) ≡ failures_in entry
 failures_one None = refl
@@ -92,13 +117,20 @@ pub record AreRowsOf (Holds : List ℕ → List ℕ → Type 0) (most readers : 
   pub are : AreRows Holds most readers s rows
   pub same_items : items_of rows ≡ items
   pub same_entries : IsPermutation (entries_of rows) entries
+  pub in_order : readers ≡ 0 → entries_of rows ≡ entries
 
 pub steps_have_rows : (Holds : List ℕ → List ℕ → Type 0) (most readers : ℕ) (from : RunState) → IsFirst readers from
     → {items : List Numbered} {entries : List Entry} {s : RunState} → Runs Holds most readers from items entries s
     → AreRowsOf Holds most readers items entries s
 steps_have_rows Holds most readers from first =
     runs_keep Holds most readers from (λ items entries s. AreRowsOf Holds most readers items entries s)
-    (record { rows = []; are = first_rows Holds most readers from first; same_items = refl; same_entries = IsPermutation-refl [] })
+    (record {
+      rows = [];
+      are = first_rows Holds most readers from first;
+      same_items = refl;
+      same_entries = IsPermutation-refl [];
+      in_order = λ alone. refl;
+    })
     (λ items entries s taken written s' old step.
     let next = next_rows Holds most readers s old.rows old.are taken written s' step in
     record {
@@ -109,6 +141,8 @@ steps_have_rows Holds most readers from first =
           IsPermutation-trans (entries_of next.0) (entries_of old.rows ++ written) (entries ++ written)
           (next_entries old.rows taken written next.0 next.1)
           (IsPermutation-append_left written (entries_of old.rows) entries old.same_entries);
+      in_order = λ alone.
+          next_in_order Holds most readers s old.rows old.are alone taken written next.0 next.1 ∙ ap (λ l. l ++ written) (old.in_order alone);
     })
 
 -- The rows have as many failed loads as the entries.

@@ -47,6 +47,14 @@ pub fn steps_have_rows<H: Holding>()
         × (count_failures rows ≡ failures_of entries) }
 {}
 
+/// Without readers, entries are written in the order of their items: a run's rows have them in the order of writing.
+pub fn entries_keep_their_order<H: Holding>()
+    ensures { (most : ℕ) (from : RunState) (items : List NumberedItem) (entries : List Entry) (s : RunState)
+        → IsFirst 0 from → Runs H.holds most 0 from items entries s
+        → (rows : List Row) × AreRows H.holds most 0 s rows × (items_of rows ≡ items) × (entries_of rows ≡ entries)
+        × (count_failures rows ≡ failures_of entries) }
+{}
+
 /// Once no search is open, each search has one entry.
 pub fn one_entry_each<H: Holding>()
     ensures one { (most readers : ℕ) (from : RunState) (items : List NumberedItem) (entries : List Entry) (s : RunState)

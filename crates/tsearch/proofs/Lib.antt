@@ -1,14 +1,2 @@
-pub mod ItemLemmas
-pub mod CarryLemmas
-pub mod SearchLemmas
-pub mod ReaderLemmas
-pub mod CloseLemmas
-pub mod RowLemmas
-pub mod TallyLemmas
-pub mod LegalLemmas
-pub mod SettleLemmas
+pub mod HeldLemmas
 pub mod RunLemmas
-pub mod LoopLemmas
-pub mod DriveLemmas
-pub mod ProgressLemmas
-pub mod LoneLemmas

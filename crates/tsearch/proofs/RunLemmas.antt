@@ -1,564 +1,343 @@
 -- What holds of a run so far, and that a run is legal at its end.
-use Rattle.std.proofs.Common.{◌≡◌, ℕ, zero, suc, ◌+◌, ◌≤◌, ◌<◌, ◌⊎◌, inl, inr, true, List, [], ◌∷◌, ◌++◌, map, Option, Some, None, refl}
-use Rattle.std.proofs.Common.{sym, ap, ◌∙◌, subst, arith, length, append_assoc, length-append}
-use Rattle.std.proofs.lemmas.List.{append-nil, map-append, length-replicate, get_or-replicate, get_or_past}
-use Rattle.std.proofs.lemmas.List.Elements.{Contains-append_left, Contains-append_right}
-use Rattle.std.proofs.lemmas.Bool.{cases_lt}
-use Rattle.std.specs.Prelude.{Contains, slice_get, replicate}
-use Rattle.logbook.specs.Pages.{Book}
-use Rattle.index.specs.declared.command.Command.{Command}
-use Rattle.search.specs.declared.pattern.Prepared.{Prepared}
-use Rattle.script.specs.Items.{Numbered, ItemsFrom, IsItemsOf}
-use Rattle.script.specs.Position.{Position}
-use Rattle.script.specs.Reading.{Takes}
-use Rattle.script.proofs.OneReading.{one_reading}
-use Rattle.shared.specs.Desk.{DeskState, desk_state}
-use Rattle.shared.specs.History.{Known}
-use Rattle.tsearch.specs.declared.run.Options.{Options}
-use Rattle.tsearch.specs.declared.progress.Progress.{Progress}
-use Rattle.tsearch.specs.declared.settled.Last.{Last}
+use Rattle.std.proofs.Common.{◌≡◌, ℕ, zero, suc, ◌+◌, ◌≤◌, ◌<◌, ◌⊎◌, inl, inr, true, false, List, [], ◌∷◌, ◌++◌, length, Option, Some, None, refl, sym, ap}
+use Rattle.std.proofs.Common.{◌∙◌, subst, arith, append_assoc}
+use Rattle.std.proofs.lemmas.List.{append-nil, length-replicate}
+use Rattle.std.proofs.lemmas.List.Elements.{All-replicate}
+use Rattle.std.proofs.lemmas.List.Sums.{sum_by-append}
+use Rattle.std.proofs.lemmas.List.Sorted.{IsPermutation-refl}
+use Rattle.std.specs.Prelude.{Contains, Result, Ok, Err, OnOk}
+use Rattle.script.specs.Items.{Item, Numbered, ItemsFrom, IsItemsOf, search, search_in}
+use Rattle.script.specs.Position.{Position, position}
+use Rattle.script.specs.Reading as reading
 use Rattle.transcript.specs.declared.entry.Entry.{Entry}
 use Rattle.transcript.specs.declared.entry.Entry.TheVariants.{SearchRefused}
-use Rattle.tsearch.specs.Rows.{Row, items_of, entries_of, commands_of, accepted_by, command_of, version_in, published_in, last_or}
-use Rattle.tsearch.specs.Rows.{published_last, is_sync, searches_of, count_searches, failures_in, count_failures}
-use Rattle.tsearch.specs.Legal.{IsLegalRow, IsLegal, IsFailedTimes}
-use Rattle.tsearch.specs.Private.Entries.{IsCounted}
-use Rattle.tsearch.specs.Private.Items.{row_of, searches_in, Tells, IsEntered}
-use Rattle.tsearch.specs.Private.Items as items
-use Rattle.tsearch.specs.Private.Searches.{searches_among, ArePaired, ArePrepared}
-use Rattle.tsearch.specs.Private.Tallies.{last, last_of}
-use Rattle.tsearch.specs.Private.Progress.{tally_of, IsFresh, IsStart, IsPended, AreListed, Pends, IsSettled, Advances}
-use Rattle.tsearch.specs.Private.Progress as steps
-use Rattle.tsearch.proofs.RowLemmas.{items_of-append, entries_of-append, commands_of-append, commands_of-one, published_in-append}
-use Rattle.tsearch.proofs.RowLemmas.{published_in-one, published_last-push, count_searches-append, count_searches-push}
-use Rattle.tsearch.proofs.RowLemmas.{count_failures-append, count_failures-push, Rises, rises_push, same_items, same_searches}
-use Rattle.tsearch.proofs.RowLemmas.{same_failures}
-use Rattle.tsearch.proofs.TallyLemmas.{turned_none, turned_push, quiet, AreBelow}
-use Rattle.tsearch.proofs.LegalLemmas.{context_of, map_legal, legal_sync, sync_is_no_search, IsListed, legal_row, plain, AllStand, stand_both, stands_within}
-use Rattle.tsearch.proofs.SettleLemmas.{IsPendingRow, entered, refused, asked, accepted_in, ArePending, pending_push, IsTold, IsTallied}
-use Rattle.tsearch.proofs.SettleLemmas.{IsAlone, nobody, one, same_after_commands, same_after_published, settle_all}
+use Rattle.transcript.specs.declared.entry.SearchReason.TheVariants.{OutOfMemory}
+use Rattle.steps.specs.Rows.{Row, entries_of, list_of, version_in, last_or, is_sync, searches_of, count_searches, failures_in, count_failures}
+use Rattle.steps.specs.LegalRows.{IsFailedTimes}
+use Rattle.steps.specs.Entries.{failures_of}
+use Rattle.steps.specs.Steps.{RunState, IsStep, IsFirst, MayTake, last}
+use Rattle.steps.specs.Steps as steps
+use Rattle.steps.specs.StepRows.{AreNext, AreRows, IsOfSearch, open_of, open_in, with_its_entry}
+use Rattle.steps.specs.StepRows as rows_of
+use Rattle.steps.proofs.EntryLemmas.{plain_entry, plain_by, command_is_no_search, sync_is_no_search, fault_is_of_search}
+use Rattle.steps.proofs.RowLemmas.{count_searches-push}
+use Rattle.steps.proofs.RunLemmas.{next_items, next_entries, same_failures}
+use Rattle.steps.proofs.StepLemmas.{first_rows, next_rows, each_is_legal, are_in_turn}
+use Rattle.service.specs.Service.{ServiceState, first_service, run_of, Fits, Steps, Takes, Gives, versions_in}
+use Rattle.service.specs.Service as service
+use Rattle.service.specs.Collected.{CollectedState, IsCollected, number_in, place_in, place_by, slot_by, pushed, filled}
+use Rattle.service.specs.Private.Entries.{IsCounted}
+use Rattle.service.proofs.ServiceLemmas.{gives_step}
+use Rattle.service.proofs.CollectedLemmas.{AreAnswered, slots_at_end, collected_more, collected_same, collected_filled}
+use Rattle.tsearch.specs.declared.run.Options.{Options}
+use Rattle.tsearch.specs.Legal.{IsLegal}
+use Rattle.tsearch.specs.Private.Running.{IsRunning, TakesOne, AreFilled, none, one_more}
+use Rattle.tsearch.proofs.HeldLemmas.{rows_mapped}
 
--- A run so far: rows that are settled, and pending ones after them.
-pub record IsRunOf (Holds : List ℕ → List ℕ → Type 0) (options : Options) (searches : List (Option Prepared)) (script : List ℕ) (failed : ℕ)
-    (desk : DeskState) (progress : Progress) (position : Position) (failed' : ℕ) (rows pending : List Row) : Type 0 where
-  pub items : (more : List Numbered) → ItemsFrom position.line position.rest more → IsItemsOf script (items_of (rows ++ pending) ++ more)
-  pub stand : AllStand Holds options.max_commands searches options.readers [] rows
-  pub are_pending : ArePending Holds options.max_commands (commands_of rows) (count_searches rows) pending
-  pub entries : progress.settled.entries.items ≡ entries_of rows
-  pub waiting : progress.pending.items ≡ map (λ r. r.entry) pending
-  pub tallied : IsTallied options.readers progress.told.commands rows (tally_of progress.settled)
-  pub are_told : IsTold progress.told.commands progress.versions.items (commands_of (rows ++ pending)) (published_in (rows ++ pending))
-  pub count : progress.searches ≡ count_searches (rows ++ pending)
-  pub accepted : desk.accepted ≡ commands_of (rows ++ pending)
-  pub limit : desk.limit ≡ options.max_commands
-  pub failures : IsFailedTimes (count_failures (rows ++ pending)) failed failed'
+pub on_ok : {X E P Q : Type 0} (r : Result X E) → (P → Q) → OnOk r P → OnOk r Q
+on_ok (Ok x) f p = f p
+on_ok (Err e) f p = p
 
--- A run so far. Without readers nothing is pending.
-pub record IsRun (Holds : List ℕ → List ℕ → Type 0) (options : Options) (searches : List (Option Prepared)) (script : List ℕ) (failed : ℕ)
-    (desk : DeskState) (progress : Progress) (position : Position) (failed' : ℕ) : Type 0 where
-  pub rows : List Row
-  pub pending : List Row
-  pub are : IsRunOf Holds options searches script failed desk progress position failed' rows pending
-  pub at_once : options.readers ≡ 0 → pending ≡ []
+-- How often the source has failed.
 
-below_none : (readers : ℕ) (lasts : List Last) → lasts ≡ replicate readers (last 0 0) → AreBelow 0 lasts
-below_none readers lasts is reader = by_place (cases_lt reader readers)
+none_failed : (failed : ℕ) → IsCounted 0 failed failed
+none_failed failed = record { rises = inl (omega arith); stays = λ full. full }
+
+counted_more : (n m a b c : ℕ) → IsCounted n a b → IsCounted m b c → IsCounted (n + m) a c
+counted_more n m a b c first next = record { rises = by first.rises next.rises; stays = λ full. next.stays (first.stays full) }
   where
-    by_place : (reader < readers) ⊎ (readers ≤ reader) → (last_of lasts reader).version ≤ 0
-    by_place (inl inside) =
-        omega (
-          arith,
-          ap (λ l. (last_of l reader).version) is,
-          ap (λ l. l.version) (get_or-replicate readers reader (last 0 0) (last 0 0) inside),
-        )
-    by_place (inr past) =
-        omega (
-          arith,
-          ap (λ l. (last_of l reader).version) is,
-          ap (λ l. l.version)
-              (get_or_past (replicate readers (last 0 0)) reader (last 0 0)
-              (omega (arith, past, length-replicate readers (last 0 0)))),
-        )
+    by : IsFailedTimes n a b → IsFailedTimes m b c → IsFailedTimes (n + m) a c
+    by (inl is) (inl is') = inl (omega arith)
+    by (inl is) (inr is') = inr (is'.0, omega (arith, is, is'.1))
+    by (inr is) h = inr (next.stays is.0, omega (arith, is.1))
 
-pub run_begins : (Holds : List ℕ → List ℕ → Type 0) (options : Options) (searches : List (Option Prepared)) (script : List ℕ) (failed : ℕ)
-    (opening : Book) (desk : DeskState) (progress : Progress) → desk ≡ desk_state opening options.max_commands [] []
-    → IsStart opening options.readers progress
-    → IsRun Holds options searches script failed desk progress (record { line = 1; rest = script }) failed
-unfolding commands_of published_in count_searches count_failures
-run_begins Holds options searches script failed opening desk progress is start = record {
-  rows = [];
-  pending = [];
-  are = record {
-    items = λ more h. h;
-    stand = tt;
-    are_pending = tt;
-    entries = start.settled.entries;
-    waiting = start.pending;
-    tallied = record {
-      searches = start.settled.searches;
-      published = start.settled.published;
-      turned = turned_none progress.settled.lasts.items;
-      count = ap length start.settled.lasts ∙ length-replicate (options.readers + 1) (last 0 0);
-      below =
-          subst (λ told. AreBelow (length told) progress.settled.lasts.items) (sym (ap (λ k. k.commands) start.told))
-          (below_none (options.readers + 1) progress.settled.lasts.items start.settled.lasts);
-    };
-    are_told = record {
-      others = [];
-      begins = sym (append-nil progress.told.commands ∙ ap (λ k. k.commands) start.told);
-      latest = ap (λ k. length k.commands) start.told;
-      rises = tt;
-      listed = λ version inside. inl (first version (subst (λ l. Contains l version) start.versions inside));
-    };
-    count = start.searches;
-    accepted = ap (λ d. d.accepted) is;
-    limit = ap (λ d. d.limit) is;
-    failures = inl (omega arith);
-  };
-  at_once = λ no_readers. refl;
-}
-  where
-    first : (version : ℕ) → Contains (0 ∷ []) version → version ≡ 0
-    first version (zero, few, same) = sym same
-    first version (suc k, few, same) = absurd (omega (arith, few))
+next_failures : (rows rows' : List Row) (taken : List Numbered) (written : List Entry) → AreNext rows taken written rows'
+    → count_failures rows' ≡ count_failures rows + failures_of written
+next_failures rows rows' taken written next =
+    same_failures rows' (entries_of rows ++ written) (next_entries rows taken written rows' next)
+    ∙ sum_by-append (λ entry. failures_in (Some entry)) (entries_of rows) written
+    ∙ ap (λ n. n + failures_of written) (sym (same_failures rows (entries_of rows) (IsPermutation-refl (entries_of rows))))
 
--- What a reading can learn after one more row. accepted: what was accepted before that row.
-data IsTelling (accepted told : List Command) (versions : List ℕ) (commands : List Command) (told' : List Command) : Type 0 where
-  nothing : versions ≡ [] → told' ≡ told → IsTelling accepted told versions commands told'
-  all : versions ≡ length accepted ∷ [] → commands ≡ [] → told' ≡ accepted → IsTelling accepted told versions commands told'
+-- What an entry and its item have in common.
 
-last_or-push : (default : ℕ) (xs : List ℕ) (v : ℕ) → last_or default (xs ++ v ∷ []) ≡ v
-last_or-push default [] v = refl
-last_or-push default (x ∷ xs) v = last_or-push x xs v
+number_of_search : (number : ℕ) (entry : Entry) → IsOfSearch number entry → number_in entry ≡ number
+number_of_search number _ (rows_of.found reader turn answer) = refl
+number_of_search number _ (rows_of.refused why) = refl
 
-module _ (told : List Command) (versions : List ℕ) (accepted : List Command) (published : List ℕ)
-    (are : IsTold told versions accepted published) (new_versions : List ℕ) (new_commands : List Command) where
-  seen_all : length told ≤ length accepted
-  seen_all = omega (arith, ap length are.begins ∙ length-append told are.others)
+-- The entry that an item has at once is a search's exactly if the item is a search.
+entry_place : (Holds : List ℕ → List ℕ → Type 0) (most readers : ℕ) (s : RunState) (item : Numbered) (entry : Entry) (s' : RunState)
+    → IsStep Holds most readers s (item ∷ []) (entry ∷ []) s' → (at : ℕ) → place_in at entry ≡ place_by at (searches_of item.item)
+entry_place Holds most readers s item entry s' (steps.carried_out other loaded entry' may h takes writes same) at =
+    let same_item : item ≡ other = cc in
+    let same_entry : entry ≡ entry' = cc in
+    let no_search : searches_of item.item ≡ 0 =
+    ap (λ i. searches_of i.item) same_item ∙ command_is_no_search Holds most _ loaded other.line other.item entry' h in
+    ap (place_in at) same_entry
+    ∙ plain_by (plain_entry Holds most _ loaded other.line other.item entry' h) (λ e. place_in at e ≡ []) (λ count. refl) (λ why. refl) refl
+    ∙ sym (ap (place_by at) no_search)
+entry_place Holds most readers s item entry s' (steps.asked_for other may one takes writes same) at = cc
+entry_place Holds most readers s item entry s' (steps.refused other why may fault takes writes same) at =
+    let same_item : item ≡ other = cc in
+    let same_entry : entry ≡ SearchRefused (s.searches + 1) why = cc in
+    ap (place_in at) same_entry ∙ sym (ap (λ i. place_by at (searches_of i.item)) same_item ∙ ap (place_by at) (fault_is_of_search other.item why fault))
+entry_place Holds most readers s item entry s' (steps.answered place wanted reader turn answer is_open now takes writes same) at = cc
+entry_place Holds most readers s item entry s' (steps.not_answered place wanted is_open takes writes same) at = cc
+entry_place Holds most readers s item entry s' (steps.sync other is empty takes writes same) at = cc
 
-  told_more : (told' : List Command) → IsTelling accepted told new_versions new_commands told' → length told ≤ length told'
-  told_more told' (nothing none same) = omega (arith, ap length same)
-  told_more told' (all is_one none same) = omega (arith, ap length same, seen_all)
+gives_no_failure : (old : ServiceState) (entry : Entry) (new : ServiceState) → Gives old entry new → failures_of (entry ∷ []) ≡ 0
+gives_no_failure old entry new (service.answered place wanted reader turn answer is_open can next is after) = ap (λ e. failures_of (e ∷ [])) is
+gives_no_failure old entry new (service.not_answered place wanted is_open is after) = ap (λ e. failures_of (e ∷ [])) is
 
-  listed_push : (versions' : List ℕ)
-      → ((version : ℕ) → Contains versions' version → Contains versions version ⊎ Contains new_versions version) → (version : ℕ)
-      → Contains versions' version → (version ≡ 0) ⊎ Contains (published ++ new_versions) version
-  listed_push versions' listed version inside = by_place (listed version inside)
+one_of_one : (entry : Option Entry) (e : Entry) → e ∷ [] ≡ list_of entry → entry ≡ Some e
+one_of_one None e is = cc
+one_of_one (Some e') e is = cc
+
+none_of_none : (entry : Option Entry) → [] ≡ list_of entry → entry ≡ None
+none_of_none None is = refl
+none_of_none (Some e') is = cc
+
+-- A run that takes a step.
+module _ (Holds : List ℕ → List ℕ → Type 0) (options : Options) (first : ℕ) (items : List Numbered) (old : ServiceState)
+    (collected : CollectedState) (failed : ℕ) (was : IsRunning Holds options first items old collected failed) where
+  steps_on : (taken : List Numbered) (written : List Entry) (new : ServiceState) (published' : List ℕ) (collected' : CollectedState) (failed' : ℕ)
+      → Steps Holds options.readers old was.published taken written new published'
+      → ((rows' : List Row) → AreNext was.rows taken written rows' → new.searches ≡ count_searches rows' → IsCollected rows' collected')
+      → IsCounted (failures_of written) failed failed' → IsRunning Holds options first (items ++ taken) new collected' failed'
+  steps_on taken written new published' collected' failed' step collects counts =
+      let one : IsStep Holds options.max_commands options.readers (run_of old was.published) taken written (run_of new published') =
+      subst (λ most. IsStep Holds most options.readers (run_of old was.published) taken written (run_of new published')) was.limit step.step in
+      let next =
+      next_rows Holds options.max_commands options.readers (run_of old was.published) was.rows was.are_rows taken written (run_of new published') one in
+      record {
+        rows = next.0;
+        published = published';
+        taken = next_items was.rows taken written next.0 next.1 ∙ ap (λ l. l ++ taken) was.taken;
+        are_rows = next.2;
+        fits = step.fits;
+        limit = step.limit ∙ was.limit;
+        are_collected = collects next.0 next.1 next.2.searches;
+        failures =
+            subst (λ n. IsCounted n first failed') (sym (next_failures was.rows next.0 taken written next.1))
+            (counted_more (count_failures was.rows) (failures_of written) first failed failed' was.failures counts);
+      }
+
+  -- an open search gets its entry
+  gives_on : (entry : Entry) (new : ServiceState) (collected' : CollectedState) → Gives old entry new
+      → (0 < number_in entry → collected' ≡ filled entry collected) → IsRunning Holds options first items new collected' failed
+  gives_on entry new collected' gives fills =
+      subst (λ l. IsRunning Holds options first l new collected' failed) (append-nil items)
+      (steps_on [] (entry ∷ []) new was.published collected' failed (gives_step Holds old was.published options.readers was.fits entry new gives)
+      (λ rows' next searches. collects rows' next)
+      (subst (λ n. IsCounted n failed failed) (sym (gives_no_failure old entry new gives)) (none_failed failed)))
     where
-      by_old : (version ≡ 0) ⊎ Contains published version → (version ≡ 0) ⊎ Contains (published ++ new_versions) version
-      by_old (inl none) = inl none
-      by_old (inr old) = inr (Contains-append_left published new_versions version old)
+      collects : (rows' : List Row) → AreNext was.rows [] (entry ∷ []) rows' → IsCollected rows' collected'
+      collects rows' (rows_of.more row takes writes same) = cc
+      collects rows' (rows_of.filled before row after entry' whole empty one its takes writes same) =
+          let is : entry ≡ entry' = cc in
+          let number : number_in entry ≡ count_searches before + 1 = ap number_in is ∙ number_of_search _ entry' its in
+          subst (λ r. IsCollected r collected') (sym same)
+          (subst (λ c. IsCollected (before ++ with_its_entry entry' row ∷ after) c) (ap (λ e. filled e collected) (sym is) ∙ sym (fills (omega arith)))
+          (collected_filled before row after entry' empty one its collected (subst (λ r. IsCollected r collected) whole was.are_collected)))
 
-      by_place : Contains versions version ⊎ Contains new_versions version → (version ≡ 0) ⊎ Contains (published ++ new_versions) version
-      by_place (inl old) = by_old (are.listed version old)
-      by_place (inr new) = inr (Contains-append_right published new_versions version new)
+-- Open searches that got their entries.
 
-  told_push : (told' : List Command) (versions' : List ℕ)
-      → ((version : ℕ) → Contains versions' version → Contains versions version ⊎ Contains new_versions version)
-      → IsTelling accepted told new_versions new_commands told'
-      → IsTold told' versions' (accepted ++ new_commands) (published ++ new_versions)
-  told_push told' versions' listed (nothing none same) =
-      let no_more : published ++ new_versions ≡ published = ap (λ l. published ++ l) none ∙ append-nil published in
-      record {
-        others = are.others ++ new_commands;
-        begins = ap (λ l. l ++ new_commands) are.begins ∙ append_assoc told are.others new_commands ∙ ap (λ t. t ++ (are.others ++ new_commands)) (sym same);
-        latest = ap length same ∙ are.latest ∙ ap (last_or 0) (sym no_more);
-        rises = subst (Rises 0) (sym no_more) are.rises;
-        listed = listed_push versions' listed;
-      }
-  told_push told' versions' listed (all is_one none same) =
-      let more : published ++ new_versions ≡ published ++ length accepted ∷ [] = ap (λ l. published ++ l) is_one in
-      record {
-        others = [];
-        begins = ap (λ l. accepted ++ l) none ∙ ap (λ t. t ++ []) (sym same);
-        latest = ap length same ∙ sym (last_or-push 0 published (length accepted)) ∙ ap (last_or 0) (sym more);
-        rises = subst (Rises 0) (sym more) (rises_push 0 published (length accepted) are.rises (omega (arith, seen_all, are.latest)));
-        listed = listed_push versions' listed;
-      }
+pub filled_more : {old mid : ServiceState} {collected between : CollectedState} {new : ServiceState} {collected' : CollectedState} → AreFilled old collected mid between
+    → AreFilled mid between new collected' → AreFilled old collected new collected'
+filled_more first none = first
+filled_more first (one_more so_far entry gives fills) = one_more (filled_more first so_far) entry gives fills
 
--- The row of an item that becomes pending.
-record IsNextRow (Holds : List ℕ → List ℕ → Type 0) (most : ℕ) (desk : DeskState) (told : Known) (failed count : ℕ) (item : Numbered)
-    (entry : Option Entry) (desk' : DeskState) (told' : Known) (failed' : ℕ) : Type 0 where
-  pub row : Row
-  pub numbered : row.numbered ≡ item
-  pub is : row.entry ≡ entry
-  pub waits : IsPendingRow Holds most desk.accepted count row
-  pub accepts : desk'.accepted ≡ desk.accepted ++ accepted_in row
-  pub same_limit : desk'.limit ≡ desk.limit
-  pub tells : IsTelling desk.accepted told.commands (version_in row.entry) (accepted_in row) told'.commands
-  pub tells_none : row.entry ≡ None → told'.commands ≡ told.commands
-  pub counted : IsCounted (failures_in row.entry) failed failed'
+filled_on : (Holds : List ℕ → List ℕ → Type 0) (options : Options) (first : ℕ) (items : List Numbered) (old : ServiceState)
+    (collected : CollectedState) (failed : ℕ) (new : ServiceState) (collected' : CollectedState)
+    → IsRunning Holds options first items old collected failed → AreFilled old collected new collected'
+    → IsRunning Holds options first items new collected' failed
+filled_on Holds options first items old collected failed _ _ was none = was
+filled_on Holds options first items old collected failed new collected' was (one_more {service = mid} {collected' = between} so_far entry gives fills) =
+    gives_on Holds options first items mid between failed (filled_on Holds options first items old collected failed mid between was so_far) entry new
+    collected' gives fills
 
-telling : (desk : DeskState) (told : Known) (entry : Entry) (commands : List Command) (told' : Known) → Tells desk told entry told'
-    → IsTelling desk.accepted told.commands (version_in (Some entry)) (accepted_by (Some entry) commands) told'.commands
-telling desk told entry commands told' (items.all line is same) =
-    all (ap (λ e. version_in (Some e)) is) (ap (λ e. accepted_by (Some e) commands) is) (ap (λ k. k.commands) same)
-telling desk told entry commands told' (items.nothing none same) = nothing none (ap (λ k. k.commands) same)
+-- An item is taken.
+module _ (Holds : List ℕ → List ℕ → Type 0) (options : Options) (item : Numbered) (old : ServiceState) (collected : CollectedState) (failed : ℕ)
+    (settled : (old.awaited ≡ []) ⊎ ((0 < options.readers) × (is_sync item.item ≡ false))) (new : ServiceState) (failed' : ℕ) where
+  may : (published : List ℕ) → (old.awaited ≡ []) ⊎ ((0 < options.readers) × (is_sync item.item ≡ false))
+      → MayTake options.readers (run_of old published) item.item
+  may published (inl empty) = steps.settled empty
+  may published (inr some) = steps.beside some.0 some.1
 
-counted_none : (failed failed' : ℕ) → failed' ≡ failed → IsCounted 0 failed failed'
-counted_none failed failed' same = record { rises = inl (omega (arith, same)); stays = λ e. same ∙ e }
+  module _ (first : ℕ) (items : List Numbered) (was : IsRunning Holds options first items old collected failed) where
+    step_of : (written : List Entry) → Takes Holds old item written new
+        → Steps Holds options.readers old was.published (item ∷ []) written new (was.published ++ versions_in written)
+    step_of written takes = takes was.published options.readers was.fits (may was.published settled)
 
-next_row : (Holds Holds' : List ℕ → List ℕ → Type 0) → ((path body : List ℕ) → Holds' path body → Holds path body)
-    → (most : ℕ) (desk : DeskState) (told : Known) (failed count : ℕ) (item : Numbered) (entry : Option Entry) (desk' : DeskState)
-    (told' : Known) (failed' : ℕ) → desk.limit ≡ most → IsPended Holds' desk told failed (count + 1) item entry desk' told' failed'
-    → IsNextRow Holds most desk told failed count item entry desk' told' failed'
-next_row Holds Holds' holds most desk told failed count item _ desk' told' failed' limit (steps.entered entry is) = record {
-  row = row_of item is.loaded (Some entry);
-  numbered = refl;
-  is = refl;
-  waits =
-      entered entry refl (λ readers before after same.
-      map_legal Holds Holds' holds most (context_of readers before (row_of item is.loaded (Some entry)) after)
-      (subst (λ m. IsLegalRow Holds' m (context_of readers before (row_of item is.loaded (Some entry)) after)) limit
-      (is.legal readers before after same))) is.no_search is.no_sync is.no_search_entry;
-  accepts = is.accepted;
-  same_limit = is.limit;
-  tells = telling desk told entry (command_of item.item is.loaded) told' is.tells;
-  tells_none = λ e. (cc);
-  counted = is.counted;
+    takes_on : (written : List Entry) (collected' : CollectedState) → Takes Holds old item written new
+        → ((row : Row) → item ≡ row.numbered → written ≡ list_of row.entry → new.searches ≡ count_searches was.rows + searches_of row.numbered.item
+        → IsCollected (was.rows ++ row ∷ []) collected')
+        → IsCounted (failures_of written) failed failed' → IsRunning Holds options first (items ++ item ∷ []) new collected' failed'
+    takes_on written collected' takes collects counts =
+        steps_on Holds options first items old collected failed was (item ∷ []) written new (was.published ++ versions_in written) collected' failed'
+        (step_of written takes) by counts
+      where
+        by : (rows' : List Row) → AreNext was.rows (item ∷ []) written rows' → new.searches ≡ count_searches rows' → IsCollected rows' collected'
+        by rows' (rows_of.more row takes writes same) searches =
+            subst (λ r. IsCollected r collected') (sym same)
+            (collects row (cc) writes (searches ∙ ap count_searches same ∙ count_searches-push was.rows row))
+        by rows' (rows_of.filled before row after entry' whole empty one its takes writes same) searches = cc
+
+  -- it has its entry
+  pub entry_taken : (entry : Entry) (collected' : CollectedState) → Takes Holds old item (entry ∷ []) new
+      → IsCounted (failures_in (Some entry)) failed failed' → collected' ≡ pushed entry collected
+      → TakesOne Holds options item old collected failed new collected' failed'
+  entry_taken entry collected' takes counts pushes first items was =
+      takes_on first items was (entry ∷ []) collected' takes
+      (λ row is writes searches.
+      subst (IsCollected (was.rows ++ row ∷ [])) (sym pushes)
+      (collected_more was.rows row collected entry was.are_collected
+      (ap (λ e. slot_by e (searches_of row.numbered.item) (count_searches was.rows + 1)) (one_of_one row.entry entry writes))
+      (subst (λ i. (at : ℕ) → place_in at entry ≡ place_by at (searches_of i.item)) is
+      (entry_place Holds old.limit options.readers (run_of old was.published) item entry _ (step_of first items was (entry ∷ []) takes).step))))
+      (let same : failures_in (Some entry) ≡ failures_of (entry ∷ []) = omega arith in subst (λ n. IsCounted n failed failed') same counts)
+
+  -- it is a search, which is open
+  pub search_taken : searches_of item.item ≡ 1 → (number : ℕ) → number ≡ new.searches → (collected' : CollectedState) → Takes Holds old item [] new
+      → IsCounted 0 failed failed' → collected' ≡ pushed (SearchRefused number OutOfMemory) collected
+      → TakesOne Holds options item old collected failed new collected' failed'
+  search_taken one number is_number collected' takes counts pushes first items was =
+      takes_on first items was [] collected' takes
+      (λ row is writes searches.
+      let is_one : searches_of row.numbered.item ≡ 1 = ap (λ i. searches_of i.item) (sym is) ∙ one in
+      let counted : number ≡ count_searches was.rows + 1 = omega arith in
+      subst (IsCollected (was.rows ++ row ∷ [])) (sym pushes)
+      (collected_more was.rows row collected (SearchRefused number OutOfMemory) was.are_collected
+      (ap (λ e. slot_by e (searches_of row.numbered.item) (count_searches was.rows + 1)) (none_of_none row.entry writes)
+      ∙ ap (λ n. slot_by None n (count_searches was.rows + 1)) is_one ∙ ap (λ n. SearchRefused n OutOfMemory ∷ []) (sym counted))
+      (λ at. sym (ap (place_by at) is_one))))
+      counts
+
+  -- it is a sync
+  pub sync_taken : is_sync item.item ≡ true → Takes Holds old item [] new → IsCounted 0 failed failed'
+      → TakesOne Holds options item old collected failed new collected failed'
+  sync_taken is_one takes counts first items was =
+      takes_on first items was [] collected takes
+      (λ row is writes searches.
+      collected_same was.rows row collected was.are_collected (none_of_none row.entry writes)
+      (ap (λ i. searches_of i.item) (sym is) ∙ sync_is_no_search item.item is_one))
+      counts
+
+-- What open searches got before an item was taken, and afterwards, is part of its step.
+pub takes_beside : (Holds : List ℕ → List ℕ → Type 0) (options : Options) (item : Numbered) (old : ServiceState) (collected : CollectedState)
+    (before : ServiceState) (collected' : CollectedState) (failed : ℕ) (after : ServiceState) (collected'' : CollectedState) (new : ServiceState)
+    (collected''' : CollectedState) (failed' : ℕ) → AreFilled old collected before collected'
+    → TakesOne Holds options item before collected' failed after collected'' failed' → AreFilled after collected'' new collected'''
+    → TakesOne Holds options item old collected failed new collected''' failed'
+takes_beside Holds options item old collected before collected' failed after collected'' new collected''' failed' filled_before takes filled_after first items was =
+    filled_on Holds options first (items ++ item ∷ []) after collected'' failed' new collected'''
+    (takes first items (filled_on Holds options first items old collected failed before collected' was filled_before)) filled_after
+
+-- A run from its beginning on: the items that were taken, and those of what is left, are the script's.
+pub record IsRun (Holds : List ℕ → List ℕ → Type 0) (options : Options) (script : List ℕ) (first : ℕ) (left : Position) (service : ServiceState)
+    (collected : CollectedState) (failed : ℕ) : Type 0 where
+  pub items : List Numbered
+  pub reads : (more : List Numbered) → ItemsFrom left.line left.rest more → IsItemsOf script (items ++ more)
+  pub running : IsRunning Holds options first items service collected failed
+
+first_version : (version : ℕ) → Contains (0 ∷ []) version → (version ≡ 0) ⊎ Contains [] version
+first_version version (zero, within, is) = inl (sym is)
+first_version version (suc k, within, is) = absurd (omega arith)
+
+no_failures : (failed : ℕ) → IsCounted (count_failures []) failed failed
+unfolding count_failures
+no_failures failed = none_failed failed
+
+pub run_begins : (Holds : List ℕ → List ℕ → Type 0) (options : Options) (script : List ℕ) (failed : ℕ) (collected : CollectedState)
+    → collected.entries ≡ [] → collected.places ≡ []
+    → IsRun Holds options script failed (position 1 script) (first_service options.max_commands options.readers) collected failed
+run_begins Holds options script failed collected no_entries no_places = record {
+  items = [];
+  reads = λ more are. are;
+  running = record {
+    rows = [];
+    published = [];
+    taken = refl;
+    are_rows =
+        first_rows Holds options.max_commands options.readers (run_of (first_service options.max_commands options.readers) []) (record {
+          accepted = refl;
+          published = refl;
+          searches = refl;
+          awaited = refl;
+          count = length-replicate (options.readers + 1) (last 0 0);
+          lasts = All-replicate (λ l. l ≡ last 0 0) (options.readers + 1) (last 0 0) refl;
+        });
+    fits = record { latest = refl; kept = first_version };
+    limit = refl;
+    are_collected = record { entries = no_entries; places = no_places };
+    failures = no_failures failed;
+  };
 }
-next_row Holds Holds' holds most desk told failed count item _ desk' told' failed' limit (steps.refused why is_search refusal left) = record {
-  row = row_of item None (Some (SearchRefused (count + 1) why));
-  numbered = refl;
-  is = refl;
-  waits = refused why refl is_search refusal;
-  accepts = ap (λ d. d.accepted) left.0 ∙ sym (append-nil desk.accepted);
-  same_limit = ap (λ d. d.limit) left.0;
-  tells = nothing refl (ap (λ k. k.commands) left.1);
-  tells_none = λ e. ap (λ k. k.commands) left.1;
-  counted = counted_none failed failed' left.2;
-}
-next_row Holds Holds' holds most desk told failed count item _ desk' told' failed' limit (steps.asked is_search left) = record {
-  row = row_of item None None;
-  numbered = refl;
-  is = refl;
-  waits = asked refl is_search;
-  accepts = ap (λ d. d.accepted) left.0 ∙ sym (append-nil desk.accepted);
-  same_limit = ap (λ d. d.limit) left.0;
-  tells = nothing refl (ap (λ k. k.commands) left.1);
-  tells_none = λ e. ap (λ k. k.commands) left.1;
-  counted = counted_none failed failed' left.2;
+
+running_mapped : (H H' : List ℕ → List ℕ → Type 0) → ((path body : List ℕ) → H path body → H' path body) → (options : Options) (first : ℕ)
+    (items : List Numbered) (service : ServiceState) (collected : CollectedState) (failed : ℕ)
+    → IsRunning H options first items service collected failed → IsRunning H' options first items service collected failed
+running_mapped H H' holds options first items service collected failed was = record {
+  rows = was.rows;
+  published = was.published;
+  taken = was.taken;
+  are_rows = rows_mapped H H' holds options.max_commands options.readers (run_of service was.published) was.rows was.are_rows;
+  fits = was.fits;
+  limit = was.limit;
+  are_collected = was.are_collected;
+  failures = was.failures;
 }
 
-pub count_more : (failures more failed before after : ℕ) → IsFailedTimes failures failed before → IsCounted more before after
-    → IsFailedTimes (failures + more) failed after
-count_more failures more failed before after (inl few) counted = by_rise counted.rises
-  where
-    by_rise : IsFailedTimes more before after → IsFailedTimes (failures + more) failed after
-    by_rise (inl rises) = inl (omega arith)
-    by_rise (inr most) = inr (most.0, omega (arith, most.1))
-count_more failures more failed before after (inr most) counted = inr (counted.stays most.0, omega (arith, most.1))
+pub run_goes_on : (H H' : List ℕ → List ℕ → Type 0) → ((path body : List ℕ) → (H' path body → H path body) × (H path body → H' path body))
+    → (options : Options) (script : List ℕ) (first : ℕ) (left : Position) (old : ServiceState) (collected : CollectedState) (failed : ℕ)
+    (item : Numbered) (left' : Position) (new : ServiceState) (collected' : CollectedState) (failed' : ℕ)
+    → IsRun H options script first left old collected failed → reading.Takes left item left'
+    → TakesOne H' options item old collected failed new collected' failed' → IsRun H options script first left' new collected' failed'
+run_goes_on H H' same options script first left old collected failed item left' new collected' failed' run reads takes = record {
+  items = run.items ++ item ∷ [];
+  reads = λ more are.
+      subst (IsItemsOf script) (sym (append_assoc run.items (item ∷ []) more)) (run.reads (item ∷ more) (reads.whole more are));
+  running =
+      running_mapped H' H (λ path body. (same path body).0) options first (run.items ++ item ∷ []) new collected' failed'
+      (takes first run.items
+      (running_mapped H H' (λ path body. (same path body).1) options first run.items old collected failed run.running));
+}
 
-module _ (Holds : List ℕ → List ℕ → Type 0) (options : Options) (searches : List (Option Prepared)) (script : List ℕ) (failed : ℕ) where
-  -- The run after everything that was pending is settled.
-  run_settles : (desk : DeskState) (progress new : Progress) (position : Position) (failed' : ℕ) (rows pending : List Row)
-      → IsRunOf Holds options searches script failed desk progress position failed' rows pending
-      → (options.readers ≡ 0 → IsAlone progress.told.commands rows pending) → IsSettled searches progress new
-      → (rows' : List Row) × IsRunOf Holds options searches script failed desk new position failed' rows' []
-  run_settles desk progress new position failed' rows pending run alone settled =
-      let done =
-      settle_all Holds options.max_commands searches options.readers progress.told.commands progress.versions.items
-      (commands_of (rows ++ pending)) (published_in (rows ++ pending)) run.are_told rows pending (tally_of progress.settled)
-      progress.pending.items settled.entries (tally_of new.settled) settled.settles run.waiting run.are_pending refl refl run.tallied
-      alone in
-      let whole : (rows ++ done.new) ++ [] ≡ rows ++ done.new = append-nil (rows ++ done.new) in
-      let told : progress.told.commands ≡ new.told.commands = ap (λ k. k.commands) (sym settled.told) in
-      let same_commands_now : commands_of (rows ++ pending) ≡ commands_of ((rows ++ done.new) ++ []) =
-      sym (ap commands_of whole
-      ∙ same_after_commands Holds options.max_commands searches options.readers progress.told.commands progress.versions.items
-      (commands_of (rows ++ pending)) (published_in (rows ++ pending)) run.are_told rows pending done.new done.same) in
-      let same_published_now : published_in (rows ++ pending) ≡ published_in ((rows ++ done.new) ++ []) =
-      sym (ap published_in whole
-      ∙ same_after_published Holds options.max_commands searches options.readers progress.told.commands progress.versions.items
-      (commands_of (rows ++ pending)) (published_in (rows ++ pending)) run.are_told rows pending done.new done.same) in
-      let same_items_now : items_of (rows ++ pending) ≡ items_of ((rows ++ done.new) ++ []) =
-      items_of-append rows pending ∙ ap (λ l. items_of rows ++ l) (same_items pending done.new done.same)
-      ∙ sym (items_of-append rows done.new) ∙ ap items_of (sym whole) in
-      let same_failures_now : count_failures (rows ++ pending) ≡ count_failures ((rows ++ done.new) ++ []) =
-      omega (
-        arith,
-        count_failures-append rows pending,
-        same_failures pending done.new done.same,
-        count_failures-append rows done.new,
-        ap count_failures whole,
-      ) in
-      let same_searches_now : count_searches (rows ++ pending) ≡ count_searches ((rows ++ done.new) ++ []) =
-      omega (
-        arith,
-        count_searches-append rows pending,
-        same_searches pending done.new done.same,
-        count_searches-append rows done.new,
-        ap count_searches whole,
-      ) in (
-        rows ++ done.new,
-        record {
-          items = λ more h. subst (λ l. IsItemsOf script (l ++ more)) same_items_now (run.items more h);
-          stand =
-              stand_both Holds options.max_commands searches options.readers [] rows done.new
-              (subst (Rises 0) (same_published_now ∙ ap published_in whole) run.are_told.rises) run.stand done.stand;
-          are_pending = tt;
-          entries =
-              settled.settled ∙ ap (λ l. l ++ settled.entries) run.entries ∙ ap (λ l. entries_of rows ++ l) (sym done.are)
-              ∙ sym (entries_of-append rows done.new);
-          waiting = settled.pending;
-          tallied = subst (λ t. IsTallied options.readers t (rows ++ done.new) (tally_of new.settled)) told done.tallied;
-          are_told =
-              subst (λ t. IsTold t new.versions.items (commands_of ((rows ++ done.new) ++ [])) (published_in ((rows ++ done.new) ++ [])))
-              told
-              (subst (λ v.
-              IsTold progress.told.commands v.items (commands_of ((rows ++ done.new) ++ []))
-              (published_in ((rows ++ done.new) ++ []))) (sym settled.versions)
-              (subst (λ c. IsTold progress.told.commands progress.versions.items c (published_in ((rows ++ done.new) ++ [])))
-              same_commands_now
-              (subst (λ p. IsTold progress.told.commands progress.versions.items (commands_of (rows ++ pending)) p)
-              same_published_now run.are_told)));
-          count = settled.count ∙ run.count ∙ same_searches_now;
-          accepted = run.accepted ∙ same_commands_now;
-          limit = run.limit;
-          failures = subst (λ n. IsFailedTimes n failed failed') same_failures_now run.failures;
-        },
-      )
+-- Rows of which no search is open are all answered.
 
-  -- The run after one more item becomes pending.
-  module _ (Holds' : List ℕ → List ℕ → Type 0) (holds : (path body : List ℕ) → Holds' path body → Holds path body)
-      (position position' : Position) (item : Numbered) (takes : Takes position item position') (rows : List Row) where
-    module _ (pending : List Row) (row : Row) (numbered : row.numbered ≡ item) where
-      pushed : rows ++ (pending ++ row ∷ []) ≡ (rows ++ pending) ++ row ∷ []
-      pushed = sym (append_assoc rows pending (row ∷ []))
+no_search : (count least : ℕ) (item : Item) → open_of count least item None ≡ [] → searches_of item ≡ 0
+no_search count least (search case text) empty = cc
+no_search count least (search_in case name_text text) empty = cc
+no_search count least item empty = refl
 
-      pushed_commands : commands_of (rows ++ (pending ++ row ∷ [])) ≡ commands_of (rows ++ pending) ++ accepted_in row
-      pushed_commands =
-          ap commands_of pushed ∙ commands_of-append (rows ++ pending) (row ∷ [])
-          ∙ ap (λ l. commands_of (rows ++ pending) ++ l) (commands_of-one row)
+both_empty : {X : Type 0} (xs ys : List X) → xs ++ ys ≡ [] → (xs ≡ []) × (ys ≡ [])
+both_empty [] ys empty = (refl, empty)
+both_empty (x ∷ xs) ys empty = cc
 
-      pushed_published : published_in (rows ++ (pending ++ row ∷ [])) ≡ published_in (rows ++ pending) ++ version_in row.entry
-      pushed_published =
-          ap published_in pushed ∙ published_in-append (rows ++ pending) (row ∷ [])
-          ∙ ap (λ l. published_in (rows ++ pending) ++ l) (published_in-one row)
+are_answered : (count least : ℕ) (rows : List Row) → open_in count least rows ≡ [] → AreAnswered rows
+are_answered count least [] empty = tt
+are_answered count least (row ∷ rows) empty =
+    let both = both_empty (open_of count least row.numbered.item row.entry) _ empty in (
+      λ no_entry. no_search count least row.numbered.item (ap (open_of count least row.numbered.item) (sym no_entry) ∙ both.0),
+      are_answered (count + searches_of row.numbered.item) (last_or least (version_in row.entry)) rows both.1,
+    )
 
-      pushed_searches : count_searches (rows ++ (pending ++ row ∷ [])) ≡ count_searches (rows ++ pending) + searches_of item.item
-      pushed_searches = omega (arith, ap count_searches pushed, count_searches-push (rows ++ pending) row, ap (λ n. searches_of n.item) numbered)
-
-      pushed_failures : count_failures (rows ++ (pending ++ row ∷ [])) ≡ count_failures (rows ++ pending) + failures_in row.entry
-      pushed_failures = omega (arith, ap count_failures pushed, count_failures-push (rows ++ pending) row)
-
-      pushed_items : (more : List Numbered) → items_of (rows ++ pending) ++ (item ∷ more) ≡ items_of (rows ++ (pending ++ row ∷ [])) ++ more
-      pushed_items more =
-          ap (λ n. items_of (rows ++ pending) ++ (n ∷ more)) (sym numbered)
-          ∙ sym (append_assoc (items_of (rows ++ pending)) (row.numbered ∷ []) more)
-          ∙ ap (λ l. l ++ more) (sym (items_of-append (rows ++ pending) (row ∷ [])) ∙ ap items_of (sym pushed))
-
-    run_pends : (desk : DeskState) (old : Progress) (before : ℕ) (pending : List Row)
-        → IsRunOf Holds options searches script failed desk old position before rows pending
-        → (desk' : DeskState) (after : ℕ) (new : Progress) → Pends Holds' desk before old item desk' after new
-        → (row : Row) × IsRunOf Holds options searches script failed desk' new position' after rows (pending ++ row ∷ [])
-        × (row.entry ≡ None → new.told.commands ≡ old.told.commands)
-    run_pends desk old before pending run desk' after new step =
-        let next = next_row Holds Holds' holds options.max_commands desk old.told before old.searches item step.entry desk' new.told after run.limit step.is in
-        let row = next.row in
-        let listed : (version : ℕ) → Contains new.versions.items version
-        → Contains old.versions.items version ⊎ Contains (version_in row.entry) version =
-        subst (λ e. AreListed old.versions.items e new.versions.items) (sym next.is) step.versions in
-        let telling_row : IsTelling (commands_of (rows ++ pending)) old.told.commands (version_in row.entry) (accepted_in row)
-        new.told.commands =
-        subst (λ c. IsTelling c old.told.commands (version_in row.entry) (accepted_in row) new.told.commands) run.accepted next.tells in
-        let now_told : IsTold new.told.commands new.versions.items (commands_of (rows ++ pending) ++ accepted_in row)
-        (published_in (rows ++ pending) ++ version_in row.entry) =
-        told_push old.told.commands old.versions.items (commands_of (rows ++ pending)) (published_in (rows ++ pending)) run.are_told
-        (version_in row.entry) (accepted_in row) new.told.commands new.versions.items listed telling_row in
-        let grows : length old.told.commands ≤ length new.told.commands =
-        told_more old.told.commands old.versions.items (commands_of (rows ++ pending)) (published_in (rows ++ pending)) run.are_told
-        (version_in row.entry) (accepted_in row) new.told.commands telling_row in
-        let waits : IsPendingRow Holds options.max_commands (commands_of rows ++ commands_of pending) (count_searches rows + count_searches pending) row =
-        subst (λ c. IsPendingRow Holds options.max_commands c (count_searches rows + count_searches pending) row)
-        (run.accepted ∙ commands_of-append rows pending)
-        (subst (λ n. IsPendingRow Holds options.max_commands desk.accepted n row) (run.count ∙ count_searches-append rows pending)
-        next.waits) in (
-          row,
-          record {
-            items = λ more h. subst (IsItemsOf script) (pushed_items pending row next.numbered more) (run.items (item ∷ more) (takes.whole more h));
-            stand = run.stand;
-            are_pending = pending_push Holds options.max_commands (commands_of rows) (count_searches rows) pending row run.are_pending waits;
-            entries = ap (λ s. s.entries.items) step.settled ∙ run.entries;
-            waiting =
-                step.pending ∙ ap (λ l. l ++ step.entry ∷ []) run.waiting ∙ ap (λ e. map (λ r. r.entry) pending ++ e ∷ []) (sym next.is)
-                ∙ sym (map-append (λ r. r.entry) pending (row ∷ []));
-            tallied = subst (λ s. IsTallied options.readers new.told.commands rows (tally_of s)) (sym step.settled) (record {
-              searches = run.tallied.searches;
-              published = run.tallied.published;
-              turned = run.tallied.turned;
-              count = run.tallied.count;
-              below = λ reader. omega (arith, run.tallied.below reader, grows);
-            });
-            are_told =
-                subst (λ c. IsTold new.told.commands new.versions.items c (published_in (rows ++ (pending ++ row ∷ []))))
-                (sym (pushed_commands pending row next.numbered))
-                (subst (λ p. IsTold new.told.commands new.versions.items (commands_of (rows ++ pending) ++ accepted_in row) p)
-                (sym (pushed_published pending row next.numbered)) now_told);
-            count = step.searches ∙ ap (λ n. n + searches_of item.item) run.count ∙ sym (pushed_searches pending row next.numbered);
-            accepted = next.accepts ∙ ap (λ c. c ++ accepted_in row) run.accepted ∙ sym (pushed_commands pending row next.numbered);
-            limit = next.same_limit ∙ run.limit;
-            failures =
-                subst (λ n. IsFailedTimes n failed after) (sym (pushed_failures pending row next.numbered))
-                (count_more (count_failures (rows ++ pending)) (failures_in row.entry) failed before after run.failures next.counted);
-          },
-          next.tells_none,
-        )
-
-    -- The run after a sync, once nothing is pending.
-    run_syncs : (desk : DeskState) (progress : Progress) (failed' : ℕ)
-        → IsRunOf Holds options searches script failed desk progress position failed' rows [] → is_sync item.item ≡ true
-        → IsRunOf Holds options searches script failed desk progress position' failed' (rows ++ row_of item None None ∷ []) []
-    run_syncs desk progress failed' run is =
-        let row : Row = row_of item None None in
-        let whole : (rows ++ row ∷ []) ++ [] ≡ rows ++ row ∷ [] = append-nil (rows ++ row ∷ []) in
-        let no_search : searches_of item.item ≡ 0 = sync_is_no_search item.item is in
-        let same_commands_now : commands_of (rows ++ []) ≡ commands_of ((rows ++ row ∷ []) ++ []) =
-        ap commands_of (append-nil rows) ∙ sym (append-nil (commands_of rows))
-        ∙ ap (λ l. commands_of rows ++ l) (sym (commands_of-one row)) ∙ sym (commands_of-append rows (row ∷ []))
-        ∙ ap commands_of (sym whole) in
-        let same_published_now : published_in (rows ++ []) ≡ published_in ((rows ++ row ∷ []) ++ []) =
-        ap published_in (append-nil rows) ∙ sym (append-nil (published_in rows))
-        ∙ ap (λ l. published_in rows ++ l) (sym (published_in-one row)) ∙ sym (published_in-append rows (row ∷ []))
-        ∙ ap published_in (sym whole) in
-        let same_searches_now : count_searches (rows ++ []) ≡ count_searches ((rows ++ row ∷ []) ++ []) =
-        omega (arith, ap count_searches (append-nil rows), count_searches-push rows row, ap count_searches whole, no_search) in
-        let same_failures_now : count_failures (rows ++ []) ≡ count_failures ((rows ++ row ∷ []) ++ []) =
-        omega (arith, ap count_failures (append-nil rows), count_failures-push rows row, ap count_failures whole) in
-        record {
-          items =
-              λ more h.
-              subst (λ l. IsItemsOf script (l ++ more)) (ap items_of (sym whole))
-              (subst (IsItemsOf script) (pushed_items [] row refl more) (run.items (item ∷ more) (takes.whole more h)));
-          stand =
-              stand_both Holds options.max_commands searches options.readers [] rows (row ∷ [])
-              (subst (Rises 0) (same_published_now ∙ ap published_in whole) run.are_told.rises) run.stand
-              (plain (λ after. legal_sync Holds options.max_commands (context_of options.readers rows row after) item.item is), tt);
-          are_pending = tt;
-          entries = run.entries ∙ sym (append-nil (entries_of rows)) ∙ sym (entries_of-append rows (row ∷ []));
-          waiting = run.waiting;
-          tallied = record {
-            searches = omega (arith, run.tallied.searches, count_searches-push rows row, no_search);
-            published = run.tallied.published ∙ sym (published_last-push rows row);
-            turned =
-                turned_push progress.settled.lasts.items rows row progress.settled.lasts.items run.tallied.turned
-                (quiet (λ number reader turn answer e. (cc)) refl);
-            count = run.tallied.count;
-            below = run.tallied.below;
-          };
-          are_told =
-              subst (λ c. IsTold progress.told.commands progress.versions.items c (published_in ((rows ++ row ∷ []) ++ []))) same_commands_now
-              (subst (λ p. IsTold progress.told.commands progress.versions.items (commands_of (rows ++ [])) p) same_published_now
-              run.are_told);
-          count = run.count ∙ same_searches_now;
-          accepted = run.accepted ∙ same_commands_now;
-          limit = run.limit;
-          failures = subst (λ n. IsFailedTimes n failed failed') same_failures_now run.failures;
-        }
-
-alone_none : (told : List Command) (rows pending : List Row) → pending ≡ [] → IsAlone told rows pending
-alone_none told rows [] is = nobody
-alone_none told rows (row ∷ pending) is = cc
-
-alone_one : (told : List Command) (rows pending : List Row) (row : Row) → pending ≡ []
-    → (row.entry ≡ None → length told ≤ published_last rows) → IsAlone told rows (pending ++ row ∷ [])
-alone_one told rows [] row is seen = one row seen
-alone_one told rows (r ∷ pending) row is seen = cc
-
--- A run goes on by the next item.
-pub run_goes_on : (Holds Holds' : List ℕ → List ℕ → Type 0) → ((path body : List ℕ) → Holds' path body → Holds path body)
-    → (options : Options) (searches : List (Option Prepared)) (script : List ℕ) (failed : ℕ) (desk : DeskState) (old : Progress)
-    (position : Position) (before : ℕ) (item : Numbered) (position' : Position) (desk' : DeskState) (after : ℕ) (new : Progress)
-    → IsRun Holds options searches script failed desk old position before → Takes position item position'
-    → Advances Holds' searches options.readers desk before old item desk' after new
-    → IsRun Holds options searches script failed desk' new position' after
-run_goes_on Holds Holds' holds options searches script failed desk old position before item position' desk' after new run takes
-    (steps.synced is same_desk same_failed settled) =
-    let done =
-    run_settles Holds options searches script failed desk old new position before run.rows run.pending run.are
-    (λ no_readers. alone_none old.told.commands run.rows run.pending (run.at_once no_readers)) settled in
-    let next = run_syncs Holds options searches script failed Holds' holds position position' item takes done.0 desk new before done.1 is in
+-- At the script's end, once no search is open, a run is legal.
+pub run_is_legal : (Holds : List ℕ → List ℕ → Type 0) (options : Options) (script : List ℕ) (first : ℕ) (left : Position) (old : ServiceState)
+    (collected : CollectedState) (failed : ℕ) (new : ServiceState) (collected' : CollectedState)
+    → IsRun Holds options script first left old collected failed → ItemsFrom left.line left.rest [] → AreFilled old collected new collected'
+    → length new.awaited ≤ 0 → IsLegal script options Holds first failed collected'.entries
+run_is_legal Holds options script first left old collected failed new collected' run ended fills few =
+    let is = filled_on Holds options first run.items old collected failed new collected' run.running fills in
+    let empty : new.awaited ≡ [] = none_open new.awaited few in
     record {
-      rows = done.0 ++ row_of item None None ∷ [];
-      pending = [];
-      are =
-          subst (λ d. IsRunOf Holds options searches script failed d new position' after (done.0 ++ row_of item None None ∷ []) [])
-          (sym same_desk)
-          (subst (λ f. IsRunOf Holds options searches script failed desk new position' f (done.0 ++ row_of item None None ∷ []) [])
-          (sym same_failed) next);
-      at_once = λ no_readers. refl;
-    }
-run_goes_on Holds Holds' holds options searches script failed desk old position before item position' desk' after new run takes (steps.pended some step) =
-    let next =
-    run_pends Holds options searches script failed Holds' holds position position' item takes run.rows desk old before run.pending
-    run.are desk' after new step in
-    record {
-      rows = run.rows;
-      pending = run.pending ++ next.0 ∷ [];
-      are = next.1;
-      at_once = λ no_readers. absurd (some no_readers);
-    }
-run_goes_on Holds Holds' holds options searches script failed desk old position before item position' desk' after new run takes
-    (steps.settled mid step settled) =
-    let next =
-    run_pends Holds options searches script failed Holds' holds position position' item takes run.rows desk old before run.pending
-    run.are desk' after mid step in
-    let all : run.pending ≡ [] → run.rows ++ run.pending ≡ run.rows = λ none. ap (λ l. run.rows ++ l) none ∙ append-nil run.rows in
-    let done =
-    run_settles Holds options searches script failed desk' mid new position' after run.rows (run.pending ++ next.0 ∷ []) next.1 (λ no_readers.
-    alone_one mid.told.commands run.rows run.pending next.0 (run.at_once no_readers) (λ is_open.
-    omega (arith, ap length (next.2 is_open), run.are.are_told.latest, ap published_last (all (run.at_once no_readers)))))
-    settled in
-    record {
-      rows = done.0;
-      pending = [];
-      are = done.1;
-      at_once = λ h. refl;
-    }
-
-counted_items : (rows : List Row) → searches_among (items_of rows) ≡ count_searches rows
-unfolding searches_among count_searches
-counted_items [] = refl
-counted_items (row ∷ rows) = omega (arith, counted_items rows)
-
--- At the script's end, once everything is settled, a run is legal.
-pub run_is_legal : (Holds : List ℕ → List ℕ → Type 0) (options : Options) (searches : List (Option Prepared)) (script : List ℕ) (failed : ℕ)
-    (desk : DeskState) (progress : Progress) (position : Position) (failed' : ℕ) (new : Progress) → ArePrepared script searches
-    → IsRun Holds options searches script failed desk progress position failed' → ItemsFrom position.line position.rest []
-    → IsSettled searches progress new → IsLegal script options Holds failed failed' new.settled.entries.items
-unfolding ArePaired
-run_is_legal Holds options searches script failed desk progress position failed' new prepared run ended settled =
-    record {
-      rows = rows;
-      items = script_items;
-      whole = is.entries;
-      each =
-          λ before row after e.
-          legal_row Holds options.max_commands searches options.readers before row after (listed before row after e)
-          (stands_within Holds options.max_commands searches options.readers [] rows is.stand before row after e);
-      turns = is.tallied.turned.in_turn;
-      failures = subst (λ n. IsFailedTimes n failed failed') (ap count_failures (append-nil rows)) is.failures;
+      rows = is.rows;
+      items = subst (IsItemsOf script) (append-nil run.items ∙ sym is.taken) (run.reads [] ended);
+      whole = is.are_collected.entries ∙ slots_at_end 0 is.rows (are_answered 0 0 is.rows (sym is.are_rows.awaited ∙ empty));
+      each = each_is_legal Holds options.max_commands options.readers (run_of new is.published) is.rows is.are_rows empty;
+      turns = are_in_turn Holds options.max_commands options.readers (run_of new is.published) is.rows is.are_rows;
+      failures = is.failures.rises;
     }
   where
-    done : (rows' : List Row) × IsRunOf Holds options searches script failed desk new position failed' rows' []
-    done =
-        run_settles Holds options searches script failed desk progress new position failed' run.rows run.pending run.are
-        (λ no_readers. alone_none progress.told.commands run.rows run.pending (run.at_once no_readers)) settled
-
-    rows : List Row
-    rows = done.0
-
-    is : IsRunOf Holds options searches script failed desk new position failed' rows []
-    is = done.1
-
-    script_items : IsItemsOf script (items_of rows)
-    script_items = subst (IsItemsOf script) (append-nil (items_of (rows ++ [])) ∙ ap items_of (append-nil rows)) (is.items [] ended)
-
-    same_script : prepared.items ≡ items_of rows
-    same_script = one_reading 1 script prepared.items (items_of rows) prepared.are script_items
-
-    listed : (before : List Row) (row : Row) (after : List Row) → rows ≡ before ++ row ∷ after → IsListed searches before row
-    listed before row after e pattern is_search there =
-        prepared.paired (items_of before) row.numbered (items_of after) pattern
-        (same_script ∙ ap items_of e ∙ items_of-append before (row ∷ after)) is_search
-        (ap (slice_get searches) (counted_items before) ∙ there)
+    none_open : {X : Type 0} (xs : List X) → length xs ≤ 0 → xs ≡ []
+    none_open [] few = refl
+    none_open (x ∷ xs) few = absurd (omega arith)

@@ -1,4 +1,2 @@
-pub mod Rows
 pub mod Legal
-pub mod Lone
 pub mod Private

@@ -1,228 +1,185 @@
-//! The items of a script, carried out.
+//! The items of a run, from the first to the last.
 
-ghost use Rattle.std.specs.Prelude.{◌≡◌, ℕ, ◌+◌, ◌<◌, ◌^◌, ◌≤◌, List, [], ◌∷◌, length, IfOk, IfErr};
-ghost use Rattle.index.specs.declared.command.Command.TheVariants.{Put as put_command, Remove as remove_command};
-ghost use Rattle.index.specs.State.{State, state_of};
-ghost use Rattle.index.specs.Text.{greatest_body};
+ghost use Rattle.std.specs.Prelude.{◌≡◌, ℕ, ◌+◌, ◌^◌, ◌<◌, ◌≤◌, ◌⊎◌, List, [], ◌∷◌, false, IfOk, OnOk, length};
+ghost use Rattle.script.specs.Items.{Numbered as NumberedItem, numbered as numbered_item};
 ghost use Rattle.script.specs.Reading.{shown_item};
-ghost use Rattle.script.specs.Items.{numbered as numbered_item};
-ghost use Rattle.shared.specs.Desk.{DeskState, IsPutFault};
-ghost use Rattle.shared.specs.History.{known};
-ghost use Rattle.tsearch.specs.Legal.{IsPut, IsNamed, IsRemove};
-ghost use Rattle.tsearch.specs.Private.Entries.{reason_of_name, entry_of, published_entry_of, desk_after, HasBodyOrNoMemory, IsRemoveOrNoMemory, IsLoaded};
-ghost use Rattle.tsearch.specs.Private.Items.{IsCarriedOut};
+ghost use Rattle.service.specs.Service.{first_service};
+ghost use Rattle.steps.specs.Rows.{is_sync};
+ghost use Rattle.tsearch.specs.Legal.{IsLegal};
+ghost use Rattle.tsearch.specs.Private.Running.{TakesOne, AreFilled};
 
-use crate::source::{Fault, Source};
-use index::{Body, BodyErrorKind, MAX_BODY, Name, NameError};
-use script::{Item, Numbered};
-use shared::{Desk, PutErrorKind, RemoveError, Told};
-use std::alloc::Global;
+use crate::crew::Crew;
+use crate::run::Options;
+use script::{Item, MAX_SCRIPT, Numbered, ScriptReader};
+use service::{Collected, Done, Gate, Naming, Service, Source, Taken, Task};
+use std::alloc::{AllocError, Global};
+use std::marker::PhantomData;
 use std::sync::Wait;
-use transcript::{Entry, Reason};
+use transcript::{Entry, SearchReason};
 
-/// Why a line with this name is refused: the name is invalid, or memory ran out.
-fn reason_of_name(error: NameError) -> Reason
-    ensures { result ≡ reason_of_name error }
-{
-    match error {
-        NameError::OutOfMemory => Reason::OutOfMemory,
-        error => Reason::Name(error),
-    }
-}
+/// How many searches are open at most. Before one more item is taken, the run waits for an answer.
+const MAX_OPEN: usize = 256;
 
-fn put_body(desk: &mut Desk, name: Name, bytes: Vec<u8>) -> Result<u32, Reason>
-    ensures entry { (line : ℕ) → HasBodyOrNoMemory desk.old.limit (state_of desk.old.accepted) bytes.items line (entry_of line result) }
-    ensures desk { desk.new ≡ desk_after result (put_command name bytes.items ∷ []) desk.old }
-{
-    let body = match Body::new(bytes) {
-        Ok(body) => body,
-        Err(error) => return Err(Reason::Body(error.kind)),
-    };
-    match desk.put(name, body) {
-        Ok(commands) => Ok(commands),
-        Err(refused) => match refused.kind {
-            PutErrorKind::Full => Err(Reason::Full),
-            PutErrorKind::OutOfMemory => Err(Reason::OutOfMemory),
-        },
-    }
-}
-
-fn put(alloc: Global, desk: &mut Desk, name: &[u8], body: &[u8]) -> Result<u32, Reason>
-    ensures entry { (line : ℕ) → IsPut desk.old.limit (state_of desk.old.accepted) name.now body.now line (entry_of line result) }
-    ensures desk { desk.new ≡ desk_after result (put_command name.now body.now ∷ []) desk.old }
-{
-    let name = match Name::new(alloc, name) {
-        Ok(name) => name,
-        Err(error) => return Err(reason_of_name(error)),
-    };
-    if body.len() > MAX_BODY {
-        return Err(Reason::Body(BodyErrorKind::TooLong));
-    }
-    match Vec::from_slice(alloc, body) {
-        Ok(bytes) => put_body(desk, name, bytes),
-        Err(_) => Err(Reason::OutOfMemory),
-    }
-}
-
-/// Puts a body that was already read.
-pub fn put_read(alloc: Global, desk: &mut Desk, name: &[u8], body: Vec<u8>) -> Result<u32, Reason>
-    ensures entry { (line : ℕ) → IsPut desk.old.limit (state_of desk.old.accepted) name.now body.items line (entry_of line result) }
-    ensures desk { desk.new ≡ desk_after result (put_command name.now body.items ∷ []) desk.old }
-{
-    match Name::new(alloc, name) {
-        Ok(name) => put_body(desk, name, body),
-        Err(error) => Err(reason_of_name(error)),
-    }
-}
-
-/// Why a put whose body is too long is refused: for its name, if that is not valid, and otherwise for the body.
-pub fn reason_of_long_put(alloc: Global, name: &[u8]) -> Reason
-    ensures { (most : ℕ) (state : State) (body : List ℕ) (line : ℕ)
-        → greatest_body < length body → IsPut most state name.now body line (Entry.Refused line result) }
-{
-    match Name::new(alloc, name) {
-        Ok(_) => Reason::Body(BodyErrorKind::TooLong),
-        Err(error) => reason_of_name(error),
-    }
-}
-
-/// Why a put is refused if there is no memory for its bytes: for its name, if that is not valid, and otherwise for
-/// lack of memory.
-pub fn reason_of_lost_put(alloc: Global, name: &[u8]) -> Reason
-    ensures { (most : ℕ) (state : State) (body : List ℕ) (line : ℕ) → IsPut most state name.now body line (Entry.Refused line result) }
-{
-    match Name::new(alloc, name) {
-        Ok(_) => Reason::OutOfMemory,
-        Err(error) => reason_of_name(error),
-    }
-}
-
-/// Loads a body and puts it. The source is asked for the body once, unless the line is refused at its name.
-/// `CannotLoad` means that the source failed.
-fn load<S: Source>(
-    alloc: Global,
-    desk: &mut Desk,
-    source: &mut S,
-    name: &[u8],
-    path: &[u8],
-) -> Result<u32, Reason>
-    ensures counted { S.failed source.old ≤ S.failed source.new }
-    ensures entry { IsLoaded (S.holds source.old) desk.old (S.failed source.old) name.now path.now result desk.new (S.failed source.new) }
-    ensures same { (path body : List ℕ) → (S.holds source.new path body → S.holds source.old path body)
-        × (S.holds source.old path body → S.holds source.new path body) }
-{
-    let name = match Name::new(alloc, name) {
-        Ok(name) => name,
-        Err(error) => return Err(reason_of_name(error)),
-    };
-    match source.read(alloc, path) {
-        Ok(bytes) => put_body(desk, name, bytes),
-        Err(Fault::Failed) => Err(Reason::CannotLoad),
-        Err(Fault::OutOfMemory) => Err(Reason::OutOfMemory),
-    }
-}
-
-fn remove(alloc: Global, desk: &mut Desk, name: &[u8]) -> Result<u32, Reason>
-    ensures entry { (line : ℕ) → IsNamed name.now line (entry_of line result)
-        (IsRemove desk.old.limit (state_of desk.old.accepted) name.now line (entry_of line result)) }
-    ensures desk { desk.new ≡ desk_after result (remove_command name.now ∷ []) desk.old }
-{
-    match Name::new(alloc, name) {
-        Ok(name) => remove_named(desk, &name),
-        Err(error) => Err(reason_of_name(error)),
-    }
-}
-
-/// Removes the document of this name.
-fn remove_named(desk: &mut Desk, name: &Name) -> Result<u32, Reason>
-    ensures entry { (line : ℕ) → IsRemoveOrNoMemory desk.old.limit (state_of desk.old.accepted) name.now line (entry_of line result) }
-    ensures desk { desk.new ≡ desk_after result (remove_command name.now ∷ []) desk.old }
-{
-    match desk.remove(name) {
-        Ok(commands) => Ok(commands),
-        Err(RemoveError::NoSuchFile) => Err(Reason::NoSuchFile),
-        Err(RemoveError::Full) => Err(Reason::Full),
-        Err(RemoveError::OutOfMemory) => Err(Reason::OutOfMemory),
-    }
-}
-
-/// The entry of a command.
-pub fn entry_of(line: u32, done: Result<u32, Reason>) -> Entry
-    ensures { result ≡ entry_of line done }
-{
-    match done {
-        Ok(commands) => Entry::Accepted { line, commands },
-        Err(reason) => Entry::Refused { line, reason },
-    }
-}
-
-/// Publishes all accepted commands, and keeps what the publish hands out in `told`. Returns the version.
-fn publish<R: Wait>(rt: &R, desk: &mut Desk, told: &mut Told) -> Result<u32, Reason>
-    ensures ok { IfOk result (λ version. (version ≡ length desk.old.accepted) × (told.new ≡ known desk.old.opening desk.old.accepted)) }
-    ensures err { IfErr result (λ reason. (reason ≡ Reason.OutOfMemory) × (told.new ≡ told.old)) }
-    ensures accepted { desk.new.accepted ≡ desk.old.accepted }
-    ensures opening { (desk.new.opening ≡ desk.old.opening) × (desk.new.limit ≡ desk.old.limit) }
-{
-    match desk.publish(rt) {
-        Ok(published) => {
-            let version = published.version();
-            *told = published;
-            Ok(version)
-        }
-        Err(_) => Err(Reason::OutOfMemory),
-    }
-}
-
-fn publish_entry(line: u32, done: Result<u32, Reason>) -> Entry
-    ensures { result ≡ published_entry_of line done }
-{
-    match done {
-        Ok(version) => Entry::Published { line, version },
-        Err(reason) => Entry::Refused { line, reason },
-    }
-}
-
-/// What became of an item.
+/// What a run is given, and what it lends to its readers.
 #[derive(Drop)]
-pub enum Outcome {
-    /// It was carried out, or refused.
-    Entry(Entry),
-    /// It is a search, which a reading is to answer.
-    Search,
-    /// It is a sync: the searches before it are to be answered before anything after it is carried out.
-    Sync,
+pub struct Plan<'a, J, R, G> {
+    pub rt: &'a R,
+    pub alloc: Global,
+    pub script: &'a [u8],
+    pub options: Options,
+    pub gate: &'a G,
+    /// It shows how long J lives.
+    pub of: &'a PhantomData<J>,
 }
 
-/// Carries out an item at the desk, and keeps what a publish hands out in `told`. Searches and syncs are left to the
-/// caller.
-pub fn carry_out<R: Wait, S: Source>(
-    rt: &R,
-    alloc: Global,
-    desk: &mut Desk,
-    told: &mut Told,
+/// Carries out the items of the script, and waits for all answers. An `Err` means that memory ran out.
+pub fn carry_out_all<J: Naming, R: Wait, S: Source, G: Gate>(
+    plan: &Plan<'_, J, R, G>,
+    crew: &Crew<J>,
+    service: &mut Service<J>,
     source: &mut S,
-    item: Numbered<'_>,
-) -> Outcome
-    ensures done { IsCarriedOut (S.holds source.old) desk.old told.old (S.failed source.old)
-        (numbered_item item.entry.line (shown_item item.entry.item)) result desk.new told.new (S.failed source.new) }
+) -> Result<Vec<Entry>, AllocError>
+    requires script { length plan.now.script.now ≤ MAX_SCRIPT }
+    requires first { service.old ≡ first_service plan.now.options.max_commands plan.now.options.readers }
+    ensures legal { IfOk result (λ entries. IsLegal plan.now.script.now plan.now.options (S.holds source.old)
+        (S.failed source.old) (S.failed source.new) entries.items) }
     ensures same { (path body : List ℕ) → (S.holds source.new path body → S.holds source.old path body)
         × (S.holds source.old path body → S.holds source.new path body) }
     ensures counted { S.failed source.old ≤ S.failed source.new }
 {
-    let line = item.line;
-    match item.item {
-        Item::Put { name, body } => Outcome::Entry(entry_of(line, put(alloc, desk, name, body))),
-        Item::Load { name, path } => {
-            Outcome::Entry(entry_of(line, load(alloc, desk, source, name, path)))
+    let mut collected = Collected::new(plan.alloc);
+    let mut items = ScriptReader::new(plan.script);
+    while let Some(item) = items.next_item() {
+        advance(plan, crew, service, source, &mut collected, item)?;
+    }
+    settle(plan, crew, service, &mut collected, 0)?;
+    Ok(collected.into_entries())
+}
+
+/// Takes an item, once few enough searches are open, and notes an answer that is there.
+fn advance<J: Naming, R: Wait, S: Source, G: Gate>(
+    plan: &Plan<'_, J, R, G>,
+    crew: &Crew<J>,
+    service: &mut Service<J>,
+    source: &mut S,
+    collected: &mut Collected,
+    item: Numbered<'_>,
+) -> Result<(), AllocError>
+    requires few { service.old.searches + 1 < 2 ^ 32 }
+    ensures taken { OnOk result (TakesOne (S.holds source.old) plan.now.options (numbered_item item.entry.line (shown_item item.entry.item))
+        service.old collected.old (S.failed source.old) service.new collected.new (S.failed source.new)) }
+    ensures few { service.new.searches ≤ service.old.searches + 1 }
+    ensures same { (path body : List ℕ) → (S.holds source.new path body → S.holds source.old path body)
+        × (S.holds source.old path body → S.holds source.new path body) }
+    ensures counted { S.failed source.old ≤ S.failed source.new }
+{
+    let most = most_open(plan.options.readers, crew.is_empty(), item.item);
+    settle(plan, crew, service, collected, most)?;
+    take(plan, crew, service, source, collected, item)?;
+    if let Some(done) = crew.ready(plan.rt) {
+        note(plan, service, collected, done);
+    }
+    Ok(())
+}
+
+/// How many searches can be open when an item is taken: none if there are no readers or none is at work, and none at a sync.
+fn most_open(readers: u32, is_alone: bool, item: Item<'_>) -> usize
+    ensures { (result ≡ 0) ⊎ ((0 < readers) × (is_sync (shown_item item.entry) ≡ false)) }
+{
+    match item {
+        Item::Sync => 0,
+        _ if readers == 0 || is_alone => 0,
+        _ => MAX_OPEN - 1,
+    }
+}
+
+/// Waits until at most `most` searches are open.
+fn settle<J: Naming, R: Wait, G: Gate>(
+    plan: &Plan<'_, J, R, G>,
+    crew: &Crew<J>,
+    service: &mut Service<J>,
+    collected: &mut Collected,
+    most: usize,
+) -> Result<(), AllocError>
+    ensures filled { OnOk result (AreFilled service.old collected.old service.new collected.new) }
+    ensures few_open { OnOk result (length service.new.awaited ≤ most) }
+    ensures few { service.new.searches ≡ service.old.searches }
+{
+    for _ in plan.rt.forever() {
+        if service.open_searches() <= most {
+            return Ok(());
         }
-        Item::Remove { name } => Outcome::Entry(entry_of(line, remove(alloc, desk, name))),
-        Item::Publish => Outcome::Entry(publish_entry(line, publish(rt, desk, told))),
-        Item::Search { .. } => Outcome::Search,
-        Item::SearchIn { .. } => Outcome::Search,
-        Item::Sync => Outcome::Sync,
-        Item::BadLine => Outcome::Entry(entry_of(line, Err(Reason::BadLine))),
-        Item::BadPut => Outcome::Entry(entry_of(line, Err(Reason::BadPut))),
-        Item::Truncated => Outcome::Entry(entry_of(line, Err(Reason::Truncated))),
-        Item::BodyNotClosed => Outcome::Entry(entry_of(line, Err(Reason::BodyNotClosed))),
+        let Some(done) = crew.next(plan.rt) else {
+            return Err(AllocError);
+        };
+        note(plan, service, collected, done);
+    }
+    unreachable!()
+}
+
+/// Notes the entry of a search that a reader has answered.
+fn note<J: Naming, R: Wait, G: Gate>(
+    plan: &Plan<'_, J, R, G>,
+    service: &mut Service<J>,
+    collected: &mut Collected,
+    done: Done<J>,
+)
+    ensures filled { AreFilled service.old collected.old service.new collected.new }
+    ensures few { service.new.searches ≡ service.old.searches }
+{
+    if let Some(entry) = service.answered(plan.rt, plan.alloc, done) {
+        collected.fill(entry);
+    }
+}
+
+/// Takes an item. A search is handed out.
+fn take<J: Naming, R: Wait, S: Source, G: Gate>(
+    plan: &Plan<'_, J, R, G>,
+    crew: &Crew<J>,
+    service: &mut Service<J>,
+    source: &mut S,
+    collected: &mut Collected,
+    item: Numbered<'_>,
+) -> Result<(), AllocError>
+    requires few { service.old.searches + 1 < 2 ^ 32 }
+    requires open_searches { (service.old.awaited ≡ []) ⊎ ((0 < plan.now.options.readers) × (is_sync (shown_item item.item) ≡ false)) }
+    ensures taken { OnOk result (TakesOne (S.holds source.old) plan.now.options (numbered_item item.entry.line (shown_item item.entry.item))
+        service.old collected.old (S.failed source.old) service.new collected.new (S.failed source.new)) }
+    ensures few { service.new.searches ≤ service.old.searches + 1 }
+    ensures same { (path body : List ℕ) → (S.holds source.new path body → S.holds source.old path body)
+        × (S.holds source.old path body → S.holds source.new path body) }
+    ensures counted { S.failed source.old ≤ S.failed source.new }
+{
+    match service.take(plan.rt, plan.alloc, source, item) {
+        Taken::Entry(entry) => collected.push(entry),
+        Taken::Search(task) => {
+            let open = Entry::SearchRefused {
+                search: service.searches(),
+                reason: SearchReason::OutOfMemory,
+            };
+            collected.push(open)?;
+            hand_out(plan, crew, service, collected, task);
+            Ok(())
+        }
+        Taken::Sync => Ok(()),
+    }
+}
+
+/// Hands a search to the readers. If they cannot have it, it is answered here.
+fn hand_out<J: Naming, R: Wait, G: Gate>(
+    plan: &Plan<'_, J, R, G>,
+    crew: &Crew<J>,
+    service: &mut Service<J>,
+    collected: &mut Collected,
+    task: Task,
+)
+    ensures filled { AreFilled service.old collected.old service.new collected.new }
+    ensures few { service.new.searches ≡ service.old.searches }
+{
+    let Some(task) = crew.hand_out(plan.rt, task) else {
+        return;
+    };
+    if let Some(entry) = service.answer_here(plan.rt, plan.alloc, &task) {
+        collected.fill(entry);
     }
 }

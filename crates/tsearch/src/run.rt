@@ -2,17 +2,18 @@
 
 ghost use Rattle.std.specs.Prelude.{◌≡◌, ℕ, ◌<◌, ◌≤◌, ◌↔◌, List, IfOk, IsErrOf, MatchBool, length};
 ghost use Rattle.shared.specs.declared.opening.TheConstants.{MAX_COMMANDS};
+ghost use Rattle.service.specs.Opening.{opened_state};
+ghost use Rattle.service.specs.Service.{first_service};
 ghost use Rattle.tsearch.specs.Legal.{IsLegal};
-ghost use Rattle.tsearch.specs.Private.Runs.{IsReady};
 
-use crate::drive::{Plan, drive};
-use crate::searches::prepare_all;
-use crate::source::Source;
+use crate::crew::Crew;
+use crate::items::{Plan, carry_out_all};
 use core::mem::replace_with;
-use readers::Gate;
 use script::MAX_SCRIPT;
-use shared::{Desk, OpenError, Reading, open};
+use service::{Gate, Naming, Opened, Reader, Service, Source, open};
+use shared::OpenError;
 use std::alloc::{AllocError, Global};
+use std::marker::{Brand, PhantomData};
 use std::sync::Wait;
 use std::thread::{self, Threads};
 use thiserror::Error;
@@ -43,10 +44,10 @@ pub enum RunError {
 
 /// Runs a script, and returns what became of each of its items.
 ///
-/// The script is read on the calling thread, which is the one writer. A search is sent to one of the readers, each of
-/// which answers its searches in a thread of its own. Without readers, or if a reader gives no answer that is accepted,
-/// the calling thread answers it, as reader 0. A sync waits for the answers of all searches before it. A reader calls
-/// the gate at each point of a search; reader 0 does not.
+/// The script is read on the calling thread, which is the one writer. The readers answer searches, each in a thread of its
+/// own, and take the next one as soon as they are free. Without readers, or if no thread can be started, or if a reader
+/// gives no answer that is accepted, the calling thread answers a search, as reader 0. A sync waits for the answers of all
+/// searches before it. A reader calls the gate at each point of a search; reader 0 does not.
 ///
 /// The transcript is legal for the script (`docs/DEFINITIONS.md`), whatever the number of readers and however their
 /// steps interleave: each search is answered for the documents after some published list of commands, and lists
@@ -80,31 +81,21 @@ pub fn run<R: Threads + Wait + Sync, S: Source + Drop, G: Gate>(
     if is_too_long(script) {
         return Err(RunError::ScriptTooLong);
     }
-    let searches = match prepare_all(alloc, script) {
-        Ok(searches) => searches,
-        Err(_) => return Err(RunError::OutOfMemory),
-    };
-    let (mut desk, readings) = match open(
-        rt,
-        alloc,
-        options.max_commands,
-        options.readers as usize + 1,
-    ) {
+    let opened = match open(rt, alloc, options.max_commands, options.readers) {
         Ok(opened) => opened,
         Err(OpenError::NoPlace) => return Err(RunError::NoPlace),
         Err(OpenError::OutOfMemory) => return Err(RunError::OutOfMemory),
     };
+    let of = PhantomData;
     let plan = Plan {
         rt,
         alloc,
         script,
         options,
-        searches: &searches,
         gate,
+        of: &of,
     };
-    let ran = in_scope(&plan, &mut desk, readings, source);
-    desk.close(rt);
-    match ran {
+    match run_as::<Brand, R, S, G>(&plan, opened, source) {
         Ok(entries) => Ok(Transcript { entries }),
         Err(_) => Err(RunError::OutOfMemory),
     }
@@ -117,15 +108,35 @@ fn is_too_long(script: &[u8]) -> bool
     script.len() > MAX_SCRIPT
 }
 
-/// Runs the script with workers in a scope. All of them have ended when it returns.
-fn in_scope<R: Threads + Wait + Sync, S: Source + Drop, G: Gate>(
-    plan: &Plan<'_, R, G>,
-    desk: &mut Desk,
-    readings: Vec<Reading>,
+/// Runs the script under the name of its opening.
+fn run_as<J: Naming + Send + Sync + 'static, R: Threads + Wait + Sync, S: Source + Drop, G: Gate>(
+    plan: &Plan<'_, J, R, G>,
+    opened: Opened,
     source: &mut S,
 ) -> Result<Vec<Entry>, AllocError>
     requires script { length plan.now.script.now ≤ MAX_SCRIPT }
-    requires ready { IsReady plan.now.script.now plan.now.searches.now plan.now.options desk.old readings.items }
+    requires opened { opened ≡ opened_state J.book plan.now.options.max_commands plan.now.options.readers }
+    ensures legal { IfOk result (λ entries. IsLegal plan.now.script.now plan.now.options (S.holds source.old)
+        (S.failed source.old) (S.failed source.new) entries.items) }
+    ensures same { (path body : List ℕ) → (S.holds source.new path body → S.holds source.old path body)
+        × (S.holds source.old path body → S.holds source.new path body) }
+    ensures counted { S.failed source.old ≤ S.failed source.new }
+{
+    let (mut service, readers) = opened.named::<J, R>(plan.rt, plan.alloc)?;
+    let ran = in_scope(plan, &mut service, readers, source);
+    service.close(plan.rt);
+    ran
+}
+
+/// Runs the script with workers in a scope. All of them have ended when it returns.
+fn in_scope<J: Naming + Send + Sync + 'static, R: Threads + Wait + Sync, S: Source + Drop, G: Gate>(
+    plan: &Plan<'_, J, R, G>,
+    service: &mut Service<J>,
+    readers: Vec<Reader<J>>,
+    source: &mut S,
+) -> Result<Vec<Entry>, AllocError>
+    requires script { length plan.now.script.now ≤ MAX_SCRIPT }
+    requires first { service.old ≡ first_service plan.now.options.max_commands plan.now.options.readers }
     ensures legal { IfOk result (λ entries. IsLegal plan.now.script.now plan.now.options (S.holds source.old)
         (S.failed source.old) (S.failed source.new) entries.items) }
     ensures same { (path body : List ℕ) → (S.holds source.new path body → S.holds source.old path body)
@@ -134,28 +145,28 @@ fn in_scope<R: Threads + Wait + Sync, S: Source + Drop, G: Gate>(
 {
     replace_with(
         source,
-        readings,
-        |source: S, readings: Vec<Reading>| -> (S, Result<Vec<Entry>, AllocError>)
+        readers,
+        |source: S, readers: Vec<Reader<J>>| -> (S, Result<Vec<Entry>, AllocError>)
             requires script { length plan.now.script.now ≤ MAX_SCRIPT }
-            requires ready { IsReady plan.now.script.now plan.now.searches.now plan.now.options desk.now readings.items }
+            requires first { service.now ≡ first_service plan.now.options.max_commands plan.now.options.readers }
             ensures legal { IfOk result.1 (λ entries. IsLegal plan.entry.now.script.now plan.entry.now.options
                 (S.holds source) (S.failed source) (S.failed result.0) entries.items) }
             ensures same { (path body : List ℕ) → (S.holds result.0 path body → S.holds source path body)
                 × (S.holds source path body → S.holds result.0 path body) }
             ensures counted { S.failed source ≤ S.failed result.0 }
-        { scoped(plan, desk, readings, source) },
+        { scoped(plan, service, readers, source) },
     )
 }
 
 /// A closure can keep only values that can be dropped, so the source is passed through it by value.
-fn scoped<R: Threads + Wait + Sync, S: Source + Drop, G: Gate>(
-    plan: &Plan<'_, R, G>,
-    desk: &mut Desk,
-    readings: Vec<Reading>,
+fn scoped<J: Naming + Send + Sync + 'static, R: Threads + Wait + Sync, S: Source + Drop, G: Gate>(
+    plan: &Plan<'_, J, R, G>,
+    service: &mut Service<J>,
+    readers: Vec<Reader<J>>,
     source: S,
 ) -> (S, Result<Vec<Entry>, AllocError>)
     requires script { length plan.now.script.now ≤ MAX_SCRIPT }
-    requires ready { IsReady plan.now.script.now plan.now.searches.now plan.now.options desk.old readings.items }
+    requires first { service.old ≡ first_service plan.now.options.max_commands plan.now.options.readers }
     ensures legal { IfOk result.1 (λ entries. IsLegal plan.now.script.now plan.now.options
         (S.holds source) (S.failed source) (S.failed result.0) entries.items) }
     ensures same { (path body : List ℕ) → (S.holds result.0 path body → S.holds source path body) × (S.holds source path body → S.holds result.0 path body) }
@@ -166,7 +177,7 @@ fn scoped<R: Threads + Wait + Sync, S: Source + Drop, G: Gate>(
         plan.rt,
         move |scope| -> (S, Result<Vec<Entry>, AllocError>)
             requires script { length plan.now.script.now ≤ MAX_SCRIPT }
-            requires ready { IsReady plan.now.script.now plan.now.searches.now plan.now.options desk.now readings.items }
+            requires first { service.now ≡ first_service plan.now.options.max_commands plan.now.options.readers }
             ensures legal { IfOk result.1 (λ entries. IsLegal plan.entry.now.script.now plan.entry.now.options
                 (S.holds source) (S.failed source) (S.failed result.0) entries.items) }
             ensures same { (path body : List ℕ) → (S.holds result.0 path body → S.holds source path body)
@@ -174,7 +185,8 @@ fn scoped<R: Threads + Wait + Sync, S: Source + Drop, G: Gate>(
             ensures counted { S.failed source ≤ S.failed result.0 }
         {
             let mut source = source;
-            let ran = drive(scope, plan, desk, readings, &mut source);
+            let crew = Crew::start(scope, plan, readers);
+            let ran = carry_out_all(plan, &crew, service, &mut source);
             (source, ran)
         },
     )

@@ -1,4 +1,4 @@
-use Rattle.live.proofs.ServeLemmas.{never_begun}
+use Rattle.live.proofs.SessionLemmas.{never_begun}
 use Rattle.live.proofs.serving.serve.Goals as goal
 
 pub returns-in-Err-clause-err : goal.returns-in-Err-clause-err

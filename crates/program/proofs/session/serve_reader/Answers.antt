@@ -4,12 +4,14 @@ use Rattle.program.proofs.session.serve_reader.Goals as goal
 
 pub returns-in-Ok-serve-clause-served : goal.returns-in-Ok-serve-clause-served
 returns-in-Ok-serve-clause-served g c =
-    let whole = unread (λ noted. g.I.Read.remaining noted.reader) c.in-Ok.reader c.new.result c.in-Ok.ensures.inner c.in-Ok.ensures.empty c.in-Ok.ensures.capacity
-    ∙ ap g.I.Read.remaining c.new.ensures in
-    served_from _ _ _ _ _ _ _ _ _ _ whole c.in-Ok-serve.ensures.ok
+    let buffered = c.in-Ok-with_capacity in
+    let whole = unread (λ noted. g.I.Read.remaining noted.reader) buffered.reader c.in-Ok.noted buffered.ensures.inner buffered.ensures.empty buffered.ensures.capacity
+    ∙ ap g.I.Read.remaining c.in-Ok.ensures in
+    served_from _ _ _ _ _ _ _ _ _ whole c.in-Ok-serve.ensures.ok
 
 pub returns-clause-failed : goal.returns-clause-failed
 returns-clause-failed g c =
-    let whole = unread (λ noted. g.I.Read.remaining noted.reader) c.in-Ok.reader c.new.result c.in-Ok.ensures.inner c.in-Ok.ensures.empty c.in-Ok.ensures.capacity
-    ∙ ap g.I.Read.remaining c.new.ensures in
-    broken_from _ _ (g.I.Read.remaining c.args.input) _ _ _ _ c.args.settings.now _ _ _ _ whole c.fault_of_session.ensures c.in-Err-serve.ensures.err
+    let buffered = c.in-Ok-with_capacity in
+    let whole = unread (λ noted. g.I.Read.remaining noted.reader) buffered.reader c.in-Ok.noted buffered.ensures.inner buffered.ensures.empty buffered.ensures.capacity
+    ∙ ap g.I.Read.remaining c.in-Ok.ensures in
+    broken_from _ _ (g.I.Read.remaining c.args.input) _ _ _ _ c.args.settings.now _ _ _ whole c.fault_of_session.ensures c.in-Err-serve.ensures.err

@@ -1,3 +1,0 @@
-pub mod Task
-pub mod Report
-pub mod Private

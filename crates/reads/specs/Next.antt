@@ -1,0 +1,15 @@
+-- What a feed returns.
+use Rattle.std.specs.Prelude.{◌≡◌, ◌≢◌, ◌⊎◌, [], ◌∷◌, ◌++◌, None, true}
+use Rattle.reads.specs.declared.history.Naming.{Ghosts}
+use Rattle.reads.specs.declared.message.Next.{Next}
+use Rattle.reads.specs.declared.message.Next.TheVariants.{Item, End}
+use Rattle.reads.specs.Read.{FeedState, end_state}
+
+-- An item was read after all others; or nothing was, and the reading has ended.
+abbrev pub Comes : {K : Type 0} {N : Ghosts K} → FeedState → Next K N → FeedState → Type 0
+Comes old (Item sent) new = (new.read ≡ old.read ++ sent.item ∷ []) × (sent.read ≡ new.read) × (new.failed ≡ None)
+Comes old (End ended) new = (new.read ≡ old.read) × (ended ≡ end_state new.read new.failed) × (new.failed ≡ None → new.stream.ended ≡ true)
+
+-- The reading has ended, with an error or without one.
+abbrev pub HasEnded : FeedState → Type 0
+HasEnded at = (at.failed ≢ None) ⊎ (at.stream.ended ≡ true)

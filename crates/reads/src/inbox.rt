@@ -1,0 +1,137 @@
+//! The other end of a reading: what came, and was not taken yet.
+
+ghost use Rattle.std.specs.Prelude.{◌≡◌, ◌≢◌, true, false, [], ◌∷◌, None, IfSome, IfNone, OnOk, OnErr, MatchBool, slice_get};
+ghost use Rattle.stream.specs.declared.owned.OwnedItem.TheVariants.{Sync as sync};
+ghost use Rattle.reads.specs.Read.{CameIn, EndsIf, IsReadOf, inbox_state};
+
+use crate::history::{Front, Naming};
+use crate::item::ReadItem;
+use crate::message::{Ended, Next, Sent};
+use std::alloc::Global;
+use std::collections::VecDeque;
+use std::marker::Model;
+use stream::{OwnedItem, StreamError};
+
+/// Items that came and were not taken yet, and how the reading ended, if it did. Contracts see it as an `InboxState`.
+#[derive(Drop)]
+pub struct Inbox<K: Naming> {
+    held: VecDeque<ReadItem>,
+    /// All items that came.
+    came: Front<K>,
+    /// The error that ended the reading, or `Some(None)` if it ended without one.
+    over: Option<Option<StreamError>>,
+}
+
+impl<K: Naming> Model for Inbox<K> {
+    ghost use Rattle.reads.specs.Read.{InboxState, inbox_state, EndsIf, IsReadOf};
+
+    ghost Value = { InboxState };
+
+    ghost view = { λ i. inbox_state i.held.items i.came i.over };
+
+    ghost invariant = { λ i. IsReadOf K.input i.came × EndsIf K.input i.came i.over };
+}
+
+/// Why a message is not taken in.
+#[derive(Clone, Copy, Debug, PartialEq, Eq)]
+pub enum InboxError {
+    /// It is not the one after the last that came. It never happens to messages of one reading that come in order.
+    Lost,
+    /// Memory ran out.
+    OutOfMemory,
+}
+
+impl<K: Naming> Inbox<K> {
+    /// Nothing came yet.
+    pub fn new(alloc: Global, front: Front<K>) -> Inbox<K>
+        requires { front ≡ [] }
+        ensures state { result ≡ inbox_state [] [] None }
+        ensures read { IsReadOf K.input result.came }
+    {
+        Inbox {
+            held: VecDeque::new(alloc),
+            came: front,
+            over: None,
+        }
+    }
+
+    /// Takes in what came next. After an `Err` nothing has changed.
+    pub fn take_in(&mut self, next: Next<K>) -> Result<(), InboxError>
+        ensures ok { OnOk result (CameIn self.old self.new) }
+        ensures err { OnErr result (self.new ≡ self.old) }
+        ensures read { IsReadOf K.input self.new.came }
+    {
+        if self.over.is_some() {
+            return Err(InboxError::Lost);
+        }
+        match next {
+            Next::Item(sent) => self.hold(sent),
+            Next::End(ended) => self.end(ended),
+        }
+    }
+
+    fn hold(&mut self, sent: Sent<K>) -> Result<(), InboxError>
+        requires { self.old.over ≡ None }
+        ensures ok { OnOk result (CameIn self.old self.new) }
+        ensures err { OnErr result (self.new ≡ self.old) }
+        ensures read { IsReadOf K.input self.new.came }
+    {
+        if !sent.follows(&self.came) {
+            return Err(InboxError::Lost);
+        }
+        let Sent { item, read } = sent;
+        match self.held.push_back(item) {
+            Ok(()) => {
+                self.came = read;
+                Ok(())
+            }
+            Err(_) => Err(InboxError::OutOfMemory),
+        }
+    }
+
+    fn end(&mut self, ended: Ended<K>) -> Result<(), InboxError>
+        ensures ok { OnOk result (CameIn self.old self.new) }
+        ensures err { OnErr result (self.new ≡ self.old) }
+        ensures read { IsReadOf K.input self.new.came }
+    {
+        let Ended { read, failed } = ended;
+        if !self.came.is_same(&read) {
+            return Err(InboxError::Lost);
+        }
+        self.over = Some(failed);
+        Ok(())
+    }
+
+    /// The next item that can be taken. A sync cannot be taken unless the searches before it are answered.
+    pub fn next_ready(&mut self, are_answered: bool) -> Option<ReadItem>
+        ensures some { IfSome result (λ read. self.old.held ≡ read ∷ self.new.held) }
+        ensures no_sync { are_answered ≡ false → IfSome result (λ read. read.item ≢ sync) }
+        ensures none { IfNone result (self.new ≡ self.old) }
+        ensures empty { are_answered ≡ true → IfNone result (self.new.held ≡ []) }
+        ensures rest { (self.new.came ≡ self.old.came) × (self.new.over ≡ self.old.over) }
+        ensures read { IsReadOf K.input self.new.came }
+    {
+        if !are_answered && self.is_at_sync() {
+            return None;
+        }
+        self.held.pop_front()
+    }
+
+    /// Whether the next item is a sync.
+    fn is_at_sync(&self) -> bool
+        ensures { MatchBool result Unit (IfSome (slice_get self.now.held 0) (λ read. read.item ≢ sync)) }
+    {
+        match self.held.front() {
+            Some(read) => matches!(&read.item, OwnedItem::Sync),
+            None => false,
+        }
+    }
+
+    /// How the reading ended, if it did: the error, or `Some(None)`.
+    pub fn over(&self) -> Option<Option<StreamError>>
+        ensures over { result ≡ self.now.over }
+        ensures ends { EndsIf K.input self.now.came self.now.over }
+    {
+        self.over
+    }
+}

@@ -1,0 +1,33 @@
+//! Readers at work, each in a thread of its own.
+
+use crate::done::Done;
+use crate::gate::Gate;
+use crate::naming::Naming;
+use crate::reader::Reader;
+use crate::request::Task;
+use crossbeam_channel::{Receiver, Sender};
+use std::alloc::Global;
+use std::sync::Wait;
+
+impl<J: Naming> Reader<J> {
+    /// Answers tasks as they come, and sends the answers as messages, until no more tasks can come or nobody takes the messages.
+    pub fn work<M: From<Done<J>> + Drop, R: Wait, G: Gate>(
+        self,
+        rt: &R,
+        alloc: Global,
+        tasks: Receiver<Task>,
+        messages: Sender<M>,
+        gate: &G,
+    ) {
+        let mut reader = self;
+        for _ in rt.forever() {
+            let Ok(task) = tasks.recv(rt) else {
+                return;
+            };
+            let done = reader.answer(alloc, task, gate);
+            if messages.send(rt, M::from(done)).is_err() {
+                return;
+            }
+        }
+    }
+}

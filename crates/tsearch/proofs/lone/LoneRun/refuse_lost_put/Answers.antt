@@ -1,9 +1,0 @@
-use Rattle.tsearch.proofs.LoneLemmas.{put_not_done}
-use Rattle.index.specs.State.{state_of}
-use Rattle.tsearch.proofs.lone.LoneRun.refuse_lost_put.Goals as goal
-
-pub returns : goal.returns
-returns c =
-    λ state body.
-    put_not_done state c.args.name.now body c.args.line c.reason_of_lost_put.result _ c.entry_of.ensures
-    (c.reason_of_lost_put.ensures state.limit (state_of state.accepted) body c.args.line)

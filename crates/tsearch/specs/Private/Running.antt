@@ -1,0 +1,35 @@
+-- A run between two steps.
+use Rattle.std.specs.Prelude.{◌≡◌, ◌<◌, ℕ, List, [], ◌∷◌, ◌++◌}
+use Rattle.script.specs.Items.{Numbered}
+use Rattle.steps.specs.Rows.{Row, items_of, count_failures}
+use Rattle.steps.specs.StepRows.{AreRows}
+use Rattle.transcript.specs.declared.entry.Entry.{Entry}
+use Rattle.service.specs.Collected.{CollectedState, IsCollected, number_in, filled}
+use Rattle.service.specs.Service.{ServiceState, Fits, Gives, run_of}
+use Rattle.service.specs.Private.Entries.{IsCounted}
+use Rattle.tsearch.specs.declared.run.Options.{Options}
+
+-- These items were taken. Their rows are those of the run that the service is in, and their entries are collected. failed,
+-- failed': how often the source had failed before the run, and how often by now.
+pub record IsRunning (Holds : List ℕ → List ℕ → Type 0) (options : Options) (failed : ℕ) (items : List Numbered) (service : ServiceState)
+    (collected : CollectedState) (failed' : ℕ) : Type 0 where
+  pub rows : List Row
+  pub published : List ℕ
+  pub taken : items_of rows ≡ items
+  pub are_rows : AreRows Holds options.max_commands options.readers (run_of service published) rows
+  pub fits : Fits service published
+  pub limit : service.limit ≡ options.max_commands
+  pub are_collected : IsCollected rows collected
+  pub failures : IsCounted (count_failures rows) failed failed'
+
+-- Whatever was taken before, this item is taken now.
+abbrev pub TakesOne : (List ℕ → List ℕ → Type 0) → Options → Numbered → ServiceState → CollectedState → ℕ → ServiceState → CollectedState → ℕ → Type 0
+TakesOne Holds options item old collected failed new collected' failed' =
+    (first : ℕ) (items : List Numbered) → IsRunning Holds options first items old collected failed
+    → IsRunning Holds options first (items ++ item ∷ []) new collected' failed'
+
+-- Open searches got their entries, which were filled in.
+pub data AreFilled (old : ServiceState) (collected : CollectedState) : ServiceState → CollectedState → Type 0 where
+  none : AreFilled old collected old collected
+  one_more : {service service' : ServiceState} {collected' collected'' : CollectedState} → AreFilled old collected service collected'
+      → (entry : Entry) → Gives service entry service' → (0 < number_in entry → collected'' ≡ filled entry collected') → AreFilled old collected service' collected''

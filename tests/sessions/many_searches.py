@@ -1,0 +1,173 @@
+#!/usr/bin/env python3
+"""Sends many searches to sessions of the built program, without waiting for the answers, and checks the answers and the memory.
+
+A client that reads slowly or not at all stops the session from taking more items, so the session keeps few answers.
+Once the client reads, each search must be answered once, with the lines that match.
+
+Usage: tests/sessions/many_searches.py [--searches N] [NAME..]   The last line counts: N passed, M failed. N is the number of searches
+of a client that reads.
+"""
+
+import argparse
+import os
+import pathlib
+import re
+import sys
+import threading
+import time
+
+sys.path.insert(0, str(pathlib.Path(__file__).resolve().parent.parent))
+
+from built import put  # noqa: E402
+from counted import Wrong, run_tests  # noqa: E402
+from live import MEBIBYTE, SECONDS, faults_with_each  # noqa: E402
+
+
+def words_given():
+    words = argparse.ArgumentParser(description="Sends many searches to sessions.")
+    words.add_argument("--searches", type=int, default=1_000_000)
+    words.add_argument("names", nargs="*")
+    return words.parse_args()
+
+
+GIVEN = words_given()
+# Searches that nobody reads the answers of. They are more bytes than the pipe and the session's buffer take.
+UNREAD = 40_000
+PART = 1 << 20
+HEAD = re.compile(rb"search (\d+) version (\d+) lines (\d+)\n")
+
+
+class Sender(threading.Thread):
+    """Sends texts while others read. `sent` is how many bytes were taken so far."""
+
+    def __init__(self, session, texts):
+        super().__init__(daemon=True)
+        self.session, self.texts, self.sent, self.fault = session, texts, 0, None
+
+    def run(self):
+        try:
+            for text in self.texts:
+                self.session.send(text)
+                self.sent += len(text)
+        except (OSError, ValueError, Wrong) as fault:
+            self.fault = fault
+
+    def wait_until_stuck(self):
+        """Waits until no text was taken for a while."""
+        before = -1
+        while before != self.sent:
+            before = self.sent
+            time.sleep(1)
+        if not self.is_alive():
+            raise Wrong(f"all {self.sent} bytes were taken, and nobody read: {self.fault}")
+
+
+class Answers:
+    """Reads answers that all have the same lines, and notes their numbers."""
+
+    def __init__(self, session, count, lines):
+        self.session, self.lines, self.rest = session, lines, b""
+        self.head_end, self.seen, self.missing = b" lines %d\n" % lines.count(b"\n"), bytearray(count + 1), count
+
+    def take(self):
+        """Takes what the session has written."""
+        text = self.session.read(PART)
+        if not text:
+            raise Wrong(f"the output ends, and {self.missing} searches have no answer")
+        self.rest += text
+        at = 0
+        while (head := HEAD.match(self.rest, at)) and len(self.rest) >= head.end() + len(self.lines):
+            self.note(int(head[1]), head[0].endswith(self.head_end) and self.rest.startswith(self.lines, head.end()))
+            at = head.end() + len(self.lines)
+        self.rest = self.rest[at:]
+        if len(self.rest) > PART + len(self.lines):
+            raise Wrong(f"no answer begins as {self.rest[:200]!r}")
+
+    def note(self, number, is_right):
+        if not is_right or not 0 < number < len(self.seen) or self.seen[number]:
+            raise Wrong(f"search {number} has another answer, or a second one")
+        self.seen[number] = 1
+        self.missing -= 1
+
+
+def client_that_stops_reading(start):
+    """A session whose answers nobody reads takes no more items, and its memory stays level. All answers come when they are read."""
+    lines = b"".join(b"line %d of a document\n" % number for number in range(300))
+    found = b"".join(b"a:%d:%s\n" % pair for pair in enumerate(lines.split(b"\n")[:-1], 1))
+    with start() as session:
+        session.send(put(b"a", lines) + b"publish\n")
+        session.ask(b"search nothing\n", b"search 1 version 1 lines 0\n")
+        early = session.memory("VmRSS")
+        sender = Sender(session, [b"search of a\n" * 10] * (UNREAD // 10))
+        sender.start()
+        sender.wait_until_stuck()
+        stuck = session.memory("VmRSS")
+        if stuck - early > 8 * MEBIBYTE:
+            raise Wrong(f"{early} bytes before the searches, and {stuck} when no more are taken")
+        answers = Answers(session, UNREAD + 1, found)
+        answers.seen[1], answers.missing = 1, UNREAD
+        while answers.missing:
+            answers.take()
+        sender.join(SECONDS)
+        most = session.memory("VmHWM")
+        if most - early > 24 * MEBIBYTE:
+            raise Wrong(f"{early} bytes before the searches, and {most} at most")
+        session.end(0)
+
+
+def client_that_reads(start):
+    """A client that reads while it sends: memory stays level, and each search is answered once."""
+    with start() as session:
+        session.send(put(b"a", b"hi") + b"publish\n")
+        sender = Sender(session, [b"search h\n" * 1_000] * (GIVEN.searches // 1_000))
+        answers = Answers(session, GIVEN.searches, b"a:1:hi\n")
+        sender.start()
+        early = None
+        while answers.missing:
+            answers.take()
+            if early is None and answers.missing < GIVEN.searches * 9 // 10:
+                early = session.memory("VmRSS")
+        late = session.memory("VmRSS")
+        if late - early > 2 * MEBIBYTE:
+            raise Wrong(f"{early} bytes after a tenth of the searches, and {late} after all")
+        sender.join(SECONDS)
+        session.end(0)
+
+
+def searches_beside_replacements(start):
+    """Searches and publishes are sent and not waited for. Each answer must be that of its version, which is not older than the last publish
+    before its search, and memory stays level."""
+    rounds = GIVEN.searches // 20
+    item = b"put a 10\n%010d\npublish\nsearch [0-9]\nsearchin ^a 5$|[^5]$\n"
+    head = re.compile(rb"search (\d+) version (\d+) lines 1\na:1:(\d{10})\n")
+    with start() as session:
+        sender = Sender(session, (item % number for number in range(1, rounds + 1)))
+        sender.start()
+        seen, rest, early, left = bytearray(2 * rounds + 1), b"", None, 2 * rounds
+        while left:
+            text = session.read(PART)
+            if not text:
+                raise Wrong(f"the output ends, and {left} searches have no answer")
+            rest += text
+            at = 0
+            while answer := head.match(rest, at):
+                number, version, found = int(answer[1]), int(answer[2]), int(answer[3])
+                if seen[number] or version != found or not (number + 1) // 2 <= version <= rounds:
+                    raise Wrong(f"search {number} is answered by {answer[0]!r}")
+                seen[number], left, at = 1, left - 1, answer.end()
+            rest = rest[at:]
+            if len(rest) > 100:
+                raise Wrong(f"no answer begins as {rest[:200]!r}")
+            if early is None and left < rounds:
+                early = session.memory("VmRSS")
+        late = session.memory("VmRSS")
+        if late - early > 2 * MEBIBYTE:
+            raise Wrong(f"{early} bytes after half of the searches, and {late} after all")
+        session.end(0)
+
+
+TESTS = [client_that_stops_reading, client_that_reads, searches_beside_replacements]
+
+
+if __name__ == "__main__":
+    run_tests(TESTS, faults_with_each(TESTS, ["2", "0", "16"]), os.cpu_count(), GIVEN.names)

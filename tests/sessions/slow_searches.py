@@ -1,0 +1,224 @@
+#!/usr/bin/env python3
+"""Sends items to sessions of the built program while searches that take long are at work.
+
+With readers, such a search holds up neither the items after it nor their answers. The order of the texts shows it, and no time
+is measured: the answer to a long search would take minutes, so if other texts waited for it, they would not come within the limit
+of time. Such a session is ended when they have come. A slow search takes some tenths of a second. Then all texts are read, and
+only what must come in one order is compared in its order.
+
+Usage: tests/sessions/slow_searches.py [NAME..]   The last line counts: N passed, M failed.
+"""
+
+import os
+import pathlib
+import random
+import subprocess
+import sys
+import threading
+
+sys.path.insert(0, str(pathlib.Path(__file__).resolve().parent.parent))
+
+from built import PROGRAM, put  # noqa: E402
+from counted import Wrong, run_tests  # noqa: E402
+from judge import transcripts  # noqa: E402
+from live import GREATEST_LINE, MEBIBYTE, SECONDS, Session, faults_with_each, same, send_all  # noqa: E402
+
+# Among large counts, a star with a `$` takes a round for each byte of a line, and each round looks at all that can come next.
+SLOW = rb"x([ab]|a([ab]{250}){15}c|d$)*e|^end$"
+# What the pattern finds in the bodies below.
+TABLE = {SLOW: b"^end$"}
+SLOW_SEARCH = b"searchin ^slow$ " + SLOW + b"\n"
+REPLACEMENTS = 3_000
+
+
+def slow_body(lines, length):
+    """Random lines, in which the pattern looks at each byte, and the one line that it finds."""
+    source = random.Random(1)
+    return b"".join(b"x" + bytes(source.choices(b"ab", k=length - 2)) + b"\n" for _ in range(lines)) + b"end\n"
+
+
+# A search of the first is slow, and one of the second long.
+SHORT, LONG = put(b"slow", slow_body(1, 4_000)) + b"publish\n", put(b"slow", slow_body(64, 16_000)) + b"publish\n"
+FOUND = b"search %d version %d lines 1\nslow:2:end\n"
+REFUSED = b"line %d refused: %s\n"
+# The line of the first item after each body.
+AFTER_SHORT, AFTER_LONG = SHORT.count(b"\n") + 1, LONG.count(b"\n") + 1
+
+
+def texts_come_beside_a_long_search(start):
+    """A put, a publish and a search, and refusals, are not held up."""
+    with start() as session:
+        session.send(LONG + SLOW_SEARCH)
+        line = AFTER_LONG + 1
+        for number in range(2, 12):
+            name = b"new%d" % number
+            session.ask(
+                put(name, b"hello %d" % number) + b"publish\nsearch ^hello %d$\n" % number,
+                b"search %d version %d lines 1\n%s:1:hello %d\n" % (number, number, name, number),
+            )
+            session.ask(b"what\n", REFUSED % (line + 4, b"bad line"))
+            line += 5
+        session.ask(b"search (\n", b"search 12 refused: group not closed at 0\n")
+        session.ask(b"remove b\n", REFUSED % (line + 1, b"no such file"))
+        # the session goes on to wait for the answer
+        session.ask(b"put b\n", REFUSED % (line + 2, b"bad put"))
+        session.expect_quiet()
+
+
+def items_are_taken_while_every_reader_is_at_work():
+    """All of the readers have long searches. One more search is not answered, and the other items are carried out."""
+    for readers in 1, 2, 16:
+        with Session("--readers", str(readers)) as session:
+            session.send(LONG + SLOW_SEARCH * readers + put(b"a", b"hi") + b"search h\npublish\n")
+            session.ask(b"search (\n", b"search %d refused: group not closed at 0\n" % (readers + 2))
+            session.ask(b"remove b\n", REFUSED % (AFTER_LONG + readers + 5, b"no such file"))
+            session.expect_quiet()
+
+
+def search_is_answered_beside_long_ones_by_the_last_reader():
+    with Session("--readers", "16") as session:
+        session.send(LONG + SLOW_SEARCH * 15)
+        for number in range(16, 40):
+            session.ask(b"searchin ^b h\n", b"search %d version 1 lines 0\n" % number)
+
+
+def replacements_beside_a_long_search_leave_memory_level(start):
+    """While a search is at work, documents of 120 MB in all replace each other. The search itself takes up to 20 MB."""
+    filler = b"".join(b"of no use %d\n" % number for number in range(2_500))
+    with start() as session:
+        session.send(LONG + SLOW_SEARCH)
+        early = late = 0
+        for number in range(2, REPLACEMENTS + 2):
+            items = put(b"f", filler + b"text %d\n" % number) + b"publish\nsearch ^text %d$\n" % number
+            session.ask(items, b"search %d version %d lines 1\nf:2501:text %d\n" % (number, number, number))
+            if number == REPLACEMENTS // 10:
+                early = session.memory("VmRSS")
+        late = session.memory("VmRSS")
+        if late - early > 32 * MEBIBYTE:
+            raise Wrong(f"{early} bytes after {REPLACEMENTS // 10} replacements, and {late} after {REPLACEMENTS}")
+
+
+def nobody_reads_while_a_long_search_is_at_work(start):
+    """The session ends at its next write, though the search is at work and the input is open."""
+    with start() as session:
+        session.send(LONG + SLOW_SEARCH)
+        session.ask(b"what\n", REFUSED % (AFTER_LONG + 1, b"bad line"))
+        session.process.stdout.close()
+        session.send(b"what\n")
+        session.end(2, close=False)
+
+
+def output_that_fails_while_the_input_is_open():
+    """The same with an output that is full, while a search is at work, and while there is none."""
+    for readers, before in ("0", b""), ("2", b""), ("2", LONG + SLOW_SEARCH), ("16", LONG + SLOW_SEARCH):
+        with open("/dev/full", "wb") as full, Session("--readers", readers, output=full) as session:
+            session.send(before + b"what\n")
+            session.end(2, b"tsearch: cannot write\n", close=False)
+
+
+def entries_in_any_order(session, wanted):
+    same("the entries", sorted(session.read_entry() for _ in wanted), sorted(wanted))
+
+
+def sync_waits_for_a_slow_search(start):
+    """What comes after the sync is carried out once the search has its answer."""
+    with start() as session:
+        session.send(SHORT + SLOW_SEARCH + b"what\nsync\nwhat\n" + put(b"a", b"hi") + b"publish\nsearch h\nsync\n" + SLOW_SEARCH + b"sync\nsearch (\n")
+        entries_in_any_order(session, [REFUSED % (AFTER_SHORT + 1, b"bad line"), FOUND % (1, 1)])
+        for text in REFUSED % (AFTER_SHORT + 3, b"bad line"), b"search 2 version 2 lines 1\na:1:hi\n", FOUND % (3, 2):
+            same("the next entry", session.read_entry(), text)
+        session.expect(b"search 4 refused: group not closed at 0\n")
+        session.end(2)
+
+
+def slow_search_without_readers():
+    with Session("--readers", "0") as session:
+        session.send(SHORT + SLOW_SEARCH + b"what\n" + put(b"a", b"hi") + b"publish\nsearch h\n")
+        for text in FOUND % (1, 1), REFUSED % (AFTER_SHORT + 1, b"bad line"), b"search 2 version 2 lines 1\na:1:hi\n":
+            same("the next entry", session.read_entry(), text)
+        session.end(2)
+
+
+# Items after the body, the entries that must come for them, in any order, and the status. The input ends after the items.
+LAST_ITEMS = [
+    (SLOW_SEARCH * 3, [FOUND % (1, 1), FOUND % (2, 1), FOUND % (3, 1)], 0),
+    (b"search h\n" + SLOW_SEARCH, [b"search 1 version 1 lines 0\n", FOUND % (2, 1)], 0),
+    (SLOW_SEARCH + b"sync\n" + SLOW_SEARCH, [FOUND % (1, 1), FOUND % (2, 1)], 0),
+    (SLOW_SEARCH.replace(b"|^end$", b"") * 2, [b"search 1 version 1 lines 0\n", b"search 2 version 1 lines 0\n"], 1),
+    (SLOW_SEARCH + b"what\n", [FOUND % (1, 1), REFUSED % (AFTER_SHORT + 1, b"bad line")], 2),
+    (SLOW_SEARCH + b"put a 2\nh", [FOUND % (1, 1), REFUSED % (AFTER_SHORT + 1, b"truncated")], 2),
+]
+
+
+def input_that_ends_with_searches_open(start):
+    """They are answered, and the status is that of all entries."""
+    for items, wanted, status in LAST_ITEMS:
+        with start() as session:
+            session.send(SHORT + items)
+            session.process.stdin.close()
+            entries_in_any_order(session, wanted)
+            session.end(status)
+
+
+def fault_that_ends_a_session_with_a_search_open(start):
+    """The search gets its answer, and the input stays open."""
+    for last, reason in (b"put a\n", b"bad put"), (b"put a 1\nxy", b"body not closed"):
+        with start() as session:
+            session.send(SHORT + SLOW_SEARCH + last)
+            entries_in_any_order(session, [REFUSED % (AFTER_SHORT + 1, reason), FOUND % (1, 1)])
+            session.end(2, close=False)
+
+
+def line_longer_than_any_after_a_slow_search(start):
+    """The search gets its answer before the session ends."""
+    with start() as session:
+        line = SHORT + SLOW_SEARCH + b"x" * (GREATEST_LINE + 1)
+        threading.Thread(target=send_all, args=(session, line), daemon=True).start()
+        same("the answer", session.read_entry(), FOUND % (1, 1))
+        session.end(2, b"tsearch: line too long\n", close=False)
+
+
+# Scripts that begin with the short body, each with slow searches beside other items.
+JUDGED = [
+    SLOW_SEARCH + put(b"a", b"hi") + b"publish\nsearch h\nwhat\n" + put(b"a", b"ho") + b"publish\nsearch h\n",
+    b"search h\n" + SLOW_SEARCH + b"sync\nsearch h\n" + put(b"a", b"hi") + b"publish\nsearch h\nsync\nwhat\n",
+    SLOW_SEARCH * 3 + b"publish\nsearch end\n" + put(b"slow", b"end") + b"publish\nsearch end\n" + SLOW_SEARCH + b"remove slow\npublish\nsearch end\n",
+    (SLOW_SEARCH + put(b"a", b"hi") + b"publish\nsearch h\nremove a\nremove a\npublish\nsearch h\n") * 2 + b"put b 2\nh\n",
+]
+
+
+def judge(readers, items):
+    script = SHORT + items
+    done = subprocess.run([PROGRAM, "--live", "--readers", str(readers)], input=script, capture_output=True, check=False, timeout=SECONDS)
+    same("standard error", done.stderr, b"")
+    fault = transcripts.fault_of(script, done.stdout, done.returncode, session=True, readers=readers, table=TABLE)
+    if fault:
+        raise Wrong(f"{readers} readers: {fault}: {done.stdout!r}")
+
+
+def sessions_with_slow_searches_are_legal():
+    for readers in 0, 1, 2, 16:
+        for items in JUDGED:
+            judge(readers, items)
+
+
+WITH_READERS = [
+    texts_come_beside_a_long_search,
+    replacements_beside_a_long_search_leave_memory_level,
+    nobody_reads_while_a_long_search_is_at_work,
+    sync_waits_for_a_slow_search,
+    input_that_ends_with_searches_open,
+    fault_that_ends_a_session_with_a_search_open,
+    line_longer_than_any_after_a_slow_search,
+]
+ONCE = [
+    items_are_taken_while_every_reader_is_at_work,
+    search_is_answered_beside_long_ones_by_the_last_reader,
+    output_that_fails_while_the_input_is_open,
+    slow_search_without_readers,
+    sessions_with_slow_searches_are_legal,
+]
+
+
+if __name__ == "__main__":
+    run_tests(WITH_READERS + ONCE, faults_with_each(WITH_READERS, ["2", "16"]), os.cpu_count())
