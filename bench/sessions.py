@@ -13,13 +13,11 @@ What is compared is measured in turns, so that the machine is equally fast for a
 median, and in its last column what is wanted of the medians on four processors. The clients are threads in Python.
 """
 import os
-import queue
 import random
 import select
 import statistics
 import sys
 import tempfile
-import threading
 import time
 
 sys.path.insert(0, os.path.dirname(os.path.abspath(__file__)))
@@ -86,61 +84,51 @@ def round_trips(documents):
 
 
 class Clients:
-    """Threads that share a session. Each sends a search and waits for its answer, which has no lines, again and again."""
+    """Clients that share a session, each with one search open: once its answer is read, which has no lines, it sends the next. One
+    thread serves them all, since threads of one Python program wait for each other."""
 
     def __init__(self, session, search):
         self.session, self.search = session, search
-        self.sending, self.waiting = threading.Lock(), {}
 
-    def ask(self, answers):
-        with self.sending:
-            self.session.searches += 1
-            self.waiting[self.session.searches] = answers
-            self.session.process.stdin.write(self.search)
-        answers.get()
+    def send(self, number):
+        self.session.searches += number
+        self.session.process.stdin.write(self.search * number)
 
-    def work(self):
-        answers = queue.SimpleQueue()
-        for _ in range(SEARCHES_OF_A_CLIENT):
-            self.ask(answers)
-
-    def hand_out(self, left):
-        """Reads this many answers, and gives each to the client that waits for it."""
-        rest = b""
-        while left:
-            *lines, rest = (rest + self.session.process.stdout.read(65_536)).split(b"\n")
-            for line in lines:
-                words = line.split()
-                if words[0] != b"search" or words[-1] != b"0":
-                    sys.exit("bench/sessions.py: not an answer without lines: %r" % line)
-                self.waiting.pop(int(words[1])).put(line)
-            left -= len(lines)
+    def read(self, rest):
+        """How many answers came, and the beginning of the next one."""
+        *lines, rest = (rest + self.session.process.stdout.read(65_536)).split(b"\n")
+        for line in lines:
+            words = line.split()
+            if words[0] != b"search" or words[-1] != b"0":
+                sys.exit("bench/sessions.py: not an answer without lines: %r" % line)
+        return len(lines), rest
 
     def run(self):
         """How many searches a second all clients get, as the only one of a list."""
-        threads = [threading.Thread(target=self.work) for _ in range(CLIENTS)]
+        left, rest = CLIENTS * SEARCHES_OF_A_CLIENT, b""
         begun = time.perf_counter()
-        for thread in threads:
-            thread.start()
-        self.hand_out(CLIENTS * SEARCHES_OF_A_CLIENT)
-        for thread in threads:
-            thread.join()
+        self.send(CLIENTS)
+        while left:
+            came, rest = self.read(rest)
+            self.send(min(came, max(0, left - CLIENTS)))
+            left -= came
         return [CLIENTS * SEARCHES_OF_A_CLIENT / (time.perf_counter() - begun)]
 
 
-def search_of_a_millisecond(session):
-    """A search that takes about a millisecond by itself, and how many milliseconds it takes."""
+def search_of_milliseconds(session):
+    """A search that takes about four milliseconds by itself, or as near as there is one, and how many it takes. With much shorter
+    ones the clients limit the answers a second, since they are written in Python."""
     times = {}
     for length in LENGTHS:
         search = TEXT % length
         times[search] = 1000 * statistics.median(session.ask(search)[1] for _ in range(50))
-    return min(times.items(), key=lambda pair: abs(pair[1] - 1))
+    return min(times.items(), key=lambda pair: abs(pair[1] - 4))
 
 
 def clients():
     line = 64
     sessions = start((0, 1, 2, 4), {b"text_of_%d" % length: random_lines(b"abcdefghijklmnopqrstuvwxyz ", line, length // line) for length in LENGTHS})
-    search, alone = search_of_a_millisecond(sessions[0])
+    search, alone = search_of_milliseconds(sessions[0])
     taken = in_turns("clients", sessions, lambda session: Clients(session, search).run())
     medians = {number: statistics.median(rates) for number, rates in taken.items()}
     title = "Four clients of one session, with searches that take %.2f ms by themselves" % alone

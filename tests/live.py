@@ -63,6 +63,9 @@ TALK = [
     (b"search .\n", b"search 5 version 4 lines 3\nb:1.txt:1:x\nb:1.txt:2:y\nb:1.txt:3::z\n"),
     (b"searchin a (\n", b"search 6 refused: group not closed at 0\n"),
     (b"search\n", b"search 7 version 4 lines 3\nb:1.txt:1:x\nb:1.txt:2:y\nb:1.txt:3::z\n"),
+    (b"cancel 7\n", b""),
+    (b"cancel 8\n", b"line 29 refused: no such search\n"),
+    (b"status\n", b"line 30 status version 4 documents 2 bytes 6 accepted 4 of 1000000 open 0\n"),
 ]
 TALK_SCRIPT = b"".join(item for item, _ in TALK)
 TALK_PATTERNS = {b"(": "group not closed at 0"}
@@ -351,6 +354,7 @@ def options_of_a_session():
     for words, begin in [
         (["--readers", "17"], b"error: invalid value '17' for '--readers <N>'"),
         (["--readers"], b"error: a value is required for '--readers <N>'"),
+        (["--search-ms", "0"], b"error: invalid value '0' for '--search-ms <N>'"),
     ]:
         with Session(*words) as session:
             # nothing is sent: it ends without reading, and a write could find the pipe closed

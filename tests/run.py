@@ -167,7 +167,7 @@ def judge(base, way, folder, result):
     words = words_of(base)
     options = {"max_commands": int(words[words.index("--max-commands") + 1])} if "--max-commands" in words else {}
     wanted, files = read_bytes(base.with_suffix(".stdout")), transcripts.Files(folder)
-    options.update(readers=int(way.readers or 2), stats="--stats" in words, files=files, known=wanted)
+    options.update(readers=int(way.readers or 2), stats="--stats" in words, timed="--search-ms" in words, files=files, known=wanted)
     fault = transcripts.fault_of(base.with_suffix(".script").read_bytes(), stdout, status, session=True, **options)
     if fault:
         raise Wrong(f"{fault}; stdout is {stdout[:2000]!r}")

@@ -4,16 +4,19 @@
 First the judge itself is tested: it must accept the texts of tests/cases and examples, which are written by hand, and refuse each
 text of a table, each wrong in one thing. Then every beginning of a script with a replacement, a pending put and syncs is run with
 several numbers of readers, and is sent to sessions with as many. So are random scripts, with few syncs between searches and later
-publishes. Every text must be legal. As many scripts are tried at once as there are processors.
+publishes, with cancels and statuses, and some of them with a limit of time. Every text must be legal, and in some of them searches must
+be cancelled, and be open at a status. As many scripts are tried at once as there are processors.
 
 Usage: tests/judge/check_transcripts.py [--scripts N]   The last line counts: N passed, M failed. N is the number of random scripts.
 """
 
 import argparse
+import collections
 import concurrent.futures
 import os
 import pathlib
 import random
+import re
 import subprocess
 import sys
 
@@ -26,6 +29,8 @@ from judge import transcripts  # noqa: E402
 READERS = [0, 1, 2, 16]
 RANDOM_SCRIPTS = 5000
 SECONDS = 60
+# The limits of time of random scripts, in milliseconds: with the first some searches may be too slow, and with the second none is.
+SEARCH_MS = [1, 4_294_967_295]
 
 REPLACEMENT = b"put f 3\nold\npublish\nsearch old\nsync\nput f 3\nnew\nsearch old\nsync\npublish\nsearch old\nsearch new\n"
 OLD, OLD_AGAIN = b"search 1 version 1 lines 1\nf:1:old\n", b"search 2 version 1 lines 1\nf:1:old\n"
@@ -63,6 +68,60 @@ CASES_ANSWERED = [
     b"search 4 version 2 lines 0\n",
 ]
 
+# Cancels: of a search that may be open, of one behind a sync, of one that is asked later, and of one that is never asked.
+CANCELS = b"put a 1\nx\npublish\nsearch x\ncancel 1\nsearch x\ncancel 3\ncancel 0\nsync\ncancel 2\nsearch x\n"
+AT_X, CANCELLED, TOO_SLOW = b"search %d version 1 lines 1\na:1:x\n", b"search %d refused: cancelled\n", b"search %d refused: too slow\n"
+NO_SUCH_SEARCH = b"line %d refused: no such search\n"
+NOT_ASKED = NO_SUCH_SEARCH % 7 + NO_SUCH_SEARCH % 8
+
+# A cancel before a publish: a search that is answered at the later version would have been open at the cancel.
+CANCEL_FIRST = b"search x\ncancel 1\nput a 1\nx\npublish\n"
+
+# Statuses before and after each change, with a body of 3 bytes in 2 characters, one with a line feed at its end, and an empty one.
+STATUSES = b"status\nput a 3\na\xc3\xa4\nput b 2\nx\n\nput ( 1\n\0\nstatus\npublish\nstatus\nput a 0\n\nremove b\nstatus\npublish\nstatus\n"
+STATUS = b"line %d status version %d documents %d bytes %d accepted %d of 5 open %d\n"
+SHOWN = [(1, 0, 0, 0, 0, 0), (9, 0, 0, 0, 2, 0), (11, 2, 2, 5, 2, 0), (15, 2, 2, 5, 4, 0), (17, 4, 1, 0, 4, 0)]
+BYTE_0 = b"line 7 refused: byte 0 in body\n"
+
+
+def status_text(shown):
+    """The text of a run or a session of STATUSES whose statuses show these numbers."""
+    first, *others = [STATUS % numbers for numbers in shown]
+    return first + BYTE_0 + b"".join(others)
+
+
+def off_by_one():
+    """The numbers of STATUSES, with one of one status, other than its line, one too great or one too small."""
+    for at, numbers in enumerate(SHOWN):
+        for place in range(1, len(numbers)):
+            for more in (1, -1) if numbers[place] else (1,):
+                changed = numbers[:place] + (numbers[place] + more,) + numbers[place + 1 :]
+                yield SHOWN[:at] + [changed] + SHOWN[at + 1 :]
+
+
+# Statuses beside searches that may be open: two, none behind a sync, none behind a cancel, and none that a fault refuses.
+OPENS = b"search x\nsearch x\nstatus\nsync\nstatus\nsearch x\ncancel 3\nstatus\nsearch \0\nstatus\n"
+AT_0, BAD_BYTE = b"search %d version 0 lines 0\n", b"search 4 refused: bad byte at 0\n"
+OPEN = b"line %d status version 0 documents 0 bytes 0 accepted 0 of 1000000 open %d\n"
+TWICE = b"search x\nsearch x\nstatus\nstatus\nput a 1\nx\npublish\ncancel 1\n"
+
+
+def opens(*shown):
+    """The text of a run of OPENS whose statuses show so many open searches."""
+    first, second, third, fourth = [OPEN % pair for pair in zip((3, 5, 8, 10), shown)]
+    return AT_0 % 1 + AT_0 % 2 + first + second + AT_0 % 3 + third + BAD_BYTE + fourth
+
+
+# More searches than can be open, and then a status.
+CROWD = b"search x\n" * 300 + b"status\n"
+
+
+def crowd(count, shown):
+    """A text of CROWD in which the status comes after so many answers, and shows so many open searches."""
+    answers = [AT_0 % number for number in range(1, 301)]
+    return b"".join(answers[:count]) + OPEN % (301, shown) + b"".join(answers[count:])
+
+
 # The patterns of the judged tests/cases that are not plain, each with its spelling for `re` or the reason of its refusal.
 TABLE = {
     b"[[:upper:]]1": b"[A-Z]1",
@@ -91,6 +150,31 @@ LEGAL = [
     (BESIDE, {"readers": 1, "scarce": True}, ONE % 1 + BOTH % 2 + BOTH % 3, 0),
     (REFUSALS, {"max_commands": 1}, b"".join(REFUSED), 2),
     (CASES, {}, b"".join(CASES_ANSWERED), 0),
+    (CANCELS, {}, AT_X % 1 + AT_X % 2 + NOT_ASKED + AT_X % 3, 2),
+    (CANCELS, {}, CANCELLED % 1 + AT_X % 2 + NOT_ASKED + AT_X % 3, 2),
+    (CANCELS, {"readers": 0}, AT_X % 1 + AT_X % 2 + NOT_ASKED + AT_X % 3, 2),
+    (CANCELS, {"timed": True}, CANCELLED % 1 + TOO_SLOW % 2 + NOT_ASKED + TOO_SLOW % 3, 2),
+    (CANCELS, {"readers": 0, "timed": True}, TOO_SLOW % 1 + AT_X % 2 + NOT_ASKED + AT_X % 3, 2),
+    (CANCELS, {"scarce": True}, CANCELLED % 1 + b"search 2 refused: out of memory\n" + NOT_ASKED + AT_X % 3, 2),
+    (b"search x\ncancel 0001\n", {}, CANCELLED % 1, 2),
+    (b"search x\nsync\ncancel 1\ncancel 1\n", {}, AT_0 % 1, 1),
+    (b"search x\ncancel 4294967297\n", {}, AT_0 % 1 + NO_SUCH_SEARCH % 2, 2),
+    (CANCEL_FIRST, {}, AT_0 % 1, 1),
+    (CANCEL_FIRST, {}, CANCELLED % 1, 2),
+    (STATUSES, {"max_commands": 5}, status_text(SHOWN), 2),
+    (STATUSES, {"max_commands": 5, "readers": 0}, status_text(SHOWN), 2),
+    (OPENS, {}, opens(2, 0, 0, 0), 2),
+    (OPENS, {}, opens(0, 0, 0, 0), 2),
+    (OPENS, {"readers": 0}, opens(0, 0, 0, 0), 2),
+    (TWICE, {}, AT_0 % 1 + AT_0 % 2 + OPEN % (3, 2) + OPEN % (4, 0), 1),
+    (TWICE, {}, AT_0 % 1 + AT_X % 2 + OPEN % (3, 1) + OPEN % (4, 1), 0),
+    (TWICE, {}, CANCELLED % 1 + AT_0 % 2 + OPEN % (3, 2) + OPEN % (4, 1), 2),
+    (TWICE, {"timed": True}, TOO_SLOW % 1 + AT_X % 2 + OPEN % (3, 2) + OPEN % (4, 1), 2),
+    (CROWD, {}, crowd(300, 255), 1),
+    # the first search has its entry before its cancel, and the second not before the second status
+    (b"search x\nsearch x\nstatus\ncancel 1\nstatus\n", {}, AT_0 % 1 + AT_0 % 2 + OPEN % (3, 1) + OPEN % (5, 1), 1),
+    # version 0 is there before it is published
+    (b"search x\nstatus\npublish\n", {}, AT_0 % 1 + OPEN % (2, 0), 1),
 ]
 
 WRONG = [
@@ -149,7 +233,59 @@ WRONG = [
     (REFUSALS, {"max_commands": 1}, b"".join(REFUSED[:8] + REFUSED[9:8:-1] + REFUSED[8:9]), 2),
     (REFUSALS, {"max_commands": 2}, b"".join(REFUSED), 2),
     (REFUSALS, {"max_commands": 1, "files": {b"p": b"x"}}, b"".join(REFUSED), 2),
+    # cancelled without readers, behind a sync, or without a cancel; too slow without a limit of time
+    (CANCELS, {"readers": 0}, CANCELLED % 1 + AT_X % 2 + NOT_ASKED + AT_X % 3, 2),
+    (CANCELS, {}, AT_X % 1 + CANCELLED % 2 + NOT_ASKED + AT_X % 3, 2),
+    (CANCELS, {}, AT_X % 1 + AT_X % 2 + NOT_ASKED + CANCELLED % 3, 2),
+    (CANCELS, {}, TOO_SLOW % 1 + AT_X % 2 + NOT_ASKED + AT_X % 3, 2),
+    (CANCELS, {"timed": True}, AT_X % 1 + AT_X % 2 + NOT_ASKED + CANCELLED % 3, 2),
+    # answered as well, not at all, or at a version that was published after the cancel
+    (CANCELS, {}, CANCELLED % 1 + AT_X % 1 + AT_X % 2 + NOT_ASKED + AT_X % 3, 2),
+    (CANCELS, {}, AT_X % 1 + CANCELLED % 1 + AT_X % 2 + NOT_ASKED + AT_X % 3, 2),
+    (CANCELS, {}, AT_X % 2 + NOT_ASKED + AT_X % 3, 2),
+    (CANCEL_FIRST, {}, AT_X % 1, 0),
+    # a cancel with an entry of its own, with another reason, or without one although its search was not asked
+    (CANCELS, {}, AT_X % 1 + NO_SUCH_SEARCH % 5 + AT_X % 2 + NOT_ASKED + AT_X % 3, 2),
+    (CANCELS, {}, AT_X % 1 + AT_X % 2 + NOT_ASKED + NO_SUCH_SEARCH % 10 + AT_X % 3, 2),
+    (CANCELS, {}, AT_X % 1 + AT_X % 2 + NO_SUCH_SEARCH % 7 + AT_X % 3, 2),
+    (CANCELS, {}, AT_X % 1 + AT_X % 2 + NO_SUCH_SEARCH % 8 + AT_X % 3, 2),
+    (CANCELS, {}, AT_X % 1 + AT_X % 2 + NO_SUCH_SEARCH % 7 + b"line 8 refused: bad line\n" + AT_X % 3, 2),
+    (CANCELS, {}, AT_X % 1 + AT_X % 2 + NO_SUCH_SEARCH % 7 + b"line 8 refused: out of memory\n" + AT_X % 3, 2),
+    (CANCELS, {"scarce": True}, AT_X % 1 + AT_X % 2 + NO_SUCH_SEARCH % 7 + b"line 8 refused: out of memory\n" + AT_X % 3, 2),
+    (b"search x\ncancel 4294967297\n", {}, AT_0 % 1, 1),
+    (b"search x\ncancel 4294967297\n", {}, CANCELLED % 1, 2),
+    (CANCELS, {}, AT_X % 1 + AT_X % 2 + b"line 07 refused: no such search\n" + NO_SUCH_SEARCH % 8 + AT_X % 3, 2),
+    # another status
+    (CANCELS, {}, CANCELLED % 1 + AT_X % 2 + NOT_ASKED + AT_X % 3, 0),
+    (b"search x\ncancel 1\n", {}, CANCELLED % 1, 1),
+    (b"search x\ncancel 1\n", {"timed": True}, TOO_SLOW % 1, 1),
+    (b"cancel 1\n", {}, NO_SUCH_SEARCH % 1, 1),
+    (b"status\n", {}, OPEN % (1, 0), 0),
+    (b"status\n", {}, OPEN % (1, 0), 2),
+    # a status without an entry, with two, with a refusal, for another line or in another place
+    (b"status\n", {}, b"", 1),
+    (b"status\n", {}, OPEN % (1, 0) * 2, 1),
+    (b"status\n", {}, b"line 1 refused: bad line\n", 2),
+    (b"status\n", {}, OPEN % (2, 0), 1),
+    (b"status\npublish\n", {}, OPEN % (2, 0), 1),
+    (b"status\npublish\n", {}, OPEN % (1, 0) + OPEN % (2, 0), 1),
+    (b"status\n", {}, OPEN % (1, 0) + b"\n", 1),
+    (b"status\n", {}, (OPEN % (1, 0)).replace(b"bytes 0", b"bytes 00"), 1),
+    (b"status\nwhat\n", {}, b"line 2 refused: bad line\n" + OPEN % (1, 0), 2),
+    # more open searches than there can be: than were asked, behind a sync, behind a cancel, or with a fault; or any without readers
+    (OPENS, {}, opens(3, 0, 0, 0), 2),
+    (OPENS, {}, opens(2, 1, 0, 0), 2),
+    (OPENS, {}, opens(2, 0, 1, 0), 2),
+    (OPENS, {}, opens(2, 0, 0, 1), 2),
+    (OPENS, {"readers": 0}, opens(1, 0, 0, 0), 2),
+    # a search that is open again, has its entry before its cancel or before the publish of its version, or is open behind 255 others
+    (TWICE, {}, AT_0 % 1 + AT_0 % 2 + OPEN % (3, 1) + OPEN % (4, 2), 1),
+    (TWICE, {}, CANCELLED % 1 + AT_0 % 2 + OPEN % (3, 0) + OPEN % (4, 0), 2),
+    (TWICE, {}, CANCELLED % 1 + AT_X % 2 + OPEN % (3, 2) + OPEN % (4, 1), 2),
+    (TWICE, {}, AT_0 % 1 + AT_X % 2 + OPEN % (3, 0) + OPEN % (4, 0), 0),
+    (CROWD, {}, crowd(300, 256), 1),
 ] + [(REFUSALS, {"max_commands": 1}, b"".join(REFUSED[:left_out] + REFUSED[left_out + 1 :]), 2) for left_out in range(len(REFUSED))]
+WRONG += [(STATUSES, {"max_commands": 5}, status_text(shown), 2) for shown in off_by_one()]
 
 
 # The same for sessions, whose answers come when they are there.
@@ -157,6 +293,16 @@ SEARCH_BESIDE = b"put a 1\nx\npublish\nsearch x\nwhat\nput a 1\ny\npublish\nsear
 X1, X2, Y3 = b"search 1 version 1 lines 1\na:1:x\n", b"search 2 version 2 lines 0\n", b"search 3 version 2 lines 1\na:1:y\n"
 X1_LATER, WHAT = b"search 1 version 2 lines 0\n", b"line 5 refused: bad line\n"
 NOT_WHOLE = {"scarce": True, "whole": False}
+
+# A cancel and a status between other items, and a cancel at the end.
+CANCEL_BESIDE = b"put a 1\nx\npublish\nsearch x\nwhat\ncancel 1\nstatus\nsearch x\ncancel 2\n"
+SHOWN_OPEN = b"line 7 status version 1 documents 1 bytes 1 accepted 1 of 1000000 open %d\n"
+NONE_OPEN, ONE_OPEN = SHOWN_OPEN % 0, SHOWN_OPEN % 1
+# A search that is cancelled twice, and is asked between a cancel that is too early and one behind a sync.
+CANCEL_TWICE = b"cancel 1\nsearch x\ncancel 1\ncancel 1\nwhat\nsync\ncancel 1\nsearch x\n"
+TOO_EARLY, LATE_WHAT = NO_SUCH_SEARCH % 1, b"line 5 refused: bad line\n"
+# Two searches and a status, of a session.
+TWO_OPEN = b"search x\nsearch x\nstatus\n"
 
 # What the searches of a script must be answered by, since their patterns are not plain. The first search can have one version alone.
 NOT_PLAIN = b"put a 1\nx\npublish\nsearch [[:alpha:]]\nsearch [b-a]\nsync\nput b 1\ny\npublish\nsearch [[:alpha:]]\nsearch [[:digit:]]\n"
@@ -186,6 +332,26 @@ LEGAL_SESSIONS = [
     (CASES, {}, b"".join(reversed(CASES_ANSWERED)), 0),
     (REFUSALS, {"max_commands": 1}, b"".join(REFUSED), 2),
     (REFUSALS, {"max_commands": 1}, b"".join(REFUSED[:8] + REFUSED[9:8:-1] + REFUSED[8:9]), 2),
+    (CANCEL_BESIDE, {}, WHAT + CANCELLED % 1 + NONE_OPEN + CANCELLED % 2, 2),
+    (CANCEL_BESIDE, {}, WHAT + CANCELLED % 1 + NONE_OPEN + AT_X % 2, 2),
+    (CANCEL_BESIDE, {}, WHAT + AT_X % 1 + NONE_OPEN + CANCELLED % 2, 2),
+    (CANCEL_BESIDE, {}, AT_X % 1 + WHAT + NONE_OPEN + AT_X % 2, 2),
+    (CANCEL_BESIDE, {"readers": 0}, AT_X % 1 + WHAT + NONE_OPEN + AT_X % 2, 2),
+    (CANCEL_BESIDE, {"readers": 0, "timed": True}, TOO_SLOW % 1 + WHAT + NONE_OPEN + TOO_SLOW % 2, 2),
+    (CANCEL_BESIDE, {"timed": True}, WHAT + TOO_SLOW % 1 + NONE_OPEN + CANCELLED % 2, 2),
+    (CANCEL_BESIDE, {"scarce": True}, WHAT + CANCELLED % 1 + NONE_OPEN + b"search 2 refused: out of memory\n", 2),
+    (CANCEL_TWICE, {}, TOO_EARLY + CANCELLED % 1 + LATE_WHAT + AT_0 % 2, 2),
+    (CANCEL_TWICE, {}, TOO_EARLY + AT_0 % 1 + LATE_WHAT + AT_0 % 2, 2),
+    (CANCEL_TWICE, {"readers": 0}, TOO_EARLY + AT_0 % 1 + LATE_WHAT + AT_0 % 2, 2),
+    (CANCEL_FIRST, {}, AT_0 % 1, 1),
+    (CANCEL_FIRST, {}, CANCELLED % 1, 2),
+    (STATUSES, {"max_commands": 5}, status_text(SHOWN), 2),
+    (TWO_OPEN, {}, OPEN % (3, 2) + AT_0 % 2 + AT_0 % 1, 1),
+    (TWO_OPEN, {}, AT_0 % 2 + OPEN % (3, 1) + AT_0 % 1, 1),
+    (TWO_OPEN, {}, AT_0 % 1 + AT_0 % 2 + OPEN % (3, 0), 1),
+    (TWO_OPEN, {"readers": 0}, AT_0 % 1 + AT_0 % 2 + OPEN % (3, 0), 1),
+    (TWO_OPEN, {"timed": True}, TOO_SLOW % 1 + OPEN % (3, 1) + AT_0 % 2, 2),
+    (CROWD, {}, crowd(45, 255), 1),
     # sessions that ended early
     (SEARCH_BESIDE, NOT_WHOLE, b"", 2),
     (SEARCH_BESIDE, NOT_WHOLE, WHAT, 2),
@@ -231,12 +397,56 @@ WRONG_SESSIONS = [
     # other entries out of their order, or left out
     (REFUSALS, {"max_commands": 1}, b"".join(REFUSED[1::-1] + REFUSED[2:]), 2),
     (REFUSALS, {"max_commands": 1}, b"".join(REFUSED[:7] + REFUSED[8:]), 2),
+    # cancelled before or after its cancel is taken, twice, without a cancel that is left, behind a sync, or without readers
+    (CANCEL_BESIDE, {}, CANCELLED % 1 + WHAT + NONE_OPEN + AT_X % 2, 2),
+    (CANCEL_BESIDE, {}, WHAT + NONE_OPEN + CANCELLED % 1 + AT_X % 2, 2),
+    (CANCEL_BESIDE, {}, WHAT + ONE_OPEN + CANCELLED % 1 + AT_X % 2, 2),
+    (CANCEL_BESIDE, {}, WHAT + CANCELLED % 2 + AT_X % 1 + NONE_OPEN, 2),
+    (CANCEL_TWICE, {}, TOO_EARLY + CANCELLED % 1 + CANCELLED % 1 + LATE_WHAT + AT_0 % 2, 2),
+    (CANCEL_TWICE, {}, CANCELLED % 1 + TOO_EARLY + LATE_WHAT + AT_0 % 2, 2),
+    (CANCEL_TWICE, {}, TOO_EARLY + LATE_WHAT + CANCELLED % 1 + AT_0 % 2, 2),
+    (CANCEL_TWICE, {}, TOO_EARLY + AT_0 % 1 + LATE_WHAT + CANCELLED % 2, 2),
+    (CANCEL_TWICE, {"readers": 0}, TOO_EARLY + CANCELLED % 1 + LATE_WHAT + AT_0 % 2, 2),
+    (b"search x\nsync\ncancel 1\n", {}, CANCELLED % 1, 2),
+    # open at its cancel and not refused by it: answered after it, at a later version, or too slow
+    (CANCEL_BESIDE, {}, WHAT + NONE_OPEN + AT_X % 1 + AT_X % 2, 2),
+    (CANCEL_BESIDE, {"timed": True}, WHAT + NONE_OPEN + TOO_SLOW % 1 + AT_X % 2, 2),
+    (CANCEL_TWICE, {}, TOO_EARLY + LATE_WHAT + AT_0 % 1 + AT_0 % 2, 2),
+    (CANCEL_FIRST, {}, AT_X % 1, 0),
+    # cancelled and answered as well, or neither
+    (CANCEL_BESIDE, {}, WHAT + CANCELLED % 1 + AT_X % 1 + NONE_OPEN + AT_X % 2, 2),
+    (CANCEL_BESIDE, {}, WHAT + CANCELLED % 1 + NONE_OPEN + AT_X % 2 + AT_X % 1, 2),
+    (CANCEL_BESIDE, {}, AT_X % 1 + WHAT + CANCELLED % 1 + NONE_OPEN + AT_X % 2, 2),
+    (CANCEL_BESIDE, {}, WHAT + CANCELLED % 1 + NONE_OPEN, 2),
+    # too slow without a limit of time, or after its answer
+    (CANCEL_BESIDE, {}, WHAT + TOO_SLOW % 1 + NONE_OPEN + AT_X % 2, 2),
+    (CANCEL_BESIDE, {"timed": True}, AT_X % 1 + WHAT + TOO_SLOW % 1 + NONE_OPEN + AT_X % 2, 2),
+    # a cancel that is refused although its search was asked, or that is not refused
+    (CANCEL_BESIDE, {}, WHAT + AT_X % 1 + NO_SUCH_SEARCH % 6 + NONE_OPEN + AT_X % 2, 2),
+    (CANCEL_TWICE, {}, AT_0 % 1 + LATE_WHAT + AT_0 % 2, 2),
+    # a status that counts a search which has its entry, or not one which has none; that is left out, or comes twice
+    (CANCEL_BESIDE, {}, WHAT + CANCELLED % 1 + ONE_OPEN + AT_X % 2, 2),
+    (CANCEL_BESIDE, {}, WHAT + AT_X % 1 + ONE_OPEN + AT_X % 2, 2),
+    (CANCEL_BESIDE, {}, WHAT + CANCELLED % 1 + AT_X % 2 + NONE_OPEN, 2),
+    (CANCEL_BESIDE, {}, WHAT + CANCELLED % 1 + AT_X % 2, 2),
+    (CANCEL_BESIDE, {}, WHAT + CANCELLED % 1 + NONE_OPEN + NONE_OPEN + AT_X % 2, 2),
+    (TWO_OPEN, {}, OPEN % (3, 1) + AT_0 % 1 + AT_0 % 2, 1),
+    (TWO_OPEN, {}, AT_0 % 1 + OPEN % (3, 2) + AT_0 % 2, 1),
+    (TWO_OPEN, {}, AT_0 % 1 + AT_0 % 2 + OPEN % (3, 1), 1),
+    (TWO_OPEN, {"readers": 0}, OPEN % (3, 2) + AT_0 % 1 + AT_0 % 2, 1),
+    # an item that is taken while 256 searches are open
+    (CROWD, {}, crowd(0, 300), 1),
+    (CROWD, {}, crowd(44, 256), 1),
     # refused for memory although there is enough, or for a fault that it has not
     (SEARCH_BESIDE, {}, WHAT + X2 + b"search 1 refused: out of memory\n" + Y3, 2),
     (SEARCH_BESIDE, {"scarce": True}, WHAT + X2 + b"search 1 refused: bad range at 0\n" + Y3, 2),
     # another status
     (REPLACEMENT, {}, OLD + OLD_AGAIN + NEW + NO_OLD, 2),
+    (b"search x\ncancel 1\n", {}, CANCELLED % 1, 1),
+    (TWO_OPEN, {"timed": True}, TOO_SLOW % 1 + OPEN % (3, 1) + AT_0 % 2, 1),
+    (TWO_OPEN, {}, OPEN % (3, 2) + AT_0 % 2 + AT_0 % 1, 2),
 ]
+WRONG_SESSIONS += [(STATUSES, {"max_commands": 5}, status_text(shown), 2) for shown in off_by_one()]
 
 
 def judged_sessions():
@@ -266,27 +476,41 @@ def judged_by_hand():
     return wrong, count
 
 
+# What is counted in the texts, by what shows it.
+SEEN = {"searches cancelled": rb"refused: cancelled\n", "too slow": rb"refused: too slow\n", "statuses with open searches": rb" open [1-9]\d*\n"}
+
+
 def fault_of_way(start, script, how, options):
-    """What is wrong with what the program does with a script if it is started with these words, or None."""
+    """What is wrong with what the program does with a script if it is started with these words, or None; and what is seen in its text."""
     words = [b"--max-commands", b"%d" % options["max_commands"]] if "max_commands" in options else []
+    words += [b"--search-ms", b"%d" % options["search_ms"]] if options.get("search_ms") else []
     done = subprocess.run([PROGRAM] + start + words, input=script, capture_output=True, check=False, timeout=SECONDS)
-    fault = repr(done.stderr) if done.stderr else transcripts.fault_of(script, done.stdout, done.returncode, **how, **options)
-    return fault and "%r with %s and %s: %s" % (script, b" ".join(start).decode(), options, fault)
+    judged = {name: value for name, value in options.items() if name != "search_ms"}
+    judged["timed"] = options.get("search_ms") == SEARCH_MS[0]
+    fault = repr(done.stderr) if done.stderr else transcripts.fault_of(script, done.stdout, done.returncode, **how, **judged)
+    seen = {what: len(re.findall(text, done.stdout)) for what, text in SEEN.items()}
+    return fault and "%r with %s and %s: %s" % (script, b" ".join(start).decode(), options, fault), seen
 
 
 def faults_of_script(script, readers, sessions, **options):
-    """What is wrong with a run of a script with so many readers, and with its sessions with each of some numbers: None if nothing is."""
+    """The same for a run of a script with so many readers, and for its sessions with each of some numbers."""
     yield fault_of_way([b"--readers", b"%d" % readers], script, {"readers": readers}, options)
     for number in sessions:
         how = {"readers": number, "session": True}
         yield fault_of_way([b"--live", b"--readers", b"%d" % number], script, how, options)
 
 
-def judged_scripts(pool, tries):
-    """The texts of these scripts that are not legal, and how many texts there are. A try is the words of `faults_of_script`."""
+def judged_scripts(pool, tries, wanted=()):
+    """The texts of these scripts that are not legal, and how many texts there are. A try is the words of `faults_of_script`. What is
+    `wanted` must be seen in some of the texts."""
     jobs = [pool.submit(lambda words, options: list(faults_of_script(*words, **options)), *one) for one in tries]
     faults = [fault for job in jobs for fault in job.result()]
-    return [fault for fault in faults if fault], len(faults)
+    counts = collections.Counter()
+    for _, seen in faults:
+        counts.update(seen)
+    if wanted:
+        print(", ".join("%s %d" % pair for pair in counts.items()), flush=True)
+    return [fault for fault, _ in faults if fault] + ["no %s" % what for what in wanted if not counts[what]], len(faults) + len(wanted)
 
 
 def beginnings():
@@ -296,7 +520,13 @@ def beginnings():
             yield (REPLACEMENT[:length], readers, [readers]), {}
 
 
-def random_item(chance):
+def random_cancel(chance, asked):
+    """A cancel, after so many searches: mostly of the last one or one of the last, else of any, or of one that was not asked."""
+    number = chance.choice([asked] * 6 + [max(asked - chance.randrange(4), 0)] * 2 + [chance.randrange(asked + 1), asked + 1, 0, 2**32 + asked])
+    return b"cancel %d" % number
+
+
+def random_item(chance, asked):
     name, text = chance.choice([b"a", b"A", b"c", b"a/b"]), b"\n".join(chance.choices([b"ab", b"b", b"", b"aBAb"], k=chance.randrange(3)))
     return chance.choice(
         [b"put %s %d\n%s" % (name, len(text), text)] * 4
@@ -306,16 +536,28 @@ def random_item(chance):
         + [b"searchin %s b" % chance.choice([b"^a", b"b$|c"])]
         + [b"isearch " + chance.choice([b"aB", b"^B|A$", b"[^b]", b"B+$"])] * 2
         + [b"isearchin %s B" % chance.choice([b"^a", b"^A|c"])]
-        + [b"sync", b"load a /nothing/here", b"pull"]
+        + [random_cancel(chance, asked)] * 5
+        + [b"status"] * 2
+        + [b"sync", b"load a /nothing/here", b"pull", b"cancel", b"cancel %dx" % asked, b"status %d" % asked]
     )
 
 
+def random_script(chance):
+    items, asked = [], 0
+    for _ in range(chance.randrange(60)):
+        items.append(random_item(chance, asked) + b"\n")
+        asked += items[-1].startswith((b"search", b"isearch"))
+    return b"".join(items)
+
+
 def random_scripts(count):
-    """So many random scripts, each with one number of readers as a run and with all as sessions."""
+    """So many random scripts, each with one number of readers as a run and with all as sessions. A third of them has a limit of time."""
     chance = random.Random(1)
     for number in range(count):
-        script = b"".join(random_item(chance) + b"\n" for _ in range(chance.randrange(60)))
-        yield (script, READERS[number % len(READERS)], READERS), {"max_commands": chance.choice([5, 1000])}
+        options = {"max_commands": chance.choice([5, 1000])}
+        if number % 3 == 0:
+            options["search_ms"] = chance.choice(SEARCH_MS)
+        yield (random_script(chance), READERS[number % len(READERS)], READERS), options
 
 
 def main():
@@ -329,7 +571,7 @@ def main():
             ("the judge", judged_by_hand),
             ("the judge of sessions", judged_sessions),
             ("beginnings", lambda: judged_scripts(pool, beginnings())),
-            ("random scripts", lambda: judged_scripts(pool, random_scripts(scripts))),
+            ("random scripts", lambda: judged_scripts(pool, random_scripts(scripts), ["searches cancelled", "statuses with open searches"])),
         ]
         for name, part in parts:
             wrong, count = part()

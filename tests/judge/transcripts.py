@@ -1,8 +1,10 @@
 """Judges by plain conditions whether the program may write a text for a script, for some timing of its readers.
 
 The conditions are those of docs/SCRIPT.md, written by hand and apart from the program's own definitions: every item is accepted,
-or refused with the first reason that fits, in its place; each search has one answer, at a version that was published in the run,
-no older than what its reader knew, and with exactly the lines that match, in order of names and lines.
+or refused with the first reason that fits, in its place; each search has one entry. It is an answer at a version that was published
+in the run, no older than what its reader knew, and with exactly the lines that match, in order of names and lines; or the search is
+refused, `cancelled` by a cancel that finds it open, and `too slow` only where searches have a limit of time. A status shows what is so
+in its place.
 
 Lines are matched by Python's `re`, but only for plain patterns: bytes, `.`, sets of letters and digits, `*`, `+`, `?`, groups that
 contain no other group, `|`, `^`, `$`, and a backslash before one of these marks. For these, `re` and an extended regular expression
@@ -18,6 +20,8 @@ import re
 from built import TOP
 
 MAX_BODY, MAX_LINE, MAX_PATTERN = 1_048_576, 16_384, 1_024
+# While so many searches are open, no item is taken.
+MOST_OPEN = 256
 
 ATOM = rb"(?:[^\x00\n.\[\\()*+?{|^$]|\.|\[\^?(?:a-z|A-Z|0-9|[0-9A-Za-z_ ])+\]|\\[.\[\\()*+?{|^$])"
 PIECES = rb"(?:%s[*+?]?|[\^$])*" % ATOM
@@ -25,7 +29,11 @@ GROUP = rb"\(%s(?:\|%s)*\)" % (PIECES, PIECES)
 PLAIN = re.compile(rb"(?:(?:%s|%s)[*+?]?|[\^$|])*" % (ATOM, GROUP))
 
 HEAD = re.compile(rb"search (\d+) version (\d+) lines (\d+)( candidates (\d+) of (\d+))?\n")
-REFUSED = re.compile(rb"(search|line) (\d+) refused: ([^\n]*)\n")
+REFUSED = re.compile(rb"(search|line) (0|[1-9]\d*) refused: ([^\n]*)\n")
+STATUS = re.compile(rb"line (\d+) status version \d+ documents \d+ bytes \d+ accepted \d+ of \d+ open (\d+)\n")
+
+# The refusals that a search may have once it is open, and not for its patterns.
+GIVEN_UP = ("cancelled", "too slow", "out of memory")
 
 
 # The words of a search: whether it has a name pattern, and whether it ignores case in its pattern.
@@ -61,7 +69,8 @@ class Files:
 
 
 class Item:
-    """A line of a script that asks for something, with its words. A search has its number, anything else its line."""
+    """A line of a script that asks for something, with its words. A search has its number, anything else its line. A cancel has the
+    number of a search, and whether one of that number was asked before it."""
 
     def __init__(self, kind, number, **words):
         self.kind, self.number, self.words = kind, number, words
@@ -70,19 +79,31 @@ class Item:
     def is_search(self):
         return self.kind in SEARCHES
 
+    def cancels(self, number):
+        return self.kind == "cancel" and self.words["search"] == number
+
+
+def number_of(digits):
+    """The number that digits spell, or some number above all searches if there are very many digits."""
+    return int(digits.lstrip(b"0")[:20] or b"0")
+
 
 def items_of(script):
     """The items of a script."""
-    items, at, searches = [], 0, 0
+    items, at, counted, line_number, searches = [], 0, 0, 1, 0
     while at < len(script):
-        line_number = script.count(b"\n", 0, at) + 1
-        line, feed, _ = script[at:].partition(b"\n")
+        line_number += script.count(b"\n", counted, at)
+        counted, end = at, script.find(b"\n", at)
+        line, feed = (script[at:end], b"\n") if end >= 0 else (script[at:], b"")
         at += len(line) + len(feed)
         word, space, rest = line.partition(b" ")
         if line == b"" or line.startswith(b"#"):
             continue
-        if line in (b"publish", b"sync"):
+        if line in (b"publish", b"sync", b"status"):
             items.append(Item(line.decode(), line_number))
+        elif word == b"cancel" and re.fullmatch(rb"[0-9]+", rest):
+            number = number_of(rest)
+            items.append(Item("cancel", line_number, search=number, is_asked=0 < number <= searches))
         elif word in (b"search", b"isearch") or word in (b"searchin", b"isearchin") and b" " in rest:
             searches += 1
             named, ignores_case = SEARCHES[word.decode()]
@@ -109,11 +130,15 @@ def items_of(script):
 
 
 def entries_of(text):
-    """The entries of a text in order, as (what it is for, its number, the reason or None, the version or None, all its bytes)."""
+    """The entries of a text in order, as (what it is for, its number, the reason or None, the version or None, all its bytes). Only
+    that of a status is for a line and has no reason."""
     entries, at = [], 0
     while at < len(text):
-        refused, head = REFUSED.match(text, at), HEAD.match(text, at)
-        if refused:
+        refused, head, status = REFUSED.match(text, at), HEAD.match(text, at), STATUS.match(text, at)
+        if status:
+            end = status.end()
+            entries.append(("line", int(status[1]), None, None, text[at:end]))
+        elif refused:
             end = refused.end()
             entries.append((refused[1].decode(), int(refused[2]), refused[3].decode("latin-1"), None, text[at:end]))
         elif head:
@@ -165,16 +190,18 @@ def test_of(pattern, table, ignores_case=False):
 class Run:
     """What is known of a run at one of its items: what is accepted so far, and which versions were published and where."""
 
-    def __init__(self, files, max_commands, scarce):
-        self.files, self.max_commands, self.scarce = files, max_commands, scarce
+    def __init__(self, files, max_commands, scarce, timed):
+        self.files, self.max_commands, self.scarce, self.timed = files, max_commands, scarce, timed
         self.states = [{}]  # the documents after each number of accepted commands
         self.published = []  # pairs of a place among the items and a version
 
     def reasons(self, item):
-        """The reasons of which this item, which is not a search, must have one; None means that it is accepted."""
+        """The reasons of which this item, which is not a search, must have one; None means that it is not refused."""
         kind, words, now = item.kind, item.words, self.states[-1]
-        if kind in ("bad", "sync"):
+        if kind in ("bad", "sync", "status"):
             return [words.get("reason")]
+        if kind == "cancel":
+            return [None if words["is_asked"] else "no such search"]
         fault = None if kind == "publish" else fault_of_name(words["name"])
         scarce = ["out of memory"] if self.scarce and not fault else []
         if kind == "load":
@@ -203,12 +230,33 @@ class Run:
         """The version that the last publish before a place published."""
         return max((version for at, version in self.published if at < place), default=0)
 
-    def versions(self, place, items, readers):
-        """The versions that a search at this place may be answered at."""
-        syncs = [at for at, item in enumerate(items) if item.kind == "sync" and at > place]
-        end = place if readers == 0 else syncs[0] if syncs else len(items)
+    def versions(self, place, end):
+        """The versions that a search at this place may be answered at, if its answer comes before the place `end`."""
         least, greatest = self.last_published(place), self.last_published(end)
         return {version for version in [0] + [version for _, version in self.published] if least <= version <= greatest}
+
+    def first_published(self, version):
+        """The place of the first publish of a version, or -1 for version 0, which needs none."""
+        return min(at for at, published in self.published if published == version) if version else -1
+
+    def may_give_up(self, item, reason):
+        """Whether a search whose patterns have no fault may be refused for this reason, if no cancel refuses it."""
+        is_known = bool(item.known) and item.known[2] == reason
+        if reason == "too slow":
+            return self.timed and (is_known or not item.known)
+        return reason == "out of memory" and (self.scarce or is_known)
+
+    def shown_open(self, place, item, entry):
+        """How many searches the entry of a status shows as open. It must show what is so in all else: the version that was published last,
+        its documents and their bytes, and the commands, published or not."""
+        version = self.last_published(place)
+        documents = self.states[version].values()
+        counts = version, len(documents), sum(map(len, documents)), len(self.states) - 1, self.max_commands
+        begin = b"line %d status version %d documents %d bytes %d accepted %d of %d open " % (item.number, *counts)
+        found = entry and STATUS.fullmatch(entry[4])
+        if not found or entry[4] != begin + b"%d\n" % int(found[2]):
+            raise Illegal("line %d, a status, has %r, and should have %r" % (item.number, entry and entry[4], begin))
+        return int(found[2])
 
 
 def answer(item, documents, version, table):
@@ -244,9 +292,9 @@ def check_answer(item, entry, documents, stats, table):
 
 
 def reason_of_search(item, table):
-    """The reason with which a search must be refused, or None. The name pattern is looked at first."""
+    """The reason for which a search must be refused when it is asked, or None. The name pattern is looked at first."""
     if item.known:
-        return item.known[2]
+        return item.known[2] if item.known[2] not in GIVEN_UP else None
     if item.words["name"] is not None:
         reason = fault_of_pattern(item.words["name"], table)
         if reason:
@@ -276,39 +324,83 @@ def pair(items, text):
     return entries
 
 
-def check(script, text, readers=2, max_commands=1_000_000, stats=False, files=None, table=None, scarce=False, known=None):
+def check(script, text, readers=2, max_commands=1_000_000, stats=False, files=None, table=None, scarce=False, known=None, timed=False):
     """Returns the status with which the run must end if the text is legal, and raises Illegal if it is not. `files` are the
     bytes by their paths, `table` the patterns that are not plain, each with the reason of its refusal or its spelling for `re`.
     Where memory is scarce, it may be refused to any item, and any reader may answer a search. `known` is a text whose entries the
-    searches must have."""
+    searches must have. `timed` is whether searches have a limit of time."""
     items, table = items_with_entries(script, known)[0], table or {}
     entries = pair(items, text)
-    run = Run(files or {}, max_commands, scarce)
+    run, statuses = Run(files or {}, max_commands, scarce, timed), []
     for place, (item, entry) in enumerate(zip(items, entries)):
         if item.is_search():
             continue
+        if item.kind == "status":
+            statuses.append((place, run.shown_open(place, item, entry)))
+            continue
         reason = entry[2] if entry else None
-        if reason not in run.reasons(item):
+        if reason not in run.reasons(item) or entry and not reason:
             raise Illegal("line %d, a %s, is %s, and should be %s" % (item.number, item.kind, reason or "accepted", " or ".join(map(str, run.reasons(item)))))
         if reason is None:
             run.carry_out(place, item)
-    shares = Shares(0 if scarce else readers)
+    shares, spans = Shares(0 if scarce else readers), []
     for place, (item, entry) in enumerate(zip(items, entries)):
         if not item.is_search():
             continue
         if entry is None:
-            raise Illegal("search %d has no answer" % item.number)
-        if entry[2] is not None or reason_of_search(item, table):
-            if entry[2] != reason_of_search(item, table) and not (scarce and entry[2] == "out of memory"):
-                raise Illegal("search %d is refused by %r, and should be by %r" % (item.number, entry[2], reason_of_search(item, table)))
-            continue
-        if entry[3] not in run.versions(place, items, readers):
-            raise Illegal("search %d is answered at version %d" % (item.number, entry[3]))
-        shares.take(item.number, entry[3])
-        check_answer(item, entry, run.states[entry[3]], stats, table)
+            raise Illegal("search %d has no entry" % item.number)
+        fault, reason, (end, is_cancel) = reason_of_search(item, table), entry[2], end_of(items, place, readers)
+        if fault:
+            if reason != fault and not (scarce and reason == "out of memory"):
+                raise Illegal("search %d is refused by %r, and should be by %r" % (item.number, reason, fault))
+        elif reason == "cancelled" and is_cancel:
+            spans.append((place, end, end))
+        elif reason is not None:
+            if not run.may_give_up(item, reason):
+                raise Illegal("search %d is refused by %r" % (item.number, reason))
+            spans.append((place, place, end))
+        else:
+            if entry[3] not in run.versions(place, end):
+                raise Illegal("search %d is answered at version %d" % (item.number, entry[3]))
+            shares.take(item.number, entry[3])
+            check_answer(item, entry, run.states[entry[3]], stats, table)
+            spans.append((place, max(place, run.first_published(entry[3])), end))
+    check_open(statuses, spans)
     if any(entry and entry[2] for entry in entries):
         return 2
     return 0 if any(entry and entry[4].count(b"\n") > 1 for entry in entries) else 1
+
+
+def end_of(items, place, readers):
+    """The place before which a search at this place has its entry, and whether a cancel is there, which refuses it if it has none. It is
+    that of the first cancel of the search or sync after it, or the end. Without readers it is the search's own."""
+    if readers == 0:
+        return place, False
+    for at in range(place + 1, len(items)):
+        if items[at].cancels(items[place].number):
+            return at, True
+        if items[at].kind == "sync":
+            return at, False
+    return len(items), False
+
+
+def check_open(statuses, spans):
+    """Raises Illegal unless the searches can have got their entries at such times that each status shows how many were open. A status
+    is given as its place and that number; a search as its place, the place after which it got its entry, and the one by which it did. If
+    several can have got theirs before a status, those did that had to do so first."""
+    spans, waiting = sorted(spans), []
+    for place, shown in statuses:
+        while spans and spans[0][0] < place:
+            _, first, last = spans.pop(0)
+            waiting.append((last, first))
+        can = sorted(span for span in waiting if span[1] < place)
+        must = sum(last < place for last, _ in can)
+        closed = len(waiting) - shown
+        if not must <= closed <= len(can) or shown >= MOST_OPEN:
+            counts = shown, len(waiting), must, len(can)
+            raise Illegal("a status shows %d open searches of %d, of which %d to %d had got their entries" % counts)
+        for span in can[:closed]:
+            waiting.remove(span)
 
 
 class Shares:
@@ -331,8 +423,9 @@ class Shares:
 
 
 class Steps:
-    """A session with readers, as far as its text shows. It takes items only when an entry, or the end, asks for it: nothing else
-    forbids that they were taken earlier. So it is legal if any order of steps is."""
+    """A session, as far as its text shows. It takes items only when an entry, or the end, asks for it: nothing else
+    forbids that they were taken earlier. So it is legal if any order of steps is. A cancel of a search that is open has its entry when
+    it is taken, so it is taken only for that entry."""
 
     def __init__(self, items, run, readers, table):
         self.items, self.run, self.readers, self.table = items, run, readers, table
@@ -341,9 +434,9 @@ class Steps:
         self.shares = Shares(0 if run.scarce else readers)
 
     def may_take(self, item):
-        """With no readers an item waits until nothing is open, and a sync always does."""
-        if self.open and (self.readers == 0 or item.kind == "sync"):
-            raise Illegal("the %s %d is taken while search %d is open" % (item.kind, item.number, min(self.open)))
+        """With no readers an item waits until nothing is open, and a sync always does. No item is taken while very many are open."""
+        if self.open and (self.readers == 0 or item.kind == "sync") or len(self.open) >= MOST_OPEN:
+            raise Illegal("the %s %d is taken while search %d is open, of %d" % (item.kind, item.number, min(self.open), len(self.open)))
 
     def take(self):
         """Takes the next item, which writes nothing: a search is open then, and anything else is accepted."""
@@ -353,6 +446,10 @@ class Steps:
             if reason_of_search(item, self.table):
                 raise Illegal("search %d is not refused" % item.number)
             self.open[item.number] = item, self.run.last_published(self.at)
+        elif item.kind == "status":
+            raise Illegal("line %d, a status, has no entry" % item.number)
+        elif item.kind == "cancel" and item.words["search"] in self.open:
+            raise Illegal("line %d cancels search %d, which is open and is not refused" % (item.number, item.words["search"]))
         else:
             if None not in self.run.reasons(item):
                 raise Illegal("line %d, a %s, is accepted, and should be %s" % (item.number, item.kind, self.run.reasons(item)[0]))
@@ -365,25 +462,50 @@ class Steps:
         while self.at < place:
             self.take()
 
+    def take_search(self, place):
+        """Takes the search at this place, unless it is open."""
+        if self.items[place].number not in self.open:
+            self.take_before(place)
+            self.take()
+
     def refuse(self, place, reason):
         """Takes an item that is refused at once."""
         self.take_before(place)
         item = self.items[place]
         self.may_take(item)
-        if item.is_search():
-            reasons = [reason_of_search(item, self.table)] + (["out of memory"] if self.run.scarce else [])
-        else:
-            reasons = self.run.reasons(item)
-        if reason not in reasons:
+        reasons = [reason_of_search(item, self.table)] if item.is_search() else self.run.reasons(item)
+        if reason not in reasons and not (item.is_search() and reason == "out of memory" and self.run.may_give_up(item, reason)):
             raise Illegal("%s %d is refused by %r, and should be by %r" % (item.kind, item.number, reason, reasons[0]))
+        self.at += 1
+
+    def give_up(self, place, reason):
+        """Refuses a search that is open: by the next cancel of it, which is taken now, or for a reason of its own."""
+        self.take_search(place)
+        item = self.items[place]
+        if reason == "cancelled":
+            cancel = next((at for at in range(self.at, len(self.items)) if self.items[at].cancels(item.number)), None)
+            if cancel is None:
+                raise Illegal("search %d is cancelled, and no cancel of it is left" % item.number)
+            self.take_before(cancel)
+            self.may_take(self.items[cancel])
+            self.at += 1
+        elif not self.run.may_give_up(item, reason):
+            raise Illegal("search %d is refused by %r after it was taken" % (item.number, reason))
+        del self.open[item.number]
+
+    def show(self, place, entry):
+        """Takes a status, which shows what is so now."""
+        self.take_before(place)
+        item = self.items[place]
+        self.may_take(item)
+        if item.kind != "status" or self.run.shown_open(place, item, entry) != len(self.open):
+            raise Illegal("line %d, a %s, has %r, and %d searches are open" % (item.number, item.kind, entry[4], len(self.open)))
         self.at += 1
 
     def answer(self, place, entry, stats):
         """Answers a search at a version that is published by now, and not older than when it was asked."""
         number, version = self.items[place].number, entry[3]
-        if number not in self.open:
-            self.take_before(place)
-            self.take()
+        self.take_search(place)
         item, least = self.open[number]
         while version and version not in (published for _, published in self.run.published):
             if self.at == len(self.items):
@@ -395,28 +517,32 @@ class Steps:
         del self.open[number]
         self.shares.take(number, version)
 
+    def write(self, place, entry, stats):
+        """Takes the steps that lead to an entry."""
+        what, number, reason, version, _ = entry
+        if version is not None:
+            self.answer(place, entry, stats)
+        elif reason is None:
+            self.show(place, entry)
+        elif what == "search" and (number in self.open or reason in ("cancelled", "too slow")):
+            self.give_up(place, reason)
+        else:
+            self.refuse(place, reason)
 
-def check_session(script, text, readers=2, max_commands=1_000_000, stats=False, files=None, table=None, scarce=False, known=None, whole=True):
+
+def check_session(script, text, readers=2, max_commands=1_000_000, stats=False, files=None, table=None, scarce=False, known=None, timed=False, whole=True):
     """As `check`, for a session: each answer is written as soon as it is there, and only the other entries keep the order of
     their items. An answer has a version that is published by then. If the text is not whole, since the session ended early, searches
     may still be open and items left."""
     items, places = items_with_entries(script, known)
-    steps, refused, hit = Steps(items, Run(files or {}, max_commands, scarce), readers, table or {}), False, False
+    steps, refused, hit = Steps(items, Run(files or {}, max_commands, scarce, timed), readers, table or {}), False, False
     for entry in entries_of(text):
         place = places.get(entry[:2])
         if place is None:
             raise Illegal("there is no item for the entry %r" % entry[4][:60])
-        if entry[2] is None:
-            steps.answer(place, entry, stats)
-            hit = hit or entry[4].count(b"\n") > 1
-            continue
-        refused = True
-        if entry[0] == "search" and entry[1] in steps.open:
-            if not scarce or entry[2] != "out of memory":
-                raise Illegal("search %d is refused by %r after it was taken" % (entry[1], entry[2]))
-            del steps.open[entry[1]]
-        else:
-            steps.refuse(place, entry[2])
+        steps.write(place, entry, stats)
+        refused = refused or entry[2] is not None
+        hit = hit or entry[4].count(b"\n") > 1
     if not whole:
         return 2
     steps.take_before(len(items))

@@ -16,19 +16,20 @@ use Rattle.clap.proofs.FaultLemmas.{free_args}
 use Rattle.clap.proofs.OnLiterals.{clap_on_literals}
 use Rattle.clap.proofs.SimpleLemmas.{ready_simple, simple_groups}
 use Rattle.cli.specs.CommandLine.{command_line}
-use Rattle.cli.specs.declared.limits.TheConstants.{MAX_COMMANDS, MAX_READERS}
+use Rattle.cli.specs.declared.limits.TheConstants.{MAX_COMMANDS, MAX_READERS, MAX_SEARCH_MS}
 
 -- the argument at a place takes a number from `low` to `high`
 abbrev pub TakesNumber : Command → ℕ → ℕ → ℕ → Type 0
 TakesNumber c place low high =
     (d : Arg) → (slice_index_or (args_of c) place d).value_parser ≡ Some (Signed (pos low) (pos high))
 
--- the command has the program's options, of which two take a number within limits, and none excludes another
+-- the command has the program's options, of which three take a number within limits, and none excludes another
 pub record HasOptions (c : Command) : Type 0 where
   pub names : map (λ a. a.id.now) (args_of c)
-      ≡ codes "readers" ∷ codes "stats" ∷ codes "max-commands" ∷ codes "live" ∷ codes "FILE" ∷ []
+      ≡ codes "readers" ∷ codes "stats" ∷ codes "max-commands" ∷ codes "live" ∷ codes "search-ms" ∷ codes "FILE" ∷ []
   pub readers : TakesNumber c 0 0 MAX_READERS
   pub max_commands : TakesNumber c 2 1 MAX_COMMANDS
+  pub search_ms : TakesNumber c 4 1 MAX_SEARCH_MS
   pub plain : IsPlain c
   pub local : (out-Command c).has_globals ≡ false
 
@@ -52,7 +53,8 @@ fields : {X : Type 0} (f : Rule → X) (c : Command) → app_of c ≡ command_li
 fields f c is = map_rules f (args_of c) ∙ ap (λ (a : App). map f a.top.rules) is
 
 abbrev parsers : List (Option ValueParser)
-parsers = Some (Signed (pos 0) (pos MAX_READERS)) ∷ None ∷ Some (Signed (pos 1) (pos MAX_COMMANDS)) ∷ None ∷ None ∷ []
+parsers = Some (Signed (pos 0) (pos MAX_READERS)) ∷ None ∷ Some (Signed (pos 1) (pos MAX_COMMANDS)) ∷ None
+    ∷ Some (Signed (pos 1) (pos MAX_SEARCH_MS)) ∷ None ∷ []
 
 pub has_options : (c : Command) → app_of c ≡ command_line → HasOptions c
 has_options c is =
@@ -62,15 +64,18 @@ has_options c is =
     let alone = simple_groups c (ap (λ (s : Shape). list_all (λ (a : Rule). a.is_simple) s.rules) shape) in
     let names = fields (λ (r : Rule). r.id) c is in
     let takes : map (λ (a : Arg). a.value_parser) (args_of c) ≡ parsers = fields (λ (r : Rule). r.parser) c is in
-    let five : length (args_of c) ≡ 5 = sym (length-map (args_of c) (λ (a : Arg). a.value_parser)) ∙ ap length takes in
+    let six : length (args_of c) ≡ 6 = sym (length-map (args_of c) (λ (a : Arg). a.value_parser)) ∙ ap length takes in
     record {
       names = names;
       readers = λ d.
-          let low : 0 < length (args_of c) = rw five (omega arith) in
+          let low : 0 < length (args_of c) = rw six (omega arith) in
           sym (get_or-map (λ (a : Arg). a.value_parser) (args_of c) 0 d None low) ∙ ap (λ (l : List (Option ValueParser)). slice_index_or l 0 None) takes;
       max_commands = λ d.
-          let low : 2 < length (args_of c) = rw five (omega arith) in
+          let low : 2 < length (args_of c) = rw six (omega arith) in
           sym (get_or-map (λ (a : Arg). a.value_parser) (args_of c) 2 d None low) ∙ ap (λ (l : List (Option ValueParser)). slice_index_or l 2 None) takes;
+      search_ms = λ d.
+          let low : 4 < length (args_of c) = rw six (omega arith) in
+          sym (get_or-map (λ (a : Arg). a.value_parser) (args_of c) 4 d None low) ∙ ap (λ (l : List (Option ValueParser)). slice_index_or l 4 None) takes;
       plain = (λ k d low. ((free k d low).exclusive, (free k d low).conflicts, (free k d low).overrides, alone k d low), simple.groups);
       local = simple.globals;
     }

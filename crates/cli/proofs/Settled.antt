@@ -1,10 +1,10 @@
 -- What a getter returns for an argument's text, or the default if there is no text.
 use Rattle.std.proofs.Common.{◌≡◌, ◌∙◌, ◌⊎◌, ◌≤◌, ap, sym, refl, subst, inl, inr, true, false, Bool, arith, ℕ, List, [], Option, Some, None, codes}
 use Rattle.std.specs.List.{slice_index_or}
-use Rattle.std.specs.Prelude.{◌↔◌, Result, Ok, unwrap_or}
+use Rattle.std.specs.Prelude.{◌↔◌, Result, Ok, IfSome, option_map, unwrap_or}
 use Rattle.std.specs.Str.Parse.{ParsesBool, ParsesUnsigned}
 use Rattle.clap.specs.Matches.{ReadsOne}
-use Rattle.cli.specs.CommandLine.{number_or}
+use Rattle.cli.specs.CommandLine.{number_of, number_or}
 
 module _ (E : Type 0) (G : List ℕ → Result ℕ E → Type 0) (only : (u : List ℕ) (x : Result ℕ E) → G u x → ParsesUnsigned 32 10 u x) where
   -- a number within its limits, or a default within them
@@ -20,6 +20,17 @@ module _ (E : Type 0) (G : List ℕ → Result ℕ E → Type 0) (only : (u : Li
       let at : v ≡ some.0 = is ∙ ap (λ (o : Option ℕ). unwrap_or o d) some.1 in
       let parsed = only t (Ok some.0) (subst (λ (o : Option ℕ). ReadsOne G t o) some.1 (value t refl)) in
       (at ∙ parsed.1, rw at some.2, rw at some.3)
+
+  -- a number within its limits, or none
+  pub settled_optional : (text : Option (List ℕ)) (read : Option ℕ) (low high : ℕ) → (text ≡ None → read ≡ None)
+      → ((t : List ℕ) → text ≡ Some t → ReadsOne G t read)
+      → ((text ≡ None) ⊎ ((n : ℕ) × (read ≡ Some n) × (low ≤ n) × (n ≤ high)))
+      → (read ≡ option_map number_of text) × IfSome read (λ n. (low ≤ n) × (n ≤ high))
+  settled_optional None read low high none value given = (none refl, rw (none refl) tt)
+  settled_optional (Some t) read low high none value (inl bad) = cc
+  settled_optional (Some t) read low high none value (inr some) =
+      let parsed = only t (Ok some.0) (subst (λ (o : Option ℕ). ReadsOne G t o) some.1 (value t refl)) in
+      (some.1 ∙ ap Some parsed.1, rw some.1 (some.2, some.3))
 
 -- a flag is set if its text is `true`
 pub settled_flag : (E : Type 0) (text : Option (List ℕ)) (read : Option Bool) (v : Bool) → v ≡ unwrap_or read false

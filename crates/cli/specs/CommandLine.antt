@@ -1,5 +1,6 @@
--- The command line `tsearch [--readers N] [--stats] [--max-commands N] [--live] [FILE]`, and what arguments ask for with it.
-use Rattle.std.specs.Prelude.{◌≡◌, ◌≢◌, ◌≤◌, ◌<◌, ◌↔◌, ℕ, List, [], Option, Some, None, true, codes, option_map, pos, ⊤}
+-- The command line `tsearch [--readers N] [--stats] [--max-commands N] [--live] [--search-ms N] [FILE]`, and what arguments
+-- ask for with it.
+use Rattle.std.specs.Prelude.{◌≡◌, ◌≢◌, ◌≤◌, ◌<◌, ◌↔◌, ℕ, List, [], Option, Some, None, true, codes, option_map, IfSome, pos, ⊤}
 use Rattle.std.specs.Str.Parse.{digits_value, without_leading_plus}
 use Rattle.clap.specs.Kinds.{IsAmong, Kinds}
 use Rattle.clap.specs.Faults.{fault_of}
@@ -12,7 +13,7 @@ use Rattle.clap.specs.declared.error.kind.ErrorKind.TheVariants.{DisplayHelp, Di
 use Rattle.cli.specs.declared.arguments.Request.{Request}
 use Rattle.cli.specs.declared.arguments.Request.TheVariants.{Run, Help, Version}
 use Rattle.cli.specs.declared.arguments.Settings.{Settings}
-use Rattle.cli.specs.declared.limits.TheConstants.{DEFAULT_MAX_COMMANDS, DEFAULT_READERS, MAX_COMMANDS, MAX_READERS}
+use Rattle.cli.specs.declared.limits.TheConstants.{DEFAULT_MAX_COMMANDS, DEFAULT_READERS, MAX_COMMANDS, MAX_READERS, MAX_SEARCH_MS}
 use Rattle.cli.specs.declared.error.ArgumentError.{ArgumentError}
 use Rattle.cli.specs.declared.error.ArgumentError.TheVariants as error
 
@@ -30,20 +31,25 @@ abbrev pub with_version : App → App
 with_version app = record app { top = record app.top { has_version = true } }
 
 abbrev pub command_line : App
-command_line = with_rule (with_rule (with_rule (with_rule (with_rule (with_version (new_app (codes "tsearch")))
+command_line = with_rule (with_rule (with_rule (with_rule (with_rule (with_rule (with_version (new_app (codes "tsearch")))
     (number_option (codes "readers") 0 MAX_READERS))
     (flag (codes "stats")))
     (number_option (codes "max-commands") 1 MAX_COMMANDS))
     (flag (codes "live")))
+    (number_option (codes "search-ms") 1 MAX_SEARCH_MS))
     (new_rule (codes "FILE"))
 
 -- what `clap` finds in the arguments when it reads them by this command line
 abbrev pub found_in : List Text → List Row
 found_in arguments = matches_of command_line arguments
 
+-- the number that the text spells
+abbrev pub number_of : Text → ℕ
+number_of text = digits_value 10 (without_leading_plus text)
+
 -- the number that the text spells, or the default if there is no text
 abbrev pub number_or : ℕ → Option Text → ℕ
-number_or default (Some text) = digits_value 10 (without_leading_plus text)
+number_or default (Some text) = number_of text
 number_or default None = default
 
 -- what is wrong with the arguments, if anything is: what `clap` refuses
@@ -56,12 +62,14 @@ pub record IsSettingsIn (found : List Row) (settings : Settings) : Type 0 where
   pub readers : settings.readers ≡ number_or DEFAULT_READERS (one_of (codes "readers") found)
   pub max_commands : settings.max_commands ≡ number_or DEFAULT_MAX_COMMANDS (one_of (codes "max-commands") found)
   pub stats : (settings.stats ≡ true) ↔ (one_of (codes "stats") found ≡ Some (codes "true"))
+  pub search_ms : settings.search_ms ≡ option_map number_of (one_of (codes "search-ms") found)
   pub file : option_map (λ path. path.now) settings.file ≡ first_of (codes "FILE") found
 
 pub record IsInLimits (settings : Settings) : Type 0 where
   pub readers : settings.readers ≤ MAX_READERS
   pub some_commands : 0 < settings.max_commands
   pub few_commands : settings.max_commands ≤ MAX_COMMANDS
+  pub search_ms : IfSome settings.search_ms (λ ms. (0 < ms) × (ms ≤ MAX_SEARCH_MS))
 
 -- Nothing is wrong with the arguments, and they give these settings.
 pub record SpellSettings (arguments : List Text) (settings : Settings) : Type 0 where

@@ -11,6 +11,7 @@ pub record AreSameSettings (one other : Settings) : Type 0 where
   pub readers : one.readers ≡ other.readers
   pub max_commands : one.max_commands ≡ other.max_commands
   pub stats : one.stats ≡ other.stats
+  pub search_ms : one.search_ms ≡ other.search_ms
   pub file : option_map (λ path. path.now) one.file ≡ option_map (λ path. path.now) other.file
 
 -- Arguments spell one set of settings at most.

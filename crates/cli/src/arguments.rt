@@ -8,7 +8,9 @@ ghost use Rattle.cli.specs.CommandLine.{IsInLimits, IsRefusalOf, IsRequestOf, Is
 
 use crate::error::ArgumentError;
 use crate::help::{HELP, VERSION};
-use crate::limits::{DEFAULT_MAX_COMMANDS, DEFAULT_READERS, MAX_COMMANDS, MAX_READERS};
+use crate::limits::{
+    DEFAULT_MAX_COMMANDS, DEFAULT_READERS, MAX_COMMANDS, MAX_READERS, MAX_SEARCH_MS,
+};
 use clap::error::ErrorKind;
 use clap::{Arg, ArgAction, Command, Error, value_parser};
 use std::alloc::{AllocError, Global};
@@ -24,6 +26,9 @@ pub struct Settings<'a> {
     pub max_commands: u32,
     /// `--stats`: whether each answer shows its number of candidates and of documents.
     pub stats: bool,
+    /// `--search-ms`: after how many milliseconds a search that has no answer yet is given up, 1 to 4,294,967,295, if
+    /// there is such a limit.
+    pub search_ms: Option<u32>,
     /// `FILE`: the path of the script, if it is not standard input.
     pub file: Option<&'a str>,
 }
@@ -84,11 +89,13 @@ fn read_settings<'a>(alloc: Global, arguments: &'a [String]) -> Result<Settings<
     let max_commands = matches.get_one::<u32>("max-commands");
     let stats = matches.get_one::<bool>("stats");
     let live = matches.get_one::<bool>("live");
+    let search_ms = matches.get_one::<u32>("search-ms");
     Ok(Settings {
         live: live.unwrap_or(false),
         readers: readers.unwrap_or(DEFAULT_READERS),
         max_commands: max_commands.unwrap_or(DEFAULT_MAX_COMMANDS),
         stats: stats.unwrap_or(false),
+        search_ms,
         file: matches.get_str("FILE"),
     })
 }
@@ -111,6 +118,10 @@ fn command<'a>(alloc: Global) -> Result<Command<'a>, AllocError>
     let live = Arg::new(alloc, "live")
         .long("live")
         .action(ArgAction::SetTrue);
+    let search_ms = Arg::new(alloc, "search-ms")
+        .long("search-ms")
+        .value_name("N")
+        .value_parser(value_parser!(u32).range(1..=MAX_SEARCH_MS as i64));
     let file = Arg::new(alloc, "FILE");
     Command::new(alloc, "tsearch")
         .bin_name("tsearch")?
@@ -120,5 +131,6 @@ fn command<'a>(alloc: Global) -> Result<Command<'a>, AllocError>
         .arg(stats)?
         .arg(max_commands)?
         .arg(live)?
+        .arg(search_ms)?
         .arg(file)
 }

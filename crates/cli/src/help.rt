@@ -20,6 +20,8 @@ Options:
                           [default: 1000000]
       --live              Carries out each line as it arrives, and writes each answer as soon as it
                           is there, whichever search was asked first
+      --search-ms <N>     Gives a search up that has no answer N milliseconds after it was asked,
+                          1 to 4294967295 [default: no limit]
   -h, --help              Shows this help
   -V, --version           Shows the version
 
@@ -33,6 +35,8 @@ A script is a list of lines:
   isearch ERE, isearchin NAMES ERE
                       do the same with the case of letters ignored in ERE
   sync                waits until the searches before it are answered
+  cancel K            gives up search K, if it has no answer yet
+  status              shows the version, documents, bytes, commands and open searches
   # COMMENT           does nothing, and neither does an empty line
 
 Names and NAMES have no space. An ERE is everything after its space. A document

@@ -11,3 +11,6 @@ pub const MAX_COMMANDS: u32 = 4_294_967_294;
 
 /// The greatest number of accepted commands if the arguments give none.
 pub const DEFAULT_MAX_COMMANDS: u32 = 1_000_000;
+
+/// The greatest limit of time for a search, in milliseconds.
+pub const MAX_SEARCH_MS: u32 = 4_294_967_295;

@@ -32,6 +32,7 @@ fn settings_have_defaults(rt: HostRuntime) -> Result<(), Fail> {
         readers: 2,
         max_commands: 1_000_000,
         stats: false,
+        search_ms: None,
         file: None,
     };
     assert_gives(&rt, rt.alloc(), &[], wanted)
@@ -51,6 +52,7 @@ fn each_option_is_read_by_its_name(rt: HostRuntime) -> Result<(), Fail> {
         readers: 16,
         max_commands: 4_294_967_294,
         stats: true,
+        search_ms: None,
         file: Some("a file"),
     };
     assert_gives(&rt, rt.alloc(), &texts, wanted)
@@ -63,6 +65,7 @@ fn session<'a>(readers: u32) -> Settings<'a> {
         readers,
         max_commands: 1_000_000,
         stats: false,
+        search_ms: None,
         file: None,
     }
 }
@@ -75,6 +78,7 @@ fn a_session_has_the_defaults_of_a_run(rt: HostRuntime) -> Result<(), Fail> {
         readers: 2,
         max_commands: 65536,
         stats: true,
+        search_ms: None,
         file: Some("a"),
     };
     let texts = ["--live", "--stats", "--max-commands", "65536", "a"];
@@ -106,12 +110,43 @@ fn live_is_given_once_and_without_a_value(rt: HostRuntime) -> Result<(), Fail> {
 }
 
 #[test]
+fn a_search_has_a_limit_of_time_if_one_is_given(rt: HostRuntime) -> Result<(), Fail> {
+    let least = Settings {
+        search_ms: Some(1),
+        ..session(2)
+    };
+    assert_gives(&rt, rt.alloc(), &["--live", "--search-ms", "1"], least)?;
+    let greatest = Settings {
+        live: false,
+        search_ms: Some(4_294_967_295),
+        file: Some("a"),
+        ..session(2)
+    };
+    assert_gives(&rt, rt.alloc(), &["--search-ms=4294967295", "a"], greatest)
+}
+
+#[test]
+fn other_limits_of_time_are_refused(rt: HostRuntime) -> Result<(), Fail> {
+    let begin = "error: invalid value '0' for '--search-ms <N>'";
+    assert_refused(&rt, rt.alloc(), &["--search-ms", "0"], begin)?;
+    let begin = "error: invalid value";
+    assert_refused(&rt, rt.alloc(), &["--search-ms", "4294967296"], begin)?;
+    assert_refused(&rt, rt.alloc(), &["--search-ms", "soon"], begin)?;
+    let twice = "error: the argument '--search-ms <N>' cannot be used multiple times";
+    let texts = ["--search-ms", "1", "--search-ms", "1"];
+    assert_refused(&rt, rt.alloc(), &texts, twice)?;
+    let begin = "error: a value is required";
+    assert_refused(&rt, rt.alloc(), &["--search-ms"], begin)
+}
+
+#[test]
 fn least_numbers_are_read(rt: HostRuntime) -> Result<(), Fail> {
     let wanted = Settings {
         live: false,
         readers: 0,
         max_commands: 1,
         stats: false,
+        search_ms: None,
         file: Some("-"),
     };
     let texts = ["--readers=0", "--max-commands", "1", "-"];

@@ -154,7 +154,7 @@ front_few : (b : ℕ) (lines : List (List ℕ)) → length (with_byte_in_front b
 front_few b [] = omega arith
 front_few b (line ∷ lines) = omega arith
 
-lines_few : (text : List ℕ) → length (lines_of text) ≤ length text
+pub lines_few : (text : List ℕ) → length (lines_of text) ≤ length text
 unfolding lines_of
 lines_few [] = omega arith
 lines_few (b ∷ text) = next (b == 10) (lines_few text)

@@ -15,3 +15,4 @@ mod translate;
 pub use compiled::Compiled;
 pub use finding::{Finder, FirstLine};
 pub use laws::first_line_is_one;
+pub use line::{line_start, lines_before};

@@ -19,7 +19,7 @@ use Rattle.stream.specs.Owned.{ShowsOwned}
 use Rattle.reads.specs.declared.item.ReadItem.{ReadItem}
 use Rattle.reads.specs.Read.{AreShown, none, one_more}
 use Rattle.steps.specs.Entries.{failures_of}
-use Rattle.steps.specs.LegalRows.{IsFailedTimes, greatest_failures, IsPut}
+use Rattle.steps.specs.LegalRows.{Limits, IsFailedTimes, greatest_failures, IsPut}
 use Rattle.steps.specs.LegalRows as legal
 use Rattle.steps.specs.Rows.{is_sync, version_in, failures_in}
 use Rattle.steps.specs.Steps.{RunState, IsStep, MayTake, Runs, begins, goes_on}
@@ -35,6 +35,7 @@ use Rattle.transcript.specs.Transcript.{is_refusal, has_hit, text_of_entry, text
 use Rattle.transcript.specs.Written.{AppendsFront}
 use Rattle.live.specs.declared.marks.Marks.{Marks}
 use Rattle.live.specs.declared.serving.LiveOptions.{LiveOptions}
+use Rattle.live.specs.Served.{limits_in}
 use Rattle.live.specs.Private.Serving.{marks_with, marks_of, first_run, Carry, MayTakeNow, settled, beside}
 
 -- a list of what was read, and what it shows
@@ -68,6 +69,8 @@ shown_some owned.Publish = (item.publish, refl)
 shown_some (owned.Search case pattern) = (item.search case pattern.items, refl)
 shown_some (owned.SearchIn case name_pattern pattern) = (item.search_in case name_pattern.items pattern.items, refl)
 shown_some owned.Sync = (item.sync, refl)
+shown_some (owned.Cancel number) = (item.cancel number, refl)
+shown_some owned.Status = (item.status, refl)
 shown_some owned.BadLine = (item.bad_line, refl)
 shown_some owned.BadPut = (item.bad_put, refl)
 shown_some owned.Truncated = (item.truncated, refl)
@@ -83,6 +86,8 @@ no_sync_shown owned.Publish i other shows = ap is_sync shows
 no_sync_shown (owned.Search case pattern) i other shows = ap is_sync shows
 no_sync_shown (owned.SearchIn case name_pattern pattern) i other shows = ap is_sync shows
 no_sync_shown owned.Sync i other shows = absurd (other refl)
+no_sync_shown (owned.Cancel number) i other shows = ap is_sync shows
+no_sync_shown owned.Status i other shows = ap is_sync shows
 no_sync_shown owned.BadLine i other shows = ap is_sync shows
 no_sync_shown owned.BadPut i other shows = ap is_sync shows
 no_sync_shown owned.Truncated i other shows = ap is_sync shows
@@ -153,6 +158,7 @@ written_all start now text appended = record { front = text; rest = []; whole = 
 pub no_failure_given : (old new : ServiceState) (entry : Entry) → Gives old entry new → failures_in (Some entry) ≡ 0
 no_failure_given old new entry (service.answered place search reader turn answer is_open can next is after) = ap (λ e. failures_in (Some e)) is
 no_failure_given old new entry (service.not_answered place search is_open is after) = ap (λ e. failures_in (Some e)) is
+no_failure_given old new entry (service.too_slow place search timed is_open is after) = ap (λ e. failures_in (Some e)) is
 
 -- An entry of a put is neither a failed load nor a publish.
 pub plain_put : (most : ℕ) (state : State) (name body : List ℕ) (line : ℕ) (entry : Entry) → IsPut most state name body line entry
@@ -169,8 +175,8 @@ plain_put most state name body line entry (legal.named is_name (legal.with_body 
 module _ (Holds : List ℕ → List ℕ → Type 0) (options : LiveOptions) where
   -- An open search got its entry.
   pub given : (taken : List ReadItem) (entries : List Entry) (old new : ServiceState) (published : List ℕ) (entry : Entry)
-      → old.limit ≡ options.max_commands → Fits old published → Carry Holds options taken entries (run_of old published) → Gives old entry new
-      → Carry Holds options taken (entries ++ entry ∷ []) (run_of new published) × Fits new published × (new.limit ≡ options.max_commands)
+      → old.limits ≡ limits_in options → Fits old published → Carry Holds options taken entries (run_of old published) → Gives old entry new
+      → Carry Holds options taken (entries ++ entry ∷ []) (run_of new published) × Fits new published × (new.limits ≡ limits_in options)
   given taken entries old new published entry limit fits carry gives =
       let step = gives_step Holds old published options.readers fits entry new gives in (
         λ items shown.
@@ -178,16 +184,16 @@ module _ (Holds : List ℕ → List ℕ → Type 0) (options : LiveOptions) wher
             (subst (λ m. IsStep Holds m options.readers (run_of old published) [] (entry ∷ []) (run_of new published)) limit step.step)
             (sym (append-nil items)) refl,
         step.fits,
-        step.limit ∙ limit,
+        step.limits ∙ limit,
       )
 
   -- An item was taken.
   pub took : (taken : List ReadItem) (entries : List Entry) (old new : ServiceState) (published : List ℕ) (read : ReadItem) (written : List Entry)
-      → old.limit ≡ options.max_commands → Fits old published → Carry Holds options taken entries (run_of old published)
+      → old.limits ≡ limits_in options → Fits old published → Carry Holds options taken entries (run_of old published)
       → MayTakeNow options.readers old read.item
       → ((i : Item) → ShowsOwned read.item i → Takes Holds old (numbered read.line i) written new)
       → Carry Holds options (taken ++ read ∷ []) (entries ++ written) (run_of new (published ++ versions_in written))
-      × Fits new (published ++ versions_in written) × (new.limit ≡ options.max_commands)
+      × Fits new (published ++ versions_in written) × (new.limits ≡ limits_in options)
   took taken entries old new published read written limit fits carry may takes =
       let some = shown_some read.item in
       let one = this some.0 some.1 in (
@@ -197,7 +203,7 @@ module _ (Holds : List ℕ → List ℕ → Type 0) (options : LiveOptions) wher
             (subst (λ m. IsStep Holds m options.readers (run_of old published) (numbered read.line last.1 ∷ []) written (run_of new (published ++ versions_in written)))
             limit (this last.1 last.4).step) last.2 refl,
         one.fits,
-        one.limit ∙ limit,
+        one.limits ∙ limit,
       )
     where
       this : (i : Item) → ShowsOwned read.item i
@@ -209,13 +215,13 @@ module _ (Holds : List ℕ → List ℕ → Type 0) (options : LiveOptions) wher
   nothing_taken _ none = begins
 
 -- steps for another source
-runs_mapped : (H H' : List ℕ → List ℕ → Type 0) → ((path body : List ℕ) → H path body → H' path body) → (most readers : ℕ) (from : RunState)
-    (items : List Numbered) (entries : List Entry) (end : RunState) → Runs H most readers from items entries end → Runs H' most readers from items entries end
-runs_mapped H H' holds most readers from _ _ _ begins = begins
-runs_mapped H H' holds most readers from _ _ _ (goes_on {items} {items'} {taken} {entries} {entries'} {written} {s} {s'} runs step is_items is_entries) =
-    goes_on (runs_mapped H H' holds most readers from items entries s runs) (step_mapped H H' holds most readers s taken written s' step) is_items is_entries
+runs_mapped : (H H' : List ℕ → List ℕ → Type 0) → ((path body : List ℕ) → H path body → H' path body) → (limits : Limits) (readers : ℕ) (from : RunState)
+    (items : List Numbered) (entries : List Entry) (end : RunState) → Runs H limits readers from items entries end → Runs H' limits readers from items entries end
+runs_mapped H H' holds limits readers from _ _ _ begins = begins
+runs_mapped H H' holds limits readers from _ _ _ (goes_on {items} {items'} {taken} {entries} {entries'} {written} {s} {s'} runs step is_items is_entries) =
+    goes_on (runs_mapped H H' holds limits readers from items entries s runs) (step_mapped H H' holds limits readers s taken written s' step) is_items is_entries
 
 pub carry_mapped : (H H' : List ℕ → List ℕ → Type 0) → ((path body : List ℕ) → H path body → H' path body) → (options : LiveOptions)
     (taken : List ReadItem) (entries : List Entry) (end : RunState) → Carry H options taken entries end → Carry H' options taken entries end
 carry_mapped H H' holds options taken entries end carry items shown =
-    runs_mapped H H' holds options.max_commands options.readers (first_run options) items entries end (carry items shown)
+    runs_mapped H H' holds (limits_in options) options.readers (first_run options) items entries end (carry items shown)

@@ -26,7 +26,7 @@ use Rattle.transcript.specs.Written.{AppendsFront}
 use Rattle.live.specs.declared.error.LiveError.{LiveError}
 use Rattle.live.specs.declared.marks.Marks.{Marks}
 use Rattle.live.specs.declared.serving.LiveOptions.{LiveOptions}
-use Rattle.live.specs.Served.{AreSteps, IsServed, IsBroken}
+use Rattle.live.specs.Served.{AreSteps, IsServed, IsBroken, limits_in}
 use Rattle.live.specs.Private.Serving.{marks_with, marks_of, status_by, Start, Now, now, first_run, Carry, IsSession, IsStopped, IsServing, IsCutOff, IsAdvanced}
 use Rattle.live.specs.Private.Serving.{Answers, nothing, one, AnswersFront, MayTakeNow, settled, beside, TakesEvent, FailsAtEvent, IsPutTaken}
 use Rattle.live.specs.Private.Serving as serving
@@ -53,13 +53,13 @@ module _ (Holds : List ℕ → List ℕ → Type 0) (options : LiveOptions) (sta
       → IsSession Holds options start taken (now service marks at.failed output)
   answered service marks output (nothing same_service same_marks same_output) = rw (same_service, same_marks, same_output) session
   answered service marks output (one entry gives marked written) =
-      let next = given Holds options taken session.entries at.service service session.published entry session.limit session.fits session.carry gives in
+      let next = given Holds options taken session.entries at.service service session.published entry session.limits session.fits session.carry gives in
       record {
         entries = session.entries ++ entry ∷ [];
         published = session.published;
         carry = next.0;
         fits = next.1;
-        limit = next.2;
+        limits = next.2;
         written = written_more options.stats session.entries entry start.output at.output output session.written written;
         marks = marked ∙ ap (λ m. marks_with m entry) session.marks ∙ more_marks session.entries entry;
         failures = counted_none session.entries entry start.failed at.failed (no_failure_given at.service service entry gives) session.failures;
@@ -68,7 +68,7 @@ module _ (Holds : List ℕ → List ℕ → Type 0) (options : LiveOptions) (sta
   pub answered_front : (service : ServiceState) (output : Option (List ℕ)) → AnswersFront options.stats at.service at.output service output
       → IsStopped Holds options start taken at.failed output
   answered_front service output front =
-      let next = given Holds options taken session.entries at.service service session.published front.entry session.limit session.fits session.carry front.gives in
+      let next = given Holds options taken session.entries at.service service session.published front.entry session.limits session.fits session.carry front.gives in
       record {
         entries = session.entries ++ front.entry ∷ [];
         end = run_of service session.published;
@@ -92,14 +92,14 @@ module _ (Holds : List ℕ → List ℕ → Type 0) (options : LiveOptions) (sta
     pub took_open : ((i : Item) → ShowsOwned read.item i → Takes Holds at.service (numbered read.line i) [] service) → (failed : ℕ)
         → IsCounted 0 at.failed failed → IsSession Holds options start (taken ++ read ∷ []) (now service at.marks failed at.output)
     took_open takes failed counted =
-        let next = took Holds options taken session.entries at.service service session.published read [] session.limit session.fits session.carry may takes in
+        let next = took Holds options taken session.entries at.service service session.published read [] session.limits session.fits session.carry may takes in
         record {
           entries = session.entries;
           published = session.published ++ [];
           carry =
               subst (λ e. Carry Holds options (taken ++ read ∷ []) e (run_of service (session.published ++ []))) (append-nil session.entries) next.0;
           fits = next.1;
-          limit = next.2;
+          limits = next.2;
           written = session.written;
           marks = session.marks;
           failures =
@@ -113,13 +113,13 @@ module _ (Holds : List ℕ → List ℕ → Type 0) (options : LiveOptions) (sta
       pub took_entry : (marks : Marks) (output : Option (List ℕ)) → marks ≡ marks_with at.marks entry → Appends at.output output (text_of_entry options.stats entry)
           → IsSession Holds options start (taken ++ read ∷ []) (now service marks failed output)
       took_entry marks output marked written =
-          let next = took Holds options taken session.entries at.service service session.published read (entry ∷ []) session.limit session.fits session.carry may takes in
+          let next = took Holds options taken session.entries at.service service session.published read (entry ∷ []) session.limits session.fits session.carry may takes in
           record {
             entries = session.entries ++ entry ∷ [];
             published = session.published ++ (version_in (Some entry) ++ []);
             carry = next.0;
             fits = next.1;
-            limit = next.2;
+            limits = next.2;
             written = written_more options.stats session.entries entry start.output at.output output session.written written;
             marks = marked ∙ ap (λ m. marks_with m entry) session.marks ∙ more_marks session.entries entry;
             failures = counted_more session.entries entry start.failed at.failed failed session.failures counted;
@@ -129,7 +129,7 @@ module _ (Holds : List ℕ → List ℕ → Type 0) (options : LiveOptions) (sta
       pub took_front : (output : Option (List ℕ)) → AppendsFront at.output output (text_of_entry options.stats entry)
           → IsStopped Holds options start (taken ++ read ∷ []) failed output
       took_front output written =
-          let next = took Holds options taken session.entries at.service service session.published read (entry ∷ []) session.limit session.fits session.carry may takes in
+          let next = took Holds options taken session.entries at.service service session.published read (entry ∷ []) session.limits session.fits session.carry may takes in
           record {
             entries = session.entries ++ entry ∷ [];
             end = run_of service (session.published ++ (version_in (Some entry) ++ []));
@@ -143,7 +143,7 @@ module _ (Holds : List ℕ → List ℕ → Type 0) (old new : ServiceState) (li
   put_shown : (name body : List ℕ) (i : Item) → i ≡ put name body → TakesPut old name body line entry new → Takes Holds old (numbered line i) (entry ∷ []) new
   put_shown name body i is takes =
       subst (λ j. Takes Holds old (numbered line j) (entry ∷ []) new) (sym is)
-      (put_takes Holds old new name body line entry takes (plain_put old.limit _ name body line entry takes.legal).1)
+      (put_takes Holds old new name body line entry takes (plain_put old.limits.commands _ name body line entry takes.legal).1)
 
   pub takes_put : (o : OwnedItem) → IsPutTaken old new line o entry → (i : Item) → ShowsOwned o i → Takes Holds old (numbered line i) (entry ∷ []) new
   takes_put o is i shows = let at = is i shows in put_shown at.0 at.1 i at.2 at.3
@@ -160,10 +160,10 @@ pub put_counted : (old new : ServiceState) (line : ℕ) (entry : Entry) (o : Own
 put_counted old new line entry o failed is =
     let some = shown_some o in
     let at = is some.0 some.1 in
-    counted_same entry failed (plain_put old.limit _ at.0 at.1 line entry at.3.legal).0
+    counted_same entry failed (plain_put old.limits.commands _ at.0 at.1 line entry at.3.legal).0
 
 -- A session before its first item.
-first_fits : (options : LiveOptions) → Fits (first_service options.max_commands options.readers) []
+first_fits : (options : LiveOptions) → Fits (first_service (limits_in options) options.readers) []
 first_fits options = record { latest = refl; kept = λ version inside. inl (first version inside) }
   where
     first : (version : ℕ) → Contains (0 ∷ []) version → version ≡ 0
@@ -171,7 +171,7 @@ first_fits options = record { latest = refl; kept = λ version inside. inl (firs
     first version (suc k, few, same) = absurd (omega (arith, few))
 
 pub serving_begins : (Holds : List ℕ → List ℕ → Type 0) (options : LiveOptions) (input : Option (List ℕ)) (inbox : InboxState) (service : ServiceState)
-    (marks : Marks) (failed : ℕ) (output : Option (List ℕ)) → service ≡ first_service options.max_commands options.readers → inbox ≡ inbox_state [] [] None
+    (marks : Marks) (failed : ℕ) (output : Option (List ℕ)) → service ≡ first_service (limits_in options) options.readers → inbox ≡ inbox_state [] [] None
     → IsReadOf input inbox.came → marks ≡ marks_of []
     → IsServing Holds options input (record { failed = failed; output = output }) inbox (now service marks failed output)
 serving_begins Holds options input inbox service marks failed output first empty read unmarked = rw first (record {
@@ -181,7 +181,7 @@ serving_begins Holds options input inbox service marks failed output first empty
     published = [];
     carry = nothing_taken Holds options;
     fits = first_fits options;
-    limit = refl;
+    limits = refl;
     written = Appends-nil output;
     marks = unmarked;
     failures = record { rises = inl (omega arith); stays = λ most. most };
@@ -281,7 +281,7 @@ module _ (H H' : List ℕ → List ℕ → Type 0) (holds : (path body : List �
     published = is.published;
     carry = carry_mapped H H' holds options taken is.entries (run_of at.service is.published) is.carry;
     fits = is.fits;
-    limit = is.limit;
+    limits = is.limits;
     written = is.written;
     marks = is.marks;
     failures = is.failures;

@@ -1,15 +1,19 @@
 -- What a session promises.
-use Rattle.std.specs.Prelude.{◌≡◌, ℕ, List, ◌++◌, Option, []}
+use Rattle.std.specs.Prelude.{◌≡◌, ℕ, List, ◌++◌, Option, [], is_some}
 use Rattle.std.specs.Io.KnownBytes.{Appends, Consumes}
 use Rattle.script.specs.Items.{Numbered, IsItemsOf}
 use Rattle.reads.specs.Read.{IsOver}
 use Rattle.steps.specs.Entries.{failures_of}
-use Rattle.steps.specs.LegalRows.{IsFailedTimes}
+use Rattle.steps.specs.LegalRows.{Limits, IsFailedTimes}
 use Rattle.steps.specs.Steps.{RunState, IsFirst, Runs}
 use Rattle.transcript.specs.declared.entry.Entry.{Entry}
 use Rattle.transcript.specs.Transcript.{status_of, text_of_transcript}
 use Rattle.transcript.specs.Written.{AppendsFront}
 use Rattle.live.specs.declared.serving.LiveOptions.{LiveOptions}
+
+-- what bounds a session with these options
+abbrev pub limits_in : LiveOptions → Limits
+limits_in options = record { commands = options.max_commands; timed = is_some options.search_ms }
 
 -- Legal steps from the first state take these items and write these entries. Holds: what the source held. failed, failed':
 -- how often the source had failed, before and after.
@@ -17,7 +21,7 @@ pub record AreSteps (options : LiveOptions) (Holds : List ℕ → List ℕ → T
     (end : RunState) : Type 0 where
   pub begin : RunState
   pub first : IsFirst options.readers begin
-  pub runs : Runs Holds options.max_commands options.readers begin items entries end
+  pub runs : Runs Holds (limits_in options) options.readers begin items entries end
   pub failures : IsFailedTimes (failures_of entries) failed failed'
 
 -- A session whose reading ended: legal steps take exactly the items of the bytes that were read, in their order, until no

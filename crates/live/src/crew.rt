@@ -7,6 +7,7 @@ use std::alloc::{AllocError, Global};
 use std::io::BufRead;
 use std::sync::Wait;
 use std::thread::{self, Threads};
+use std::time::Clock;
 
 /// How many events can wait for the session. A thread that has one more waits, so few answers are in memory at a time.
 const EVENTS: usize = 8;
@@ -88,7 +89,7 @@ impl<
     /// be started, there are fewer readers, or the session is alone. The threads are not waited for. A reader ends once no
     /// search can come any more, and the thread that reads once it has sent the end, or nobody takes what it sends.
     pub(crate) fn start<
-        R: Threads + Wait + Sync + Send + Copy + 'static,
+        R: Threads + Wait + Clock + Sync + Send + Copy + 'static,
         G: Gate + Copy + Send + 'static,
     >(rt: &R, alloc: Global, feed: Feed<K, I>, readers: Vec<Reader<J>>, gate: G) -> Crew<J, K, I> {
         match start_threads::<J, K, I, Event<J, K>, R, G>(rt, alloc, feed, readers, gate) {
@@ -104,7 +105,7 @@ fn start_threads<
     K: reads::Naming + Send + Sync + 'static,
     I: BufRead + Drop + Send + 'static,
     M: From<Done<J>> + From<Next<K>> + Drop + Send + 'static,
-    R: Threads + Wait + Sync + Send + Copy + 'static,
+    R: Threads + Wait + Clock + Sync + Send + Copy + 'static,
     G: Gate + Copy + Send + 'static,
 >(
     rt: &R,
@@ -146,7 +147,7 @@ fn start_threads<
 fn start_readers<
     J: service::Naming + Send + Sync + 'static,
     M: From<Done<J>> + Drop + Send + 'static,
-    R: Threads + Wait + Sync + Send + Copy + 'static,
+    R: Threads + Wait + Clock + Sync + Send + Copy + 'static,
     G: Gate + Copy + Send + 'static,
 >(
     rt: &R,
@@ -170,7 +171,7 @@ fn start_readers<
 fn start_reader<
     J: service::Naming + Send + Sync + 'static,
     M: From<Done<J>> + Drop + Send + 'static,
-    R: Threads + Wait + Sync + Send + Copy + 'static,
+    R: Threads + Wait + Clock + Sync + Send + Copy + 'static,
     G: Gate + Copy + Send + 'static,
 >(
     rt: &R,
@@ -190,7 +191,7 @@ fn start_reader<
     thread::spawn(rt, move || work(own, alloc, reader, tasks, events, gate)).is_ok()
 }
 
-fn work<J: service::Naming, M: From<Done<J>> + Drop, R: Wait + Drop, G: Gate + Drop>(
+fn work<J: service::Naming, M: From<Done<J>> + Drop, R: Wait + Clock + Drop, G: Gate + Drop>(
     rt: R,
     alloc: Global,
     reader: Reader<J>,
@@ -207,7 +208,7 @@ fn start_reading<
     K: reads::Naming + Send + Sync + 'static,
     I: BufRead + Drop + Send + 'static,
     M: From<Next<K>> + Drop + Send + 'static,
-    R: Threads + Wait + Sync + Send + Copy + 'static,
+    R: Threads + Wait + Clock + Sync + Send + Copy + 'static,
 >(
     rt: &R,
     feed: Feed<K, I>,

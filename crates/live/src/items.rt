@@ -14,6 +14,7 @@ use service::{Done, Service, Source, Taken, Task};
 use std::alloc::Global;
 use std::io::{BufRead, Write};
 use std::sync::Wait;
+use std::time::Clock;
 use stream::OwnedItem;
 use transcript::Entry;
 
@@ -25,7 +26,7 @@ const MAX_OPEN: usize = 256;
 pub(crate) fn step<
     J: service::Naming,
     K: reads::Naming,
-    R: Wait,
+    R: Wait + Clock,
     S: Source,
     I: BufRead + Drop,
     O: Write,
@@ -91,7 +92,7 @@ fn next_event<J: service::Naming, K: reads::Naming, R: Wait, I: BufRead + Drop>(
 }
 
 /// Waits for the next event, and takes it. Returns `true`.
-fn take_event<J: service::Naming, K: reads::Naming, R: Wait, I: BufRead + Drop, O: Write>(
+fn take_event<J: service::Naming, K: reads::Naming, R: Wait + Clock, I: BufRead + Drop, O: Write>(
     plan: &Plan<'_, R>,
     service: &mut Service<J>,
     crew: &mut Crew<J, K, I>,
@@ -117,7 +118,7 @@ fn take_event<J: service::Naming, K: reads::Naming, R: Wait, I: BufRead + Drop, 
 }
 
 /// Writes what a reader answered.
-fn take_answer<J: service::Naming, R: Wait, O: Write>(
+fn take_answer<J: service::Naming, R: Wait + Clock, O: Write>(
     plan: &Plan<'_, R>,
     service: &mut Service<J>,
     written: &mut Written,
@@ -135,7 +136,14 @@ fn take_answer<J: service::Naming, R: Wait, O: Write>(
 }
 
 /// Takes an item, and writes its entry.
-fn carry_out<J: service::Naming, K: reads::Naming, R: Wait, S: Source, I: BufRead + Drop, O: Write>(
+fn carry_out<
+    J: service::Naming,
+    K: reads::Naming,
+    R: Wait + Clock,
+    S: Source,
+    I: BufRead + Drop,
+    O: Write,
+>(
     plan: &Plan<'_, R>,
     service: &mut Service<J>,
     crew: &Crew<J, K, I>,
@@ -182,7 +190,14 @@ fn take_put<J: service::Naming>(
 }
 
 /// Takes an item other than a put, and writes its entry. A search is handed out.
-fn take<J: service::Naming, K: reads::Naming, R: Wait, S: Source, I: BufRead + Drop, O: Write>(
+fn take<
+    J: service::Naming,
+    K: reads::Naming,
+    R: Wait + Clock,
+    S: Source,
+    I: BufRead + Drop,
+    O: Write,
+>(
     plan: &Plan<'_, R>,
     service: &mut Service<J>,
     crew: &Crew<J, K, I>,
@@ -211,12 +226,13 @@ fn take<J: service::Naming, K: reads::Naming, R: Wait, S: Source, I: BufRead + D
     match service.take(plan.rt, plan.alloc, source, Numbered { line, item }) {
         Taken::Entry(entry) => written.show(plan.alloc, plan.options.stats, &entry, out),
         Taken::Search(task) => hand_out(plan, service, crew, written, out, task),
-        Taken::Sync => Ok(()),
+        Taken::Cancelled(entry) => written.show(plan.alloc, plan.options.stats, &entry, out),
+        Taken::Nothing => Ok(()),
     }
 }
 
 /// Hands a search to the readers. If they cannot have it, it is answered here, and its entry is written.
-fn hand_out<J: service::Naming, K: reads::Naming, R: Wait, I: BufRead + Drop, O: Write>(
+fn hand_out<J: service::Naming, K: reads::Naming, R: Wait + Clock, I: BufRead + Drop, O: Write>(
     plan: &Plan<'_, R>,
     service: &mut Service<J>,
     crew: &Crew<J, K, I>,

@@ -6,7 +6,7 @@ ghost use Rattle.service.specs.Opening.{opened_state};
 ghost use Rattle.service.specs.Service.{first_service};
 ghost use Rattle.shared.specs.declared.opening.TheConstants.{MAX_COMMANDS};
 ghost use Rattle.live.specs.Private.Serving.{status_by};
-ghost use Rattle.live.specs.Served.{IsServed, IsBroken};
+ghost use Rattle.live.specs.Served.{IsServed, IsBroken, limits_in};
 
 use crate::crew::Crew;
 use crate::error::{LiveError, of_opening, of_reading};
@@ -20,6 +20,7 @@ use std::io::{BufRead, Write};
 use std::marker::Brand;
 use std::sync::Wait;
 use std::thread::Threads;
+use std::time::Clock;
 
 /// How a session is run.
 #[derive(Clone, Copy, Debug, PartialEq, Eq)]
@@ -28,6 +29,8 @@ pub struct LiveOptions {
     pub readers: u32,
     /// How many commands are accepted at most, 1 to 4,294,967,294.
     pub max_commands: u32,
+    /// After how many milliseconds a search that has no answer yet is given up, if there is such a limit.
+    pub search_ms: Option<u32>,
     /// Whether each answer also shows its number of candidates and of documents.
     pub stats: bool,
 }
@@ -60,7 +63,7 @@ pub struct LiveOptions {
 /// or before a limit of lines, is carried out first, and all searches are answered. After any other error, searches that
 /// are open have no answer.
 pub fn serve<
-    R: Threads + Wait + Sync + Send + Copy + 'static,
+    R: Threads + Wait + Clock + Sync + Send + Copy + 'static,
     S: Source,
     I: BufRead + Drop + Send + 'static,
     O: Write,
@@ -84,7 +87,13 @@ pub fn serve<
         × (S.holds source.old path body → S.holds source.new path body) }
     ensures counted { S.failed source.old ≤ S.failed source.new }
 {
-    let opened = match open(rt, alloc, options.max_commands, options.readers) {
+    let opened = match open(
+        rt,
+        alloc,
+        options.max_commands,
+        options.search_ms,
+        options.readers,
+    ) {
         Ok(opened) => opened,
         Err(error) => return Err(of_opening(error)),
     };
@@ -98,7 +107,7 @@ pub fn serve<
 fn serve_as<
     J: service::Naming + Send + Sync + 'static,
     K: reads::Naming + Send + Sync + 'static,
-    R: Threads + Wait + Sync + Send + Copy + 'static,
+    R: Threads + Wait + Clock + Sync + Send + Copy + 'static,
     S: Source,
     I: BufRead + Drop + Send + 'static,
     O: Write,
@@ -114,7 +123,7 @@ fn serve_as<
     out: &mut O,
     gate: G,
 ) -> Result<u8, LiveError>
-    requires opened { opened ≡ opened_state J.book options.max_commands options.readers }
+    requires opened { opened ≡ opened_state J.book (limits_in options) options.readers }
     requires history { history.book ≡ K.book }
     requires input { I.remaining input ≡ K.input }
     ensures ok { IfOk result (IsServed options (S.holds source.old) (S.failed source.old) (S.failed source.new)
@@ -140,7 +149,14 @@ fn serve_as<
 }
 
 /// Serves a session with a service before its first item.
-fn serve_all<J: service::Naming, K: reads::Naming, R: Wait, S: Source, I: BufRead + Drop, O: Write>(
+fn serve_all<
+    J: service::Naming,
+    K: reads::Naming,
+    R: Wait + Clock,
+    S: Source,
+    I: BufRead + Drop,
+    O: Write,
+>(
     plan: &Plan<'_, R>,
     service: &mut Service<J>,
     crew: Crew<J, K, I>,
@@ -148,7 +164,7 @@ fn serve_all<J: service::Naming, K: reads::Naming, R: Wait, S: Source, I: BufRea
     source: &mut S,
     out: &mut O,
 ) -> Result<u8, LiveError>
-    requires first { service.old ≡ first_service plan.now.options.max_commands plan.now.options.readers }
+    requires first { service.old ≡ first_service (limits_in plan.now.options) plan.now.options.readers }
     requires inbox { inbox ≡ inbox_state [] [] None }
     requires read { IsReadOf K.input inbox.came }
     ensures ok { IfOk result (IsServed plan.now.options (S.holds source.old) (S.failed source.old) (S.failed source.new)

@@ -17,10 +17,15 @@ use Rattle.program.specs.declared.error.ProgramError.{ProgramError}
 use Rattle.program.specs.declared.error.ProgramError.TheVariants as error
 
 abbrev pub options_of : Settings → Options
-options_of settings = record { readers = settings.readers; max_commands = settings.max_commands }
+options_of settings = record { readers = settings.readers; max_commands = settings.max_commands; search_ms = settings.search_ms }
 
 abbrev pub live_options_of : Settings → LiveOptions
-live_options_of settings = record { readers = settings.readers; max_commands = settings.max_commands; stats = settings.stats }
+live_options_of settings = record {
+  readers = settings.readers;
+  max_commands = settings.max_commands;
+  search_ms = settings.search_ms;
+  stats = settings.stats;
+}
 
 -- The errors of an input: it cannot be opened or read.
 abbrev pub IsFaultOfInput : ProgramError → Type 0

@@ -16,6 +16,7 @@ use std::io::{Read, Write};
 use std::mem::forget;
 use std::sync::Wait;
 use std::thread::Threads;
+use std::time::Clock;
 use transcript::status;
 use tsearch::run::run;
 use tsearch::{Gate, Options, Point};
@@ -36,7 +37,7 @@ const REFUSED: u8 = 2;
 /// beginning of the text. If standard error fails too, only the status shows it.
 #[tactic(auto, using(crate::proofs::ResponseLemmas::refused_have_none))]
 pub fn respond<
-    R: Eprint + Threads + Wait + Sync + Send + Copy + Drop + 'static,
+    R: Eprint + Threads + Wait + Clock + Sync + Send + Copy + Drop + 'static,
     D: Disk,
     I: Read + Drop + Send + 'static,
     O: Write,
@@ -81,7 +82,7 @@ pub fn report<R: Eprint>(rt: &R, error: &ProgramError) -> u8
 /// Does what the arguments ask for. Returns the status.
 #[tactic(auto, using(crate::proofs::OutputLemmas::nothing_written))]
 fn response<
-    R: Threads + Wait + Sync + Send + Copy + Drop + 'static,
+    R: Threads + Wait + Clock + Sync + Send + Copy + Drop + 'static,
     D: Disk,
     I: Read + Drop + Send + 'static,
     O: Write,
@@ -121,7 +122,7 @@ impl Gate for Open {
 
 /// Reads the script, runs it and writes its transcript, and returns the status of the run.
 #[tactic(auto, using(crate::proofs::OutputLemmas::nothing_written))]
-fn run_script<R: Threads + Wait + Sync, D: Disk, I: Read + Drop, O: Write>(
+fn run_script<R: Threads + Wait + Clock + Sync, D: Disk, I: Read + Drop, O: Write>(
     rt: &R,
     alloc: Global,
     settings: &Settings<'_>,
@@ -142,6 +143,7 @@ fn run_script<R: Threads + Wait + Sync, D: Disk, I: Read + Drop, O: Write>(
     let options = Options {
         readers: settings.readers,
         max_commands: settings.max_commands,
+        search_ms: settings.search_ms,
     };
     let transcript = match run(rt, alloc, &script, options, source, &Open) {
         Ok(transcript) => transcript,

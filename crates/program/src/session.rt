@@ -17,6 +17,7 @@ use std::alloc::Global;
 use std::io::{self, BufReader, Read, Write};
 use std::sync::Wait;
 use std::thread::Threads;
+use std::time::Clock;
 
 /// Input is read in parts of at most this many bytes.
 const INPUT_BUFFER: usize = 65536;
@@ -28,7 +29,7 @@ const INPUT_BUFFER: usize = 65536;
 /// ended early for another reason.
 #[tactic(auto, using(crate::proofs::OutputLemmas::nothing_written, crate::proofs::SessionLemmas::session_ended))]
 pub fn serve_session<
-    R: Threads + Wait + Sync + Send + Copy + Drop + 'static,
+    R: Threads + Wait + Clock + Sync + Send + Copy + Drop + 'static,
     D: Disk,
     I: Read + Drop + Send + 'static,
     O: Write,
@@ -60,7 +61,7 @@ where
 /// Serves a session from a reader.
 #[tactic(auto, using(crate::proofs::OutputLemmas::nothing_written))]
 fn serve_reader<
-    R: Threads + Wait + Sync + Send + Copy + Drop + 'static,
+    R: Threads + Wait + Clock + Sync + Send + Copy + Drop + 'static,
     D: Disk,
     I: Read + Drop + Send + 'static,
     O: Write,
@@ -89,6 +90,7 @@ fn serve_reader<
     let options = LiveOptions {
         readers: settings.readers,
         max_commands: settings.max_commands,
+        search_ms: settings.search_ms,
         stats: settings.stats,
     };
     match serve(rt, alloc, reader, options, source, out, Open) {

@@ -7,6 +7,7 @@ use std::process::Abort;
 use std::sync::Wait;
 use std::test::Fail;
 use std::thread::Threads;
+use std::time::Clock;
 use transcript::{Entry, Transcript, status, write_transcript};
 use tsearch::run::run;
 use tsearch::{Gate, Options};
@@ -16,13 +17,14 @@ use tsearch::{Gate, Options};
 pub(crate) struct Case<'a> {
     pub(crate) script: &'a [u8],
     pub(crate) max_commands: u32,
+    pub(crate) search_ms: Option<u32>,
     pub(crate) stats: bool,
     pub(crate) text: &'a [u8],
     pub(crate) status: u8,
 }
 
 /// The script's transcript with `readers` readers.
-pub(crate) fn transcript_of<R: Threads + Wait + Abort + Sync, G: Gate>(
+pub(crate) fn transcript_of<R: Threads + Wait + Clock + Abort + Sync, G: Gate>(
     rt: &R,
     alloc: Global,
     case: &Case<'_>,
@@ -35,12 +37,13 @@ pub(crate) fn transcript_of<R: Threads + Wait + Abort + Sync, G: Gate>(
     let options = Options {
         readers,
         max_commands,
+        search_ms: case.search_ms,
     };
     Ok(run(rt, alloc, case.script, options, source, gate)?)
 }
 
 /// The case has its text and its status with `readers` readers, and each reader has its turns.
-pub(crate) fn expect<R: Threads + Wait + Abort + Sync, G: Gate>(
+pub(crate) fn expect<R: Threads + Wait + Clock + Abort + Sync, G: Gate>(
     rt: &R,
     alloc: Global,
     case: &Case<'_>,
@@ -109,7 +112,7 @@ impl Lasts {
 }
 
 /// The case has its text and its status with any number of readers, whether they answer at once or late.
-pub(crate) fn expect_always<R: Threads + Wait + Abort + Sync>(
+pub(crate) fn expect_always<R: Threads + Wait + Clock + Abort + Sync>(
     rt: &R,
     alloc: Global,
     case: &Case<'_>,

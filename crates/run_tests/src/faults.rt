@@ -10,6 +10,7 @@ use std::process::Abort;
 use std::sync::Wait;
 use std::test::Fail;
 use std::thread::Threads;
+use std::time::Clock;
 
 const SCRIPT: &[u8] = b"put f 2\nab\npublish\nsearch a\nsync\nload g q\nsearch b\nsearch c\n";
 
@@ -56,7 +57,7 @@ const CREWS: [(u32, Rule); 7] = [
 ];
 
 /// A session over the script writes the first `count` texts, and ends like this.
-fn expect_texts<R: AllocGlobal + Threads + Wait + Abort + Sync + Send + Copy + 'static>(
+fn expect_texts<R: AllocGlobal + Threads + Wait + Clock + Abort + Sync + Send + Copy + 'static>(
     rt: &R,
     input: Input<'static>,
     (readers, rule): (u32, Rule),

@@ -43,6 +43,18 @@ const CASES: &[(&[u8], &[u8])] = &[
         b"1:bad line;2:bad line;3:sync;4:bad line;",
     ),
     (
+        b"cancel 0\ncancel 1\ncancel 0070\ncancel 4294967295\ncancel 4294967296\ncancel 70000000000000000000000000000000000000000001\n",
+        b"1:cancel|0;2:cancel|1;3:cancel|70;4:cancel|4294967295;5:cancel|0;6:cancel|0;",
+    ),
+    (
+        b"cancel\ncancel \ncancel  1\ncancel 1 \ncancel 1 2\ncancel x\ncancel +1\ncancel -1\ncancel 1\r\n",
+        b"1:bad line;2:bad line;3:bad line;4:bad line;5:bad line;6:bad line;7:bad line;8:bad line;9:bad line;",
+    ),
+    (
+        b"status\nstatus \nstatus 1\nSTATUS\nstatu",
+        b"1:status;2:bad line;3:bad line;4:bad line;5:bad line;",
+    ),
+    (
         b"search a b\nsearch\nsearch \n",
         b"1:search|a b;2:search|;3:search|;",
     ),

@@ -11,6 +11,7 @@ use std::process::Abort;
 use std::sync::Wait;
 use std::test::Fail;
 use std::thread::Threads;
+use std::time::Clock;
 
 const SEARCHES: u32 = 300;
 
@@ -40,7 +41,7 @@ fn text_of(alloc: Global) -> Result<String, AllocError> {
 
 /// A run with this many readers has the text, and a session has one of that length: there, only the order of its parts
 /// is open.
-fn expect_many<R: AllocGlobal + Threads + Wait + Abort + Sync + Send + Copy + 'static>(
+fn expect_many<R: AllocGlobal + Threads + Wait + Clock + Abort + Sync + Send + Copy + 'static>(
     rt: &R,
     readers: u32,
     script: &'static [u8],
@@ -51,6 +52,7 @@ fn expect_many<R: AllocGlobal + Threads + Wait + Abort + Sync + Send + Copy + 's
     let case = Case {
         script,
         max_commands: 1,
+        search_ms: None,
         stats: false,
         text,
         status: 2,

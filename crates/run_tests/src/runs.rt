@@ -47,6 +47,7 @@ fn faults_of_loads(rt: HostRuntime) -> Result<(), Fail> {
         let case = Case {
             script: b"load a p\nload b p\nload c p\npublish\nsearch h\n",
             max_commands: 65_536,
+            search_ms: None,
             stats: false,
             text,
             status: 2,
@@ -142,6 +143,7 @@ fn writers(rt: HostRuntime) -> Result<(), Fail> {
     let case = Case {
         script: b"put a.txt 11\nhello world\npublish\nsearch o w\n",
         max_commands: 65_536,
+        search_ms: None,
         stats: false,
         text: TEXT,
         status: 0,

@@ -10,12 +10,13 @@ use std::process::Abort;
 use std::sync::Wait;
 use std::test::Fail;
 use std::thread::Threads;
+use std::time::Clock;
 
 /// The numbers of readers that sessions are tested with.
 pub(crate) const READERS: [u32; 4] = [0, 1, 2, 16];
 
 /// Serves the script that an input returns, with `readers` readers.
-pub(crate) fn served<R: Threads + Wait + Abort + Sync + Send + Copy + 'static>(
+pub(crate) fn served<R: Threads + Wait + Clock + Abort + Sync + Send + Copy + 'static>(
     rt: &R,
     alloc: Global,
     input: Input<'static>,
@@ -28,6 +29,7 @@ pub(crate) fn served<R: Threads + Wait + Abort + Sync + Send + Copy + 'static>(
     let options = LiveOptions {
         readers,
         max_commands: 1_000_000,
+        search_ms: None,
         stats: false,
     };
     let input = BufReader::with_capacity(alloc, 64, input)?;

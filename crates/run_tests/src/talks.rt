@@ -11,6 +11,7 @@ use std::sync::Wait;
 use std::sync::atomic::{AtomicUsize, Ordering};
 use std::test::Fail;
 use std::thread::Threads;
+use std::time::Clock;
 use tsearch::Point;
 
 /// What a client sends, what it is shown, and how the session ends.
@@ -30,7 +31,7 @@ fn nothing_flushed(alloc: Global) -> Result<&'static AtomicUsize, AllocError> {
 }
 
 /// A session with this client goes like this, whatever the size of the pieces in which the client's bytes arrive.
-fn expect<R: AllocGlobal + Threads + Wait + Abort + Sync + Send + Copy + 'static>(
+fn expect<R: AllocGlobal + Threads + Wait + Clock + Abort + Sync + Send + Copy + 'static>(
     rt: &R,
     talk: &Talk,
     readers: u32,
@@ -44,7 +45,7 @@ fn expect<R: AllocGlobal + Threads + Wait + Abort + Sync + Send + Copy + 'static
 
 /// The same for pieces of at most `most` bytes. Without readers, the client looks once: what it waits for is there when
 /// it is asked for more.
-fn expect_in_pieces<R: AllocGlobal + Threads + Wait + Abort + Sync + Send + Copy + 'static>(
+fn expect_in_pieces<R: AllocGlobal + Threads + Wait + Clock + Abort + Sync + Send + Copy + 'static>(
     rt: &R,
     talk: &Talk,
     readers: u32,

@@ -1,7 +1,7 @@
 //! Runs and their readers: threads do the work, a publish does not wait for matching, and no answer shows half of a
 //! publish.
 
-use crate::cases::{Case, Lasts, expect, transcript_of};
+use crate::cases::{Case, Lasts, expect, expect_always, transcript_of};
 use crate::gates::{Overtaking, Points, Rule, Turns};
 use crate::sources::{FILES, Table};
 use crate::words::repeated;
@@ -11,6 +11,7 @@ use std::process::Abort;
 use std::sync::Wait;
 use std::test::Fail;
 use std::thread::Threads;
+use std::time::Clock;
 use transcript::Entry;
 use tsearch::Point;
 
@@ -21,6 +22,7 @@ fn two_readers_at_once(rt: HostRuntime) -> Result<(), Fail> {
     let case = Case {
         script: b"put f 2\nab\npublish\nsearch a\nsearch b\n",
         max_commands: 65_536,
+        search_ms: None,
         stats: false,
         text: b"search 1 version 1 lines 1\nf:1:ab\nsearch 2 version 1 lines 1\nf:1:ab\n",
         status: 0,
@@ -43,6 +45,7 @@ fn a_search_overtakes_another(rt: HostRuntime) -> Result<(), Fail> {
     let case = Case {
         script: script.as_slice(),
         max_commands: 65_536,
+        search_ms: None,
         stats: false,
         text: b"search 1 version 1 lines 0\nsearch 2 version 1 lines 0\n",
         status: 1,
@@ -55,7 +58,7 @@ fn a_search_overtakes_another(rt: HostRuntime) -> Result<(), Fail> {
 }
 
 /// The case has its text if its searches are done in this order.
-fn expect_in_order<R: Threads + Wait + Abort + Sync>(
+fn expect_in_order<R: Threads + Wait + Clock + Abort + Sync>(
     rt: &R,
     alloc: Global,
     case: &Case<'_>,
@@ -85,6 +88,7 @@ fn readers_done_in_each_order(rt: HostRuntime) -> Result<(), Fail> {
     let case = Case {
         script: b"put f 3\nabc\npublish\nsearch a\nsearch b\nsearch c\n",
         max_commands: 65_536,
+        search_ms: None,
         stats: false,
         text: b"search 1 version 1 lines 1\nf:1:abc\nsearch 2 version 1 lines 1\nf:1:abc\nsearch 3 version 1 lines 1\nf:1:abc\n",
         status: 0,
@@ -102,6 +106,7 @@ fn points_in_order(rt: HostRuntime) -> Result<(), Fail> {
     let case = Case {
         script: b"put f 2\nab\npublish\nsearch a\nsearch (\nsearch b\nsync\nsearch c\n",
         max_commands: 65_536,
+        search_ms: None,
         stats: false,
         text: b"search 1 version 1 lines 1\nf:1:ab\nsearch 2 refused: group not closed at 0\nsearch 3 version 1 lines 1\nf:1:ab\nsearch 4 version 1 lines 0\n",
         status: 2,
@@ -123,6 +128,7 @@ fn publish_during_matching(rt: HostRuntime) -> Result<(), Fail> {
     let case = Case {
         script: b"put f 1\nx\npublish\nsearch x\nload h q\nput f 1\ny\npublish\nput i 1\nv\npublish\nload g p\nsync\nsearch y\n",
         max_commands: 65_536,
+        search_ms: None,
         stats: false,
         text: b"search 1 version 1 lines 1\nf:1:x\nsearch 2 version 4 lines 1\nf:1:y\n",
         status: 0,
@@ -137,6 +143,7 @@ fn publish_before_a_search_begins(rt: HostRuntime) -> Result<(), Fail> {
     let case = Case {
         script: b"put f 1\nx\npublish\nsearch x\nload h q\nput f 1\ny\npublish\nload g p\nsync\nsearch y\n",
         max_commands: 65_536,
+        search_ms: None,
         stats: false,
         text: b"search 1 version 3 lines 0\nsearch 2 version 3 lines 1\nf:1:y\n",
         status: 0,
@@ -144,8 +151,49 @@ fn publish_before_a_search_begins(rt: HostRuntime) -> Result<(), Fail> {
     expect_held(&rt, rt.alloc(), &case, Point::Begin)
 }
 
-/// The case has its text with one reader, which answers both searches, the first of them while it is held at a point.
-fn expect_held<R: Threads + Wait + Abort + Sync>(
+/// While the one reader is held in a search, that is cancelled, twice, and it is open until then. The search has one entry,
+/// and the reader answers the next one.
+#[test]
+fn a_held_search_is_cancelled(rt: HostRuntime) -> Result<(), Fail> {
+    let case = Case {
+        script: b"put f 1\nx\npublish\nsearch x\nload h q\nstatus\ncancel 1\nstatus\ncancel 1\ncancel 2\nload g p\nsearch x\n",
+        max_commands: 9,
+        search_ms: None,
+        stats: false,
+        text: b"search 1 refused: cancelled\nline 6 status version 1 documents 1 bytes 1 accepted 2 of 9 open 1\nline 8 status version 1 documents 1 bytes 1 accepted 2 of 9 open 0\nline 10 refused: no such search\nsearch 2 version 1 lines 1\nf:1:x\n",
+        status: 2,
+    };
+    expect_held(&rt, rt.alloc(), &case, Point::Begin)?;
+    expect_held(&rt, rt.alloc(), &case, Point::Matching)
+}
+
+/// A search with no time at all is too slow, whoever answers it. One whose pattern has a fault is refused for that, and a
+/// search with much time has its answer.
+#[test]
+fn searches_with_a_limit_of_time(rt: HostRuntime) -> Result<(), Fail> {
+    let late = Case {
+        script: b"put f 1\nx\npublish\nsearch x\nsearch (\nsync\nsearchin f y\n",
+        max_commands: 9,
+        search_ms: Some(0),
+        stats: false,
+        text: b"search 1 refused: too slow\nsearch 2 refused: group not closed at 0\nsearch 3 refused: too slow\n",
+        status: 2,
+    };
+    let timely = Case {
+        script: b"put f 1\nx\npublish\nsearch x\nsync\nsearchin f y\n",
+        max_commands: 9,
+        search_ms: Some(4_294_967_295),
+        stats: false,
+        text: b"search 1 version 1 lines 1\nf:1:x\nsearch 2 version 1 lines 0\n",
+        status: 0,
+    };
+    let mut source = Table::new(&[], b"", 0);
+    expect_always(&rt, rt.alloc(), &late, &mut source)?;
+    expect_always(&rt, rt.alloc(), &timely, &mut source)
+}
+
+/// The case has its text with one reader, which answers its searches, the first of them while it is held at a point.
+fn expect_held<R: Threads + Wait + Clock + Abort + Sync>(
     rt: &R,
     alloc: Global,
     case: &Case<'_>,
@@ -183,7 +231,7 @@ fn byte_of(publishes: u8) -> u8 {
 }
 
 /// Each search is answered by a reader, in its turn, from a whole publish.
-fn expect_whole<R: Threads + Wait + Abort + Sync>(
+fn expect_whole<R: Threads + Wait + Clock + Abort + Sync>(
     rt: &R,
     alloc: Global,
     script: &[u8],
@@ -193,6 +241,7 @@ fn expect_whole<R: Threads + Wait + Abort + Sync>(
     let case = Case {
         script,
         max_commands: 400,
+        search_ms: None,
         stats: false,
         text: b"",
         status: 0,

@@ -58,10 +58,23 @@ fn words_of(item: Item<'_>) -> Words<'_> {
         ),
         Item::Publish => no_word(b"publish"),
         Item::Sync => no_word(b"sync"),
+        Item::Cancel { search } => one_word(b"cancel", number_text(search)),
+        Item::Status => no_word(b"status"),
         Item::BadLine => no_word(b"bad line"),
         Item::BadPut => no_word(b"bad put"),
         Item::Truncated => no_word(b"truncated"),
         Item::BodyNotClosed => no_word(b"body not closed"),
+    }
+}
+
+/// The text of some numbers.
+fn number_text(number: u32) -> &'static [u8] {
+    match number {
+        0 => b"0",
+        1 => b"1",
+        70 => b"70",
+        4_294_967_295 => b"4294967295",
+        _ => b"another",
     }
 }
 

@@ -1,11 +1,13 @@
 -- The items of a script (this program's own language). An item is a line, up to a line feed or the
 -- script's end; a `put` has a body after its line.
 use Rattle.std.specs.Prelude.{◌≡◌, ◌≢◌, ℕ, ◌+◌, ◌<◌, ◌==◌, if◌then◌else◌, List, [], ◌∷◌, ◌++◌, length, count_by, Option, Some, None, Bool}
-use Rattle.std.specs.Prelude.{true, IsTrue, IsFalse, codes}
-use Rattle.std.specs.List.{AllByRecursion}
+use Rattle.std.specs.Prelude.{true, false, IsTrue, IsFalse, codes, nat_lt, ◌^◌}
+use Rattle.std.specs.List.{AllByRecursion, list_all}
 use Rattle.std.specs.Str.{bytes_eq}
 use Rattle.ere.specs.declared.case.Case.{Case}
 use Rattle.ere.specs.declared.case.Case.TheVariants.{Exact, Ignore}
+use Rattle.ere.specs.Classes.{is_digit}
+use Rattle.ere.specs.Tokens.{decimal_value}
 use Rattle.script.specs.Fields.{fields_of, IsPutHeader}
 
 pub data Item : Type 0 where
@@ -16,6 +18,9 @@ pub data Item : Type 0 where
   search : (case : Case) (pattern : List ℕ) → Item
   search_in : (case : Case) (name_pattern pattern : List ℕ) → Item
   sync : Item
+  -- a search's number is 1 to 2^32 - 1, so 0 is that of no search
+  cancel : (search : ℕ) → Item
+  status : Item
   -- any other line
   bad_line : Item
   -- The faults that end the reading: a put's line without a name and a size; a put cut short by the script's end;
@@ -55,14 +60,28 @@ abbrev pub search_in_of : Case → List ℕ → Option (List ℕ) → Item
 search_in_of case name_pattern None = bad_line
 search_in_of case name_pattern (Some pattern) = search_in case name_pattern pattern
 
+-- one or more decimal digits
+abbrev pub is_number : List ℕ → Bool
+is_number [] = false
+is_number (b ∷ digits) = list_all is_digit (b ∷ digits)
+
+-- the number that the digits spell if it is below 2^32, and otherwise 0, which is no search's number
+abbrev pub cancelled_number : List ℕ → ℕ
+cancelled_number digits = if nat_lt (decimal_value digits) (2 ^ 32) then decimal_value digits else 0
+
+-- the number of a search, and nothing else
+abbrev pub cancel_of : List ℕ → Item
+cancel_of digits = if is_number digits then cancel (cancelled_number digits) else bad_line
+
 -- the item of a line that is a keyword alone
 abbrev pub item_of_keyword : List ℕ → Item
 item_of_keyword keyword =
     if is_keyword keyword (codes "publish") then publish
     else (if is_keyword keyword (codes "sync") then sync
+    else (if is_keyword keyword (codes "status") then status
     else (if is_keyword keyword (codes "search") then search Exact []
     else (if is_keyword keyword (codes "isearch") then search Ignore []
-    else bad_line)))
+    else bad_line))))
 
 -- the item of a line with a keyword, a space and more after it
 abbrev pub item_of_keyword_and_others : List ℕ → List ℕ → Item
@@ -73,7 +92,8 @@ item_of_keyword_and_others keyword others =
     else (if is_keyword keyword (codes "isearchin") then search_in_of Ignore (fields_of others).first (fields_of others).others
     else (if is_keyword keyword (codes "remove") then remove others
     else (if is_keyword keyword (codes "load") then load_of (fields_of others).first (fields_of others).others
-    else bad_line)))))
+    else (if is_keyword keyword (codes "cancel") then cancel_of others
+    else bad_line))))))
 
 -- the item of a line with this keyword, and with what follows the space after it
 abbrev pub item_of : List ℕ → Option (List ℕ) → Item

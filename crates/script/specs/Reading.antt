@@ -1,6 +1,7 @@
 -- What the reader of a script does: it takes one item at a time from the front of what is left.
 use Rattle.std.specs.Prelude.{List, ◌∷◌}
-use Rattle.script.specs.Items.{Item, Numbered, ItemsFrom, put, load, remove, publish, search, search_in, sync, bad_line, bad_put, truncated, body_not_closed}
+use Rattle.script.specs.Items.{Item, Numbered, ItemsFrom, put, load, remove, publish, search, search_in, sync}
+use Rattle.script.specs.Items.{cancel, status, bad_line, bad_put, truncated, body_not_closed}
 use Rattle.script.specs.Position.{Position}
 use Rattle.script.specs.declared.item.Item as program
 use Rattle.script.specs.declared.item.Item.TheVariants as variants
@@ -18,6 +19,8 @@ shown_item variants.Publish = publish
 shown_item (variants.Search case pattern) = search case pattern.now
 shown_item (variants.SearchIn case name_pattern pattern) = search_in case name_pattern.now pattern.now
 shown_item variants.Sync = sync
+shown_item (variants.Cancel number) = cancel number
+shown_item variants.Status = status
 shown_item variants.BadLine = bad_line
 shown_item variants.BadPut = bad_put
 shown_item variants.Truncated = truncated

@@ -1,10 +1,16 @@
 //! Texts cut in two: at a line feed, at a space.
 
-ghost use Rattle.std.specs.Prelude.{◌≡◌, ◌≢◌, ℕ, ◌+◌, ◌<◌, ◌^◌, List, [], ◌∷◌, ◌++◌, length, MatchOption, IsTrue, option_map};
+ghost use Rattle.std.specs.Prelude.{◌≡◌, ◌≢◌, ℕ, ◌+◌, ◌<◌, ◌^◌, List, [], ◌∷◌, ◌++◌, length, MatchOption, option_map};
+ghost use Rattle.std.specs.Prelude.{min, IsTrue, IsFalse};
+ghost use Rattle.ere.specs.Tokens.{decimal_value};
 ghost use Rattle.script.specs.Fields.{SpellsSize, fields_of};
+ghost use Rattle.script.specs.Items.{is_number, cancelled_number};
 ghost use Rattle.script.specs.Private.Cuts.{Cuts, CutsLast, Lacks, CutsLine, shown_fields};
 
 use memchr::{memchr, memrchr};
+
+/// The numbers of searches are below this one.
+const SEARCH_NUMBERS: u64 = 4_294_967_296;
 
 /// What is before the first such byte, and what is after it. `None` if the text has no such byte.
 pub fn cut_at(byte: u8, text: &[u8]) -> Option<(&[u8], &[u8])>
@@ -72,4 +78,40 @@ pub fn size_of(digits: &[u8]) -> Option<u32>
         size = size * 10 + u32::from(*digit - b'0');
     }
     Some(size)
+}
+
+/// The number that one or more decimal digits spell, or 0 if it is 2^32 or more: 0 means a number that no search has.
+/// `None` for any other text.
+pub fn search_number(digits: &[u8]) -> Option<u32>
+    ensures { MatchOption result
+        (IsFalse (is_number digits.now))
+        (λ search. IsTrue (is_number digits.now) × (search ≡ cancelled_number digits.now)) }
+{
+    if !is_number(digits) {
+        return None;
+    }
+    let number = capped_number(digits);
+    Some(if number < SEARCH_NUMBERS {
+        number as u32
+    } else {
+        0
+    })
+}
+
+/// Whether a text is one or more decimal digits.
+fn is_number(text: &[u8]) -> bool
+    ensures { result ≡ is_number text.now }
+{
+    !text.is_empty() && text.iter().all(|b| b.is_ascii_digit())
+}
+
+/// The number that decimal digits spell, or 2^32 if it is greater.
+fn capped_number(digits: &[u8]) -> u64
+    ensures { result ≡ min (decimal_value digits.now) (2 ^ 32) }
+{
+    let mut number: u64 = 0;
+    for digit in digits {
+        number = (number * 10 + u64::from(digit.saturating_sub(b'0'))).min(SEARCH_NUMBERS);
+    }
+    number
 }

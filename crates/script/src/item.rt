@@ -37,6 +37,12 @@ pub enum Item<'a> {
     },
     /// `sync`.
     Sync,
+    /// `cancel K`. The number is K, or 0 if K is 2^32 or more: 0 means a number that no search has.
+    Cancel {
+        search: u32,
+    },
+    /// `status`.
+    Status,
     /// Any other line.
     BadLine,
     /// A bad put: a line of a put without a name and a size. Nothing is read after it.

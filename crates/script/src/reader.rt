@@ -2,13 +2,13 @@
 
 ghost use Rattle.std.specs.Prelude.{◌≡◌, ℕ, ◌+◌, ◌<◌, ◌≤◌, List, [], ◌∷◌, ◌++◌, length, codes, IsFalse, MatchOption, OnSome, IfNone, option_map};
 ghost use Rattle.script.specs.Private.Cuts.{CutsLine, shown_fields};
-ghost use Rattle.script.specs.Items.{Numbered as NumberedItem, is_blank, item_of, item_of_keyword, item_of_keyword_and_others, load_of};
+ghost use Rattle.script.specs.Items.{Numbered as NumberedItem, is_blank, item_of, item_of_keyword, item_of_keyword_and_others, load_of, cancel_of};
 ghost use Rattle.script.specs.Items.{search_in_of, line_feeds, numbered, ItemsFrom, BeginsWithLine, IsPutLine};
 ghost use Rattle.script.specs.Reading.{shown_item};
 ghost use Rattle.script.specs.Fields.{fields_of, IsPutHeader};
 ghost use Rattle.script.specs.Private.Taking.{TakesFrom, FollowsLine, HasHeader, LacksHeader};
 
-use crate::cuts::{CutLine, cut_at_last, cut_at_space, cut_line, size_of};
+use crate::cuts::{CutLine, cut_at_last, cut_at_space, cut_line, search_number, size_of};
 use crate::item::{Item, Numbered};
 use ere::Case;
 use std::marker::Model;
@@ -171,6 +171,8 @@ fn item_of_keyword(keyword: &[u8]) -> Item<'_>
         Item::Publish
     } else if keyword == b"sync".as_slice() {
         Item::Sync
+    } else if keyword == b"status".as_slice() {
+        Item::Status
     } else if keyword == b"search".as_slice() {
         Item::Search {
             case: Case::Exact,
@@ -208,6 +210,8 @@ fn item_of_keyword_and_others<'a>(keyword: &[u8], others: &'a [u8]) -> Item<'a>
         Item::Remove { name: others }
     } else if keyword == b"load".as_slice() {
         load(others)
+    } else if keyword == b"cancel".as_slice() {
+        cancel(others)
     } else {
         Item::BadLine
     }
@@ -234,6 +238,16 @@ fn load(fields: &[u8]) -> Item<'_>
     match cut_at_space(fields) {
         (name, Some(path)) if !path.is_empty() => Item::Load { name, path },
         _ => Item::BadLine,
+    }
+}
+
+/// A `cancel`, from what follows the space after its keyword.
+fn cancel(digits: &[u8]) -> Item<'_>
+    ensures { shown_item result ≡ cancel_of digits.now }
+{
+    match search_number(digits) {
+        Some(search) => Item::Cancel { search },
+        None => Item::BadLine,
     }
 }
 

@@ -8,3 +8,4 @@ mod NameLemmas
 mod SweepLemmas
 mod WayLemmas
 mod FewLemmas
+mod PieceLemmas

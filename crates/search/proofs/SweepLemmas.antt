@@ -10,7 +10,7 @@ use Rattle.finder.specs.FirstLine.{IsFirstLine, IsInside}
 use Rattle.finder.specs.declared.finding.FirstLine.{FirstLine}
 use Rattle.index.proofs.LineLemmas.{rest-after}
 use Rattle.search.specs.Scan.{Hit}
-use Rattle.search.specs.Private.Selects.{found, numbered, lines_of_document, HasMatch, Adds, Selects, done, keep, skip}
+use Rattle.search.specs.Private.Selects.{found, numbered, HasMatch, Adds, Selects, done, keep, skip}
 
 keep_at : (tree : Tree) (name : List ℕ) (line : ℕ) (front : List (List ℕ)) (text : List ℕ) (back : List (List ℕ)) (kept : List Hit)
     → AllByRecursion (λ other. ContainsMatch tree other → ⊥) front → ContainsMatch tree text
@@ -39,14 +39,14 @@ unfolding numbered lines_of
 empty_numbered tree name line [] e = done
 empty_numbered tree name line (b ∷ text) e = absurd (omega (arith, ap length e))
 
-module _ (tree : Tree) (name body : List ℕ) (line : ℕ) (text : List ℕ) (old now : List Hit)
+module _ (tree : Tree) (name : List ℕ) (whole : List Hit) (line : ℕ) (text : List ℕ) (old now : List Hit)
     (so_far : (more : List Hit) → Selects (HasMatch tree) (numbered name line (lines_of text)) more
-    → Adds (HasMatch tree) (lines_of_document name body) old (now ++ more)) where
+    → Adds (HasMatch tree) whole old (now ++ more)) where
   -- one more hit
   with_hit : (first : FirstLine) → IsFirstLine tree text first → (new : List Hit)
       → new ≡ now ++ found name (line + first.before) (take (first.end - first.start) (drop first.start text)) ∷ [] → (more : List Hit)
       → Selects (HasMatch tree) (numbered name (line + first.before + 1) (lines_of (drop (first.end + 1) text))) more
-      → Adds (HasMatch tree) (lines_of_document name body) old (new ++ more)
+      → Adds (HasMatch tree) whole old (new ++ more)
   with_hit first is new grown more s =
       let s' : Selects (HasMatch tree) (numbered name (line + length (lines_of is.front) + 1) (lines_of (drop (first.end + 1) text))) more =
       subst (λ n. Selects (HasMatch tree) (numbered name (line + n + 1) (lines_of (drop (first.end + 1) text))) more) is.counted s in
@@ -62,13 +62,13 @@ module _ (tree : Tree) (name body : List ℕ) (line : ℕ) (text : List ℕ) (ol
       ap (λ f. now ++ f ∷ more) same
       ∙ sym (append_assoc now (found name (line + first.before) (take (first.end - first.start) (drop first.start text)) ∷ []) more)
       ∙ ap (λ xs. xs ++ more) (sym grown) in
-      subst (λ xs. Adds (HasMatch tree) (lines_of_document name body) old xs) moved all
+      subst (λ xs. Adds (HasMatch tree) whole old xs) moved all
 
   pub sweep_on : (first : FirstLine) → IsFirstLine tree text first → (new : List Hit)
       → new ≡ now ++ found name (line + first.before) (take (first.end - first.start) (drop first.start text)) ∷ [] → (more : List Hit)
       → Selects (HasMatch tree)
       (numbered name (line + first.before + 1) (lines_of (take (length text - (first.end + 1)) (drop (first.end + 1) text)))) more
-      → Adds (HasMatch tree) (lines_of_document name body) old (new ++ more)
+      → Adds (HasMatch tree) whole old (new ++ more)
   sweep_on first is new grown more s =
       let next : suc first.end ≡ first.end + 1 = omega arith in
       with_hit first is new grown more
@@ -78,16 +78,16 @@ module _ (tree : Tree) (name body : List ℕ) (line : ℕ) (text : List ℕ) (ol
   -- the hit is the last line
   pub sweep_last : (first : FirstLine) → IsFirstLine tree text first → (new : List Hit)
       → new ≡ now ++ found name (line + first.before) (take (first.end - first.start) (drop first.start text)) ∷ []
-      → first.end ≡ length text → Adds (HasMatch tree) (lines_of_document name body) old new
+      → first.end ≡ length text → Adds (HasMatch tree) whole old new
   sweep_last first is new grown e =
-      subst (λ xs. Adds (HasMatch tree) (lines_of_document name body) old xs) (append-nil new)
+      subst (λ xs. Adds (HasMatch tree) whole old xs) (append-nil new)
       (with_hit first is new grown []
       (empty_numbered tree name (line + first.before + 1) (drop (first.end + 1) text) (drop_all (first.end + 1) text (omega arith))))
 
   -- no hit is left
-  pub sweep_end : AllByRecursion (λ other. ContainsMatch tree other → ⊥) (lines_of text) → Adds (HasMatch tree) (lines_of_document name body) old now
+  pub sweep_end : AllByRecursion (λ other. ContainsMatch tree other → ⊥) (lines_of text) → Adds (HasMatch tree) whole old now
   sweep_end none =
-      subst (λ xs. Adds (HasMatch tree) (lines_of_document name body) old xs) (append-nil now)
+      subst (λ xs. Adds (HasMatch tree) whole old xs) (append-nil now)
       (so_far [] (none_numbered tree name line (lines_of text) none))
 
 pub room_left : (line most : ℕ) (text : List ℕ) (first : FirstLine) → IsInside text first → (first.end ≡ length text → ⊥)

@@ -2,3 +2,4 @@
 pub mod Selects
 pub mod Ways
 pub mod Documents
+pub mod Pieces

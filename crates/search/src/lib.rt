@@ -6,8 +6,10 @@ mod laws;
 mod matching;
 mod names;
 mod pattern;
+mod piece;
 mod scan;
 mod taken;
+mod unanswered;
 mod watch;
 mod way;
 
@@ -18,4 +20,5 @@ pub use laws::answers_follow_commands;
 pub use pattern::{Prepared, WithinError};
 pub use scan::{find, find_watched};
 pub use taken::{Taken, take};
+pub use unanswered::Unanswered;
 pub use watch::Watch;

@@ -1,20 +1,23 @@
 //! The lines of documents that contain a match.
 
-ghost use Rattle.std.specs.Prelude.{◌≡◌, ◌≤◌, [], ◌∷◌, length, take, flat_map, IfOk, OnOk};
+ghost use Rattle.std.specs.Prelude.{◌≡◌, ◌≤◌, ◌+◌, false, [], ◌∷◌, length, take, flat_map, IfOk, OnOk};
 ghost use Rattle.ere.specs.Tree.{Tree, form};
 ghost use Rattle.ere.specs.Limits.{IsWithinLimits};
 ghost use Rattle.lines.specs.Lines.{lines_of};
+ghost use Rattle.index.specs.Text.{greatest_body, has_long_line};
 ghost use Rattle.finder.specs.Patterns.{IsFinderOf};
 ghost use Rattle.search.specs.Hits.{hits_of};
-ghost use Rattle.search.specs.Private.Selects.{Adds, Selects, HasMatch, found, lines_of_document};
+ghost use Rattle.search.specs.Private.Selects.{Adds, Selects, HasMatch, found, numbered, lines_of_document};
 ghost use Rattle.search.specs.Private.Documents.{lines_of_taken};
 ghost use Rattle.search.specs.Private.Ways.{Finds, AreFew};
 
 use crate::answer::Hit;
-use crate::watch::Watch;
+use crate::piece::piece_end;
+use crate::unanswered::Unanswered;
+use crate::watch::{Watch, ask};
 use crate::way::{Way, compile, nests_stars, way_by};
 use ere::Ere;
-use finder::Finder;
+use finder::{Finder, lines_before};
 use index::{Body, Name, SharedDocument};
 use lines::MAX_LINE;
 use matcher::matches;
@@ -26,14 +29,14 @@ use std::alloc::{AllocError, Global};
 /// with most other patterns, and between 20 and 50 KB with `[0-9]+`.
 const FEW_BYTES: usize = 8192;
 
-/// The lines with a match in these documents, document after document. `watch` gets the number of each document. An
-/// `Err` means that memory ran out.
+/// The lines with a match in these documents, document after document. `watch` gets the number of each document, and
+/// is asked whether the answer is wanted before each document and before each further piece of one.
 pub fn scan_documents<W: Watch>(
     alloc: Global,
     tree: &Ere,
     documents: &[SharedDocument],
     watch: &mut W,
-) -> Result<Vec<Hit>, AllocError>
+) -> Result<Vec<Hit>, Unanswered>
     requires { IsWithinLimits (form tree.now) }
     ensures { IfOk result (λ hits. Selects (HasMatch (form tree.now)) (flat_map lines_of_taken documents.now) (hits_of hits.items)) }
 {
@@ -50,7 +53,7 @@ fn scan_few<W: Watch>(
     documents: &[SharedDocument],
     hits: &mut Vec<Hit>,
     watch: &mut W,
-) -> Result<usize, AllocError>
+) -> Result<usize, Unanswered>
     requires { IsWithinLimits (form tree.now) }
     ensures few { IfOk result (AreFew (form tree.now) documents.now) }
     ensures hits { IfOk result (λ few. Adds (HasMatch (form tree.now)) (flat_map lines_of_taken (take few documents.now))
@@ -95,7 +98,7 @@ fn scan_compiled<W: Watch>(
     documents: &[SharedDocument],
     hits: &mut Vec<Hit>,
     watch: &mut W,
-) -> Result<(), AllocError>
+) -> Result<(), Unanswered>
     requires { IsWithinLimits (form tree.now) }
     ensures { OnOk result (Adds (HasMatch (form tree.now)) (flat_map lines_of_taken documents.now)
         (hits_of hits.old.items) (hits_of hits.new.items)) }
@@ -116,37 +119,70 @@ fn scan_by<W: Watch>(
     documents: &[SharedDocument],
     hits: &mut Vec<Hit>,
     watch: &mut W,
-) -> Result<(), AllocError>
+) -> Result<(), Unanswered>
     requires limits { IsWithinLimits (form tree.now) }
     requires way { Finds (form tree.now) way.old }
     ensures { OnOk result (Adds (HasMatch (form tree.now)) (flat_map lines_of_taken documents.now)
         (hits_of hits.old.items) (hits_of hits.new.items)) }
 {
     for document in documents {
+        ask(watch)?;
         watch.reads(document.number);
-        scan_body(tree, way, &document.name, document.held.body(), hits)?;
+        scan_body(tree, way, &document.name, document.held.body(), hits, watch)?;
     }
     Ok(())
 }
 
-/// Adds the lines with a match of one body.
-fn scan_body(
+/// Adds the lines with a match of one body, piece after piece.
+fn scan_body<W: Watch>(
     tree: &Ere,
     way: &mut Way<'_>,
     name: &Name,
     body: &Body,
     hits: &mut Vec<Hit>,
-) -> Result<(), AllocError>
+    watch: &mut W,
+) -> Result<(), Unanswered>
     requires limits { IsWithinLimits (form tree.now) }
     requires way { Finds (form tree.now) way.old }
     ensures way { Finds (form tree.now) way.new }
     ensures hits { OnOk result (Adds (HasMatch (form tree.now)) (lines_of_document name.now body.now)
         (hits_of hits.old.items) (hits_of hits.new.items)) }
 {
+    let mut rest = body.as_bytes();
+    let mut line = 1;
+    let mut end = piece_end(rest);
+    while end < rest.len() {
+        scan_piece(tree, way, name, line, &rest[..end], hits)?;
+        ask(watch)?;
+        line += lines_before(rest, end) as u32;
+        rest = &rest[end..];
+        end = piece_end(rest);
+    }
+    scan_piece(tree, way, name, line, rest, hits)?;
+    Ok(())
+}
+
+/// Adds the lines with a match of a text of whole lines, of which the first has the number `from`.
+fn scan_piece(
+    tree: &Ere,
+    way: &mut Way<'_>,
+    name: &Name,
+    from: u32,
+    text: &[u8],
+    hits: &mut Vec<Hit>,
+) -> Result<(), AllocError>
+    requires limits { IsWithinLimits (form tree.now) }
+    requires way { Finds (form tree.now) way.old }
+    requires short { has_long_line text.now ≡ false }
+    requires room { from + length text.now ≤ 1 + greatest_body }
+    ensures way { Finds (form tree.now) way.new }
+    ensures hits { OnOk result (Adds (HasMatch (form tree.now)) (numbered name.now from (lines_of text.now))
+        (hits_of hits.old.items) (hits_of hits.new.items)) }
+{
     let alloc = *hits.allocator();
     match way {
-        Way::FromMatchToMatch(finder) => sweep_lines(alloc, finder, name, body, hits),
-        Way::LineByLine => scan_lines(alloc, tree, name, body, hits),
+        Way::FromMatchToMatch(finder) => sweep_lines(alloc, finder, name, from, text, hits),
+        Way::LineByLine => scan_lines(alloc, tree, name, from, text, hits),
     }
 }
 
@@ -155,15 +191,17 @@ fn sweep_lines(
     alloc: Global,
     finder: &mut Finder<'_>,
     name: &Name,
-    body: &Body,
+    from: u32,
+    text: &[u8],
     hits: &mut Vec<Hit>,
 ) -> Result<(), AllocError>
+    requires { from + length text.now ≤ 1 + greatest_body }
     ensures same { (tree : Tree) → IsFinderOf tree finder.old → IsFinderOf tree finder.new }
-    ensures hits { OnOk result ((tree : Tree) → IsFinderOf tree finder.old → Adds (HasMatch tree) (lines_of_document name.now body.now)
+    ensures hits { OnOk result ((tree : Tree) → IsFinderOf tree finder.old → Adds (HasMatch tree) (numbered name.now from (lines_of text.now))
         (hits_of hits.old.items) (hits_of hits.new.items)) }
 {
-    let mut rest = body.as_bytes();
-    let mut line = 1;
+    let mut rest = text;
+    let mut line = from;
     while let Some(first) = finder.first_line(rest) {
         line += first.before as u32;
         let hit = Hit {
@@ -186,15 +224,18 @@ fn scan_lines(
     alloc: Global,
     tree: &Ere,
     name: &Name,
-    body: &Body,
+    from: u32,
+    text: &[u8],
     hits: &mut Vec<Hit>,
 ) -> Result<(), AllocError>
-    requires { IsWithinLimits (form tree.now) }
-    ensures { OnOk result (Adds (HasMatch (form tree.now)) (lines_of_document name.now body.now)
+    requires limits { IsWithinLimits (form tree.now) }
+    requires short { has_long_line text.now ≡ false }
+    requires room { from + length text.now ≤ 1 + greatest_body }
+    ensures { OnOk result (Adds (HasMatch (form tree.now)) (numbered name.now from (lines_of text.now))
         (hits_of hits.old.items) (hits_of hits.new.items)) }
 {
-    let mut rest = body.as_bytes();
-    let mut line = 1;
+    let mut rest = text;
+    let mut line = from;
     while let Some(end) = memchr(b'\n', rest) {
         scan_line(alloc, tree, name, line, &rest[..end], hits)?;
         rest = &rest[end + 1..];

@@ -7,6 +7,7 @@ ghost use Rattle.search.specs.Prepared.{pattern_of};
 use crate::answer::Answer;
 use crate::pattern::Prepared;
 use crate::taken::take;
+use crate::unanswered::Unanswered;
 use crate::watch::Watch;
 use index::Index;
 use std::alloc::{AllocError, Global};
@@ -20,13 +21,14 @@ pub fn find(alloc: Global, index: &Index, prepared: &Prepared) -> Result<Answer,
     take(alloc, index, prepared)?.answer(alloc)
 }
 
-/// The same as `find`, but `watch` gets the number of each document whose lines are matched.
+/// The same as `find`, but `watch` gets the number of each document whose lines are matched, and can call the search
+/// off. `CalledOff` is returned only after `watch.wants()` said `false`.
 pub fn find_watched<W: Watch>(
     alloc: Global,
     index: &Index,
     prepared: &Prepared,
     watch: &mut W,
-) -> Result<Answer, AllocError>
+) -> Result<Answer, Unanswered>
     ensures { IfOk result (λ answer. IsAnswerOf index.now (pattern_of prepared.now) answer) }
 {
     take(alloc, index, prepared)?.answer_watched(alloc, watch)

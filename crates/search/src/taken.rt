@@ -8,6 +8,7 @@ use crate::answer::{Answer, Contents};
 use crate::matching::scan_documents;
 use crate::names::named;
 use crate::pattern::Prepared;
+use crate::unanswered::Unanswered;
 use crate::watch::{NoWatch, Watch};
 use index::{Index, SharedDocument};
 use std::alloc::{AllocError, Global};
@@ -64,18 +65,23 @@ impl Taken<'_> {
     pub fn answer(self, alloc: Global) -> Result<Answer, AllocError>
         ensures { IfOk result (λ answer. (state : State) (pattern : Pattern) → IsTakenOf state pattern self.entry → IsAnswerOf state pattern answer) }
     {
-        self.answer_watched(alloc, &mut NoWatch)
+        match self.answer_watched(alloc, &mut NoWatch) {
+            Ok(answer) => Ok(answer),
+            // `CalledOff` would become an `AllocError` too, but to `NoWatch` each answer is wanted.
+            Err(_) => Err(AllocError),
+        }
     }
 
-    /// The same as `answer`, but `watch` gets the number of each document whose lines are matched.
-    pub(crate) fn answer_watched<W: Watch>(
+    /// The same as `answer`, but `watch` gets the number of each document whose lines are matched, and can call the
+    /// search off. `CalledOff` is returned only after `watch.wants()` said `false`, and nothing is asked after that.
+    pub fn answer_watched<W: Watch>(
         self,
         alloc: Global,
         watch: &mut W,
-    ) -> Result<Answer, AllocError>
+    ) -> Result<Answer, Unanswered>
         ensures { IfOk result (λ answer. (state : State) (pattern : Pattern) → IsTakenOf state pattern self.entry → IsAnswerOf state pattern answer) }
     {
-        let kept = named(alloc, self.prepared, self.candidates)?;
+        let kept = named(alloc, self.prepared, self.candidates, watch)?;
         let hits = scan_documents(alloc, &self.prepared.tree, kept.as_slice(), watch)?;
         let contents = Contents {
             version: self.version,

@@ -1,15 +1,40 @@
 //! Watches of searches.
 
-/// Learns which documents a search looks at.
+ghost use Rattle.std.specs.Prelude.{◌≡◌, true, IfErr};
+ghost use Rattle.search.specs.declared.unanswered.Unanswered.TheVariants.{CalledOff};
+
+use crate::unanswered::Unanswered;
+
+/// Learns which documents a search looks at, and can call the search off.
 pub trait Watch {
     /// Called just before the lines of the document with this number are matched.
     fn reads(&mut self, number: u32);
+
+    /// Whether the answer is still wanted. It is asked before each name that is matched, before each document, and at
+    /// the next 64 KiB within one. After `false` the search is given up.
+    fn wants(&mut self) -> bool;
 }
 
-/// A watch that does nothing.
+/// A watch that does nothing. The answer is always wanted.
 #[derive(Drop)]
 pub struct NoWatch;
 
 impl Watch for NoWatch {
     fn reads(&mut self, _number: u32) {}
+
+    fn wants(&mut self) -> bool
+        ensures { result ≡ true }
+    {
+        true
+    }
+}
+
+/// Asks whether the answer is still wanted.
+pub(crate) fn ask<W: Watch>(watch: &mut W) -> Result<(), Unanswered>
+    ensures { IfErr result (λ e. e ≡ CalledOff) }
+{
+    if !watch.wants() {
+        return Err(Unanswered::CalledOff);
+    }
+    Ok(())
 }

@@ -63,6 +63,10 @@ impl Watch for Looks {
         let place = number as usize % 512;
         self.counts[place] = self.counts[place].saturating_add(1);
     }
+
+    fn wants(&mut self) -> bool {
+        true
+    }
 }
 
 impl Looks {

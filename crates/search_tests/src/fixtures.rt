@@ -23,7 +23,7 @@ fn apply(rt: &impl Abort, index: &mut Index, command: Command) -> Result<(), Fai
 }
 
 /// Puts a document into the index.
-fn put(
+pub(crate) fn put(
     rt: &impl Abort,
     alloc: Global,
     index: &mut Index,
@@ -75,9 +75,15 @@ pub(crate) fn lists(alloc: Global, set: &List, numbers: &[u32]) -> Result<bool, 
     )
 }
 
-/// Whether the text of the answer to search 1, with its counts, is this one.
-pub(crate) fn is_text(alloc: Global, answer: &Answer, want: &[u8]) -> Result<bool, AllocError> {
+/// The text of the answer to search 1, with its counts.
+pub(crate) fn text_of_answer(alloc: Global, answer: &Answer) -> Result<Vec<u8>, AllocError> {
     let mut text = Vec::new(alloc);
     answer.write_to(1, true, &mut text)?;
+    Ok(text)
+}
+
+/// Whether the text of the answer to search 1, with its counts, is this one.
+pub(crate) fn is_text(alloc: Global, answer: &Answer, want: &[u8]) -> Result<bool, AllocError> {
+    let text = text_of_answer(alloc, answer)?;
     Ok(text.as_slice() == want)
 }

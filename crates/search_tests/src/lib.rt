@@ -7,6 +7,8 @@
 #[cfg(test)]
 mod answers;
 #[cfg(test)]
+mod called_off;
+#[cfg(test)]
 mod documents;
 #[cfg(test)]
 mod fixtures;

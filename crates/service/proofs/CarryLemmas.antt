@@ -17,7 +17,8 @@ use Rattle.steps.specs.LegalRows.{HasLoaded, IsRemove, no_such_file, is_there}
 use Rattle.steps.specs.LegalRows as legal
 use Rattle.steps.specs.Rows.{accepted_by, version_in, failures_in}
 use Rattle.service.specs.Private.Entries.{entry_of, published_entry_of, desk_after, IsLoaded}
-use Rattle.service.specs.Private.Items.{searches_in, IsEntered, all, nothing}
+use Rattle.steps.specs.StepRows.{searches_in}
+use Rattle.service.specs.Private.Items.{IsEntered, all, nothing}
 use Rattle.service.proofs.ItemLemmas.{counted_same, no_failure_in_body}
 
 -- the entry of a command has no version and is not that of a search; and the desk after the command

@@ -20,23 +20,29 @@ use Rattle.search.specs.Prepared.{pattern_of}
 use Rattle.search.specs.declared.pattern.Prepared.{Prepared}
 use Rattle.script.specs.Items.{Item, Numbered, numbered, put}
 use Rattle.script.specs.Items as item
+use Rattle.shared.specs.Counts.{AreCountsOf}
+use Rattle.shared.specs.declared.counts.Counts.{Counts}
 use Rattle.shared.specs.Desk.{DeskState}
 use Rattle.shared.specs.History.{Known}
 use Rattle.transcript.specs.declared.entry.Entry.{Entry}
-use Rattle.transcript.specs.declared.entry.Entry.TheVariants.{Refused, Published, Found, SearchRefused}
+use Rattle.transcript.specs.declared.entry.Entry.TheVariants.{Refused, Published, Found, SearchRefused, Status}
 use Rattle.transcript.specs.declared.entry.Reason.{Reason}
+use Rattle.transcript.specs.declared.entry.SearchReason.{SearchReason}
 use Rattle.transcript.specs.declared.entry.SearchReason.TheVariants as reason
 use Rattle.steps.specs.declared.last.Last.{Last}
 use Rattle.steps.specs.Rows.{accepted_by, command_of, version_in, last_or, searches_of, is_sync}
-use Rattle.steps.specs.LegalRows.{IsPut}
+use Rattle.steps.specs.LegalRows.{IsPut, documents_at, status_entry}
 use Rattle.steps.specs.Steps.{OpenSearch, RunState, IsStep, MayTake, Asks, IsFaultOf, last, last_of, asked}
 use Rattle.steps.specs.Steps as steps
 use Rattle.service.specs.declared.taken.Taken.{Taken}
-use Rattle.service.specs.Service.{ServiceState, run_of, Fits, Steps, Takes, TakesPut, Gives, answered, not_answered, CanStand, versions_in, written_by}
+use Rattle.service.specs.declared.taken.Taken.TheVariants as taken_as
+use Rattle.service.specs.Service.{ServiceState, run_of, Fits, Steps, Takes, TakesPut, Gives, answered, not_answered, too_slow, CanStand, versions_in, written_by}
 use Rattle.service.specs.Private.Items.{IsEntered, IsLeft, Tells, all, nothing}
 use Rattle.service.specs.Private.Entries.{entry_of, desk_after}
 use Rattle.service.proofs.CarryLemmas.{carried_put, same_opening}
-use Rattle.service.specs.Private.Closing.{IsService, service_of, with_kept, CanClose, IsAsked, asked_for, refused}
+use Rattle.service.specs.Opening.{limits_of}
+use Rattle.service.specs.Private.Closing.{IsService, service_of, with_kept, CanClose, IsAsked, asked_for, refused, IsGivenUp}
+use Rattle.service.specs.Private.Closing.{IsPlaceOf, IsCancelled, given_up, too_late, no_such_search}
 
 -- the commands that one more entry accepts
 abbrev accepted_in : Numbered → Option (List ℕ) → Entry → List Command
@@ -60,12 +66,12 @@ last_is_one default (x ∷ xs) = by (last_is_one x xs)
 
 module _ (Holds : List ℕ → List ℕ → Type 0) (desk : DeskState) (told : Known) (failed : ℕ) (item : Numbered) (entry : Entry)
     (desk' : DeskState) (told' : Known) (failed' : ℕ) (entered : IsEntered Holds desk told failed item entry desk' told' failed')
-    (kept : List ℕ) (searches : ℕ) (awaited : List OpenSearch) (lasts : List Last) where
+    (timed : Bool) (kept : List ℕ) (searches : ℕ) (awaited : List OpenSearch) (lasts : List Last) where
   abbrev old : ServiceState
-  old = service_of desk told kept searches awaited lasts
+  old = service_of desk timed told kept searches awaited lasts
 
   abbrev new : ServiceState
-  new = service_of desk' told' kept searches awaited lasts
+  new = service_of desk' timed told' kept searches awaited lasts
 
   told_by : Tells desk told entry told' → IsPrefix told.commands desk.accepted
       → IsPrefix told'.commands desk'.accepted × (length told.commands ≤ length told'.commands)
@@ -114,7 +120,7 @@ module _ (Holds : List ℕ → List ℕ → Type 0) (desk : DeskState) (told : K
       latest = ap (last_or 0) one ∙ latest_by entered.tells published fits.latest;
       kept = λ version inside. subst (λ l. (version ≡ 0) ⊎ Contains l version) (sym one) (by version (sub version inside));
     };
-    limit = entered.limit;
+    limits = ap (λ n. limits_of n timed) entered.limit;
   }
     where
       one : published ++ versions_in (entry ∷ []) ≡ published ++ version_in (Some entry)
@@ -151,36 +157,71 @@ asked_takes Holds old item result new one (asked_for task is after) published re
       (ap (λ n. record (run_of old published) { searches = old.searches + 1; awaited = old.awaited ++ record { number = old.searches + 1; item = item.item; least = n } ∷ [] })
       (sym fits.latest)));
   fits = fits_still old _ published refl refl fits;
-  limit = refl;
+  limits = refl;
 })
 asked_takes Holds old item result new one (refused why fault is) published readers fits may = rw (is.entry, is.left) (record {
   step = steps.refused item why may fault refl refl (rw (append-nil published) refl);
   fits = fits_still old _ published refl refl fits;
-  limit = refl;
+  limits = refl;
 })
 
 pub sync_takes : (Holds : List ℕ → List ℕ → Type 0) (old : ServiceState) (item : Numbered) → is_sync item.item ≡ true → Takes Holds old item [] old
 sync_takes Holds old item is published readers fits may = record {
   step = steps.sync item is (nothing_open may) refl refl (rw (append-nil published) refl);
   fits = fits_still old old published refl refl fits;
-  limit = refl;
+  limits = refl;
 }
   where
     nothing_open : MayTake readers (run_of old published) item.item → old.awaited ≡ []
     nothing_open (steps.settled none) = none
     nothing_open (steps.beside some no_sync) = let opposite = sym is ∙ no_sync in cc
 
+-- a cancel closes an open search, or does nothing, or is refused
+pub cancel_takes : (Holds : List ℕ → List ℕ → Type 0) (old : ServiceState) (taken : Numbered) (number : ℕ) (result : Taken) (new : ServiceState)
+    → taken.item ≡ item.cancel number → IsCancelled taken.line number old result new → Takes Holds old taken (written_by result) new
+cancel_takes Holds old taken number result new asks (given_up place entry found same is) published readers fits may =
+    rw (is, found.refused, found.left) (record {
+      step =
+          steps.cancelled taken place found.search may (asks ∙ ap item.cancel (sym same)) found.is_open refl refl
+          (rw (append-nil published) refl);
+      fits = fits_still old _ published refl refl fits;
+      limits = refl;
+    })
+cancel_takes Holds old taken number result new asks (too_late was gone is same) published readers fits may = rw (is, same) (record {
+  step = steps.too_late taken number may asks was gone refl refl (rw (append-nil published) refl);
+  fits = fits_still old old published refl refl fits;
+  limits = refl;
+})
+cancel_takes Holds old taken number result new asks (no_such_search was_not is same) published readers fits may = rw (is, same) (record {
+  step = steps.no_such_search taken number may asks was_not refl refl (rw (append-nil published) refl);
+  fits = fits_still old old published refl refl fits;
+  limits = refl;
+})
+
+-- a status changes nothing
+pub status_takes : (Holds : List ℕ → List ℕ → Type 0) (old : ServiceState) (taken : Numbered) (entry : Entry) → taken.item ≡ item.status
+    → entry ≡ status_entry taken.line (length old.told) old.accepted old.limits.commands (length old.awaited)
+    → Takes Holds old taken (entry ∷ []) old
+status_takes Holds old taken entry asks is published readers fits may = rw is (record {
+  step =
+      steps.reported taken may asks refl
+      (ap (λ v. status_entry taken.line v old.accepted old.limits.commands (length old.awaited) ∷ []) (sym fits.latest))
+      (rw (append-nil published) refl);
+  fits = fits_still old old published refl refl fits;
+  limits = refl;
+})
+
 -- a put is accepted or refused
-pub put_left : (desk desk' : DeskState) (told : Known) (kept : List ℕ) (searches : ℕ) (awaited : List OpenSearch) (lasts : List Last)
+pub put_left : (desk desk' : DeskState) (timed : Bool) (told : Known) (kept : List ℕ) (searches : ℕ) (awaited : List OpenSearch) (lasts : List Last)
     (name body : List ℕ) (line : ℕ) (done : Result ℕ Reason) (entry : Entry) → entry ≡ entry_of line done
     → IsPut desk.limit (state_of desk.accepted) name body line (entry_of line done) → desk' ≡ desk_after done (Put name body ∷ []) desk
-    → TakesPut (service_of desk told kept searches awaited lasts) name body line entry (service_of desk' told kept searches awaited lasts)
-put_left desk desk' told kept searches awaited lasts name body line done entry is legal_is left = rw (is, left) (record { legal = legal_is; left = by done })
+    → TakesPut (service_of desk timed told kept searches awaited lasts) name body line entry (service_of desk' timed told kept searches awaited lasts)
+put_left desk desk' timed told kept searches awaited lasts name body line done entry is legal_is left = rw (is, left) (record { legal = legal_is; left = by done })
   where
     with_accepted : List Command → ServiceState
-    with_accepted l = record (service_of desk told kept searches awaited lasts) { accepted = l }
+    with_accepted l = record (service_of desk timed told kept searches awaited lasts) { accepted = l }
 
-    by : (r : Result ℕ Reason) → service_of (desk_after r (Put name body ∷ []) desk) told kept searches awaited lasts
+    by : (r : Result ℕ Reason) → service_of (desk_after r (Put name body ∷ []) desk) timed told kept searches awaited lasts
         ≡ with_accepted (desk.accepted ++ accepted_by (Some (entry_of line r)) (Put name body ∷ []))
     by (Ok count) = refl
     by (Err why) = ap with_accepted (sym (append-nil desk.accepted))
@@ -193,7 +234,7 @@ put_takes Holds old new name body line entry takes none published readers fits m
       steps.carried_out (numbered line (put name body)) None entry may takes.legal refl refl
       (rw (none, append-nil published) refl);
   fits = rw none (fits_still old _ published refl refl fits);
-  limit = refl;
+  limits = refl;
 })
 
 -- an open search is closed: new is old without it, and with these last answers
@@ -265,12 +306,17 @@ module _ (Holds : List ℕ → List ℕ → Type 0) (old : ServiceState) (publis
           no_fall = can.no_fall;
         }) refl refl refl;
     fits = record { latest = fits.latest; kept = fits.kept };
-    limit = refl;
+    limits = refl;
   })
   gives_step entry new (not_answered place search is_open is after) = rw (is, after) (record {
     step = steps.not_answered place search is_open refl refl refl;
     fits = record { latest = fits.latest; kept = fits.kept };
-    limit = refl;
+    limits = refl;
+  })
+  gives_step entry new (too_slow place search timed is_open is after) = rw (is, after) (record {
+    step = steps.too_slow place search timed is_open refl refl refl;
+    fits = record { latest = fits.latest; kept = fits.kept };
+    limits = refl;
   })
 
 -- what is checked of a reader's answer, and that it is right, make it one that can stand
@@ -326,6 +372,8 @@ memory_is_fault (item.load name path) one = absurd (omega (arith, one))
 memory_is_fault (item.remove name) one = absurd (omega (arith, one))
 memory_is_fault item.publish one = absurd (omega (arith, one))
 memory_is_fault item.sync one = absurd (omega (arith, one))
+memory_is_fault (item.cancel number) one = absurd (omega (arith, one))
+memory_is_fault item.status one = absurd (omega (arith, one))
 memory_is_fault item.bad_line one = absurd (omega (arith, one))
 memory_is_fault item.bad_put one = absurd (omega (arith, one))
 memory_is_fault item.truncated one = absurd (omega (arith, one))
@@ -394,19 +442,24 @@ module _ (inside : ServiceState) (place number : ℕ) (within : place < length i
   is_open : slice_get inside.awaited place ≡ Some found
   is_open = slice_get-get_or inside.awaited place found within ∙ ap Some (sym here)
 
-  pub gives_refusal : Gives inside (SearchRefused number reason.OutOfMemory) after_refusal
-  gives_refusal = not_answered place found is_open (ap (λ n. SearchRefused n reason.OutOfMemory) is_number) (rw left refl)
+  pub is_refused : (why : SearchReason) → IsGivenUp place why inside (SearchRefused number why) after_refusal
+  is_refused why = record {
+    search = found;
+    is_open = is_open;
+    refused = ap (λ n. SearchRefused n why) is_number;
+    left = rw left refl;
+  }
 
   pub refusal_is_service : IsService inside → IsService after_refusal
   refusal_is_service is = rw left (refused_is_service inside place found is_open is)
 
-pub put_is_service : (desk desk' : DeskState) (told : Known) (kept : List ℕ) (searches : ℕ) (awaited : List OpenSearch) (lasts : List Last)
+pub put_is_service : (desk desk' : DeskState) (timed : Bool) (told : Known) (kept : List ℕ) (searches : ℕ) (awaited : List OpenSearch) (lasts : List Last)
     (name body : List ℕ) (line : ℕ) (done : Result ℕ Reason) → IsPut desk.limit (state_of desk.accepted) name body line (entry_of line done)
-    → desk' ≡ desk_after done (Put name body ∷ []) desk → IsService (service_of desk told kept searches awaited lasts)
-    → IsService (service_of desk' told kept searches awaited lasts)
-put_is_service desk desk' told kept searches awaited lasts name body line done legal left =
+    → desk' ≡ desk_after done (Put name body ∷ []) desk → IsService (service_of desk timed told kept searches awaited lasts)
+    → IsService (service_of desk' timed told kept searches awaited lasts)
+put_is_service desk desk' timed told kept searches awaited lasts name body line done legal left =
     entered_is_service (λ path bytes. Unit {0}) desk told 0 (numbered line (put name body)) (entry_of line done) desk' told 0
-    (carried_put (λ path bytes. Unit {0}) desk told 0 line done (entry_of line done) refl name body desk' legal left) kept searches awaited lasts
+    (carried_put (λ path bytes. Unit {0}) desk told 0 line done (entry_of line done) refl name body desk' legal left) timed kept searches awaited lasts
 
 pub same_opening_after : (done : Result ℕ Reason) (commands : List Command) (desk desk' : DeskState) → desk' ≡ desk_after done commands desk
     → desk'.opening ≡ desk.opening
@@ -414,7 +467,7 @@ same_opening_after done commands desk desk' left = ap (λ d. d.opening) left ∙
 
 -- a put that is refused leaves the service as it is
 pub refused_put : (service : ServiceState) (name body : List ℕ) (line : ℕ) (why : Reason) (entry : Entry) → entry ≡ entry_of line (Err why)
-    → IsPut service.limit (state_of service.accepted) name body line (Refused line why) → TakesPut service name body line entry service
+    → IsPut service.limits.commands (state_of service.accepted) name body line (Refused line why) → TakesPut service name body line entry service
 refused_put service name body line why entry is legal = rw is (record {
   legal = legal;
   left = ap (λ l. record service { accepted = l }) (sym (append-nil service.accepted));
@@ -439,7 +492,44 @@ either_map f (inl p) = inl (f p)
 either_map f (inr q) = inr q
 
 -- the desk and what was told of are as they were
-pub left_same : (desk : DeskState) (told : Known) (failed : ℕ) (desk' : DeskState) (told' : Known) (failed' : ℕ) (kept : List ℕ) (searches : ℕ)
+pub left_same : (desk : DeskState) (told : Known) (failed : ℕ) (desk' : DeskState) (told' : Known) (failed' : ℕ) (timed : Bool) (kept : List ℕ) (searches : ℕ)
     (awaited : List OpenSearch) (lasts : List Last) → IsLeft desk told failed desk' told' failed'
-    → service_of desk' told' kept searches awaited lasts ≡ service_of desk told kept searches awaited lasts
-left_same desk told failed desk' told' failed' kept searches awaited lasts left = rw (left.0, left.1) refl
+    → service_of desk' timed told' kept searches awaited lasts ≡ service_of desk timed told kept searches awaited lasts
+left_same desk told failed desk' told' failed' timed kept searches awaited lasts left = rw (left.0, left.1) refl
+
+-- the documents of what was published last are those of its version
+pub told_documents : (service : ServiceState) → IsService service → documents_at (length service.told) service.accepted ≡ (state_of service.told).documents
+told_documents service is =
+    ap (λ c. (state_of c).documents)
+    (ap (take (length service.told)) (sym is.begins.1) ∙ take-append_seam service.told is.begins.0)
+
+-- the counts of what was published last, as a status shows them
+pub is_status : (service : ServiceState) (line : ℕ) (counts : Counts) (accepted most waiting : ℕ) → IsService service
+    → AreCountsOf (state_of service.told) counts → accepted ≡ length service.accepted → most ≡ service.limits.commands
+    → waiting ≡ length service.awaited
+    → Status line counts.version counts.documents counts.bytes accepted most waiting
+    ≡ status_entry line (length service.told) service.accepted service.limits.commands (length service.awaited)
+is_status service line counts accepted most waiting is are accepted_is most_is waiting_is =
+    rw (told_documents service is, are.version, are.documents, are.bytes, accepted_is, most_is, waiting_is) refl
+
+-- few searches are open
+pub few_open : (service : ServiceState) → IsService service → length service.awaited ≤ service.searches
+few_open service is = omega (arith, is.turns 0 (last 0 0) is.reader_zero)
+
+-- the open search that a cancel names is refused
+pub cancelled_at : (line number place : ℕ) (old : ServiceState) (entry : Entry) (new : ServiceState) → IsPlaceOf old.awaited number place
+    → IsGivenUp place reason.Cancelled old entry new → IsCancelled line number old (taken_as.Cancelled entry) new
+cancelled_at line number place old entry new at found =
+    given_up place entry found (ap (λ s. s.number) (one_search (sym found.is_open ∙ at.is_open)) ∙ at.same) refl
+  where
+    one_search : {s s' : OpenSearch} → Some s ≡ Some s' → s ≡ s'
+    one_search is = cc
+
+-- an open search is refused for want of memory, or as too slow
+pub gives_memory : (place : ℕ) (old : ServiceState) (entry : Entry) (new : ServiceState) → IsGivenUp place reason.OutOfMemory old entry new
+    → Gives old entry new
+gives_memory place old entry new is = not_answered place is.search is.is_open is.refused is.left
+
+pub gives_too_slow : (place : ℕ) (old : ServiceState) (entry : Entry) (new : ServiceState) → old.limits.timed ≡ true
+    → IsGivenUp place reason.TooSlow old entry new → Gives old entry new
+gives_too_slow place old entry new timed is = too_slow place is.search timed is.is_open is.refused is.left

@@ -1,13 +1,17 @@
 -- What is opened.
-use Rattle.std.specs.Prelude.{ℕ}
+use Rattle.std.specs.Prelude.{ℕ, Bool}
 use Rattle.logbook.specs.Pages.{Book}
+use Rattle.steps.specs.LegalRows.{Limits}
 
--- The book that names the opening, how many commands are accepted at most, and how many readers there are in addition to
--- reader 0.
+-- commands: how many commands are accepted at most. timed: whether searches have a limit of time.
+abbrev pub limits_of : ℕ → Bool → Limits
+limits_of commands timed = record { commands = commands; timed = timed }
+
+-- The book that names the opening, what bounds it, and how many readers there are in addition to reader 0.
 pub record OpenedState : Type 0 where
   pub opening : Book
-  pub limit : ℕ
+  pub limits : Limits
   pub readers : ℕ
 
-abbrev pub opened_state : Book → ℕ → ℕ → OpenedState
-opened_state opening limit readers = record { opening = opening; limit = limit; readers = readers }
+abbrev pub opened_state : Book → Limits → ℕ → OpenedState
+opened_state opening limits readers = record { opening = opening; limits = limits; readers = readers }

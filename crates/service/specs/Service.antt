@@ -13,14 +13,15 @@ use Rattle.transcript.specs.declared.entry.Entry.{Entry}
 use Rattle.transcript.specs.declared.entry.Entry.TheVariants.{Found, SearchRefused}
 use Rattle.transcript.specs.declared.entry.SearchReason.TheVariants as reason
 use Rattle.steps.specs.declared.last.Last.{Last}
-use Rattle.steps.specs.LegalRows.{IsPut}
-use Rattle.steps.specs.Rows.{accepted_by, version_in, last_or, failures_in, list_of, is_sync, searches_of}
+use Rattle.steps.specs.LegalRows.{Limits, IsPut}
+use Rattle.steps.specs.Rows.{accepted_by, version_in, last_or, failures_in, list_of, searches_of}
+use Rattle.steps.specs.StepRows.{searches_in}
 use Rattle.steps.specs.Steps.{OpenSearch, RunState, IsStep, MayTake, Asks, last, last_of}
 
--- limit: how many commands are accepted at most. accepted: the accepted commands. told: those that were published last.
+-- limits: what bounds the run. accepted: the accepted commands. told: those that were published last.
 -- kept: versions that were published, of which no open search needs any other. searches, awaited, lasts: as in a run.
 pub record ServiceState : Type 0 where
-  pub limit : ℕ
+  pub limits : Limits
   pub accepted : List Command
   pub told : List Command
   pub kept : List ℕ
@@ -29,9 +30,9 @@ pub record ServiceState : Type 0 where
   pub lasts : List Last
 
 -- before the first item
-abbrev pub first_service : ℕ → ℕ → ServiceState
-first_service limit readers = record {
-  limit = limit;
+abbrev pub first_service : Limits → ℕ → ServiceState
+first_service limits readers = record {
+  limits = limits;
   accepted = [];
   told = [];
   kept = 0 ∷ [];
@@ -61,9 +62,9 @@ versions_in entries = flat_map (λ entry. version_in (Some entry)) entries
 -- A step of the service is a legal step of its run.
 pub record Steps (Holds : List ℕ → List ℕ → Type 0) (readers : ℕ) (old : ServiceState) (published : List ℕ) (taken : List Numbered) (written : List Entry)
     (new : ServiceState) (published' : List ℕ) : Type 0 where
-  pub step : IsStep Holds old.limit readers (run_of old published) taken written (run_of new published')
+  pub step : IsStep Holds old.limits readers (run_of old published) taken written (run_of new published')
   pub fits : Fits new published'
-  pub limit : new.limit ≡ old.limit
+  pub limits : new.limits ≡ old.limits
 
 -- An item was taken, and these entries are to be written.
 abbrev pub Takes : (List ℕ → List ℕ → Type 0) → ServiceState → Numbered → List Entry → ServiceState → Type 0
@@ -73,7 +74,7 @@ Takes Holds old item written new =
 
 -- A put was taken: it is accepted or refused, and the service has its command if it is accepted.
 pub record TakesPut (old : ServiceState) (name body : List ℕ) (line : ℕ) (entry : Entry) (new : ServiceState) : Type 0 where
-  pub legal : IsPut old.limit (state_of old.accepted) name body line entry
+  pub legal : IsPut old.limits.commands (state_of old.accepted) name body line entry
   pub left : new ≡ record old { accepted = old.accepted ++ accepted_by (Some entry) (Put name body ∷ []) }
 
 -- An answer that the open search can get: of a version that is kept, or was published last, no older than what was
@@ -88,7 +89,7 @@ pub record CanStand (service : ServiceState) (search : OpenSearch) (reader : ℕ
   pub one_of_them : reader < length service.lasts
   pub no_fall : (last_of service.lasts reader).version ≤ answer.version
 
--- An open search got its entry: an answer, or the refusal for want of memory.
+-- An open search got its entry: an answer, or the refusal for want of memory or of time.
 pub data Gives (old : ServiceState) (entry : Entry) (new : ServiceState) : Type 0 where
   answered : (place : ℕ) (search : OpenSearch) (reader turn : ℕ) (answer : Answer) → slice_get old.awaited place ≡ Some search
       → CanStand old search reader answer → turn ≡ (last_of old.lasts reader).turn + 1 → entry ≡ Found search.number reader turn answer
@@ -96,21 +97,27 @@ pub data Gives (old : ServiceState) (entry : Entry) (new : ServiceState) : Type 
       → Gives old entry new
   not_answered : (place : ℕ) (search : OpenSearch) → slice_get old.awaited place ≡ Some search → entry ≡ SearchRefused search.number reason.OutOfMemory
       → new ≡ record old { awaited = take place old.awaited ++ drop (place + 1) old.awaited } → Gives old entry new
+  too_slow : (place : ℕ) (search : OpenSearch) → old.limits.timed ≡ true → slice_get old.awaited place ≡ Some search
+      → entry ≡ SearchRefused search.number reason.TooSlow
+      → new ≡ record old { awaited = take place old.awaited ++ drop (place + 1) old.awaited } → Gives old entry new
 
 -- the entries that an item has at once
 abbrev pub written_by : Taken → List Entry
 written_by (taken.Entry entry) = entry ∷ []
 written_by (taken.Search task) = []
-written_by taken.Sync = []
+written_by (taken.Cancelled entry) = entry ∷ []
+written_by taken.Nothing = []
 
 -- how many loads failed
 abbrev pub failures_by : Taken → ℕ
 failures_by (taken.Entry entry) = failures_in (Some entry)
 failures_by (taken.Search task) = 0
-failures_by taken.Sync = 0
+failures_by (taken.Cancelled entry) = failures_in (Some entry)
+failures_by taken.Nothing = 0
 
--- Only a search is open, and only a sync has no entry.
+-- Only a search is open, or has an entry of a search. Only an item that is no search gives a search its entry.
 abbrev pub IsKind : Item → Taken → Type 0
-IsKind item (taken.Entry entry) = is_sync item ≡ false
+IsKind item (taken.Entry entry) = searches_in entry ≡ searches_of item
 IsKind item (taken.Search task) = searches_of item ≡ 1
-IsKind item taken.Sync = is_sync item ≡ true
+IsKind item (taken.Cancelled entry) = (searches_of item ≡ 0) × (searches_in entry ≡ 1)
+IsKind item taken.Nothing = searches_of item ≡ 0

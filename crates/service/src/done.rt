@@ -15,8 +15,10 @@ pub struct Done<J: Naming> {
     pub(crate) question: Question,
     /// The commands that the reader had seen when it had searched.
     pub(crate) seen: Told,
-    /// `None` if memory ran out for the answer.
+    /// `None` if memory ran out for the answer, or the search was given up.
     pub(crate) answer: Option<Answer>,
+    /// Whether it was given up since its time was over.
+    pub(crate) is_late: bool,
     pub(crate) of: PhantomData<J>,
 }
 

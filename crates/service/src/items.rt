@@ -191,10 +191,14 @@ pub enum Outcome {
     Search,
     /// It is a sync: the searches before it are to be answered before anything after it is carried out.
     Sync,
+    /// It is a cancel of the search with this number.
+    Cancel(u32),
+    /// It asks for the status.
+    Status,
 }
 
-/// Carries out an item at the desk, and keeps what a publish hands out in `told`. Searches and syncs are left to the
-/// caller.
+/// Carries out an item at the desk, and keeps what a publish hands out in `told`. Searches, syncs, cancels and statuses are
+/// left to the caller.
 pub fn carry_out<R: Wait, S: Source>(
     rt: &R,
     alloc: Global,
@@ -220,6 +224,8 @@ pub fn carry_out<R: Wait, S: Source>(
         Item::Search { .. } => Outcome::Search,
         Item::SearchIn { .. } => Outcome::Search,
         Item::Sync => Outcome::Sync,
+        Item::Cancel { search } => Outcome::Cancel(search),
+        Item::Status => Outcome::Status,
         Item::BadLine => Outcome::Entry(entry_of(line, Err(Reason::BadLine))),
         Item::BadPut => Outcome::Entry(entry_of(line, Err(Reason::BadPut))),
         Item::Truncated => Outcome::Entry(entry_of(line, Err(Reason::Truncated))),

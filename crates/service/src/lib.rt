@@ -15,6 +15,7 @@ mod request;
 mod service;
 mod source;
 mod taken;
+mod wish;
 mod work;
 
 pub use collected::Collected;

@@ -1,12 +1,12 @@
 //! Services and their readers, opened together.
 
-ghost use Rattle.std.specs.Prelude.{◌≡◌, ℕ, ◌+◌, ◌<◌, ◌≤◌, [], ◌∷◌, All, IfOk, length, replicate};
+ghost use Rattle.std.specs.Prelude.{◌≡◌, ℕ, ◌+◌, ◌<◌, ◌≤◌, [], ◌∷◌, All, IfOk, is_some, length, replicate};
 ghost use Rattle.shared.specs.declared.opening.TheConstants.{MAX_COMMANDS};
 ghost use Rattle.shared.specs.Desk.{desk_state};
 ghost use Rattle.shared.specs.History.{known};
 ghost use Rattle.steps.specs.Steps.{last};
 ghost use Rattle.service.specs.Service.{first_service};
-ghost use Rattle.service.specs.Opening.{opened_state};
+ghost use Rattle.service.specs.Opening.{limits_of, opened_state};
 
 use crate::naming::Naming;
 use crate::reader::Reader;
@@ -18,40 +18,43 @@ use std::marker::{Model, PhantomData};
 use std::sync::Wait;
 use steps::Last;
 
-/// A desk and its readings, before the first item. They have no name in types yet. Contracts see them as their opening, the
-/// greatest number of commands, and the number of readers. It must be named.
+/// A desk and its readings, before the first item. They have no name in types yet. Contracts see them as their opening, its
+/// limits, and the number of readers. It must be named.
 pub struct Opened {
     desk: Desk,
     told: Told,
     /// The reading of reader 0.
     reading: Reading,
     readings: Vec<Reading>,
+    /// How many milliseconds a search has at most, if there is such a limit.
+    search_ms: Option<u32>,
 }
 
 impl Model for Opened {
-    ghost use Rattle.std.specs.Prelude.{◌≡◌, ◌≤◌, [], All, length};
+    ghost use Rattle.std.specs.Prelude.{◌≡◌, ◌≤◌, [], All, is_some, length};
     ghost use Rattle.shared.specs.History.{known};
-    ghost use Rattle.service.specs.Opening.{OpenedState, opened_state};
+    ghost use Rattle.service.specs.Opening.{OpenedState, limits_of, opened_state};
 
     ghost Value = { OpenedState };
 
-    ghost view = { λ o. opened_state o.desk.opening o.desk.limit (length o.readings.items) };
+    ghost view = { λ o. opened_state o.desk.opening (limits_of o.desk.limit (is_some o.search_ms)) (length o.readings.items) };
 
     ghost invariant = { λ o. (o.desk.accepted ≡ []) × (o.told ≡ known o.desk.opening []) × (o.reading ≡ known o.desk.opening [])
         × All (λ reading. reading ≡ known o.desk.opening []) o.readings.items × (length o.readings.items ≤ 16) };
 }
 
 /// Opens a service for at most `max_commands` commands (1 to 4,294,967,294), with `readers` readers in addition to reader 0
-/// (0 to 16). `NoPlace` means that a reader got no place, and `OutOfMemory` that memory ran out.
+/// (0 to 16), in which a search has at most `search_ms` milliseconds, if there is such a limit. `NoPlace` means that a reader got no place, and `OutOfMemory` that memory ran out.
 pub fn open<R: Wait>(
     rt: &R,
     alloc: Global,
     max_commands: u32,
+    search_ms: Option<u32>,
     readers: u32,
 ) -> Result<Opened, OpenError>
     requires commands { (0 < max_commands) × (max_commands ≤ MAX_COMMANDS) }
     requires readers { readers ≤ 16 }
-    ensures { IfOk result (λ opened. opened ≡ opened_state opened.opening max_commands readers) }
+    ensures { IfOk result (λ opened. opened ≡ opened_state opened.opening (limits_of max_commands (is_some search_ms)) readers) }
 {
     let (mut desk, mut readings) = shared::open(rt, alloc, max_commands, readers as usize + 1)?;
     match (readings.pop(), desk.publish(rt)) {
@@ -60,6 +63,7 @@ pub fn open<R: Wait>(
             told,
             reading,
             readings,
+            search_ms,
         }),
         _ => {
             desk.close(rt);
@@ -76,7 +80,7 @@ impl Opened {
         alloc: Global,
     ) -> Result<(Service<J>, Vec<Reader<J>>), AllocError>
         requires { self.opening ≡ J.book }
-        ensures service { IfOk result (λ named. named.0 ≡ first_service self.limit self.readers) }
+        ensures service { IfOk result (λ named. named.0 ≡ first_service self.limits self.readers) }
         ensures count { IfOk result (λ named. length named.1.items ≡ self.readers) }
     {
         let Opened {
@@ -84,10 +88,11 @@ impl Opened {
             told,
             reading,
             readings,
+            search_ms,
         } = self;
         match parts(alloc, readings) {
             Ok((readers, kept, lasts)) => {
-                let service = Service::new(alloc, desk, told, reading, kept, lasts);
+                let service = Service::new(alloc, desk, told, reading, kept, lasts, search_ms);
                 Ok((service, readers))
             }
             Err(error) => {

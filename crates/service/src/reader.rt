@@ -1,6 +1,7 @@
 //! Readers answer searches, each with a reading of its own.
 
 ghost use Rattle.std.specs.Prelude.{◌≡◌, IfOk};
+ghost use mathlib.Core.List.{IsPrefix};
 ghost use Rattle.index.specs.State.{state_of};
 ghost use Rattle.search.specs.Prepared.{pattern_of};
 ghost use Rattle.search.specs.Scan.{IsAnswerOf};
@@ -9,10 +10,12 @@ use crate::done::Done;
 use crate::gate::{Gate, Point};
 use crate::naming::Naming;
 use crate::request::{Request, Task};
-use search::{Answer, Prepared};
-use shared::{Reading, SearchError};
+use crate::wish::Look;
+use search::{Answer, Prepared, Unanswered, Watch};
+use shared::Reading;
 use std::alloc::Global;
 use std::marker::PhantomData;
+use std::time::Clock;
 
 /// What answers searches for a service. It can be in another thread.
 #[derive(Drop)]
@@ -24,11 +27,31 @@ pub struct Reader<J: Naming> {
 }
 
 impl<J: Naming> Reader<J> {
-    /// Searches what is published, and calls the gate at each point of the search. It never waits, except for the gate.
-    pub fn answer<G: Gate>(&mut self, alloc: Global, task: Task, gate: &G) -> Done<J> {
-        let Task { number, request } = task;
+    /// Searches what is published, and calls the gate at each point of the search. It never waits, except for the gate. The
+    /// search is given up once it was called off, or its time is over: before the next name or document, or the next 64 KiB
+    /// of one.
+    pub fn answer<R: Clock, G: Gate>(
+        &mut self,
+        rt: &R,
+        alloc: Global,
+        task: Task,
+        gate: &G,
+    ) -> Done<J> {
+        let Task {
+            number,
+            request,
+            wish,
+        } = task;
         gate.turn(number, Point::Begin);
-        let answer = search(alloc, &mut self.reading, &request.prepared, gate, number);
+        let mut look = Look::at(rt, &wish);
+        let answer = search(
+            alloc,
+            &mut self.reading,
+            &request.prepared,
+            gate,
+            number,
+            &mut look,
+        );
         gate.turn(number, Point::Done);
         let Request {
             question,
@@ -40,24 +63,40 @@ impl<J: Naming> Reader<J> {
             question,
             seen: self.reading.told(),
             answer: answer.ok(),
+            is_late: look.is_late(),
             of: PhantomData,
         }
     }
 }
 
-/// Takes, calls the gate, and matches. While names and lines are matched, both copies of the index can change.
-fn search<G: Gate>(
+/// A gate that does nothing.
+pub(crate) struct NoGate;
+
+impl Gate for NoGate {
+    fn turn(&self, _search: u32, _point: Point) {}
+}
+
+/// Takes, calls the gate, and matches. While names and lines are matched, both copies of the index can change. `CalledOff`
+/// means that the search was given up.
+pub(crate) fn search<G: Gate, W: Watch>(
     alloc: Global,
     reading: &mut Reading,
     prepared: &Prepared,
     gate: &G,
     number: u32,
-) -> Result<Answer, SearchError>
+    watch: &mut W,
+) -> Result<Answer, Unanswered>
     ensures opening { reading.new.opening ≡ reading.old.opening }
+    ensures seen { IsPrefix reading.old.commands reading.new.commands }
     ensures answer { IfOk result (IsAnswerOf (state_of reading.new.commands) (pattern_of prepared.now)) }
 {
-    let taken = reading.take(alloc, prepared)?;
+    if !watch.wants() {
+        return Err(Unanswered::CalledOff);
+    }
+    let Ok(taken) = reading.take(alloc, prepared) else {
+        return Err(Unanswered::OutOfMemory);
+    };
     gate.turn(number, Point::Matching);
-    let answer = taken.answer(alloc)?;
+    let answer = taken.answer_watched(alloc, watch)?;
     Ok(answer)
 }

@@ -9,6 +9,7 @@ ghost use Rattle.steps.specs.Steps.{Asks, IsFaultOf};
 ghost use Rattle.service.specs.Private.Entries.{reason_of_fault};
 
 use crate::question::Question;
+use crate::wish::Wish;
 use ere::{EreError, EreErrorKind};
 use script::Item;
 use search::Prepared;
@@ -92,8 +93,9 @@ fn reason_of_fault(in_name: bool, error: EreError) -> SearchReason
 }
 
 /// A search that a reader is to answer.
-#[derive(Debug, Drop)]
+#[derive(Drop)]
 pub struct Task {
     pub(crate) number: u32,
     pub(crate) request: Request,
+    pub(crate) wish: Wish,
 }

@@ -1,23 +1,25 @@
 //! The state machine.
 
-ghost use Rattle.std.specs.Prelude.{◌≡◌, ℕ, ◌+◌, ◌<◌, ◌≤◌, ◌^◌, ◌⊎◌, List, [], ◌∷◌, length, Some, Contains, MatchBool, IfSome, IfNone, OnOk, OnErr, slice_get};
+ghost use Rattle.std.specs.Prelude.{◌≡◌, ◌≢◌, ℕ, ◌+◌, ◌<◌, ◌≤◌, ◌^◌, ◌⊎◌, List, [], ◌∷◌, All, length, Some, Contains, MatchBool, IfSome, IfNone, IfOk, OnOk, OnErr, true, is_some, take, slice_get};
 ghost use mathlib.Core.List.{IsPrefix};
 ghost use Rattle.index.specs.State.{state_of};
 ghost use Rattle.index.specs.Text.{greatest_body};
 ghost use Rattle.search.specs.Prepared.{pattern_of};
 ghost use Rattle.search.specs.Scan.{IsAnswerOf};
-ghost use Rattle.script.specs.Items.{numbered as numbered_item};
+ghost use Rattle.script.specs.Items.{numbered as numbered_item, cancel as cancel_item};
 ghost use Rattle.script.specs.Reading.{shown_item};
+ghost use Rattle.shared.specs.Counts.{AreCountsOf};
 ghost use Rattle.shared.specs.Desk.{desk_state};
 ghost use Rattle.shared.specs.History.{known, Known};
 ghost use Rattle.transcript.specs.declared.entry.Entry.TheVariants.{Found as found_entry, SearchRefused as refused_entry};
-ghost use Rattle.transcript.specs.declared.entry.SearchReason.TheVariants.{OutOfMemory as out_of_memory};
+ghost use Rattle.transcript.specs.declared.entry.SearchReason.TheVariants.{OutOfMemory as out_of_memory, TooSlow as too_slow};
+ghost use Rattle.steps.specs.LegalRows.{status_entry};
 ghost use Rattle.steps.specs.Rows.{searches_of, version_in, failures_in};
 ghost use Rattle.steps.specs.Steps.{OpenSearch as OpenSearchValue, last_of};
 ghost use Rattle.service.specs.Service.{ServiceState, Takes, TakesPut, Gives, written_by, failures_by, IsKind};
 ghost use Rattle.service.specs.Private.Entries.{IsCounted};
 ghost use Rattle.service.specs.Private.Requests.{IsFound};
-ghost use Rattle.service.specs.Private.Closing.{CanClose, IsUnused, IsAsked, IsRefused, with_kept, with_search};
+ghost use Rattle.service.specs.Private.Closing.{CanClose, IsUnused, IsAsked, IsRefused, IsCancelled, IsPlaceOf, IsGivenUp, with_kept, with_search};
 
 use crate::done::Done;
 use crate::items::{
@@ -26,18 +28,21 @@ use crate::items::{
 use crate::naming::Naming;
 use crate::open_search::OpenSearch;
 use crate::question::Question;
+use crate::reader::{NoGate, search};
 use crate::request::{Request, Task};
 use crate::source::Source;
 use crate::taken::Taken;
+use crate::wish::{Look, Wish};
 use script::{Item, Numbered};
-use search::{Answer, Prepared};
-use shared::{Desk, Reading, SearchError, Told};
+use search::{Answer, Prepared, Unanswered};
+use shared::{Counts, Desk, Reading, Told};
 use std::alloc::{AllocError, Global};
 use std::collections::VecDeque;
 use std::marker::{Model, PhantomData};
 use std::sync::Wait;
+use std::time::Clock;
 use steps::Last;
-use transcript::{Entry, SearchReason};
+use transcript::{Entry, Reason, SearchReason};
 
 /// The accepted commands, what was published last, and the open searches. It takes items and answers, one after the
 /// other, and says which entry each gets.
@@ -59,20 +64,22 @@ pub struct Service<J: Naming> {
     lasts: Vec<Last>,
     /// Whether one of the two copies of the index lacks what was published last.
     behind: bool,
+    /// How many milliseconds a search has at most, if there is such a limit.
+    search_ms: Option<u32>,
     of: PhantomData<J>,
 }
 
 impl<J: Naming> Model for Service<J> {
-    ghost use Rattle.std.specs.Prelude.{◌≡◌};
+    ghost use Rattle.std.specs.Prelude.{◌≡◌, is_some};
     ghost use Rattle.service.specs.Service.{ServiceState};
     ghost use Rattle.service.specs.Private.Closing.{IsService, service_of};
 
     ghost Value = { ServiceState };
 
-    ghost view = { λ s. service_of s.desk s.told s.kept.items s.searches s.awaited.items s.lasts.items };
+    ghost view = { λ s. service_of s.desk (is_some s.search_ms) s.told s.kept.items s.searches s.awaited.items s.lasts.items };
 
     ghost invariant = { λ s. (s.desk.opening ≡ J.book) × (s.told.opening ≡ J.book) × (s.reading.opening ≡ J.book)
-        × IsService (service_of s.desk s.told s.kept.items s.searches s.awaited.items s.lasts.items) };
+        × IsService (service_of s.desk (is_some s.search_ms) s.told s.kept.items s.searches s.awaited.items s.lasts.items) };
 }
 
 impl<J: Naming> Service<J> {
@@ -84,12 +91,13 @@ impl<J: Naming> Service<J> {
         reading: Reading,
         kept: VecDeque<u32>,
         lasts: Vec<Last>,
+        search_ms: Option<u32>,
     ) -> Service<J>
         requires opening { (desk.opening ≡ J.book) × (told.opening ≡ J.book) × (reading.opening ≡ J.book) }
         requires empty { (desk.accepted ≡ []) × (told.commands ≡ []) }
         requires kept { kept.items ≡ 0 ∷ [] }
         requires lasts { IsUnused lasts.items }
-        ensures { result ≡ record { limit = desk.limit; accepted = []; told = []; kept = 0 ∷ []; searches = 0; awaited = []; lasts = lasts.items } }
+        ensures { result ≡ record { limits = record { commands = desk.limit; timed = is_some search_ms }; accepted = []; told = []; kept = 0 ∷ []; searches = 0; awaited = []; lasts = lasts.items } }
     {
         Service {
             desk,
@@ -100,6 +108,7 @@ impl<J: Naming> Service<J> {
             awaited: Vec::new(alloc),
             lasts,
             behind: false,
+            search_ms,
             of: PhantomData,
         }
     }
@@ -127,7 +136,7 @@ impl<J: Naming> Service<J> {
 
     /// Takes the next item. Only a load asks the source, and only once. The step is legal if `MayTake` allows it: a sync needs
     /// that no search is open, and without readers every item does.
-    pub fn take<R: Wait, S: Source>(
+    pub fn take<R: Wait + Clock, S: Source>(
         &mut self,
         rt: &R,
         alloc: Global,
@@ -149,8 +158,10 @@ impl<J: Naming> Service<J> {
                 self.note(&entry);
                 Taken::Entry(entry)
             }
-            Outcome::Search => self.ask(alloc, item.item),
-            Outcome::Sync => Taken::Sync,
+            Outcome::Search => self.ask(rt, alloc, item.item),
+            Outcome::Sync => Taken::Nothing,
+            Outcome::Cancel(number) => self.cancel(item.line, number),
+            Outcome::Status => Taken::Entry(self.status(rt, item.line)),
         }
     }
 
@@ -200,13 +211,13 @@ impl<J: Naming> Service<J> {
     }
 
     /// Takes a search: it is open then, or refused.
-    fn ask(&mut self, alloc: Global, item: Item<'_>) -> Taken
+    fn ask<R: Clock>(&mut self, rt: &R, alloc: Global, item: Item<'_>) -> Taken
         requires few { self.old.searches + 1 < 2 ^ 32 }
         requires search { searches_of (shown_item item) ≡ 1 }
         ensures { IsAsked (shown_item item.entry) self.old result self.new }
     {
         match Request::read(alloc, item) {
-            Ok(request) => self.open(alloc, request),
+            Ok(request) => self.open(rt, alloc, request),
             Err(reason) => self.refuse(reason),
         }
     }
@@ -224,20 +235,32 @@ impl<J: Naming> Service<J> {
     }
 
     /// Takes a search whose patterns were read: it is open then, or refused for memory.
-    fn open(&mut self, alloc: Global, request: Request) -> Taken
+    fn open<R: Clock>(&mut self, rt: &R, alloc: Global, request: Request) -> Taken
         requires few { self.old.searches + 1 < 2 ^ 32 }
         requires search { searches_of request.item ≡ 1 }
         ensures { IsAsked request.item self.old result self.new }
     {
-        match self.await_answer(alloc, &request.question) {
-            Ok(number) => Taken::Search(Task { number, request }),
+        let Ok(wish) = Wish::new(rt, alloc, self.search_ms) else {
+            return self.refuse(SearchReason::OutOfMemory);
+        };
+        match self.await_answer(alloc, &request.question, &wish) {
+            Ok(number) => Taken::Search(Task {
+                number,
+                request,
+                wish,
+            }),
             Err(_) => self.refuse(SearchReason::OutOfMemory),
         }
     }
 
     /// Opens the search with this question, and returns its number. After an `Err`, which means that memory ran out, nothing
     /// has changed.
-    fn await_answer(&mut self, alloc: Global, question: &Question) -> Result<u32, AllocError>
+    fn await_answer(
+        &mut self,
+        alloc: Global,
+        question: &Question,
+        wish: &Wish,
+    ) -> Result<u32, AllocError>
         requires few { self.old.searches + 1 < 2 ^ 32 }
         ensures ok { OnOk result (self.new ≡ with_search question.now self.old) }
         ensures err { OnErr result (self.new ≡ self.old) }
@@ -247,55 +270,102 @@ impl<J: Naming> Service<J> {
             number,
             question: question.again(alloc)?,
             least: self.told.version(),
+            wish: wish.again()?,
         };
         self.awaited.push(search)?;
         self.searches = number;
         Ok(number)
     }
 
-    /// The entry of the search that a reader has answered. If the answer is not accepted, or memory ran out for it, the
-    /// patterns are read again and the search is answered here, from what was published last; if memory runs out for that
-    /// too, it is refused. `None` means that the search is not open.
-    pub fn answered<R: Wait>(&mut self, rt: &R, alloc: Global, done: Done<J>) -> Option<Entry>
+    /// Takes a cancel of the search with this number: if it is open, it is refused now, and its reader gives it up.
+    fn cancel(&mut self, line: u32, number: u32) -> Taken
+        ensures cancelled { IsCancelled line number self.old result self.new }
+        ensures kind { IsKind (cancel_item number) result }
+        ensures no_failure { failures_by result ≡ 0 }
+        ensures searches { self.new.searches ≡ self.old.searches }
+    {
+        if number == 0 || number > self.searches {
+            return Taken::Entry(Entry::Refused {
+                line,
+                reason: Reason::NoSuchSearch,
+            });
+        }
+        match place_in(&self.awaited, number) {
+            Some(place) => {
+                let search = &self.awaited[place];
+                search.wish.call_off();
+                Taken::Cancelled(self.refuse_at(place, SearchReason::Cancelled))
+            }
+            None => Taken::Nothing,
+        }
+    }
+
+    /// The entry of a status on this line.
+    fn status<R: Wait>(&mut self, rt: &R, line: u32) -> Entry
+        ensures entry { result ≡ status_entry line (length self.old.told) self.old.accepted self.old.limits.commands (length self.old.awaited) }
+        ensures same { self.new ≡ self.old }
+    {
+        let counts = count_last(rt, &mut self.reading, &self.told);
+        Entry::Status {
+            line,
+            version: counts.version,
+            documents: counts.documents,
+            bytes: counts.bytes,
+            accepted: self.desk.accepted(),
+            most: self.desk.limit(),
+            open: self.awaited.len() as u32,
+        }
+    }
+
+    /// The entry of the search that a reader has answered. It is refused as too slow if the reader gave it up since its
+    /// time was over. If there is no answer, or it is not accepted, the patterns are read again and the search is answered
+    /// here, from what was published last; if memory runs out for that too, it is refused. `None` means that the search is
+    /// not open.
+    pub fn answered<R: Wait + Clock>(
+        &mut self,
+        rt: &R,
+        alloc: Global,
+        done: Done<J>,
+    ) -> Option<Entry>
         ensures some { IfSome result (λ entry. Gives self.old entry self.new) }
         ensures none { IfNone result (self.new ≡ self.old) }
         ensures searches { self.new.searches ≡ self.old.searches }
     {
-        let place = self.place_of(done.number)?;
+        let place = place_in(&self.awaited, done.number)?;
         let Done {
             number: _,
             reader,
             question,
             seen,
             answer,
+            is_late,
             of: _,
         } = done;
-        if let Some(answer) = answer {
-            if self.can_stand(place, reader, &question, &seen, &answer) {
-                return Some(self.close_with(place, reader, answer));
+        match answer {
+            Some(answer) if self.can_stand(place, reader, &question, &seen, &answer) => {
+                Some(self.close_with(place, reader, answer))
             }
+            None if is_late && self.search_ms.is_some() => {
+                Some(self.refuse_at(place, SearchReason::TooSlow))
+            }
+            _ => Some(self.answer_anew(rt, alloc, place)),
         }
-        Some(self.answer_anew(rt, alloc, place))
     }
 
-    /// Answers an open search here, as reader 0, from what was published last. It is refused if memory runs out. `None`
-    /// means that the search is not open.
-    pub fn answer_here<R: Wait>(&mut self, rt: &R, alloc: Global, task: &Task) -> Option<Entry>
+    /// Answers an open search here, as reader 0, from what was published last. It is refused if memory or its time runs
+    /// out. `None` means that the search is not open.
+    pub fn answer_here<R: Wait + Clock>(
+        &mut self,
+        rt: &R,
+        alloc: Global,
+        task: &Task,
+    ) -> Option<Entry>
         ensures some { IfSome result (λ entry. Gives self.old entry self.new) }
         ensures none { IfNone result (self.new ≡ self.old) }
         ensures searches { self.new.searches ≡ self.old.searches }
     {
-        let place = self.place_of(task.number)?;
+        let place = place_in(&self.awaited, task.number)?;
         Some(self.answer_at(rt, alloc, place, &task.request))
-    }
-
-    /// The place of the open search with this number among the open ones.
-    fn place_of(&self, number: u32) -> Option<usize>
-        ensures { IfSome result (λ place. place < length self.now.awaited) }
-    {
-        self.awaited
-            .iter()
-            .position(|search| search.number == number)
     }
 
     /// Whether a reader's answer is accepted for the search at this place.
@@ -325,19 +395,19 @@ impl<J: Naming> Service<J> {
 
     /// Reads the patterns of the search at this place again, and answers it here, as reader 0, or refuses it if memory runs
     /// out.
-    fn answer_anew<R: Wait>(&mut self, rt: &R, alloc: Global, place: usize) -> Entry
+    fn answer_anew<R: Wait + Clock>(&mut self, rt: &R, alloc: Global, place: usize) -> Entry
         requires { place < length self.old.awaited }
         ensures gives { Gives self.old result self.new }
         ensures searches { self.new.searches ≡ self.old.searches }
     {
         match Request::read(alloc, self.awaited[place].question.lend()) {
             Ok(request) => self.answer_at(rt, alloc, place, &request),
-            Err(_) => self.refuse_at(place),
+            Err(_) => self.refuse_at(place, SearchReason::OutOfMemory),
         }
     }
 
-    /// Answers the search at this place here, as reader 0, or refuses it if memory runs out.
-    fn answer_at<R: Wait>(
+    /// Answers the search at this place here, as reader 0, or refuses it if memory or its time runs out.
+    fn answer_at<R: Wait + Clock>(
         &mut self,
         rt: &R,
         alloc: Global,
@@ -349,12 +419,33 @@ impl<J: Naming> Service<J> {
         ensures searches { self.new.searches ≡ self.old.searches }
     {
         if !request.question.is_same(&self.awaited[place].question) {
-            return self.refuse_at(place);
+            return self.refuse_at(place, SearchReason::OutOfMemory);
         }
-        match answer_last(rt, alloc, &mut self.reading, &self.told, &request.prepared) {
-            Some(answer) => self.close_with(place, 0, answer),
-            None => self.refuse_at(place),
+        let search = &self.awaited[place];
+        let prepared = &request.prepared;
+        match answer_last(
+            rt,
+            alloc,
+            &mut self.reading,
+            &self.told,
+            prepared,
+            &search.wish,
+        ) {
+            Ok(answer) => self.close_with(place, 0, answer),
+            Err(error) => self.give_up(place, error),
         }
+    }
+
+    /// Closes the search at this place, which has no answer since its time or memory ran out.
+    fn give_up(&mut self, place: usize, error: Unanswered) -> Entry
+        requires { place < length self.old.awaited }
+        ensures gives { Gives self.old result self.new }
+        ensures searches { self.new.searches ≡ self.old.searches }
+    {
+        if error == Unanswered::CalledOff && self.search_ms.is_some() {
+            return self.refuse_at(place, SearchReason::TooSlow);
+        }
+        self.refuse_at(place, SearchReason::OutOfMemory)
     }
 
     /// Closes the search at this place with an answer.
@@ -377,16 +468,15 @@ impl<J: Naming> Service<J> {
         }
     }
 
-    /// Closes the search at this place, for which memory ran out.
-    fn refuse_at(&mut self, place: usize) -> Entry
+    /// Closes the search at this place without an answer.
+    fn refuse_at(&mut self, place: usize, reason: SearchReason) -> Entry
         requires { place < length self.old.awaited }
-        ensures gives { Gives self.old result self.new }
-        ensures searches { self.new.searches ≡ self.old.searches }
+        ensures { IsGivenUp place reason self.old result self.new }
     {
         let search = self.awaited.remove(place);
         Entry::SearchRefused {
             search: search.number,
-            reason: SearchReason::OutOfMemory,
+            reason,
         }
     }
 
@@ -410,7 +500,7 @@ impl<J: Naming> Service<J> {
         }
     }
 
-    /// Ends the service. Afterwards its readers find nothing any more.
+    /// Ends the service. Its readers give up the searches that are open, and afterwards find nothing any more.
     pub fn close<R: Wait>(self, rt: &R) {
         let Service {
             desk,
@@ -418,11 +508,15 @@ impl<J: Naming> Service<J> {
             reading: _,
             kept: _,
             searches: _,
-            awaited: _,
+            awaited,
             lasts: _,
             behind: _,
+            search_ms: _,
             of: _,
         } = self;
+        for search in awaited.as_slice() {
+            search.wish.call_off();
+        }
         desk.close(rt);
     }
 }
@@ -449,24 +543,58 @@ fn keep(kept: &mut VecDeque<u32>, version: u32)
     }
 }
 
-/// Searches until the answer is of the version that was published last. `None` if memory ran out.
-fn answer_last<R: Wait>(
+/// Searches until the answer is of the version that was published last. An `Err` means that memory ran out, or that the
+/// search is not wanted any more.
+fn answer_last<R: Wait + Clock>(
     rt: &R,
     alloc: Global,
     reading: &mut Reading,
     told: &Told,
     prepared: &Prepared,
-) -> Option<Answer>
+    wish: &Wish,
+) -> Result<Answer, Unanswered>
     requires { reading.old.opening ≡ told.now.opening }
-    ensures answer { IfSome result (IsAnswerOf (state_of told.now.commands) (pattern_of prepared.now)) }
+    ensures answer { IfOk result (IsAnswerOf (state_of told.now.commands) (pattern_of prepared.now)) }
+    ensures opening { reading.new.opening ≡ reading.old.opening }
+{
+    reading.learn(told);
+    let mut look = Look::at(rt, wish);
+    for _ in rt.forever() {
+        let answer = search(alloc, reading, prepared, &NoGate, 0, &mut look)?;
+        if answer.version() == told.version() {
+            return Ok(answer);
+        }
+    }
+    unreachable!()
+}
+
+/// Counts until the counts are of the version that was published last.
+fn count_last<R: Wait>(rt: &R, reading: &mut Reading, told: &Told) -> Counts
+    requires { reading.old.opening ≡ told.now.opening }
+    ensures counts { AreCountsOf (state_of told.now.commands) result }
     ensures opening { reading.new.opening ≡ reading.old.opening }
 {
     reading.learn(told);
     for _ in rt.forever() {
-        match reading.search(alloc, prepared) {
-            Ok(answer) if answer.version() == told.version() => return Some(answer),
-            Err(SearchError::OutOfMemory) => return None,
-            _ => {}
+        if let Some(counts) = reading.counts() {
+            if counts.version == told.version() {
+                return counts;
+            }
+        }
+    }
+    unreachable!()
+}
+
+/// The place of the search with this number among these. `None` if none of them has it.
+fn place_in(awaited: &[OpenSearch], number: u32) -> Option<usize>
+    ensures some { IfSome result (IsPlaceOf awaited.now number) }
+    ensures within { IfSome result (λ place. place < length awaited.now) }
+    ensures none { IfNone result (All (λ search. search.number ≢ number) awaited.now) }
+{
+    for place in 0..awaited.len() {
+        let search = &awaited[place];
+        if search.number == number {
+            return Some(place);
         }
     }
     None

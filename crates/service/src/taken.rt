@@ -10,6 +10,8 @@ pub enum Taken {
     Entry(Entry),
     /// It is a search, which is open now. A reader is to answer it, or `Service::answer_here`.
     Search(Task),
-    /// It is a sync, which has no entry.
-    Sync,
+    /// It is a cancel of an open search, which has this entry.
+    Cancelled(Entry),
+    /// It has no entry: it is a sync, or a cancel of a search that has its entry.
+    Nothing,
 }

@@ -8,10 +8,11 @@ use crate::request::Task;
 use crossbeam_channel::{Receiver, Sender};
 use std::alloc::Global;
 use std::sync::Wait;
+use std::time::Clock;
 
 impl<J: Naming> Reader<J> {
     /// Answers tasks as they come, and sends the answers as messages, until no more tasks can come or nobody takes the messages.
-    pub fn work<M: From<Done<J>> + Drop, R: Wait, G: Gate>(
+    pub fn work<M: From<Done<J>> + Drop, R: Wait + Clock, G: Gate>(
         self,
         rt: &R,
         alloc: Global,
@@ -24,7 +25,7 @@ impl<J: Naming> Reader<J> {
             let Ok(task) = tasks.recv(rt) else {
                 return;
             };
-            let done = reader.answer(alloc, task, gate);
+            let done = reader.answer(rt, alloc, task, gate);
             if messages.send(rt, M::from(done)).is_err() {
                 return;
             }

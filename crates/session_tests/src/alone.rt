@@ -10,9 +10,10 @@ use std::marker::Brand;
 use std::process::Abort;
 use std::sync::Wait;
 use std::test::Fail;
+use std::time::Clock;
 
 /// Carries out a script without readers, and appends the text of each entry.
-fn carry_out<J: Naming, R: Abort + Wait>(
+fn carry_out<J: Naming, R: Abort + Wait + Clock>(
     rt: &R,
     alloc: Global,
     service: &mut Service<J>,
@@ -37,7 +38,7 @@ fn carry_out<J: Naming, R: Abort + Wait>(
 }
 
 /// The text of a script's entries without readers.
-fn text_of<J: Naming, R: Abort + Wait>(
+fn text_of<J: Naming, R: Abort + Wait + Clock>(
     rt: &R,
     alloc: Global,
     opened: Opened,
@@ -54,8 +55,13 @@ fn text_of<J: Naming, R: Abort + Wait>(
 }
 
 /// A script without readers has this text.
-fn expect<R: Abort + Wait>(rt: &R, alloc: Global, script: &[u8], text: &[u8]) -> Result<(), Fail> {
-    let opened = open(rt, alloc, 100, 0).ok().expect(rt, "an opening");
+fn expect<R: Abort + Wait + Clock>(
+    rt: &R,
+    alloc: Global,
+    script: &[u8],
+    text: &[u8],
+) -> Result<(), Fail> {
+    let opened = open(rt, alloc, 100, None, 0).ok().expect(rt, "an opening");
     assert_eq!(rt;
         text_of::<Brand, R>(rt, alloc, opened, script).as_slice(),
         text

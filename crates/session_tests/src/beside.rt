@@ -11,6 +11,7 @@ use std::marker::Brand;
 use std::process::Abort;
 use std::sync::Wait;
 use std::test::Fail;
+use std::time::Clock;
 
 /// A service between two steps of a test, with the searches that wait for a reader, the answers that were not handed in
 /// yet, and the text so far.
@@ -23,7 +24,7 @@ struct Played<J: Naming> {
 
 impl<J: Naming> Played<J> {
     /// Takes the next item.
-    fn take<R: Abort + Wait>(
+    fn take<R: Abort + Wait + Clock>(
         &mut self,
         rt: &R,
         alloc: Global,
@@ -36,26 +37,48 @@ impl<J: Naming> Played<J> {
         match service.take(rt, alloc, &mut source, item) {
             Taken::Entry(entry) => assert!(rt; write(&mut self.text, &entry)),
             Taken::Search(task) => assert!(rt; self.tasks.push_back(task).is_ok()),
-            Taken::Sync => {}
+            Taken::Cancelled(entry) => assert!(rt; write(&mut self.text, &entry)),
+            Taken::Nothing => {}
         }
     }
 
     /// Has the search that was asked first answered by this reader, and keeps the answer.
-    fn answer<R: Abort>(&mut self, rt: &R, alloc: Global, reader: &mut Reader<J>) {
+    fn answer<R: Abort + Clock>(&mut self, rt: &R, alloc: Global, reader: &mut Reader<J>) {
         let task = self.tasks.pop_front().expect(rt, "a task");
-        let done = reader.answer(alloc, task, &Open);
+        let done = reader.answer(rt, alloc, task, &Open);
         assert!(rt; self.answers.push_back(done).is_ok());
     }
 
     /// Hands in the answer that was made first.
-    fn hand_in<R: Abort + Wait>(&mut self, rt: &R, alloc: Global, service: &mut Service<J>) {
+    fn hand_in<R: Abort + Wait + Clock>(
+        &mut self,
+        rt: &R,
+        alloc: Global,
+        service: &mut Service<J>,
+    ) {
         let done = self.answers.pop_front().expect(rt, "an answer");
         let entry = service.answered(rt, alloc, done).expect(rt, "an entry");
         assert!(rt; write(&mut self.text, &entry));
     }
 
+    /// Hands in the answer that was made first, whose search is not open any more.
+    fn hand_in_late<R: Abort + Wait + Clock>(
+        &mut self,
+        rt: &R,
+        alloc: Global,
+        service: &mut Service<J>,
+    ) {
+        let done = self.answers.pop_front().expect(rt, "an answer");
+        assert!(rt; service.answered(rt, alloc, done).is_none());
+    }
+
     /// Has the search that was asked first answered by the service. It is not open afterwards.
-    fn answer_here<R: Abort + Wait>(&mut self, rt: &R, alloc: Global, service: &mut Service<J>) {
+    fn answer_here<R: Abort + Wait + Clock>(
+        &mut self,
+        rt: &R,
+        alloc: Global,
+        service: &mut Service<J>,
+    ) {
         let task = self.tasks.pop_front().expect(rt, "a task");
         let open = service.open_searches();
         let entry = service.answer_here(rt, alloc, &task).expect(rt, "an entry");
@@ -71,8 +94,8 @@ impl<J: Naming> Played<J> {
     }
 
     /// The step that this letter names: `i` takes an item, `1` and `2` are readers that answer the first search, `r` puts
-    /// it last, `h` answers it here, and `d` hands in an answer.
-    fn step<R: Abort + Wait>(
+    /// it last, `h` answers it here, `d` hands in an answer, and `l` one whose search is not open any more.
+    fn step<R: Abort + Wait + Clock>(
         &mut self,
         rt: &R,
         alloc: Global,
@@ -84,6 +107,7 @@ impl<J: Naming> Played<J> {
         match letter {
             b'i' => self.take(rt, alloc, service, items),
             b'd' => self.hand_in(rt, alloc, service),
+            b'l' => self.hand_in_late(rt, alloc, service),
             b'h' => self.answer_here(rt, alloc, service),
             b'r' => self.turn_round(rt),
             letter => {
@@ -96,7 +120,7 @@ impl<J: Naming> Played<J> {
 }
 
 /// The text of a script whose steps come in this order.
-fn text_of<J: Naming, R: Abort + Wait>(
+fn text_of<J: Naming, R: Abort + Wait + Clock>(
     rt: &R,
     alloc: Global,
     opened: Opened,
@@ -114,7 +138,7 @@ fn text_of<J: Naming, R: Abort + Wait>(
         text: Vec::new(alloc),
     };
     for letter in steps {
-        assert!(rt; matches!(*letter, b'i' | b'd' | b'h' | b'r' | b'1' | b'2'));
+        assert!(rt; matches!(*letter, b'i' | b'd' | b'l' | b'h' | b'r' | b'1' | b'2'));
         played.step(rt, alloc, &mut service, &mut readers, &mut items, *letter);
     }
     assert!(rt; items.next_item().is_none());
@@ -124,14 +148,14 @@ fn text_of<J: Naming, R: Abort + Wait>(
 }
 
 /// A script whose steps come in this order, with two readers, has this text.
-fn expect<R: Abort + Wait>(
+fn expect<R: Abort + Wait + Clock>(
     rt: &R,
     alloc: Global,
     script: &[u8],
     steps: &[u8],
     text: &[u8],
 ) -> Result<(), Fail> {
-    let opened = open(rt, alloc, 100, 2).ok().expect(rt, "an opening");
+    let opened = open(rt, alloc, 100, None, 2).ok().expect(rt, "an opening");
     assert_eq!(rt;
         text_of::<Brand, R>(rt, alloc, opened, script, steps).as_slice(),
         text
@@ -194,4 +218,43 @@ fn answers_beside_publishes(rt: HostRuntime) -> Result<(), Fail> {
         expect(&rt, alloc, row.0, row.1, row.2)?;
     }
     Ok(())
+}
+
+/// A cancelled search has one entry, whether its reader answers it before the cancel, after it or not at all.
+#[test]
+fn cancelled_searches(rt: HostRuntime) -> Result<(), Fail> {
+    let alloc = rt.alloc();
+    let script = b"put a 1\nx\npublish\nsearch x\ncancel 1\nstatus\n";
+    let cancelled =
+        b"search 1 refused: cancelled\nline 6 status version 1 documents 1 bytes 1 accepted 1 of 100 open 0\n";
+    let answered =
+        b"search 1 version 1 lines 1\na:1:x\nline 6 status version 1 documents 1 bytes 1 accepted 1 of 100 open 0\n";
+    expect(&rt, alloc, script, b"iiiii1l", cancelled)?;
+    expect(&rt, alloc, script, b"iii1iil", cancelled)?;
+    expect(&rt, alloc, script, b"iiiii", cancelled)?;
+    expect(&rt, alloc, script, b"iii1dii", answered)
+}
+
+/// Of two open searches, the one is cancelled that the item names, twice.
+#[test]
+fn one_of_two_is_cancelled(rt: HostRuntime) -> Result<(), Fail> {
+    let alloc = rt.alloc();
+    let first = b"put a 1\nx\npublish\nsearch x\nsearch y\nstatus\ncancel 1\ncancel 1\nstatus\n";
+    let second = b"put a 1\nx\npublish\nsearch x\nsearch y\nstatus\ncancel 2\ncancel 2\nstatus\n";
+    let without_first =
+        b"line 6 status version 1 documents 1 bytes 1 accepted 1 of 100 open 2\nsearch 1 refused: cancelled\nline 9 status version 1 documents 1 bytes 1 accepted 1 of 100 open 1\nsearch 2 version 1 lines 0\n";
+    let without_second =
+        b"line 6 status version 1 documents 1 bytes 1 accepted 1 of 100 open 2\nsearch 2 refused: cancelled\nline 9 status version 1 documents 1 bytes 1 accepted 1 of 100 open 1\nsearch 1 version 1 lines 1\na:1:x\n";
+    expect(&rt, alloc, first, b"iiiiiiii12ld", without_first)?;
+    expect(&rt, alloc, second, b"iiiiiiii12dl", without_second)
+}
+
+/// A status counts what is published, and not what is only accepted. Only a search that was asked can be cancelled.
+#[test]
+fn statuses(rt: HostRuntime) -> Result<(), Fail> {
+    let script =
+        b"status\nput a 3\nx\ny\nput b 1\nz\nstatus\npublish\nremove a\nstatus\npublish\nstatus\ncancel 0\ncancel 1\ncancel 4294967296\n";
+    let text =
+        b"line 1 status version 0 documents 0 bytes 0 accepted 0 of 100 open 0\nline 7 status version 0 documents 0 bytes 0 accepted 2 of 100 open 0\nline 10 status version 2 documents 2 bytes 4 accepted 3 of 100 open 0\nline 12 status version 3 documents 1 bytes 1 accepted 3 of 100 open 0\nline 13 refused: no such search\nline 14 refused: no such search\nline 15 refused: no such search\n";
+    expect(&rt, rt.alloc(), script, b"iiiiiiiiiiii", text)
 }

@@ -40,6 +40,9 @@ fn words_of_lent(item: Item<'_>) -> Words<'_> {
         ),
         Item::Publish => (b"publish", b"", b""),
         Item::Sync => (b"sync", b"", b""),
+        Item::Cancel { search: 70 } => (b"cancel", b"70", b""),
+        Item::Cancel { .. } => (b"cancel", b"another", b""),
+        Item::Status => (b"status", b"", b""),
         Item::BadLine => (b"bad line", b"", b""),
         Item::BadPut => (b"bad put", b"", b""),
         Item::Truncated => (b"truncated", b"", b""),
@@ -146,6 +149,10 @@ const INPUTS: &[(&[u8], &[u8])] = &[
     ),
     (b"put a b 0\n\nput c 1\nx", b"1:put|a b|;3:put|c|x;"),
     (b"sync\nput a\nsync\n", b"1:sync||;2:bad put||;"),
+    (
+        b"cancel 70\nstatus\ncancel\n",
+        b"1:cancel|70|;2:status||;3:bad line||;",
+    ),
     (b"put a 1\nxy\nsync\n", b"1:body not closed||;"),
     (b"put a 3\nx\n", b"1:truncated||;"),
 ];

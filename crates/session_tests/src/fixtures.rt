@@ -6,6 +6,7 @@ use script::Numbered;
 use service::{Fault, Gate, Naming, Point, Service, Source, Taken};
 use std::alloc::Global;
 use std::sync::Wait;
+use std::time::Clock;
 use transcript::{Entry, append_entry};
 
 /// A source with no files.
@@ -42,7 +43,7 @@ pub(crate) fn write(text: &mut Vec<u8>, entry: &Entry) -> bool {
 }
 
 /// Takes an item without readers: a search is answered at once.
-pub(crate) fn take_alone<J: Naming, R: Wait>(
+pub(crate) fn take_alone<J: Naming, R: Wait + Clock>(
     rt: &R,
     alloc: Global,
     service: &mut Service<J>,
@@ -54,6 +55,7 @@ pub(crate) fn take_alone<J: Naming, R: Wait>(
     match service.take(rt, alloc, source, item) {
         Taken::Entry(entry) => Some(entry),
         Taken::Search(task) => service.answer_here(rt, alloc, &task),
-        Taken::Sync => None,
+        Taken::Cancelled(entry) => Some(entry),
+        Taken::Nothing => None,
     }
 }

@@ -11,6 +11,7 @@ use std::marker::Brand;
 use std::process::Abort;
 use std::sync::Wait;
 use std::test::Fail;
+use std::time::Clock;
 use transcript::Entry;
 
 /// The number and the turn of an answer.
@@ -22,7 +23,7 @@ fn number_and_turn(entry: &Entry) -> Option<(u32, u32)> {
 }
 
 /// Takes all items without readers, and returns the number and the turn of the last answer.
-fn last_alone<J: Naming, R: Abort + Wait>(
+fn last_alone<J: Naming, R: Abort + Wait + Clock>(
     rt: &R,
     alloc: Global,
     opened: Opened,
@@ -52,14 +53,16 @@ fn last_alone<J: Naming, R: Abort + Wait>(
 fn more_than_65536_searches(rt: HostRuntime) -> Result<(), Fail> {
     let alloc = rt.alloc();
     let script = repeated(alloc, b"put a 1\nx\npublish\n", b"search x\n", 66_000, b"")?;
-    let opened = open(&rt, alloc, 100, 0).ok().expect(&rt, "an opening");
+    let opened = open(&rt, alloc, 100, None, 0)
+        .ok()
+        .expect(&rt, "an opening");
     let last = last_alone::<Brand, HostRuntime>(&rt, alloc, opened, script.as_slice());
     assert!(rt; last == Some((66_000, 66_000)));
     Ok(())
 }
 
 /// Takes all items, and returns the searches, which are open.
-fn open_all<J: Naming, R: Abort + Wait>(
+fn open_all<J: Naming, R: Abort + Wait + Clock>(
     rt: &R,
     alloc: Global,
     service: &mut Service<J>,
@@ -83,7 +86,7 @@ fn open_all<J: Naming, R: Abort + Wait>(
 
 /// Has each search answered, from the last to the first, and returns whether each answer has the number and the turn that it
 /// should have.
-fn answer_all<J: Naming, R: Abort + Wait>(
+fn answer_all<J: Naming, R: Abort + Wait + Clock>(
     rt: &R,
     alloc: Global,
     service: &mut Service<J>,
@@ -96,7 +99,7 @@ fn answer_all<J: Naming, R: Abort + Wait>(
             break;
         };
         turn = turn.saturating_add(1);
-        let done = reader.answer(alloc, task, &Open);
+        let done = reader.answer(rt, alloc, task, &Open);
         let entry = service.answered(rt, alloc, done).expect(rt, "an entry");
         let Some((number, given)) = number_and_turn(&entry) else {
             return false;
@@ -109,7 +112,7 @@ fn answer_all<J: Naming, R: Abort + Wait>(
 }
 
 /// Searches that are open at once are answered from the last to the first.
-fn from_last_to_first<J: Naming, R: Abort + Wait>(
+fn from_last_to_first<J: Naming, R: Abort + Wait + Clock>(
     rt: &R,
     alloc: Global,
     opened: Opened,
@@ -131,7 +134,9 @@ fn from_last_to_first<J: Naming, R: Abort + Wait>(
 fn many_open_at_once(rt: HostRuntime) -> Result<(), Fail> {
     let alloc = rt.alloc();
     let script = repeated(alloc, b"put a 1\nx\npublish\n", b"search x\n", 1_000, b"")?;
-    let opened = open(&rt, alloc, 100, 1).ok().expect(&rt, "an opening");
+    let opened = open(&rt, alloc, 100, None, 1)
+        .ok()
+        .expect(&rt, "an opening");
     assert!(rt;
         from_last_to_first::<Brand, HostRuntime>(&rt, alloc, opened, script.as_slice(), 1_000)
     );

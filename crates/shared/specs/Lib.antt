@@ -1,3 +1,4 @@
+pub mod Counts
 pub mod History
 pub mod Desk
 pub mod Laws

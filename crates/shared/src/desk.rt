@@ -162,6 +162,13 @@ impl Desk {
         self.accepted
     }
 
+    /// How many commands it accepts at most.
+    pub fn limit(&self) -> u32
+        ensures { result ≡ self.now.limit }
+    {
+        self.limit
+    }
+
     /// Accepts the put of this name and body, and returns the number of accepted commands, with this one. A
     /// refusal returns the first cause, in the order of `PutErrorKind`, hands the name and the body back, and
     /// changes nothing.

@@ -5,6 +5,7 @@
 //! answers from at least all that the reading has met or learnt of.
 #![tactic(auto)]
 
+mod counts;
 mod desk;
 mod error;
 mod history;
@@ -16,6 +17,7 @@ mod rule;
 mod shelf;
 mod told;
 
+pub use counts::Counts;
 pub use desk::Desk;
 pub use error::{OpenError, PutError, PutErrorKind, RemoveError, Returned, SearchError};
 pub use laws::faults_are_one;

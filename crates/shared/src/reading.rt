@@ -1,6 +1,6 @@
 //! Readings see what is published, and never wait.
 
-ghost use Rattle.std.specs.Prelude.{◌≡◌, ◌⊎◌, Some, length, IfOk, IfSome};
+ghost use Rattle.std.specs.Prelude.{◌≡◌, ◌⊎◌, true, Some, length, IfOk, IfSome};
 ghost use mathlib.Core.List.{IsPrefix};
 ghost use Rattle.left_right.specs.Sides.{view};
 ghost use Rattle.logbook.specs.Pages.{Book};
@@ -8,8 +8,10 @@ ghost use Rattle.index.specs.State.{state_of};
 ghost use Rattle.search.specs.Prepared.{pattern_of};
 ghost use Rattle.search.specs.Taken.{IsTakenOf};
 ghost use Rattle.search.specs.Scan.{IsAnswerOf};
+ghost use Rattle.shared.specs.Counts.{AreCountsOf};
 ghost use Rattle.shared.specs.Private.Rule.{HasMet};
 
+use crate::counts::Counts;
 use crate::error::{OpenError, SearchError};
 use crate::history::Front;
 use crate::rule::{Meet, Note, ShelfReader, ShelfWriter};
@@ -105,11 +107,34 @@ impl Reading {
         let Some((front, taken)) = replace_with(&mut self.reader, asked, look) else {
             return Err(SearchError::NoEntry);
         };
-        if !self.front.begins(&front) {
+        if !self.meet(front) {
             return Err(SearchError::NoEntry);
         }
-        self.front = front;
         Ok(taken?)
+    }
+
+    /// Counts what is published. It takes no memory and never waits. `None` means that the desk was closed.
+    pub fn counts(&mut self) -> Option<Counts>
+        ensures opening { self.new.opening ≡ self.old.opening }
+        ensures seen { IsPrefix self.old.commands self.new.commands }
+        ensures counts { IfSome result (AreCountsOf (state_of self.new.commands)) }
+    {
+        let (front, counts) = replace_with(&mut self.reader, (), count)?;
+        if self.meet(front) { Some(counts) } else { None }
+    }
+
+    /// Takes note of a front that was met. `false` means that it lacks something that was seen, which never happens.
+    fn meet(&mut self, front: Front) -> bool
+        requires { front.opening ≡ self.old.opening }
+        ensures opening { self.new.opening ≡ self.old.opening }
+        ensures seen { IsPrefix self.old.commands self.new.commands }
+        ensures met { result ≡ true → self.new.commands ≡ front.commands }
+    {
+        if !self.front.begins(&front) {
+            return false;
+        }
+        self.front = front;
+        true
     }
 
     /// Searches what is published: it takes what it needs, and then matches names and lines. It never waits. The errors
@@ -122,6 +147,27 @@ impl Reading {
         let taken = self.take(alloc, prepared)?;
         let answer = taken.answer(alloc)?;
         Ok(answer)
+    }
+}
+
+/// Enters, counts and leaves. `None` if it cannot enter; otherwise the front that it met and the counts.
+fn count(reader: ShelfReader, _: ()) -> (ShelfReader, Option<(Front, Counts)>)
+    ensures met { (opening : Book) → HasMet opening (view reader.place) → HasMet opening (view result.0.place) }
+    ensures one { IfSome result.1 (λ counted. (opening : Book) → HasMet opening (view reader.place) → counted.0.opening ≡ opening) }
+    ensures counts { IfSome result.1 (λ counted. AreCountsOf (state_of counted.0.commands) counted.1) }
+{
+    match reader.enter_as::<Meet>() {
+        Ok(reading) => {
+            let shelf = reading.get();
+            let front = shelf.front.again();
+            let counts = Counts {
+                version: shelf.index.version(),
+                documents: shelf.index.documents(),
+                bytes: shelf.index.held_bytes(),
+            };
+            (reading.leave(), Some((front, counts)))
+        }
+        Err(reader) => (reader, None),
     }
 }
 

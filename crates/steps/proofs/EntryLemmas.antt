@@ -1,18 +1,18 @@
 -- What the entries of items can be, and that they are legal.
-use Rattle.std.proofs.Common.{◌≡◌, ℕ, ◌+◌, ◌≤◌, true, List, [], Option, Some, None, refl, sym, ap, subst, arith}
+use Rattle.std.proofs.Common.{◌≡◌, ℕ, ◌+◌, ◌≤◌, Bool, true, false, List, [], Option, Some, None, refl, sym, ap, subst, arith}
 use Rattle.index.specs.State.{State}
-use Rattle.search.specs.Pattern.{Pattern}
+use Rattle.search.specs.Pattern.{Pattern, IsPatternOf, IsPatternWithin}
 use Rattle.search.specs.Scan.{Answer}
-use Rattle.script.specs.Items.{Item, put, load, remove, publish, search, search_in, sync, bad_line, bad_put, truncated, body_not_closed}
+use Rattle.script.specs.Items.{Item, put, load, remove, publish, search, search_in, sync, cancel, status, bad_line, bad_put, truncated, body_not_closed}
 use Rattle.transcript.specs.declared.entry.Entry.{Entry}
 use Rattle.transcript.specs.declared.entry.Entry.TheVariants.{Accepted, Refused, Published, Found, SearchRefused}
 use Rattle.transcript.specs.declared.entry.Reason.{Reason}
 use Rattle.transcript.specs.declared.entry.Reason.TheVariants as reason
 use Rattle.transcript.specs.declared.entry.SearchReason.{SearchReason}
 use Rattle.transcript.specs.declared.entry.SearchReason.TheVariants as search_reason
-use Rattle.steps.specs.Rows.{version_in, last_or, is_sync, searches_of}
-use Rattle.steps.specs.LegalRows.{IsRoomFor, IsNamed, HasBody, HasLoaded, IsRemove, IsPublish, Context, search_number, state_before}
-use Rattle.steps.specs.LegalRows.{IsAnswered, IsCommandEntry, IsEntryOf, HasEntry}
+use Rattle.steps.specs.Rows.{version_in, last_or, is_sync, searches_of, count_searches}
+use Rattle.steps.specs.LegalRows.{IsRoomFor, IsNamed, HasBody, HasLoaded, IsRemove, IsPublish, Limits, Context, search_number, state_before}
+use Rattle.steps.specs.LegalRows.{IsAnswered, IsSearched, IsUnknown, IsStatus, IsCommandEntry, IsEntryOf, HasEntry}
 use Rattle.steps.specs.LegalRows as legal
 use Rattle.steps.specs.Steps.{Asks, IsFaultOf, IsFaultOfSearch, IsFaultOfSearchIn}
 use Rattle.steps.specs.Steps as steps
@@ -65,6 +65,8 @@ plain_entry Holds most state loaded line publish entry h = plain_publish most st
 plain_entry Holds most state loaded line (search case text) entry h = absurd h
 plain_entry Holds most state loaded line (search_in case name_text text) entry h = absurd h
 plain_entry Holds most state loaded line sync entry h = absurd h
+plain_entry Holds most state loaded line (cancel number) entry h = absurd h
+plain_entry Holds most state loaded line status entry h = absurd h
 plain_entry Holds most state loaded line bad_line entry h = refuses reason.BadLine h (λ e. cc)
 plain_entry Holds most state loaded line bad_put entry h = refuses reason.BadPut h (λ e. cc)
 plain_entry Holds most state loaded line truncated entry h = refuses reason.Truncated h (λ e. cc)
@@ -100,28 +102,47 @@ fault_is_of_search (search case text) why h = refl
 fault_is_of_search (search_in case name_text text) why h = refl
 fault_is_of_search item why h = absurd h
 
--- Memory may run out for any search.
-pub memory_fault : (item : Item) → searches_of item ≡ 1 → IsFaultOf item search_reason.OutOfMemory
-memory_fault (search case text) one = steps.no_memory refl
-memory_fault (search_in case name_text text) one = steps.no_memory refl
-memory_fault item one = absurd (omega (arith, one))
+-- whether a search is refused for it only after it was taken
+abbrev pub is_late : SearchReason → Bool
+is_late search_reason.Cancelled = true
+is_late search_reason.TooSlow = true
+is_late why = false
 
-module _ (Holds : List ℕ → List ℕ → Type 0) (most : ℕ) (context : Context) where
-  pub legal_sync : (item : Item) → is_sync item ≡ true → HasEntry Holds most context item None
+pub fault_is_not_late : (item : Item) (why : SearchReason) → IsFaultOf item why → is_late why ≡ false
+fault_is_not_late (search case text) why (steps.no_memory is) = ap is_late is
+fault_is_not_late (search case text) why (steps.bad_pattern fault other none is) = ap is_late is
+fault_is_not_late (search_in case name_text text) why (steps.no_memory is) = ap is_late is
+fault_is_not_late (search_in case name_text text) why (steps.bad_name_pattern fault other none is) = ap is_late is
+fault_is_not_late (search_in case name_text text) why (steps.bad_pattern fault other named none is) = ap is_late is
+fault_is_not_late item why h = absurd h
+
+module _ (Holds : List ℕ → List ℕ → Type 0) (limits : Limits) (context : Context) where
+  pub legal_sync : (item : Item) → is_sync item ≡ true → HasEntry Holds limits context item None
   legal_sync sync is = tt
   legal_sync item is = cc
 
   pub legal_command : (item : Item) (entry : Entry)
-      → IsCommandEntry Holds most (state_before context) context.row.loaded context.row.numbered.line item entry
-      → HasEntry Holds most context item (Some entry)
+      → IsCommandEntry Holds limits.commands (state_before context) context.row.loaded context.row.numbered.line item entry
+      → HasEntry Holds limits context item (Some entry)
   unfolding IsEntryOf
   legal_command (search case text) entry h = absurd h
   legal_command (search_in case name_text text) entry h = absurd h
   legal_command sync entry h = h
+  legal_command (cancel number) entry h = absurd h
+  legal_command status entry h = absurd h
   legal_command item entry h = h
 
+  pub legal_unknown : (number : ℕ) (entry : Entry) → IsUnknown number (count_searches context.before) context.row.numbered.line entry
+      → HasEntry Holds limits context (cancel number) (Some entry)
+  unfolding IsEntryOf
+  legal_unknown number entry is = is
+
+  pub legal_status : (entry : Entry) → IsStatus limits context context.row.numbered.line entry → HasEntry Holds limits context status (Some entry)
+  unfolding IsEntryOf
+  legal_status entry is = is
+
   pub legal_fault : (item : Item) (why : SearchReason) → IsFaultOf item why
-      → HasEntry Holds most context item (Some (SearchRefused (search_number context) why))
+      → HasEntry Holds limits context item (Some (SearchRefused (search_number context) why))
   unfolding IsEntryOf
   legal_fault (search case text) why (steps.no_memory is) = legal.searched (legal.no_memory (ap (SearchRefused (search_number context)) is))
   legal_fault (search case text) why (steps.bad_pattern fault other none is) =
@@ -134,8 +155,16 @@ module _ (Holds : List ℕ → List ℕ → Type 0) (most : ℕ) (context : Cont
       legal.bad_pattern fault other named none (ap (SearchRefused (search_number context)) is)
   legal_fault item why h = absurd h
 
+  -- the refusal of a search that was open
+  pub legal_refusal : (item : Item) (entry : Entry) → searches_of item ≡ 1 → ((IsIt : Pattern → Type 0) → IsSearched limits context IsIt entry)
+      → HasEntry Holds limits context item (Some entry)
+  unfolding IsEntryOf
+  legal_refusal (search case text) entry one is = legal.searched (is (IsPatternOf case text))
+  legal_refusal (search_in case name_text text) entry one is = legal.searched (is (IsPatternWithin case name_text text))
+  legal_refusal item entry one is = absurd (omega (arith, one))
+
   pub legal_answer : (item : Item) (pattern : Pattern) (reader turn : ℕ) (answer : Answer) → Asks item pattern
-      → IsAnswered context pattern reader answer → HasEntry Holds most context item (Some (Found (search_number context) reader turn answer))
+      → IsAnswered context pattern reader answer → HasEntry Holds limits context item (Some (Found (search_number context) reader turn answer))
   unfolding IsEntryOf
   legal_answer (search case text) pattern reader turn answer asks is = legal.searched (legal.found pattern reader turn answer asks refl is)
   legal_answer (search_in case name_text text) pattern reader turn answer asks is =
@@ -149,11 +178,11 @@ no_version (SearchRefused number why) is = refl
 no_version entry is = cc
 
 -- A search without an entry is not legal.
-pub not_legal_yet : (Holds : List ℕ → List ℕ → Type 0) (most : ℕ) (context : Context) (item : Item) (entry : Option Entry) → entry ≡ None
-    → searches_of item ≡ 1 → HasEntry Holds most context item entry → ⊥
-not_legal_yet Holds most context item entry none one h = by item one (subst (HasEntry Holds most context item) none h)
+pub not_legal_yet : (Holds : List ℕ → List ℕ → Type 0) (limits : Limits) (context : Context) (item : Item) (entry : Option Entry) → entry ≡ None
+    → searches_of item ≡ 1 → HasEntry Holds limits context item entry → ⊥
+not_legal_yet Holds limits context item entry none one h = by item one (subst (HasEntry Holds limits context item) none h)
   where
-    by : (item : Item) → searches_of item ≡ 1 → HasEntry Holds most context item None → ⊥
+    by : (item : Item) → searches_of item ≡ 1 → HasEntry Holds limits context item None → ⊥
     by (search case text) one h = h
     by (search_in case name_text text) one h = h
     by item one h = absurd (omega (arith, one))

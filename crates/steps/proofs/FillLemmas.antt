@@ -7,12 +7,13 @@ use Rattle.std.proofs.lemmas.List.{append-nil, take-append-le}
 use Rattle.std.proofs.lemmas.List.Elements.{Contains-append_left}
 use Rattle.std.proofs.lemmas.Bool.Decides.{eqb_tells}
 use Rattle.index.specs.State.{state_of}
+use Rattle.search.specs.Pattern.{Pattern}
 use Rattle.search.specs.Scan.{Answer, IsAnswerOf}
 use Rattle.transcript.specs.declared.entry.Entry.{Entry}
 use Rattle.transcript.specs.declared.entry.Entry.TheVariants.{Found, SearchRefused}
-use Rattle.transcript.specs.declared.entry.SearchReason.TheVariants as search_reason
+use Rattle.transcript.specs.declared.entry.SearchReason.{SearchReason}
 use Rattle.steps.specs.Rows.{Row, commands_of, version_in, published_in, last_or, published_last, before_sync, searches_of, count_searches}
-use Rattle.steps.specs.LegalRows.{Context, HasEntry, IsLegalRow, IsAnswered}
+use Rattle.steps.specs.LegalRows.{Limits, Context, HasEntry, IsLegalRow, IsSearched, IsAnswered, search_number}
 use Rattle.steps.specs.Steps.{RunState, OpenSearch, latest, Asks, IsAnswerNow}
 use Rattle.steps.specs.StepRows.{with_its_entry, unless_of_search, unanswered, open_in, given_in, given_of, Rises}
 use Rattle.steps.specs.StepRows.{HasNoSync, Stands, legal, waits, AllTurned, IsNoted, AreRows}
@@ -20,7 +21,7 @@ use Rattle.steps.proofs.RowLemmas.{unanswered-append, given_of-append, same_comm
 use Rattle.steps.proofs.RowLemmas.{later_published, published_in-append, published_in-none, published_in-quiet, IsPlace, here, earlier, later, place_of, last_or-append}
 use Rattle.steps.proofs.RowLemmas.{rises_front, rises_rest, rises_last, rises_contains, sync_later}
 use Rattle.steps.proofs.OpenLemmas.{open_none, open_in-append, IsOpenRow}
-use Rattle.steps.proofs.EntryLemmas.{memory_fault, legal_fault, legal_answer, no_version, not_legal_yet}
+use Rattle.steps.proofs.EntryLemmas.{legal_refusal, legal_answer, no_version, not_legal_yet}
 
 abbrev without_entry : Row → Row
 without_entry row = record row { entry = None }
@@ -56,10 +57,10 @@ module _ (row : Row) (entry : Entry) (none : row.entry ≡ None) (of_search : un
       ∙ ap (λ l. l ++ more) (sym (unanswered_open before after))
 
 -- What the entry of an open search does. front, back: the open searches before and after it.
-pub record IsFilled (Holds : List ℕ → List ℕ → Type 0) (most readers : ℕ) (s : RunState) (front back : List OpenSearch) (before : List Row)
+pub record IsFilled (Holds : List ℕ → List ℕ → Type 0) (limits : Limits) (readers : ℕ) (s : RunState) (front back : List OpenSearch) (before : List Row)
     (row : Row) (after : List Row) (entry : Entry) (s' : RunState) : Type 0 where
   pub of_search : unless_of_search (Some entry) ≡ None
-  pub stands : Stands Holds most readers (unanswered before) (with_its_entry entry row) (unanswered after)
+  pub stands : Stands Holds limits readers (unanswered before) (with_its_entry entry row) (unanswered after)
   pub accepted : s'.accepted ≡ s.accepted
   pub published : s'.published ≡ s.published
   pub searches : s'.searches ≡ s.searches
@@ -68,45 +69,52 @@ pub record IsFilled (Holds : List ℕ → List ℕ → Type 0) (most readers : �
   pub turns : AllTurned (given_of before ++ (given_in (Some entry) ++ given_of after))
   pub noted : AllByRecursion (IsNoted s'.lasts) (given_of before ++ (given_in (Some entry) ++ given_of after))
 
+-- A search between these rows may be refused for this reason, whatever rows follow.
+abbrev pub MayBeRefused : Limits → ℕ → List Row → List Row → SearchReason → Type 1
+MayBeRefused limits readers before after why =
+    (context : Context) (later : List Row) → context.readers ≡ readers → unanswered context.before ≡ unanswered before
+    → unanswered context.after ≡ unanswered after ++ later → (IsIt : Pattern → Type 0)
+    → IsSearched limits context IsIt (SearchRefused (search_number context) why)
+
 -- No sync follows an open row, and without readers nothing does.
-pub after_open : (Holds : List ℕ → List ℕ → Type 0) (most readers : ℕ) (s : RunState) (rows : List Row) → AreRows Holds most readers s rows
+pub after_open : (Holds : List ℕ → List ℕ → Type 0) (limits : Limits) (readers : ℕ) (s : RunState) (rows : List Row) → AreRows Holds limits readers s rows
     → (before : List Row) (row : Row) (after : List Row) → rows ≡ before ++ row ∷ after → row.entry ≡ None → searches_of row.numbered.item ≡ 1
     → HasNoSync (unanswered after) × (readers ≡ 0 → unanswered after ≡ [])
-after_open Holds most readers s rows are before row after whole none one = by (are.stand before row after whole)
+after_open Holds limits readers s rows are before row after whole none one = by (are.stand before row after whole)
   where
-    by : Stands Holds most readers (unanswered before) row (unanswered after)
+    by : Stands Holds limits readers (unanswered before) row (unanswered after)
         → HasNoSync (unanswered after) × (readers ≡ 0 → unanswered after ≡ [])
     by (waits also also_one no_sync alone) = (no_sync, alone)
     by (legal is) =
-        absurd (not_legal_yet Holds most _ row.numbered.item row.entry none one
+        absurd (not_legal_yet Holds limits _ row.numbered.item row.entry none one
         (is before after [] refl (sym (append-nil (unanswered after))) (subst (Rises 0) (are.published ∙ ap published_in whole) are.rises)))
 
-module _ (Holds : List ℕ → List ℕ → Type 0) (most readers : ℕ) (s : RunState) (rows : List Row) (front : List OpenSearch) (search : OpenSearch)
-    (back : List OpenSearch) (are : AreRows Holds most readers s rows) (at : IsOpenRow 0 0 rows front search back) where
+module _ (Holds : List ℕ → List ℕ → Type 0) (limits : Limits) (readers : ℕ) (s : RunState) (rows : List Row) (front : List OpenSearch) (search : OpenSearch)
+    (back : List OpenSearch) (are : AreRows Holds limits readers s rows) (at : IsOpenRow 0 0 rows front search back) where
   -- without answers of its own, the open row adds none
   pub given_without : given_of rows ≡ given_of at.before ++ given_of at.after
   given_without = ap given_of at.whole ∙ given_of-append at.before (at.row ∷ at.after) ∙ ap (λ e. given_of at.before ++ (given_in e ++ given_of at.after)) at.none
 
-  module _ (entry : Entry) (s' : RunState) (fill : IsFilled Holds most readers s front back at.before at.row at.after entry s') where
+  module _ (entry : Entry) (s' : RunState) (fill : IsFilled Holds limits readers s front back at.before at.row at.after entry s') where
     same : unanswered rows ≡ unanswered (at.before ++ with_its_entry entry at.row ∷ at.after)
     same = ap unanswered at.whole ∙ same_filled at.row entry at.none fill.of_search at.before at.after
 
     stand_filled : (before : List Row) (row : Row) (after : List Row) → at.before ++ with_its_entry entry at.row ∷ at.after ≡ before ++ row ∷ after
-        → Stands Holds most readers (unanswered before) row (unanswered after)
+        → Stands Holds limits readers (unanswered before) row (unanswered after)
     stand_filled before row after e = by (place_of at.before (with_its_entry entry at.row) at.after before row after e)
       where
-        by : IsPlace at.before (with_its_entry entry at.row) at.after before row after → Stands Holds most readers (unanswered before) row (unanswered after)
+        by : IsPlace at.before (with_its_entry entry at.row) at.after before row after → Stands Holds limits readers (unanswered before) row (unanswered after)
         by (here b r a) =
-            subst (λ l. Stands Holds most readers (unanswered before) row (unanswered l)) a
-            (subst (λ l. Stands Holds most readers (unanswered before) l (unanswered at.after)) r
-            (subst (λ l. Stands Holds most readers (unanswered l) (with_its_entry entry at.row) (unanswered at.after)) b fill.stands))
+            subst (λ l. Stands Holds limits readers (unanswered before) row (unanswered l)) a
+            (subst (λ l. Stands Holds limits readers (unanswered before) l (unanswered at.after)) r
+            (subst (λ l. Stands Holds limits readers (unanswered l) (with_its_entry entry at.row) (unanswered at.after)) b fill.stands))
         by (earlier between b a) =
-            subst (λ l. Stands Holds most readers (unanswered before) row l)
+            subst (λ l. Stands Holds limits readers (unanswered before) row l)
             (same_filled at.row entry at.none fill.of_search between at.after ∙ sym (ap unanswered a))
             (are.stand before row (between ++ at.row ∷ at.after)
             (at.whole ∙ ap (λ l. l ++ at.row ∷ at.after) b ∙ append_assoc before (row ∷ between) (at.row ∷ at.after)))
         by (later between b a) =
-            subst (λ l. Stands Holds most readers l row (unanswered after))
+            subst (λ l. Stands Holds limits readers l row (unanswered after))
             (same_filled at.row entry at.none fill.of_search at.before between ∙ sym (ap unanswered b))
             (are.stand (at.before ++ at.row ∷ between) row after
             (at.whole ∙ ap (λ l. at.before ++ at.row ∷ l) a ∙ sym (append_assoc at.before (at.row ∷ between) (row ∷ after))))
@@ -127,7 +135,7 @@ module _ (Holds : List ℕ → List ℕ → Type 0) (most readers : ℕ) (s : Ru
     given_filled : given_of (at.before ++ with_its_entry entry at.row ∷ at.after) ≡ given_of at.before ++ (given_in (Some entry) ++ given_of at.after)
     given_filled = given_of-append at.before (with_its_entry entry at.row ∷ at.after)
 
-    pub rows_filled : AreRows Holds most readers s' (at.before ++ with_its_entry entry at.row ∷ at.after)
+    pub rows_filled : AreRows Holds limits readers s' (at.before ++ with_its_entry entry at.row ∷ at.after)
     rows_filled = record {
       accepted = fill.accepted ∙ are.accepted ∙ same_commands rows (at.before ++ with_its_entry entry at.row ∷ at.after) same;
       published = fill.published ∙ are.published ∙ same_published rows (at.before ++ with_its_entry entry at.row ∷ at.after) same;
@@ -142,20 +150,20 @@ module _ (Holds : List ℕ → List ℕ → Type 0) (most readers : ℕ) (s : Ru
     }
 
   -- The number of the search, wherever its row stands.
-  number_is : (before' : List Row) → unanswered before' ≡ unanswered at.before → search.number ≡ count_searches before' + 1
+  pub number_is : (before' : List Row) → unanswered before' ≡ unanswered at.before → search.number ≡ count_searches before' + 1
   number_is before' e = omega (arith, ap (λ x. x.number) at.is, same_searches before' at.before e)
 
-  pub refusal_stands : Stands Holds most readers (unanswered at.before) (with_its_entry (SearchRefused search.number search_reason.OutOfMemory) at.row)
-      (unanswered at.after)
-  refusal_stands =
+  pub refusal_stands : (why : SearchReason) → MayBeRefused limits readers at.before at.after why
+      → Stands Holds limits readers (unanswered at.before) (with_its_entry (SearchRefused search.number why) at.row) (unanswered at.after)
+  refusal_stands why may =
       legal (λ before' after' more e e' rises.
-      let row' = with_its_entry (SearchRefused search.number search_reason.OutOfMemory) at.row in
+      let row' = with_its_entry (SearchRefused search.number why) at.row in
       let context : Context = record { readers = readers; before = before'; row = row'; after = after' } in
-      subst (λ n. HasEntry Holds most context at.row.numbered.item (Some (SearchRefused n search_reason.OutOfMemory))) (sym (number_is before' e))
-      (legal_fault Holds most context at.row.numbered.item search_reason.OutOfMemory (memory_fault at.row.numbered.item at.one)))
+      subst (λ n. HasEntry Holds limits context at.row.numbered.item (Some (SearchRefused n why))) (sym (number_is before' e))
+      (legal_refusal Holds limits context at.row.numbered.item (SearchRefused (search_number context) why) at.one (may context more refl e e')))
 
-  waiting : HasNoSync (unanswered at.after) × (readers ≡ 0 → unanswered at.after ≡ [])
-  waiting = after_open Holds most readers s rows are at.before at.row at.after at.whole at.none at.one
+  pub waiting : HasNoSync (unanswered at.after) × (readers ≡ 0 → unanswered at.after ≡ [])
+  waiting = after_open Holds limits readers s rows are at.before at.row at.after at.whole at.none at.one
 
   -- A version that is published by now is no later than the latest.
   seen : (version : ℕ) → (version ≡ 0) ⊎ Contains s.published version → version ≤ latest s
@@ -247,12 +255,12 @@ module _ (Holds : List ℕ → List ℕ → Type 0) (most readers : ℕ) (s : Ru
       not_newer = newest (readers == 0) refl;
     }
 
-    answer_legal : IsLegalRow Holds most context
+    answer_legal : IsLegalRow Holds limits context
     answer_legal =
-        subst (λ n. HasEntry Holds most context at.row.numbered.item (Some (Found n reader turn answer))) (sym (number_is before' e))
-        (legal_answer Holds most context at.row.numbered.item now.pattern reader turn answer
+        subst (λ n. HasEntry Holds limits context at.row.numbered.item (Some (Found n reader turn answer))) (sym (number_is before' e))
+        (legal_answer Holds limits context at.row.numbered.item now.pattern reader turn answer
         (subst (λ i. Asks i now.pattern) (ap (λ x. x.item) at.is) now.asks) is_answered)
 
   pub answer_stands : (reader turn : ℕ) (answer : Answer) → IsAnswerNow s search reader turn answer
-      → Stands Holds most readers (unanswered at.before) (with_its_entry (Found search.number reader turn answer) at.row) (unanswered at.after)
+      → Stands Holds limits readers (unanswered at.before) (with_its_entry (Found search.number reader turn answer) at.row) (unanswered at.after)
   answer_stands reader turn answer now = legal (answer_legal reader turn answer now)

@@ -1,6 +1,6 @@
 -- The searches that have no entry yet, and their rows.
 use Rattle.std.proofs.Common.{◌≡◌, ℕ, suc, zero, ◌+◌, ◌⊎◌, inl, inr, List, [], ◌∷◌, ◌++◌, take, drop, Option, Some, None, refl, sym, ap, ◌∙◌}
-use Rattle.std.proofs.Common.{arith, append_assoc, add-one}
+use Rattle.std.proofs.Common.{◌≤◌, length, length-append, arith, append_assoc, add-one}
 use Rattle.std.specs.Prelude.{slice_get}
 use Rattle.script.specs.Items.{Item, search, search_in}
 use Rattle.transcript.specs.declared.entry.Entry.{Entry}
@@ -46,6 +46,30 @@ open_in-append count least (row ∷ rows) more =
     (sym (last_or-append least (version_in row.entry) (published_in rows))))
     ∙ sym (append_assoc (open_of count least item row.entry) (open_in count' least' rows)
     (open_in (count + (searches_of item + count_searches rows)) (last_or least (version_in row.entry ++ published_in rows)) more))
+
+open_at_most : (count least : ℕ) (item : Item) (entry : Option Entry) → length (open_of count least item entry) ≤ searches_of item
+open_at_most count least item entry = by (open_cases count least item entry)
+  where
+    by : (open_of count least item entry ≡ [])
+        ⊎ ((entry ≡ None) × (searches_of item ≡ 1) × (open_of count least item entry ≡ open_search (count + 1) item least ∷ []))
+        → length (open_of count least item entry) ≤ searches_of item
+    by (inl none) = omega (arith, ap length none)
+    by (inr is) = omega (arith, is.1, ap length is.2)
+
+-- No more searches are open than were taken.
+pub open_few : (count least : ℕ) (rows : List Row) → length (open_in count least rows) ≤ count_searches rows
+unfolding count_searches
+open_few count least [] = omega arith
+open_few count least (row ∷ rows) =
+    let item = row.numbered.item in
+    let count' = count + searches_of item in
+    let least' = last_or least (version_in row.entry) in
+    omega (
+      arith,
+      length-append (open_of count least item row.entry) (open_in count' least' rows),
+      open_at_most count least item row.entry,
+      open_few count' least' rows,
+    )
 
 -- The row of an open search, with the open searches before and after it.
 pub record IsOpenRow (count least : ℕ) (rows : List Row) (front : List OpenSearch) (wanted : OpenSearch) (back : List OpenSearch) : Type 0 where

@@ -11,10 +11,13 @@ use Rattle.index.specs.State.{state_of}
 use Rattle.search.specs.Scan.{Answer}
 use Rattle.script.specs.Items.{Numbered}
 use Rattle.transcript.specs.declared.entry.Entry.{Entry}
-use Rattle.transcript.specs.declared.entry.Entry.TheVariants.{Found, SearchRefused}
+use Rattle.transcript.specs.declared.entry.Entry.TheVariants.{Refused, Found, SearchRefused}
+use Rattle.transcript.specs.declared.entry.Reason.TheVariants.{NoSuchSearch}
+use Rattle.transcript.specs.declared.entry.SearchReason.{SearchReason}
 use Rattle.transcript.specs.declared.entry.SearchReason.TheVariants as search_reason
 use Rattle.steps.specs.Rows.{version_in, last_or, searches_of}
-use Rattle.steps.specs.Steps.{RunState, OpenSearch, IsStep, Runs, IsFirst, IsOpenAt, IsAnswerNow, latest, last_of, with_search, asked}
+use Rattle.steps.specs.LegalRows.{Limits}
+use Rattle.steps.specs.Steps.{RunState, OpenSearch, IsStep, Runs, IsFirst, IsOpenAt, IsAnswerNow, latest, last_of, with_search, asked, without, status_now}
 use Rattle.steps.specs.Steps as steps
 use Rattle.steps.specs.StepRows.{Given, given_in, IsNoted}
 use Rattle.steps.specs.Entries.{versions_of, searches_among, IsInOrder}
@@ -115,52 +118,66 @@ module _ (entries : List Entry) (s : RunState) (old : AreInOrder entries s) wher
             },
           )))
 
-  order_step : (Holds : List ℕ → List ℕ → Type 0) (most readers : ℕ) (taken : List Numbered) (written : List Entry) (s' : RunState)
-      → IsStep Holds most readers s taken written s' → AreInOrder (entries ++ written) s'
-  order_step Holds most readers taken written s' (steps.carried_out item loaded entry may h takes writes same) =
+  -- an entry that is no answer and publishes nothing, and leaves the readers as they are
+  order_quiet : (entry : Entry) (written : List Entry) (s' : RunState) → written ≡ entry ∷ [] → given_in (Some entry) ≡ [] → version_in (Some entry) ≡ []
+      → s'.published ≡ s.published → s'.lasts ≡ s.lasts → AreInOrder (entries ++ written) s'
+  order_quiet entry written s' writes gives publishes same same_lasts =
+      order_push entry written s' writes
+      (quiet_entry entry s' gives (same ∙ sym (append-nil s.published) ∙ ap (λ l. s.published ++ l) (sym publishes)) same_lasts)
+
+  order_step : (Holds : List ℕ → List ℕ → Type 0) (limits : Limits) (readers : ℕ) (taken : List Numbered) (written : List Entry) (s' : RunState)
+      → IsStep Holds limits readers s taken written s' → AreInOrder (entries ++ written) s'
+  order_step Holds limits readers taken written s' (steps.carried_out item loaded entry may h takes writes same) =
       order_push entry written s' writes
       (quiet_entry entry s'
-      (plain_by (plain_entry Holds most (state_of s.accepted) loaded item.line item.item entry h) (λ e. given_in (Some e) ≡ []) (λ count. refl)
+      (plain_by (plain_entry Holds limits.commands (state_of s.accepted) loaded item.line item.item entry h) (λ e. given_in (Some e) ≡ []) (λ count. refl)
       (λ why. refl) refl) (ap (λ t. t.published) same) (ap (λ t. t.lasts) same))
-  order_step Holds most readers taken written s' (steps.asked_for item may one takes writes same) =
+  order_step Holds limits readers taken written s' (steps.asked_for item may one takes writes same) =
       order_stays written s' writes (ap (λ t. t.published) same) (ap (λ t. t.lasts) same)
-  order_step Holds most readers taken written s' (steps.refused item why may fault takes writes same) =
-      order_push (SearchRefused (s.searches + 1) why) written s' writes
-      (quiet_entry (SearchRefused (s.searches + 1) why) s' refl (ap (λ t. t.published) same ∙ sym (append-nil s.published)) (ap (λ t. t.lasts) same))
-  order_step Holds most readers taken written s' (steps.answered place search reader turn answer is_open now takes writes same) =
+  order_step Holds limits readers taken written s' (steps.refused item why may fault takes writes same) =
+      order_quiet (SearchRefused (s.searches + 1) why) written s' writes refl refl (ap (λ t. t.published) same) (ap (λ t. t.lasts) same)
+  order_step Holds limits readers taken written s' (steps.answered place search reader turn answer is_open now takes writes same) =
       order_push (Found search.number reader turn answer) written s' writes
       (answer_entry search reader turn answer s' now (ap (λ t. t.published) same) (ap (λ t. t.lasts) same))
-  order_step Holds most readers taken written s' (steps.not_answered place search is_open takes writes same) =
-      order_push (SearchRefused search.number search_reason.OutOfMemory) written s' writes
-      (quiet_entry (SearchRefused search.number search_reason.OutOfMemory) s' refl (ap (λ t. t.published) same ∙ sym (append-nil s.published))
-      (ap (λ t. t.lasts) same))
-  order_step Holds most readers taken written s' (steps.sync item is empty takes writes same) =
+  order_step Holds limits readers taken written s' (steps.not_answered place search is_open takes writes same) =
+      order_quiet (SearchRefused search.number search_reason.OutOfMemory) written s' writes refl refl (ap (λ t. t.published) same) (ap (λ t. t.lasts) same)
+  order_step Holds limits readers taken written s' (steps.too_slow place search timed is_open takes writes same) =
+      order_quiet (SearchRefused search.number search_reason.TooSlow) written s' writes refl refl (ap (λ t. t.published) same) (ap (λ t. t.lasts) same)
+  order_step Holds limits readers taken written s' (steps.cancelled item place search may is is_open takes writes same) =
+      order_quiet (SearchRefused search.number search_reason.Cancelled) written s' writes refl refl (ap (λ t. t.published) same) (ap (λ t. t.lasts) same)
+  order_step Holds limits readers taken written s' (steps.too_late item number may is was_asked not_open takes writes same) =
+      order_stays written s' writes (ap (λ t. t.published) same) (ap (λ t. t.lasts) same)
+  order_step Holds limits readers taken written s' (steps.no_such_search item number may is not_asked takes writes same) =
+      order_quiet (Refused item.line NoSuchSearch) written s' writes refl refl (ap (λ t. t.published) same) (ap (λ t. t.lasts) same)
+  order_step Holds limits readers taken written s' (steps.reported item may is takes writes same) =
+      order_quiet (status_now limits s item.line) written s' writes refl refl (ap (λ t. t.published) same) (ap (λ t. t.lasts) same)
+  order_step Holds limits readers taken written s' (steps.sync item is empty takes writes same) =
       order_stays written s' writes (ap (λ t. t.published) same) (ap (λ t. t.lasts) same)
 
 no_entry : (entry : Entry) → Contains [] entry → ⊥
 no_entry entry inside = omega (arith, inside.1)
 
-run_order : (Holds : List ℕ → List ℕ → Type 0) (most readers : ℕ) (from : RunState) → IsFirst readers from → {items : List Numbered}
-    {entries : List Entry} {s : RunState} → Runs Holds most readers from items entries s → AreInOrder entries s
-run_order Holds most readers from first =
-    runs_keep Holds most readers from (λ items entries s. AreInOrder entries s)
+run_order : (Holds : List ℕ → List ℕ → Type 0) (limits : Limits) (readers : ℕ) (from : RunState) → IsFirst readers from → {items : List Numbered}
+    {entries : List Entry} {s : RunState} → Runs Holds limits readers from items entries s → AreInOrder entries s
+run_order Holds limits readers from first =
+    runs_keep Holds limits readers from (λ items entries s. AreInOrder entries s)
     (record {
       published = first.published;
       noted = λ number reader turn answer inside. absurd (no_entry (Found number reader turn answer) inside);
       each = λ before number reader turn answer after e. absurd (not_empty before (Found number reader turn answer) after e);
     })
-    (λ items entries s taken written s' old step. order_step entries s old Holds most readers taken written s' step)
+    (λ items entries s taken written s' old step. order_step entries s old Holds limits readers taken written s' step)
 
 -- Each answer of a run is in order.
-pub answers_in_order : (Holds : List ℕ → List ℕ → Type 0) (most readers : ℕ) (from : RunState) → IsFirst readers from → {items : List Numbered}
-    {entries : List Entry} {s : RunState} → Runs Holds most readers from items entries s
+pub answers_in_order : (Holds : List ℕ → List ℕ → Type 0) (limits : Limits) (readers : ℕ) (from : RunState) → IsFirst readers from → {items : List Numbered}
+    {entries : List Entry} {s : RunState} → Runs Holds limits readers from items entries s
     → (before : List Entry) (number reader turn : ℕ) (answer : Answer) (after : List Entry)
     → entries ≡ before ++ Found number reader turn answer ∷ after → IsInOrder before reader turn answer
-answers_in_order Holds most readers from first run = (run_order Holds most readers from first run).each
+answers_in_order Holds limits readers from first run = (run_order Holds limits readers from first run).each
 
-pub run_versions : (Holds : List ℕ → List ℕ → Type 0) (most readers : ℕ) (from : RunState) → IsFirst readers from → {items : List Numbered}
-    {entries : List Entry} {s : RunState} → Runs Holds most readers from items entries s → s.published ≡ versions_of entries
-run_versions Holds most readers from first run = (run_order Holds most readers from first run).published
+pub run_versions : (Holds : List ℕ → List ℕ → Type 0) (limits : Limits) (readers : ℕ) (from : RunState) → IsFirst readers from → {items : List Numbered}
+    {entries : List Entry} {s : RunState} → Runs Holds limits readers from items entries s → s.published ≡ versions_of entries
+run_versions Holds limits readers from first run = (run_order Holds limits readers from first run).published
 
 -- An answer is no older than what was published before its search was asked.
 
@@ -209,35 +226,53 @@ module _ (number least : ℕ) (entries : List Entry) (s : RunState) (old : AreNo
   bound : (place : ℕ) (search : OpenSearch) → IsOpenAt s place search → IsBound search
   bound place search is_open = each_within IsBound (take place s.awaited) search (drop (place + 1) s.awaited) (around_place place search is_open)
 
-  older_step : (Holds : List ℕ → List ℕ → Type 0) (most readers : ℕ) (taken : List Numbered) (written : List Entry) (s' : RunState)
-      → IsStep Holds most readers s taken written s' → AreNotOlder number least (entries ++ written) s'
-  older_step Holds most readers taken written s' (steps.carried_out item loaded entry may h takes writes same) =
+  -- an open search is refused
+  older_refused : (place : ℕ) (search : OpenSearch) (why : SearchReason) (written : List Entry) (s' : RunState) → IsOpenAt s place search
+      → written ≡ SearchRefused search.number why ∷ [] → s' ≡ without place s → AreNotOlder number least (entries ++ written) s'
+  older_refused place search why written s' is_open writes same =
+      older_push (SearchRefused search.number why) written s' writes (omega (arith, old.asked_before, ap (λ t. t.searches) same))
+      (subst (AllByRecursion IsBound) (sym (ap (λ t. t.awaited) same)) (left place search is_open)) (λ reader turn answer is. absurd (cc))
+
+  older_step : (Holds : List ℕ → List ℕ → Type 0) (limits : Limits) (readers : ℕ) (taken : List Numbered) (written : List Entry) (s' : RunState)
+      → IsStep Holds limits readers s taken written s' → AreNotOlder number least (entries ++ written) s'
+  older_step Holds limits readers taken written s' (steps.carried_out item loaded entry may h takes writes same) =
       older_push entry written s' writes (omega (arith, old.asked_before, ap (λ t. t.searches) same))
       (subst (AllByRecursion IsBound) (sym (ap (λ t. t.awaited) same)) old.waiting)
       (λ reader turn answer is.
       let quiet : given_in (Some entry) ≡ [] =
-      plain_by (plain_entry Holds most (state_of s.accepted) loaded item.line item.item entry h) (λ e. given_in (Some e) ≡ []) (λ count. refl)
+      plain_by (plain_entry Holds limits.commands (state_of s.accepted) loaded item.line item.item entry h) (λ e. given_in (Some e) ≡ []) (λ count. refl)
       (λ why. refl) refl in
       let no = sym quiet ∙ ap (λ e. given_in (Some e)) is in absurd (cc))
-  older_step Holds most readers taken written s' (steps.asked_for item may one takes writes same) =
+  older_step Holds limits readers taken written s' (steps.asked_for item may one takes writes same) =
       older_stays written s' writes (omega (arith, old.asked_before, ap (λ t. t.searches) same))
       (subst (AllByRecursion IsBound) (sym (ap (λ t. t.awaited) same))
       (each_both IsBound s.awaited (asked item.item s ∷ []) old.waiting ((λ is. absurd (omega (arith, is, old.asked_before))), tt)))
-  older_step Holds most readers taken written s' (steps.refused item why may fault takes writes same) =
+  older_step Holds limits readers taken written s' (steps.refused item why may fault takes writes same) =
       older_push (SearchRefused (s.searches + 1) why) written s' writes (omega (arith, old.asked_before, ap (λ t. t.searches) same))
       (subst (AllByRecursion IsBound) (sym (ap (λ t. t.awaited) same)) old.waiting) (λ reader turn answer is. absurd (cc))
-  older_step Holds most readers taken written s' (steps.answered place search reader turn answer is_open now takes writes same) =
+  older_step Holds limits readers taken written s' (steps.answered place search reader turn answer is_open now takes writes same) =
       older_push (Found search.number reader turn answer) written s' writes (omega (arith, old.asked_before, ap (λ t. t.searches) same))
       (subst (AllByRecursion IsBound) (sym (ap (λ t. t.awaited) same)) (left place search is_open))
       (λ reader' turn' answer' is.
       let same_number : search.number ≡ number = cc in
       let same_answer : answer ≡ answer' = cc in
       omega (arith, bound place search is_open same_number, now.not_older, ap (λ a. a.version) same_answer))
-  older_step Holds most readers taken written s' (steps.not_answered place search is_open takes writes same) =
-      older_push (SearchRefused search.number search_reason.OutOfMemory) written s' writes
-      (omega (arith, old.asked_before, ap (λ t. t.searches) same))
-      (subst (AllByRecursion IsBound) (sym (ap (λ t. t.awaited) same)) (left place search is_open)) (λ reader turn answer is. absurd (cc))
-  older_step Holds most readers taken written s' (steps.sync item is empty takes writes same) =
+  older_step Holds limits readers taken written s' (steps.not_answered place search is_open takes writes same) =
+      older_refused place search search_reason.OutOfMemory written s' is_open writes same
+  older_step Holds limits readers taken written s' (steps.too_slow place search timed is_open takes writes same) =
+      older_refused place search search_reason.TooSlow written s' is_open writes same
+  older_step Holds limits readers taken written s' (steps.cancelled item place search may is is_open takes writes same) =
+      older_refused place search search_reason.Cancelled written s' is_open writes same
+  older_step Holds limits readers taken written s' (steps.too_late item number' may is was_asked not_open takes writes same) =
+      older_stays written s' writes (omega (arith, old.asked_before, ap (λ t. t.searches) same))
+      (subst (AllByRecursion IsBound) (sym (ap (λ t. t.awaited) same)) old.waiting)
+  older_step Holds limits readers taken written s' (steps.no_such_search item number' may is not_asked takes writes same) =
+      older_push (Refused item.line NoSuchSearch) written s' writes (omega (arith, old.asked_before, ap (λ t. t.searches) same))
+      (subst (AllByRecursion IsBound) (sym (ap (λ t. t.awaited) same)) old.waiting) (λ reader turn answer is'. absurd (cc))
+  older_step Holds limits readers taken written s' (steps.reported item may is takes writes same) =
+      older_push (status_now limits s item.line) written s' writes (omega (arith, old.asked_before, ap (λ t. t.searches) same))
+      (subst (AllByRecursion IsBound) (sym (ap (λ t. t.awaited) same)) old.waiting) (λ reader turn answer is'. absurd (cc))
+  older_step Holds limits readers taken written s' (steps.sync item is empty takes writes same) =
       older_stays written s' writes (omega (arith, old.asked_before, ap (λ t. t.searches) same))
       (subst (AllByRecursion IsBound) (sym (ap (λ t. t.awaited) same)) old.waiting)
 
@@ -260,27 +295,34 @@ none_waiting number least (x ∷ xs) none = (
         by (inl yes_it_is) = yes_it_is.0
         by (inr other) = absurd (other.1 is)
 
-module _ (Holds : List ℕ → List ℕ → Type 0) (most readers : ℕ) where
+module _ (Holds : List ℕ → List ℕ → Type 0) (limits : Limits) (readers : ℕ) where
   -- a step that takes a search and writes nothing
   asked_by : (s : RunState) (item : Numbered) (taken : List Numbered) (written : List Entry) (s' : RunState) → taken ≡ item ∷ [] → written ≡ []
-      → searches_of item.item ≡ 1 → IsStep Holds most readers s taken written s' → s' ≡ with_search item.item s
+      → searches_of item.item ≡ 1 → IsStep Holds limits readers s taken written s' → s' ≡ with_search item.item s
   asked_by s item taken written s' is nothing one (steps.carried_out other loaded entry may h takes writes same) = cc
   asked_by s item taken written s' is nothing one (steps.asked_for other may also takes writes same) =
       let same_item : other ≡ item = cc in same ∙ ap (λ i. with_search i.item s) same_item
   asked_by s item taken written s' is nothing one (steps.refused other why may fault takes writes same) = cc
   asked_by s item taken written s' is nothing one (steps.answered place search reader turn answer is_open now takes writes same) = cc
   asked_by s item taken written s' is nothing one (steps.not_answered place search is_open takes writes same) = cc
+  asked_by s item taken written s' is nothing one (steps.too_slow place search timed is_open takes writes same) = cc
+  asked_by s item taken written s' is nothing one (steps.cancelled other place search may cancels is_open takes writes same) = cc
+  asked_by s item taken written s' is nothing one (steps.too_late other number may cancels was_asked not_open takes writes same) =
+      let same_item : other ≡ item = cc in
+      absurd (omega (arith, one, ap searches_of cancels, ap (λ i. searches_of i.item) same_item))
+  asked_by s item taken written s' is nothing one (steps.no_such_search other number may cancels not_asked takes writes same) = cc
+  asked_by s item taken written s' is nothing one (steps.reported other may reports takes writes same) = cc
   asked_by s item taken written s' is nothing one (steps.sync other also empty takes writes same) =
       let same_item : other ≡ item = cc in
       absurd (omega (arith, one, sync_is_no_search other.item also, ap (λ i. searches_of i.item) same_item))
 
   pub not_older : (from : RunState) → IsFirst readers from → {items : List Numbered} {entries : List Entry} {s : RunState}
-      → Runs Holds most readers from items entries s → (search : Numbered) (s' : RunState) → searches_of search.item ≡ 1
-      → IsStep Holds most readers s (search ∷ []) [] s' → {items' : List Numbered} {entries' : List Entry} {s'' : RunState}
-      → Runs Holds most readers s' items' entries' s'' → (reader turn : ℕ) (answer : Answer)
+      → Runs Holds limits readers from items entries s → (search : Numbered) (s' : RunState) → searches_of search.item ≡ 1
+      → IsStep Holds limits readers s (search ∷ []) [] s' → {items' : List Numbered} {entries' : List Entry} {s'' : RunState}
+      → Runs Holds limits readers s' items' entries' s'' → (reader turn : ℕ) (answer : Answer)
       → Contains entries' (Found (searches_among items + 1) reader turn answer) → last_or 0 (versions_of entries) ≤ answer.version
   not_older from first {items} {entries} {s} run search s' one step {entries' = entries'} run' reader turn answer inside =
-      let counted : AreCounted items entries s = run_counted Holds most readers from first run in
+      let counted : AreCounted items entries s = run_counted Holds limits readers from first run in
       let same : s' ≡ with_search search.item s = asked_by s search (search ∷ []) [] s' refl refl one step in
       let number = s.searches + 1 in
       let past = counted.past number (omega arith) in
@@ -293,10 +335,10 @@ module _ (Holds : List ℕ → List ℕ → Type 0) (most readers : ℕ) where
         answers = λ reader turn answer inside. absurd (no_entry (Found number reader turn answer) inside);
       } in
       let end =
-      runs_keep Holds most readers s' (λ i e t. AreNotOlder number (latest s) e t) start
-      (λ i e t taken written t' old next. older_step number (latest s) e t old Holds most readers taken written t' next) run' in
+      runs_keep Holds limits readers s' (λ i e t. AreNotOlder number (latest s) e t) start
+      (λ i e t taken written t' old next. older_step number (latest s) e t old Holds limits readers taken written t' next) run' in
       omega (
         arith,
         end.answers reader turn answer (subst (λ n. Contains entries' (Found (n + 1) reader turn answer)) (sym counted.searches) inside),
-        ap (last_or 0) (run_versions Holds most readers from first run),
+        ap (last_or 0) (run_versions Holds limits readers from first run),
       )

@@ -1,16 +1,18 @@
 -- Rows one after the other, and what they add up to.
 use Rattle.std.proofs.Common.{◌≡◌, ℕ, ◌+◌, ◌≤◌, ◌⊎◌, inl, inr, Bool, true, false, cond, List, [], ◌∷◌, ◌++◌, Option, Some, None, refl, sym, ap, ◌∙◌}
-use Rattle.std.proofs.Common.{arith, append_assoc, option_map}
+use Rattle.std.proofs.Common.{arith, append_assoc, option_map, map, unwrap_or, subst}
 use Rattle.std.proofs.lemmas.List.{append-nil, map-append}
 use Rattle.std.proofs.lemmas.Grind.{flat_map-append}
-use Rattle.std.proofs.lemmas.List.Elements.{All-contains, All-from_recursion}
+use Rattle.std.proofs.lemmas.List.Elements.{All-contains, All-from_recursion, Contains-append_left, Contains-push}
 use Rattle.std.specs.List.{AllByRecursion}
 use Rattle.std.specs.Prelude.{Contains}
 use Rattle.index.specs.declared.command.Command.{Command}
+use Rattle.script.specs.Items.{Item, cancel}
 use Rattle.transcript.specs.declared.entry.Entry.{Entry}
 use Rattle.transcript.specs.declared.entry.Entry.TheVariants.{Found}
 use Rattle.steps.specs.Rows.{Row, items_of, commands_of, accepted_by, command_of, version_in, published_in, last_or}
 use Rattle.steps.specs.Rows.{is_sync, before_sync, searches_of, count_searches}
+use Rattle.steps.specs.LegalRows.{HasCancel, until_sync}
 use Rattle.steps.specs.StepRows.{unless_of_search, unanswered_row, unanswered, given_in, given_of, Rises, HasNoSync}
 
 pub two_lists : {X : Type 0} {a a' b b' : List X} → a ≡ a' → b ≡ b' → a ++ b ≡ a' ++ b'
@@ -239,3 +241,32 @@ sync_later (row ∷ rows) (b ∷ back) more front e none is = by (sync_later row
           ap unanswered past.2 ∙ two_lists {a = unanswered_row row ∷ []} (ap (λ r. r ∷ []) head) rest.2,
           ap (λ l. unanswered_row row ∷ l) rest.3 ∙ ap (λ f. unanswered f ++ rest.1) (sym past.2),
         )
+
+-- The items of the rows, without their lines.
+abbrev pub asks_of : List Row → List Item
+asks_of rows = map (λ r. r.numbered.item) rows
+
+pub asks_unanswered : (rows : List Row) → asks_of (unanswered rows) ≡ asks_of rows
+asks_unanswered [] = refl
+asks_unanswered (row ∷ rows) = ap (λ l. row.numbered.item ∷ l) (asks_unanswered rows)
+
+pub has_cancel : (number : ℕ) (others : List Row) (row : Row) → row.numbered.item ≡ cancel number → HasCancel number (unanswered (others ++ row ∷ []))
+has_cancel number others row is =
+    subst (λ l. Contains l (cancel number))
+    (sym (asks_unanswered (others ++ row ∷ []) ∙ map-append (λ r. r.numbered.item) others (row ∷ [])))
+    (subst (Contains (asks_of others ++ row.numbered.item ∷ [])) is (Contains-push (asks_of others) row.numbered.item))
+
+-- A cancel among rows with no sync comes before the first sync.
+pub cancel_stays : (number : ℕ) (after back more : List Row) → unanswered after ≡ back ++ more → HasNoSync back → HasCancel number back
+    → HasCancel number (until_sync after)
+cancel_stays number after back more e quiet inside = by (before_sync after) refl
+  where
+    within : (front between : List Row) → unanswered front ≡ back ++ between → HasCancel number front
+    within front between is =
+        subst (λ l. Contains l (cancel number))
+        (sym (map-append (λ r. r.numbered.item) back between) ∙ ap asks_of (sym is) ∙ asks_unanswered front)
+        (Contains-append_left (asks_of back) (asks_of between) (cancel number) inside)
+
+    by : (o : Option (List Row)) → before_sync after ≡ o → HasCancel number (unwrap_or o after)
+    by None is = within after more e
+    by (Some front) is = let later = sync_later after back more front e quiet is in within front later.0 later.2

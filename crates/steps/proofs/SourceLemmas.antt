@@ -3,7 +3,7 @@ use Rattle.std.proofs.Common.{ℕ, List, Option}
 use Rattle.index.specs.State.{State}
 use Rattle.script.specs.Items.{Item, Numbered, load}
 use Rattle.transcript.specs.declared.entry.Entry.{Entry}
-use Rattle.steps.specs.LegalRows.{IsNamed, HasLoaded, IsCommandEntry}
+use Rattle.steps.specs.LegalRows.{Limits, IsNamed, HasLoaded, IsCommandEntry}
 use Rattle.steps.specs.LegalRows as legal
 use Rattle.steps.specs.Steps.{RunState, IsStep}
 use Rattle.steps.specs.Steps as steps
@@ -25,14 +25,24 @@ module _ (H H' : List ℕ → List ℕ → Type 0) (more : (path body : List ℕ
   entry_mapped state loaded line (load name path) entry h = load_mapped state name path loaded line entry h
   entry_mapped state loaded line item entry h = h
 
+module _ (H H' : List ℕ → List ℕ → Type 0) (more : (path body : List ℕ) → H path body → H' path body) (limits : Limits) where
   pub step_mapped : (readers : ℕ) (s : RunState) (taken : List Numbered) (written : List Entry) (s' : RunState)
-      → IsStep H most readers s taken written s' → IsStep H' most readers s taken written s'
+      → IsStep H limits readers s taken written s' → IsStep H' limits readers s taken written s'
   step_mapped readers s taken written s' (steps.carried_out item loaded entry may h takes writes same) =
-      steps.carried_out item loaded entry may (entry_mapped _ loaded item.line item.item entry h) takes writes same
+      steps.carried_out item loaded entry may (entry_mapped H H' more limits.commands _ loaded item.line item.item entry h) takes writes same
   step_mapped readers s taken written s' (steps.asked_for item may one takes writes same) = steps.asked_for item may one takes writes same
   step_mapped readers s taken written s' (steps.refused item why may fault takes writes same) = steps.refused item why may fault takes writes same
   step_mapped readers s taken written s' (steps.answered place search reader turn answer is_open now takes writes same) =
       steps.answered place search reader turn answer is_open now takes writes same
   step_mapped readers s taken written s' (steps.not_answered place search is_open takes writes same) =
       steps.not_answered place search is_open takes writes same
+  step_mapped readers s taken written s' (steps.too_slow place search timed is_open takes writes same) =
+      steps.too_slow place search timed is_open takes writes same
+  step_mapped readers s taken written s' (steps.cancelled item place search may is is_open takes writes same) =
+      steps.cancelled item place search may is is_open takes writes same
+  step_mapped readers s taken written s' (steps.too_late item number may is asked not_open takes writes same) =
+      steps.too_late item number may is asked not_open takes writes same
+  step_mapped readers s taken written s' (steps.no_such_search item number may is not_asked takes writes same) =
+      steps.no_such_search item number may is not_asked takes writes same
+  step_mapped readers s taken written s' (steps.reported item may is takes writes same) = steps.reported item may is takes writes same
   step_mapped readers s taken written s' (steps.sync item is empty takes writes same) = steps.sync item is empty takes writes same

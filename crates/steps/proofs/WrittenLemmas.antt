@@ -1,46 +1,58 @@
 -- What the entries of a run say, in the order of writing.
-use Rattle.std.proofs.Common.{◌≡◌, ◌≢◌, ℕ, ◌+◌, ◌≤◌, ◌<◌, ◌⊎◌, inl, inr, true, false, cond, eqb, List, [], ◌∷◌, ◌++◌, Option}
+use Rattle.std.proofs.Common.{◌≡◌, ◌≢◌, ℕ, ◌+◌, ◌≤◌, ◌<◌, ◌⊎◌, inl, inr, Bool, true, false, cond, eqb, List, [], ◌∷◌, ◌++◌, Option}
 use Rattle.std.proofs.Common.{take, drop, refl, sym, ap, ◌∙◌, subst, arith}
-use Rattle.std.specs.Prelude.{count_by}
+use Rattle.std.specs.Prelude.{count_by, Contains}
+use Rattle.std.specs.List.{AllByRecursion}
+use Rattle.std.proofs.lemmas.List.{append-nil}
+use Rattle.std.proofs.lemmas.List.Elements.{All-contains, All-from_recursion, All-get_or}
+use Rattle.std.proofs.lemmas.Option.{slice_get_within, get_or_from_slice_get}
 use Rattle.std.proofs.lemmas.List.Sums.{sum_by-append}
 use Rattle.std.proofs.lemmas.Bool.Decides.{eqb_tells}
 use Rattle.std.proofs.lemmas.Grind.{flat_map-append}
 use Rattle.index.specs.State.{state_of}
-use Rattle.script.specs.Items.{Item, Numbered, search, search_in, sync}
+use Rattle.script.specs.Items.{Item, Numbered, numbered, search, search_in, sync, cancel, status}
 use Rattle.transcript.specs.declared.entry.Entry.{Entry}
-use Rattle.transcript.specs.declared.entry.Entry.TheVariants.{Refused}
+use Rattle.transcript.specs.declared.entry.Entry.TheVariants.{Refused, SearchRefused}
 use Rattle.transcript.specs.declared.entry.Reason.TheVariants as reason
+use Rattle.transcript.specs.declared.entry.SearchReason.{SearchReason}
+use Rattle.transcript.specs.declared.entry.SearchReason.TheVariants as search_reason
 use Rattle.steps.specs.Rows.{is_sync, searches_of}
-use Rattle.steps.specs.LegalRows.{IsCommandEntry}
-use Rattle.steps.specs.Steps.{RunState, OpenSearch, IsStep, Runs, IsFirst, IsOpenAt, MayTake, latest, asked}
+use Rattle.steps.specs.LegalRows.{Limits, IsCommandEntry, WasAsked, WasNotAsked}
+use Rattle.steps.specs.Steps.{RunState, OpenSearch, IsStep, Runs, IsFirst, IsOpenAt, IsNotOpen, MayTake, latest, asked, without, status_now}
 use Rattle.steps.specs.Steps as steps
-use Rattle.steps.specs.Entries.{is_of, count_of, searches_among, line_in, lines_in, command_line, command_lines, takes_memory}
+use Rattle.steps.specs.Entries.{is_of, count_of, searches_among, line_in, lines_in, command_line, is_cancel, HaveLines, no_items, one_more, left_out, takes_memory}
 use Rattle.steps.proofs.OpenLemmas.{around}
+use Rattle.steps.proofs.TurnLemmas.{each_both}
 use Rattle.steps.proofs.EntryLemmas.{IsPlain, accepts, refuses, publishes, plain_entry, plain_by, command_is_no_search}
-use Rattle.steps.proofs.EntryLemmas.{sync_is_no_search, fault_is_of_search}
+use Rattle.steps.proofs.EntryLemmas.{sync_is_no_search, fault_is_of_search, is_late, fault_is_not_late}
 use Rattle.steps.proofs.RunLemmas.{runs_keep}
 
 -- One item is taken.
-module _ (Holds : List ℕ → List ℕ → Type 0) (most readers : ℕ) (s : RunState) (item : Numbered) (written : List Entry) (s' : RunState) where
+module _ (Holds : List ℕ → List ℕ → Type 0) (limits : Limits) (readers : ℕ) (s : RunState) (item : Numbered) (written : List Entry) (s' : RunState) where
   taken_is : {x : Numbered} → item ∷ [] ≡ x ∷ [] → x ≡ item
   taken_is e = cc
 
-  taken_by : IsStep Holds most readers s (item ∷ []) written s' → MayTake readers s item.item
+  taken_by : IsStep Holds limits readers s (item ∷ []) written s' → MayTake readers s item.item
   taken_by (steps.carried_out other loaded entry may h takes writes same) = subst (λ n. MayTake readers s n.item) (taken_is takes) may
   taken_by (steps.asked_for other may one takes writes same) = subst (λ n. MayTake readers s n.item) (taken_is takes) may
   taken_by (steps.refused other why may fault takes writes same) = subst (λ n. MayTake readers s n.item) (taken_is takes) may
   taken_by (steps.answered place wanted reader turn answer is_open now takes writes same) = cc
   taken_by (steps.not_answered place wanted is_open takes writes same) = cc
+  taken_by (steps.too_slow place wanted timed is_open takes writes same) = cc
+  taken_by (steps.cancelled other place wanted may is is_open takes writes same) = subst (λ n. MayTake readers s n.item) (taken_is takes) may
+  taken_by (steps.too_late other number may is was_asked not_open takes writes same) = subst (λ n. MayTake readers s n.item) (taken_is takes) may
+  taken_by (steps.no_such_search other number may is not_asked takes writes same) = subst (λ n. MayTake readers s n.item) (taken_is takes) may
+  taken_by (steps.reported other may is takes writes same) = subst (λ n. MayTake readers s n.item) (taken_is takes) may
   taken_by (steps.sync other is empty takes writes same) = steps.settled empty
 
-  pub nothing_open_alone : readers ≡ 0 → IsStep Holds most readers s (item ∷ []) written s' → s.awaited ≡ []
+  pub nothing_open_alone : readers ≡ 0 → IsStep Holds limits readers s (item ∷ []) written s' → s.awaited ≡ []
   nothing_open_alone none step = by (taken_by step)
     where
       by : MayTake readers s item.item → s.awaited ≡ []
       by (steps.settled empty) = empty
       by (steps.beside some no_sync) = absurd (omega (arith, some, none))
 
-  pub nothing_open_at_sync : is_sync item.item ≡ true → IsStep Holds most readers s (item ∷ []) written s' → s.awaited ≡ []
+  pub nothing_open_at_sync : is_sync item.item ≡ true → IsStep Holds limits readers s (item ∷ []) written s' → s.awaited ≡ []
   nothing_open_at_sync is step = by (taken_by step)
     where
       by : MayTake readers s item.item → s.awaited ≡ []
@@ -48,11 +60,11 @@ module _ (Holds : List ℕ → List ℕ → Type 0) (most readers : ℕ) (s : Ru
       by (steps.beside some no_sync) = let no = sym is ∙ no_sync in cc
 
   -- Memory runs out for puts, loads, removes and publishes alone.
-  pub memory_refusal : (line : ℕ) → written ≡ Refused line reason.OutOfMemory ∷ [] → IsStep Holds most readers s (item ∷ []) written s'
+  pub memory_refusal : (line : ℕ) → written ≡ Refused line reason.OutOfMemory ∷ [] → IsStep Holds limits readers s (item ∷ []) written s'
       → takes_memory item.item ≡ true
   memory_refusal line is (steps.carried_out other loaded entry may h takes writes same) =
       ap (λ n. takes_memory n.item) (sym (taken_is takes))
-      ∙ by (plain_entry Holds most (state_of s.accepted) loaded other.line other.item entry h) (let e = sym writes ∙ is in cc)
+      ∙ by (plain_entry Holds limits.commands (state_of s.accepted) loaded other.line other.item entry h) (let e = sym writes ∙ is in cc)
     where
       by : {version line' : ℕ} {item' : Item} {entry' : Entry} → IsPlain version line' item' entry' → entry' ≡ Refused line reason.OutOfMemory
           → takes_memory item' ≡ true
@@ -63,12 +75,84 @@ module _ (Holds : List ℕ → List ℕ → Type 0) (most readers : ℕ) (s : Ru
   memory_refusal line is (steps.refused other why may fault takes writes same) = cc
   memory_refusal line is (steps.answered place wanted reader turn answer is_open now takes writes same) = cc
   memory_refusal line is (steps.not_answered place wanted is_open takes writes same) = cc
+  memory_refusal line is (steps.too_slow place wanted timed is_open takes writes same) = cc
+  memory_refusal line is (steps.cancelled other place wanted may cancels is_open takes writes same) = cc
+  memory_refusal line is (steps.too_late other number may cancels was_asked not_open takes writes same) = cc
+  memory_refusal line is (steps.no_such_search other number may cancels not_asked takes writes same) = cc
+  memory_refusal line is (steps.reported other may reports takes writes same) = cc
   memory_refusal line is (steps.sync other also empty takes writes same) = cc
 
--- The lines of the entries are those of the items that are neither searches nor syncs.
-module _ (Holds : List ℕ → List ℕ → Type 0) (most readers : ℕ) where
+  -- a cancel or a status that is taken
+  module _ (wish : Item) (is : item.item ≡ wish) where
+    wish_is : {x : Numbered} → item ∷ [] ≡ x ∷ [] → x.item ≡ wish
+    wish_is e = ap (λ n. n.item) (taken_is e) ∙ is
+
+    no_command : {x : Numbered} (loaded : Option (List ℕ)) (line : ℕ) (entry : Entry)
+        → (IsCommandEntry Holds limits.commands (state_of s.accepted) loaded line wish entry → ⊥) → item ∷ [] ≡ x ∷ []
+        → IsCommandEntry Holds limits.commands (state_of s.accepted) loaded line x.item entry → ⊥
+    no_command {x} loaded line entry never takes h =
+        never (subst (λ i. IsCommandEntry Holds limits.commands (state_of s.accepted) loaded line i entry) (wish_is takes) h)
+
+    no_search_asked : {x : Numbered} → searches_of wish ≡ 0 → item ∷ [] ≡ x ∷ [] → searches_of x.item ≡ 1 → ⊥
+    no_search_asked never takes one = omega (arith, never, one, ap searches_of (wish_is takes))
+
+  asked_or_not : (number : ℕ) → WasAsked number s.searches → WasNotAsked number s.searches → ⊥
+  asked_or_not number was_asked (inl zero) = omega (arith, was_asked.0, zero)
+  asked_or_not number was_asked (inr past) = omega (arith, was_asked.1, past)
+
+  open_or_not : (place : ℕ) (wanted : OpenSearch) → IsOpenAt s place wanted → IsNotOpen s wanted.number → ⊥
+  open_or_not place wanted is_open not_open =
+      All-get_or (λ x. x.number ≢ wanted.number) s.awaited place wanted (slice_get_within s.awaited place wanted is_open) not_open
+      (ap (λ x. x.number) (get_or_from_slice_get s.awaited place wanted wanted is_open))
+
+  -- A cancel of an open search refuses it.
+  pub cancel_refuses : (place : ℕ) (wanted : OpenSearch) → IsOpenAt s place wanted → WasAsked wanted.number s.searches
+      → item.item ≡ cancel wanted.number → IsStep Holds limits readers s (item ∷ []) written s'
+      → written ≡ SearchRefused wanted.number search_reason.Cancelled ∷ []
+  cancel_refuses place wanted is_open was_asked is (steps.carried_out other loaded entry may h takes writes same) =
+      absurd (no_command (cancel wanted.number) is loaded other.line entry (λ h. h) takes h)
+  cancel_refuses place wanted is_open was_asked is (steps.asked_for other may one takes writes same) =
+      absurd (no_search_asked (cancel wanted.number) is refl takes one)
+  cancel_refuses place wanted is_open was_asked is (steps.refused other why may fault takes writes same) =
+      absurd (no_search_asked (cancel wanted.number) is refl takes (fault_is_of_search other.item why fault))
+  cancel_refuses place wanted is_open was_asked is (steps.answered place' wanted' reader turn answer is_open' now takes writes same) = cc
+  cancel_refuses place wanted is_open was_asked is (steps.not_answered place' wanted' is_open' takes writes same) = cc
+  cancel_refuses place wanted is_open was_asked is (steps.too_slow place' wanted' timed is_open' takes writes same) = cc
+  cancel_refuses place wanted is_open was_asked is (steps.cancelled other place' wanted' may cancels is_open' takes writes same) =
+      let same_number : wanted'.number ≡ wanted.number = let e = sym cancels ∙ wish_is (cancel wanted.number) is takes in cc in
+      writes ∙ ap (λ n. SearchRefused n search_reason.Cancelled ∷ []) same_number
+  cancel_refuses place wanted is_open was_asked is (steps.too_late other number may cancels asked' not_open takes writes same) =
+      let same_number : number ≡ wanted.number = let e = sym cancels ∙ wish_is (cancel wanted.number) is takes in cc in
+      absurd (open_or_not place wanted is_open (subst (IsNotOpen s) same_number not_open))
+  cancel_refuses place wanted is_open was_asked is (steps.no_such_search other number may cancels not_asked takes writes same) =
+      let same_number : number ≡ wanted.number = let e = sym cancels ∙ wish_is (cancel wanted.number) is takes in cc in
+      absurd (asked_or_not wanted.number was_asked (subst (λ n. WasNotAsked n s.searches) same_number not_asked))
+  cancel_refuses place wanted is_open was_asked is (steps.reported other may reports takes writes same) =
+      let e = sym reports ∙ wish_is (cancel wanted.number) is takes in cc
+  cancel_refuses place wanted is_open was_asked is (steps.sync other syncs empty takes writes same) =
+      let e = sym syncs ∙ ap is_sync (wish_is (cancel wanted.number) is takes) in cc
+
+  -- A status shows the state.
+  pub status_shows : item.item ≡ status → IsStep Holds limits readers s (item ∷ []) written s'
+      → (written ≡ status_now limits s item.line ∷ []) × (s' ≡ s)
+  status_shows is (steps.carried_out other loaded entry may h takes writes same) =
+      absurd (no_command status is loaded other.line entry (λ h. h) takes h)
+  status_shows is (steps.asked_for other may one takes writes same) = absurd (no_search_asked status is refl takes one)
+  status_shows is (steps.refused other why may fault takes writes same) =
+      absurd (no_search_asked status is refl takes (fault_is_of_search other.item why fault))
+  status_shows is (steps.answered place wanted reader turn answer is_open now takes writes same) = cc
+  status_shows is (steps.not_answered place wanted is_open takes writes same) = cc
+  status_shows is (steps.too_slow place wanted timed is_open takes writes same) = cc
+  status_shows is (steps.cancelled other place wanted may cancels is_open takes writes same) = let e = sym cancels ∙ wish_is status is takes in cc
+  status_shows is (steps.too_late other number may cancels was_asked not_open takes writes same) = let e = sym cancels ∙ wish_is status is takes in cc
+  status_shows is (steps.no_such_search other number may cancels not_asked takes writes same) = let e = sym cancels ∙ wish_is status is takes in cc
+  status_shows is (steps.reported other may reports takes writes same) = (writes ∙ ap (λ n. status_now limits s n.line ∷ []) (taken_is takes), same)
+  status_shows is (steps.sync other syncs empty takes writes same) = let e = sym syncs ∙ ap is_sync (wish_is status is takes) in cc
+
+-- The lines of the entries are those of the items that are neither searches nor syncs, but for cancels that have none.
+module _ (Holds : List ℕ → List ℕ → Type 0) (limits : Limits) (readers : ℕ) where
   line_of_command : (s : RunState) (loaded : Option (List ℕ)) (line : ℕ) (item : Item) (entry : Entry)
-      → IsCommandEntry Holds most (state_of s.accepted) loaded line item entry → command_line line item ≡ line ∷ []
+      → IsCommandEntry Holds limits.commands (state_of s.accepted) loaded line item entry → command_line line item ≡ line ∷ []
   line_of_command s loaded line (search case text) entry h = absurd h
   line_of_command s loaded line (search_in case name_text text) entry h = absurd h
   line_of_command s loaded line sync entry h = absurd h
@@ -83,35 +167,120 @@ module _ (Holds : List ℕ → List ℕ → Type 0) (most readers : ℕ) where
   no_line_of_sync line sync is = refl
   no_line_of_sync line item is = cc
 
-  lines_of : (item : Numbered) (taken : List Numbered) (written : List Entry) (lines : List ℕ) → taken ≡ item ∷ []
-      → command_line item.line item.item ≡ lines → lines_in written ≡ lines ++ [] → lines_in written ≡ command_lines taken
-  lines_of item taken written lines takes is are = are ∙ ap (λ l. l ++ []) (sym is) ∙ ap command_lines (sym takes)
+  module _ {items : List Numbered} {lines : List ℕ} (so_far : HaveLines items lines) (taken : List Numbered) (written : List Entry) where
+    -- what is written has these lines
+    line_of : (item : Numbered) (some : List ℕ) → taken ≡ item ∷ [] → command_line item.line item.item ≡ some → lines_in written ≡ some ++ []
+        → HaveLines (items ++ taken) (lines ++ lines_in written)
+    line_of item some takes is are =
+        one_more item so_far (ap (λ t. items ++ t) takes) (ap (λ l. lines ++ l) (are ∙ append-nil some ∙ sym is))
 
-  step_lines : (s : RunState) (taken : List Numbered) (written : List Entry) (s' : RunState) → IsStep Holds most readers s taken written s'
-      → lines_in written ≡ command_lines taken
-  step_lines s taken written s' (steps.carried_out item loaded entry may h takes writes same) =
-      lines_of item taken written (item.line ∷ []) takes (line_of_command s loaded item.line item.item entry h)
-      (ap lines_in writes
-      ∙ plain_by (plain_entry Holds most (state_of s.accepted) loaded item.line item.item entry h) (λ e. line_in e ++ [] ≡ item.line ∷ [])
-      (λ count. refl) (λ why. refl) refl)
-  step_lines s taken written s' (steps.asked_for item may one takes writes same) =
-      lines_of item taken written [] takes (no_line_of_search item.line item.item one) (ap lines_in writes)
-  step_lines s taken written s' (steps.refused item why may fault takes writes same) =
-      lines_of item taken written [] takes (no_line_of_search item.line item.item (fault_is_of_search item.item why fault)) (ap lines_in writes)
-  step_lines s taken written s' (steps.answered place wanted reader turn answer is_open now takes writes same) =
-      ap lines_in writes ∙ ap command_lines (sym takes)
-  step_lines s taken written s' (steps.not_answered place wanted is_open takes writes same) = ap lines_in writes ∙ ap command_lines (sym takes)
-  step_lines s taken written s' (steps.sync item is empty takes writes same) =
-      lines_of item taken written [] takes (no_line_of_sync item.line item.item is) (ap lines_in writes)
+    no_line : HaveLines (items ++ taken) lines → lines_in written ≡ [] → HaveLines (items ++ taken) (lines ++ lines_in written)
+    no_line have nothing = subst (λ l. HaveLines (items ++ taken) l) (sym (ap (λ l. lines ++ l) nothing ∙ append-nil lines)) have
 
-  pub run_lines : (from : RunState) {items : List Numbered} {entries : List Entry} {s : RunState} → Runs Holds most readers from items entries s
-      → lines_in entries ≡ command_lines items
+    none_taken : taken ≡ [] → lines_in written ≡ [] → HaveLines (items ++ taken) (lines ++ lines_in written)
+    none_taken takes = no_line (subst (λ i. HaveLines i lines) (sym (ap (λ t. items ++ t) takes ∙ append-nil items)) so_far)
+
+    cancel_taken : (item : Numbered) {number : ℕ} → item.item ≡ cancel number → taken ≡ item ∷ [] → lines_in written ≡ []
+        → HaveLines (items ++ taken) (lines ++ lines_in written)
+    cancel_taken item is takes = no_line (left_out item so_far (ap is_cancel is) (ap (λ t. items ++ t) takes))
+
+    step_lines : (s s' : RunState) → IsStep Holds limits readers s taken written s' → HaveLines (items ++ taken) (lines ++ lines_in written)
+    step_lines s s' (steps.carried_out item loaded entry may h takes writes same) =
+        line_of item (item.line ∷ []) takes (line_of_command s loaded item.line item.item entry h)
+        (ap lines_in writes
+        ∙ plain_by (plain_entry Holds limits.commands (state_of s.accepted) loaded item.line item.item entry h) (λ e. line_in e ++ [] ≡ item.line ∷ [])
+        (λ count. refl) (λ why. refl) refl)
+    step_lines s s' (steps.asked_for item may one takes writes same) =
+        line_of item [] takes (no_line_of_search item.line item.item one) (ap lines_in writes)
+    step_lines s s' (steps.refused item why may fault takes writes same) =
+        line_of item [] takes (no_line_of_search item.line item.item (fault_is_of_search item.item why fault)) (ap lines_in writes)
+    step_lines s s' (steps.answered place wanted reader turn answer is_open now takes writes same) = none_taken takes (ap lines_in writes)
+    step_lines s s' (steps.not_answered place wanted is_open takes writes same) = none_taken takes (ap lines_in writes)
+    step_lines s s' (steps.too_slow place wanted timed is_open takes writes same) = none_taken takes (ap lines_in writes)
+    step_lines s s' (steps.cancelled item place wanted may is is_open takes writes same) = cancel_taken item is takes (ap lines_in writes)
+    step_lines s s' (steps.too_late item number may is was_asked not_open takes writes same) = cancel_taken item is takes (ap lines_in writes)
+    step_lines s s' (steps.no_such_search item number may is not_asked takes writes same) =
+        line_of item (item.line ∷ []) takes (ap (command_line item.line) is) (ap lines_in writes)
+    step_lines s s' (steps.reported item may is takes writes same) =
+        line_of item (item.line ∷ []) takes (ap (command_line item.line) is) (ap lines_in writes)
+    step_lines s s' (steps.sync item is empty takes writes same) =
+        line_of item [] takes (no_line_of_sync item.line item.item is) (ap lines_in writes)
+
+  pub run_lines : (from : RunState) {items : List Numbered} {entries : List Entry} {s : RunState} → Runs Holds limits readers from items entries s
+      → HaveLines items (lines_in entries)
   run_lines from =
-      runs_keep Holds most readers from (λ items entries s. lines_in entries ≡ command_lines items) refl
+      runs_keep Holds limits readers from (λ items entries s. HaveLines items (lines_in entries)) no_items
       (λ items entries s taken written s' so_far step.
-      flat_map-append line_in entries written ∙ ap (λ l. l ++ lines_in written) so_far
-      ∙ ap (λ l. command_lines items ++ l) (step_lines s taken written s' step)
-      ∙ sym (flat_map-append (λ item. command_line item.line item.item) items taken))
+      subst (HaveLines (items ++ taken)) (sym (flat_map-append line_in entries written)) (step_lines so_far taken written s s' step))
+
+-- Without a limit of time no search is too slow.
+abbrev is_timely : Entry → Bool
+is_timely (SearchRefused number search_reason.TooSlow) = false
+is_timely entry = true
+
+module _ (Holds : List ℕ → List ℕ → Type 0) (limits : Limits) (readers : ℕ) (untimed : limits.timed ≡ false) where
+  timely_at_once : (number : ℕ) (why : SearchReason) → is_late why ≡ false → is_timely (SearchRefused number why) ≡ true
+  timely_at_once number search_reason.TooSlow at_once = cc
+  timely_at_once number why at_once = refl
+
+  one_timely : (entry : Entry) (written : List Entry) → written ≡ entry ∷ [] → is_timely entry ≡ true → AllByRecursion (λ e. is_timely e ≡ true) written
+  one_timely entry written writes is = subst (AllByRecursion (λ e. is_timely e ≡ true)) (sym writes) (is, tt)
+
+  none_timely : (written : List Entry) → written ≡ [] → AllByRecursion (λ e. is_timely e ≡ true) written
+  none_timely written writes = subst (AllByRecursion (λ e. is_timely e ≡ true)) (sym writes) tt
+
+  step_timely : (s : RunState) (taken : List Numbered) (written : List Entry) (s' : RunState) → IsStep Holds limits readers s taken written s'
+      → AllByRecursion (λ e. is_timely e ≡ true) written
+  step_timely s taken written s' (steps.carried_out item loaded entry may h takes writes same) =
+      one_timely entry written writes
+      (plain_by (plain_entry Holds limits.commands (state_of s.accepted) loaded item.line item.item entry h) (λ e. is_timely e ≡ true)
+      (λ count. refl) (λ why. refl) refl)
+  step_timely s taken written s' (steps.asked_for item may one takes writes same) = none_timely written writes
+  step_timely s taken written s' (steps.refused item why may fault takes writes same) =
+      one_timely _ written writes (timely_at_once (s.searches + 1) why (fault_is_not_late item.item why fault))
+  step_timely s taken written s' (steps.answered place wanted reader turn answer is_open now takes writes same) = one_timely _ written writes refl
+  step_timely s taken written s' (steps.not_answered place wanted is_open takes writes same) = one_timely _ written writes refl
+  step_timely s taken written s' (steps.too_slow place wanted timed is_open takes writes same) = let never = sym untimed ∙ timed in cc
+  step_timely s taken written s' (steps.cancelled item place wanted may is is_open takes writes same) = one_timely _ written writes refl
+  step_timely s taken written s' (steps.too_late item number may is was_asked not_open takes writes same) = none_timely written writes
+  step_timely s taken written s' (steps.no_such_search item number may is not_asked takes writes same) = one_timely _ written writes refl
+  step_timely s taken written s' (steps.reported item may is takes writes same) = one_timely _ written writes refl
+  step_timely s taken written s' (steps.sync item is empty takes writes same) = none_timely written writes
+
+  pub run_timely : (from : RunState) {items : List Numbered} {entries : List Entry} {s : RunState} → Runs Holds limits readers from items entries s
+      → (number : ℕ) → Contains entries (SearchRefused number search_reason.TooSlow) → ⊥
+  run_timely from {items} {entries} {s} run number inside =
+      let timely : AllByRecursion (λ e. is_timely e ≡ true) entries =
+      runs_keep Holds limits readers from (λ items entries s. AllByRecursion (λ e. is_timely e ≡ true) entries) tt
+      (λ items entries s taken written s' so_far step.
+      each_both (λ e. is_timely e ≡ true) entries written so_far (step_timely s taken written s' step)) run in
+      let never : is_timely (SearchRefused number search_reason.TooSlow) ≡ true =
+      All-contains (λ e. is_timely e ≡ true) entries _ (All-from_recursion (λ e. is_timely e ≡ true) entries timely) inside in
+      cc
+
+-- Only a cancel refuses a search as cancelled.
+module _ (Holds : List ℕ → List ℕ → Type 0) (limits : Limits) (readers : ℕ) (s : RunState) (taken : List Numbered) (written : List Entry) (s' : RunState)
+    (number : ℕ) (is : written ≡ SearchRefused number search_reason.Cancelled ∷ []) where
+  pub refused_by_cancel : IsStep Holds limits readers s taken written s' → (line : ℕ) × (taken ≡ numbered line (cancel number) ∷ [])
+  refused_by_cancel (steps.carried_out item loaded entry may h takes writes same) =
+      absurd
+      (plain_by (plain_entry Holds limits.commands (state_of s.accepted) loaded item.line item.item entry h)
+      (λ e. e ≡ SearchRefused number search_reason.Cancelled → ⊥) (λ count e. cc) (λ why e. cc) (λ e. cc) (let e = sym writes ∙ is in cc))
+  refused_by_cancel (steps.asked_for item may one takes writes same) = cc
+  refused_by_cancel (steps.refused item why may fault takes writes same) =
+      let same_why : why ≡ search_reason.Cancelled = let e = sym writes ∙ is in cc in
+      let at_once = sym (fault_is_not_late item.item why fault) ∙ ap is_late same_why in
+      cc
+  refused_by_cancel (steps.answered place wanted reader turn answer is_open now takes writes same) = cc
+  refused_by_cancel (steps.not_answered place wanted is_open takes writes same) = cc
+  refused_by_cancel (steps.too_slow place wanted timed is_open takes writes same) = cc
+  refused_by_cancel (steps.cancelled item place wanted may cancels is_open takes writes same) =
+      let same_number : wanted.number ≡ number = let e = sym writes ∙ is in cc in
+      (item.line, takes ∙ ap (λ i. numbered item.line i ∷ []) (cancels ∙ ap cancel same_number))
+  refused_by_cancel (steps.too_late item other may cancels was_asked not_open takes writes same) = cc
+  refused_by_cancel (steps.no_such_search item other may cancels not_asked takes writes same) = cc
+  refused_by_cancel (steps.reported item may reports takes writes same) = cc
+  refused_by_cancel (steps.sync item also empty takes writes same) = cc
 
 -- How many entries each search has.
 abbrev waiting : ℕ → List OpenSearch → ℕ
@@ -121,7 +290,7 @@ waiting number awaited = count_by (λ x. eqb x.number number) awaited
 abbrev total : ℕ → List Entry → RunState → ℕ
 total number entries s = count_of number entries + waiting number s.awaited
 
--- how many of these new searches, of which the first has the number after `count`, have this number: at most one
+-- how many of these new searches, of which the first has the number after `count`, have this number: at limits one
 abbrev new : ℕ → ℕ → ℕ → ℕ
 new count number n = cond (eqb (count + 1) number) n 0
 
@@ -162,7 +331,7 @@ record IsStepCounted (s : RunState) (taken : List Numbered) (written : List Entr
   pub searches : s'.searches ≡ s.searches + searches_among taken
   pub counts : (number : ℕ) → total number written s' ≡ waiting number s.awaited + new s.searches number (searches_among taken)
 
-module _ (Holds : List ℕ → List ℕ → Type 0) (most readers : ℕ) (s : RunState) (taken : List Numbered) (written : List Entry) (s' : RunState) where
+module _ (Holds : List ℕ → List ℕ → Type 0) (limits : Limits) (readers : ℕ) (s : RunState) (taken : List Numbered) (written : List Entry) (s' : RunState) where
   -- an item that is no search
   no_search : (item : Numbered) → taken ≡ item ∷ [] → searches_of item.item ≡ 0 → s'.searches ≡ s.searches → s'.awaited ≡ s.awaited
       → ((number : ℕ) → count_of number written ≡ 0) → IsStepCounted s taken written s'
@@ -176,31 +345,34 @@ module _ (Holds : List ℕ → List ℕ → Type 0) (most readers : ℕ) (s : Ru
       }
 
   -- an open search has its entry
-  entered : (place : ℕ) (wanted : OpenSearch) → IsOpenAt s place wanted → taken ≡ [] → s'.searches ≡ s.searches
+  entered : (place : ℕ) (wanted : OpenSearch) → IsOpenAt s place wanted → searches_among taken ≡ 0 → s'.searches ≡ s.searches
       → s'.awaited ≡ take place s.awaited ++ drop (place + 1) s.awaited
       → ((number : ℕ) → count_of number written ≡ cond (eqb wanted.number number) 1 0) → IsStepCounted s taken written s'
-  entered place wanted is_open takes same left counts =
-      let zero : searches_among taken ≡ 0 = ap searches_among takes in
-      record {
-        few = omega (arith, zero);
-        searches = omega (arith, zero, same);
-        counts = λ number.
-            omega (
-              arith,
-              counts number,
-              ap (waiting number) left,
-              waiting_around number s place wanted is_open,
-              none_new s.searches number (searches_among taken) zero,
-            );
-      }
+  entered place wanted is_open zero same left counts = record {
+    few = omega (arith, zero);
+    searches = omega (arith, zero, same);
+    counts = λ number.
+        omega (
+          arith,
+          counts number,
+          ap (waiting number) left,
+          waiting_around number s place wanted is_open,
+          none_new s.searches number (searches_among taken) zero,
+        );
+  }
 
-  step_counted : IsStep Holds most readers s taken written s' → IsStepCounted s taken written s'
+  refused_later : (place : ℕ) (wanted : OpenSearch) (why : SearchReason) → IsOpenAt s place wanted → searches_among taken ≡ 0
+      → written ≡ SearchRefused wanted.number why ∷ [] → s' ≡ without place s → IsStepCounted s taken written s'
+  refused_later place wanted why is_open zero writes same =
+      entered place wanted is_open zero (ap (λ t. t.searches) same) (ap (λ t. t.awaited) same) (λ number. omega (arith, ap (count_of number) writes))
+
+  step_counted : IsStep Holds limits readers s taken written s' → IsStepCounted s taken written s'
   step_counted (steps.carried_out item loaded entry may h takes writes same) =
-      no_search item takes (command_is_no_search Holds most (state_of s.accepted) loaded item.line item.item entry h)
+      no_search item takes (command_is_no_search Holds limits.commands (state_of s.accepted) loaded item.line item.item entry h)
       (ap (λ t. t.searches) same) (ap (λ t. t.awaited) same)
       (λ number.
       ap (count_of number) writes
-      ∙ plain_by (plain_entry Holds most (state_of s.accepted) loaded item.line item.item entry h) (λ e. count_of number (e ∷ []) ≡ 0)
+      ∙ plain_by (plain_entry Holds limits.commands (state_of s.accepted) loaded item.line item.item entry h) (λ e. count_of number (e ∷ []) ≡ 0)
       (λ count. refl) (λ why. refl) refl)
   step_counted (steps.asked_for item may one takes writes same) =
       let is_one : searches_among taken ≡ 1 = omega (arith, ap searches_among takes, one) in
@@ -230,11 +402,20 @@ module _ (Holds : List ℕ → List ℕ → Type 0) (most readers : ℕ) (s : Ru
             );
       }
   step_counted (steps.answered place wanted reader turn answer is_open now takes writes same) =
-      entered place wanted is_open takes (ap (λ t. t.searches) same) (ap (λ t. t.awaited) same)
+      entered place wanted is_open (ap searches_among takes) (ap (λ t. t.searches) same) (ap (λ t. t.awaited) same)
       (λ number. omega (arith, ap (count_of number) writes))
   step_counted (steps.not_answered place wanted is_open takes writes same) =
-      entered place wanted is_open takes (ap (λ t. t.searches) same) (ap (λ t. t.awaited) same)
-      (λ number. omega (arith, ap (count_of number) writes))
+      refused_later place wanted search_reason.OutOfMemory is_open (ap searches_among takes) writes same
+  step_counted (steps.too_slow place wanted timed is_open takes writes same) =
+      refused_later place wanted search_reason.TooSlow is_open (ap searches_among takes) writes same
+  step_counted (steps.cancelled item place wanted may is is_open takes writes same) =
+      refused_later place wanted search_reason.Cancelled is_open (omega (arith, ap searches_among takes, ap searches_of is)) writes same
+  step_counted (steps.too_late item number may is was_asked not_open takes writes same) =
+      no_search item takes (ap searches_of is) (ap (λ t. t.searches) same) (ap (λ t. t.awaited) same) (λ number. ap (count_of number) writes)
+  step_counted (steps.no_such_search item number may is not_asked takes writes same) =
+      no_search item takes (ap searches_of is) (ap (λ t. t.searches) same) (ap (λ t. t.awaited) same) (λ number. ap (count_of number) writes)
+  step_counted (steps.reported item may is takes writes same) =
+      no_search item takes (ap searches_of is) (ap (λ t. t.searches) same) (ap (λ t. t.awaited) same) (λ number. ap (count_of number) writes)
   step_counted (steps.sync item is empty takes writes same) =
       no_search item takes (sync_is_no_search item.item is) (ap (λ t. t.searches) same) (ap (λ t. t.awaited) same)
       (λ number. ap (count_of number) writes)
@@ -281,14 +462,14 @@ module _ (items : List Numbered) (entries : List Entry) (s : RunState) (taken : 
             old.once number some (omega (arith, other.0, le, step.searches, step.few)),
           )
 
-pub run_counted : (Holds : List ℕ → List ℕ → Type 0) (most readers : ℕ) (from : RunState) → IsFirst readers from
-    → {items : List Numbered} {entries : List Entry} {s : RunState} → Runs Holds most readers from items entries s → AreCounted items entries s
-run_counted Holds most readers from first =
-    runs_keep Holds most readers from AreCounted
+pub run_counted : (Holds : List ℕ → List ℕ → Type 0) (limits : Limits) (readers : ℕ) (from : RunState) → IsFirst readers from
+    → {items : List Numbered} {entries : List Entry} {s : RunState} → Runs Holds limits readers from items entries s → AreCounted items entries s
+run_counted Holds limits readers from first =
+    runs_keep Holds limits readers from AreCounted
     (record {
       searches = first.searches;
       zero = omega (arith, ap (waiting 0) first.awaited);
       past = λ number lt. omega (arith, ap (waiting number) first.awaited);
       once = λ number some le. absurd (omega (arith, some, le, first.searches));
     })
-    (λ items entries s taken written s' old step. counted_push items entries s taken written s' old (step_counted Holds most readers s taken written s' step))
+    (λ items entries s taken written s' old step. counted_push items entries s taken written s' old (step_counted Holds limits readers s taken written s' step))

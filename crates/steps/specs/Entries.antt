@@ -1,9 +1,9 @@
 -- What entries say, in the order of writing.
-use Rattle.std.specs.Prelude.{◌≡◌, ℕ, ◌<◌, ◌≤◌, ◌⊎◌, ◌==◌, Bool, true, false, count_by, sum_by, List, [], ◌∷◌, flat_map, Some, Contains}
+use Rattle.std.specs.Prelude.{◌≡◌, ℕ, ◌<◌, ◌≤◌, ◌⊎◌, ◌==◌, Bool, true, false, count_by, sum_by, List, [], ◌∷◌, ◌++◌, flat_map, Some, Contains}
 use Rattle.search.specs.Scan.{Answer}
-use Rattle.script.specs.Items.{Item, Numbered, put, load, remove, publish, search, search_in, sync}
+use Rattle.script.specs.Items.{Item, Numbered, put, load, remove, publish, search, search_in, sync, cancel}
 use Rattle.transcript.specs.declared.entry.Entry.{Entry}
-use Rattle.transcript.specs.declared.entry.Entry.TheVariants.{Accepted, Refused, Published, Found, SearchRefused}
+use Rattle.transcript.specs.declared.entry.Entry.TheVariants.{Accepted, Refused, Published, Found, SearchRefused, Status}
 use Rattle.steps.specs.Rows.{version_in, failures_in, searches_of}
 use Rattle.steps.specs.StepRows.{Given, given_in}
 
@@ -38,6 +38,7 @@ abbrev pub line_in : Entry → List ℕ
 line_in (Accepted line commands) = line ∷ []
 line_in (Refused line why) = line ∷ []
 line_in (Published line version) = line ∷ []
+line_in (Status line version documents bytes accepted most waiting) = line ∷ []
 line_in entry = []
 
 abbrev pub lines_in : List Entry → List ℕ
@@ -50,8 +51,18 @@ command_line line (search_in case name_text text) = []
 command_line line sync = []
 command_line line item = line ∷ []
 
-abbrev pub command_lines : List Numbered → List ℕ
-command_lines items = flat_map (λ item. command_line item.line item.item) items
+abbrev pub is_cancel : Item → Bool
+is_cancel (cancel number) = true
+is_cancel item = false
+
+-- Entries that are not of searches name these lines, in the order of their items: a search and a sync have none, and a
+-- cancel may have none.
+pub data HaveLines : List Numbered → List ℕ → Type 0 where
+  no_items : HaveLines [] []
+  one_more : {items items' : List Numbered} {lines lines' : List ℕ} (item : Numbered) → HaveLines items lines
+      → items' ≡ items ++ item ∷ [] → lines' ≡ lines ++ command_line item.line item.item → HaveLines items' lines'
+  left_out : {items items' : List Numbered} {lines : List ℕ} (item : Numbered) → HaveLines items lines → is_cancel item.item ≡ true
+      → items' ≡ items ++ item ∷ [] → HaveLines items' lines
 
 -- whether memory may run out for an item that is no search
 abbrev pub takes_memory : Item → Bool

@@ -1,6 +1,6 @@
 -- Which rows are legal: which entry each item of a run may have, whatever the readers and their timing.
-use Rattle.std.specs.Prelude.{◌≡◌, ◌≢◌, ℕ, ◌+◌, ◌-◌, ◌^◌, ◌<◌, ◌≤◌, ◌⊎◌, List, ◌∷◌, ◌++◌, take, Option, Some, None, option_map, IfSome}
-use Rattle.std.specs.Prelude.{Contains, if◌then◌else◌, ◌==◌}
+use Rattle.std.specs.Prelude.{◌≡◌, ◌≢◌, ℕ, ◌+◌, ◌-◌, ◌^◌, ◌<◌, ◌≤◌, ◌⊎◌, List, ◌∷◌, ◌++◌, length, map, take, Option, Some, None, option_map, IfSome}
+use Rattle.std.specs.Prelude.{Contains, if◌then◌else◌, ◌==◌, Bool, true, unwrap_or}
 use Rattle.ere.specs.Limits.{HasNoTree}
 use Rattle.ere.specs.declared.case.Case.{Case}
 use Rattle.ere.specs.declared.case.Case.TheVariants.{Exact}
@@ -9,17 +9,23 @@ use Rattle.ere.specs.declared.error.EreErrorKind.TheVariants as kind
 use Rattle.index.specs.declared.error.NameError.{NameError}
 use Rattle.index.specs.declared.error.NameError.TheVariants as name_error
 use Rattle.index.specs.declared.error.BodyErrorKind.{BodyErrorKind}
-use Rattle.index.specs.Documents.{number_of}
-use Rattle.index.specs.State.{State, state_of}
+use Rattle.index.specs.declared.command.Command.{Command}
+use Rattle.index.specs.Documents.{Document, number_of}
+use Rattle.index.specs.State.{State, state_of, body_bytes}
 use Rattle.index.specs.Text.{IsName, IsNameFault, IsBody, IsBodyFault}
 use Rattle.search.specs.Pattern.{Pattern, IsPatternOf, IsPatternWithin, HasTree}
 use Rattle.search.specs.Scan.{Answer, IsAnswerOf}
-use Rattle.script.specs.Items.{Item, put, load, remove, publish, search, search_in, sync, bad_line, bad_put, truncated, body_not_closed}
+use Rattle.script.specs.Items.{Item, put, load, remove, publish, search, search_in, sync, cancel, status, bad_line, bad_put, truncated, body_not_closed}
 use Rattle.transcript.specs.declared.entry.Entry.{Entry}
-use Rattle.transcript.specs.declared.entry.Entry.TheVariants.{Accepted, Refused, Published, Found, SearchRefused}
+use Rattle.transcript.specs.declared.entry.Entry.TheVariants.{Accepted, Refused, Published, Found, SearchRefused, Status}
 use Rattle.transcript.specs.declared.entry.Reason.TheVariants as reason
 use Rattle.transcript.specs.declared.entry.SearchReason.TheVariants as search_reason
 use Rattle.steps.specs.Rows.{Row, commands_of, published_in, published_last, before_sync, count_searches}
+
+-- What bounds a run. commands: how many commands are accepted at most. timed: whether searches have a limit of time.
+pub record Limits : Type 0 where
+  pub commands : ℕ
+  pub timed : Bool
 
 -- What becomes of a command in which nothing is wrong: it is accepted if there is room for it.
 pub data IsRoomFor (most : ℕ) (state : State) (line : ℕ) (entry : Entry) : Type 0 where
@@ -90,26 +96,69 @@ pub record IsAnswered (context : Context) (pattern : Pattern) (reader : ℕ) (an
 abbrev pub search_number : Context → ℕ
 search_number context = count_searches context.before + 1
 
--- What becomes of a search that is not refused for its texts: it is refused for memory, or answered for a pattern that they spell.
-pub data IsSearched (context : Context) (IsIt : Pattern → Type 0) (entry : Entry) : Type 0 where
-  no_memory : entry ≡ SearchRefused (search_number context) search_reason.OutOfMemory → IsSearched context IsIt entry
-  found : (pattern : Pattern) (reader turn : ℕ) (answer : Answer) → IsIt pattern → entry ≡ Found (search_number context) reader turn answer
-      → IsAnswered context pattern reader answer → IsSearched context IsIt entry
+-- the rows before the first sync, or all of them
+abbrev pub until_sync : List Row → List Row
+until_sync rows = unwrap_or (before_sync rows) rows
 
-pub data IsSearch (context : Context) (case : Case) (text : List ℕ) (entry : Entry) : Type 0 where
+-- One of the rows is a cancel of the search of this number.
+abbrev pub HasCancel : ℕ → List Row → Type 0
+HasCancel number rows = Contains (map (λ r. r.numbered.item) rows) (cancel number)
+
+-- What becomes of a search that is not refused for its texts. It is refused for memory; or at a cancel that follows it,
+-- with readers and no sync in between; or as too slow, if searches have a limit of time. Or it is answered, for a pattern
+-- that its texts spell.
+pub data IsSearched (limits : Limits) (context : Context) (IsIt : Pattern → Type 0) (entry : Entry) : Type 0 where
+  no_memory : entry ≡ SearchRefused (search_number context) search_reason.OutOfMemory → IsSearched limits context IsIt entry
+  cancelled : entry ≡ SearchRefused (search_number context) search_reason.Cancelled → 0 < context.readers
+      → HasCancel (search_number context) (until_sync context.after) → IsSearched limits context IsIt entry
+  too_slow : entry ≡ SearchRefused (search_number context) search_reason.TooSlow → limits.timed ≡ true → IsSearched limits context IsIt entry
+  found : (pattern : Pattern) (reader turn : ℕ) (answer : Answer) → IsIt pattern → entry ≡ Found (search_number context) reader turn answer
+      → IsAnswered context pattern reader answer → IsSearched limits context IsIt entry
+
+pub data IsSearch (limits : Limits) (context : Context) (case : Case) (text : List ℕ) (entry : Entry) : Type 0 where
   bad_pattern : (fault : EreError) → fault.kind ≢ kind.OutOfMemory → HasNoTree case text
-      → entry ≡ SearchRefused (search_number context) (search_reason.Pattern fault) → IsSearch context case text entry
-  searched : IsSearched context (IsPatternOf case text) entry → IsSearch context case text entry
+      → entry ≡ SearchRefused (search_number context) (search_reason.Pattern fault) → IsSearch limits context case text entry
+  searched : IsSearched limits context (IsPatternOf case text) entry → IsSearch limits context case text entry
 
 -- The name pattern is looked at first. Its case always counts.
-pub data IsSearchIn (context : Context) (case : Case) (name_text text : List ℕ) (entry : Entry) : Type 0 where
+pub data IsSearchIn (limits : Limits) (context : Context) (case : Case) (name_text text : List ℕ) (entry : Entry) : Type 0 where
   bad_name_pattern : (fault : EreError) → fault.kind ≢ kind.OutOfMemory → HasNoTree Exact name_text
-      → entry ≡ SearchRefused (search_number context) (search_reason.NamePattern fault) → IsSearchIn context case name_text text entry
+      → entry ≡ SearchRefused (search_number context) (search_reason.NamePattern fault) → IsSearchIn limits context case name_text text entry
   bad_pattern : (fault : EreError) → fault.kind ≢ kind.OutOfMemory → HasTree Exact name_text → HasNoTree case text
-      → entry ≡ SearchRefused (search_number context) (search_reason.Pattern fault) → IsSearchIn context case name_text text entry
-  searched : IsSearched context (IsPatternWithin case name_text text) entry → IsSearchIn context case name_text text entry
+      → entry ≡ SearchRefused (search_number context) (search_reason.Pattern fault) → IsSearchIn limits context case name_text text entry
+  searched : IsSearched limits context (IsPatternWithin case name_text text) entry → IsSearchIn limits context case name_text text entry
 
--- An item that is neither a search nor a sync can have this entry, in this state of the documents.
+-- The search of this number was asked, of so many.
+abbrev pub WasAsked : ℕ → ℕ → Type 0
+WasAsked number searches = (0 < number) × (number ≤ searches)
+
+-- No search of this number was asked, of so many.
+abbrev pub WasNotAsked : ℕ → ℕ → Type 0
+WasNotAsked number searches = (number ≡ 0) ⊎ (searches < number)
+
+-- A cancel has an entry only if no search of its number was asked.
+pub record IsUnknown (number searches line : ℕ) (entry : Entry) : Type 0 where
+  pub not_asked : WasNotAsked number searches
+  pub refused : entry ≡ Refused line reason.NoSuchSearch
+
+-- the documents after the commands of this version
+abbrev pub documents_at : ℕ → List Command → List Document
+documents_at version commands = (state_of (take version commands)).documents
+
+-- The entry of a status: the version that was published last, how many documents it has and how many bytes they have, how
+-- many commands are accepted and how many can be at most, and how many searches are open.
+abbrev pub status_entry : ℕ → ℕ → List Command → ℕ → ℕ → Entry
+status_entry line version commands most waiting =
+    Status line version (length (documents_at version commands)) (body_bytes (documents_at version commands)) (length commands) most waiting
+
+-- The searches that are open at a status are among those before it, and without readers there are none.
+pub record IsStatus (limits : Limits) (context : Context) (line : ℕ) (entry : Entry) : Type 0 where
+  pub waiting : ℕ
+  pub few : waiting ≤ count_searches context.before
+  pub alone : context.readers ≡ 0 → waiting ≡ 0
+  pub shown : entry ≡ status_entry line (published_last context.before) (commands_of context.before) limits.commands waiting
+
+-- A command, a publish or a fault of the script can have this entry, in this state of the documents.
 abbrev pub IsCommandEntry : (List ℕ → List ℕ → Type 0) → ℕ → State → Option (List ℕ) → ℕ → Item → Entry → Type 0
 IsCommandEntry Holds most state loaded line (put name body) entry = IsPut most state name body line entry
 IsCommandEntry Holds most state loaded line (load name path) entry = IsNamed name line entry (HasLoaded Holds most state path loaded line entry)
@@ -118,26 +167,31 @@ IsCommandEntry Holds most state loaded line publish entry = IsPublish state line
 IsCommandEntry Holds most state loaded line (search case text) entry = ⊥
 IsCommandEntry Holds most state loaded line (search_in case name_text text) entry = ⊥
 IsCommandEntry Holds most state loaded line sync entry = ⊥
+IsCommandEntry Holds most state loaded line (cancel number) entry = ⊥
+IsCommandEntry Holds most state loaded line status entry = ⊥
 IsCommandEntry Holds most state loaded line bad_line entry = entry ≡ Refused line reason.BadLine
 IsCommandEntry Holds most state loaded line bad_put entry = entry ≡ Refused line reason.BadPut
 IsCommandEntry Holds most state loaded line truncated entry = entry ≡ Refused line reason.Truncated
 IsCommandEntry Holds most state loaded line body_not_closed entry = entry ≡ Refused line reason.BodyNotClosed
 
 -- In this context, the item can have this entry.
-unfoldable pub IsEntryOf : (List ℕ → List ℕ → Type 0) → ℕ → Context → ℕ → Item → Entry → Type 0
-IsEntryOf Holds most context line (search case text) entry = IsSearch context case text entry
-IsEntryOf Holds most context line (search_in case name_text text) entry = IsSearchIn context case name_text text entry
-IsEntryOf Holds most context line item entry = IsCommandEntry Holds most (state_before context) context.row.loaded line item entry
+unfoldable pub IsEntryOf : (List ℕ → List ℕ → Type 0) → Limits → Context → ℕ → Item → Entry → Type 0
+IsEntryOf Holds limits context line (search case text) entry = IsSearch limits context case text entry
+IsEntryOf Holds limits context line (search_in case name_text text) entry = IsSearchIn limits context case name_text text entry
+IsEntryOf Holds limits context line (cancel number) entry = IsUnknown number (count_searches context.before) line entry
+IsEntryOf Holds limits context line status entry = IsStatus limits context line entry
+IsEntryOf Holds limits context line item entry = IsCommandEntry Holds limits.commands (state_before context) context.row.loaded line item entry
 
--- A sync has no entry, and every other item has one.
-abbrev pub HasEntry : (List ℕ → List ℕ → Type 0) → ℕ → Context → Item → Option Entry → Type 0
-HasEntry Holds most context sync None = Unit {0}
-HasEntry Holds most context sync (Some entry) = ⊥
-HasEntry Holds most context item None = ⊥
-HasEntry Holds most context item (Some entry) = IsEntryOf Holds most context context.row.numbered.line item entry
+-- A sync has no entry, and neither has a cancel of a search that was asked. Every other item has one.
+abbrev pub HasEntry : (List ℕ → List ℕ → Type 0) → Limits → Context → Item → Option Entry → Type 0
+HasEntry Holds limits context sync None = Unit {0}
+HasEntry Holds limits context sync (Some entry) = ⊥
+HasEntry Holds limits context (cancel number) None = WasAsked number (count_searches context.before)
+HasEntry Holds limits context item None = ⊥
+HasEntry Holds limits context item (Some entry) = IsEntryOf Holds limits context context.row.numbered.line item entry
 
-abbrev pub IsLegalRow : (List ℕ → List ℕ → Type 0) → ℕ → Context → Type 0
-IsLegalRow Holds most context = HasEntry Holds most context context.row.numbered.item context.row.entry
+abbrev pub IsLegalRow : (List ℕ → List ℕ → Type 0) → Limits → Context → Type 0
+IsLegalRow Holds limits context = HasEntry Holds limits context context.row.numbered.item context.row.entry
 
 -- The turns of one reader are distinct, and as they rise, its versions never fall.
 pub record IsInTurn (first second : ℕ) (first_version second_version : ℕ) : Type 0 where

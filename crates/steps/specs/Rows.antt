@@ -8,7 +8,7 @@ use Rattle.transcript.specs.declared.entry.Reason.TheVariants.{CannotLoad}
 use Rattle.transcript.specs.declared.entry.Entry.TheVariants.{Accepted, Refused, Published}
 
 -- loaded: the bytes that the source returned for a load, if it did not fail.
--- entry: a sync has none.
+-- entry: a sync has none, and neither has a cancel of a search that was asked.
 pub record Row : Type 0 where
   pub numbered : Numbered
   pub loaded : Option (List ℕ)

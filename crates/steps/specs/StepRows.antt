@@ -8,7 +8,7 @@ use Rattle.transcript.specs.declared.entry.Entry.TheVariants.{Found, SearchRefus
 use Rattle.transcript.specs.declared.entry.SearchReason.{SearchReason}
 use Rattle.steps.specs.declared.last.Last.{Last}
 use Rattle.steps.specs.Rows.{Row, list_of, commands_of, version_in, published_in, last_or, is_sync, searches_of, count_searches}
-use Rattle.steps.specs.LegalRows.{IsLegalRow, IsInTurn}
+use Rattle.steps.specs.LegalRows.{Limits, IsLegalRow, IsInTurn}
 use Rattle.steps.specs.Steps.{RunState, OpenSearch, latest, last_of}
 
 abbrev pub with_its_entry : Entry → Row → Row
@@ -19,12 +19,27 @@ pub data IsOfSearch (number : ℕ) : Entry → Type 0 where
   found : (reader turn : ℕ) (answer : Answer) → IsOfSearch number (Found number reader turn answer)
   refused : (why : SearchReason) → IsOfSearch number (SearchRefused number why)
 
--- The rows after one more step: one row more, for the item that was taken; or an open search has got its entry.
+-- 1 if the entry is that of a search, and otherwise 0
+abbrev pub searches_in : Entry → ℕ
+searches_in (Found number reader turn answer) = 1
+searches_in (SearchRefused number why) = 1
+searches_in entry = 0
+
+-- If the row has an entry, it is that of a search exactly if its item is a search.
+abbrev pub HasOwnEntry : Row → Type 0
+HasOwnEntry row = (entry : Entry) → row.entry ≡ Some entry → searches_in entry ≡ searches_of row.numbered.item
+
+-- The rows after one more step: one row more, for the item that was taken; or an open search has got its entry; or both, at
+-- a cancel.
 pub data AreNext (rows : List Row) (taken : List Numbered) (written : List Entry) (rows' : List Row) : Type 0 where
-  more : (row : Row) → taken ≡ row.numbered ∷ [] → written ≡ list_of row.entry → rows' ≡ rows ++ row ∷ [] → AreNext rows taken written rows'
+  more : (row : Row) → HasOwnEntry row → taken ≡ row.numbered ∷ [] → written ≡ list_of row.entry → rows' ≡ rows ++ row ∷ [] → AreNext rows taken written rows'
   filled : (before : List Row) (row : Row) (after : List Row) (entry : Entry) → rows ≡ before ++ row ∷ after → row.entry ≡ None
       → searches_of row.numbered.item ≡ 1 → IsOfSearch (count_searches before + 1) entry → taken ≡ [] → written ≡ entry ∷ []
       → rows' ≡ before ++ with_its_entry entry row ∷ after → AreNext rows taken written rows'
+  both : (before : List Row) (row : Row) (after : List Row) (entry : Entry) (next : Row) → rows ≡ before ++ row ∷ after → row.entry ≡ None
+      → searches_of row.numbered.item ≡ 1 → IsOfSearch (count_searches before + 1) entry → taken ≡ next.numbered ∷ [] → written ≡ entry ∷ []
+      → next.entry ≡ None → searches_of next.numbered.item ≡ 0 → rows' ≡ before ++ with_its_entry entry row ∷ (after ++ next ∷ [])
+      → AreNext rows taken written rows'
 
 -- an entry, unless it is that of a search
 abbrev pub unless_of_search : Option Entry → Option Entry
@@ -79,13 +94,13 @@ HasNoSync (row ∷ rows) = (is_sync row.numbered.item ≡ false) × HasNoSync ro
 
 -- The row's entry is legal, whatever rows follow, if no version that they publish is older. Or the row is an open search:
 -- no sync follows it, and without readers nothing does. front, back: the rows before and after it, unanswered.
-pub data Stands (Holds : List ℕ → List ℕ → Type 0) (most readers : ℕ) (front : List Row) (row : Row) (back : List Row) : Type 0 where
+pub data Stands (Holds : List ℕ → List ℕ → Type 0) (limits : Limits) (readers : ℕ) (front : List Row) (row : Row) (back : List Row) : Type 0 where
   legal : ((before after more : List Row) → unanswered before ≡ front → unanswered after ≡ back ++ more
       → Rises 0 (published_in (before ++ row ∷ after))
-      → IsLegalRow Holds most (record { readers = readers; before = before; row = row; after = after }))
-      → Stands Holds most readers front row back
+      → IsLegalRow Holds limits (record { readers = readers; before = before; row = row; after = after }))
+      → Stands Holds limits readers front row back
   waits : row.entry ≡ None → searches_of row.numbered.item ≡ 1 → HasNoSync back → (readers ≡ 0 → back ≡ [])
-      → Stands Holds most readers front row back
+      → Stands Holds limits readers front row back
 
 -- If one reader gave both answers, they are in turn.
 abbrev pub AreTurned : Given → Given → Type 0
@@ -101,7 +116,7 @@ pub record IsNoted (lasts : List Last) (answer : Given) : Type 0 where
   pub version : answer.version ≤ (last_of lasts answer.reader).version
 
 -- The rows of a run in this state.
-pub record AreRows (Holds : List ℕ → List ℕ → Type 0) (most readers : ℕ) (s : RunState) (rows : List Row) : Type 0 where
+pub record AreRows (Holds : List ℕ → List ℕ → Type 0) (limits : Limits) (readers : ℕ) (s : RunState) (rows : List Row) : Type 0 where
   pub accepted : s.accepted ≡ commands_of rows
   pub published : s.published ≡ published_in rows
   pub rises : Rises 0 s.published
@@ -110,6 +125,6 @@ pub record AreRows (Holds : List ℕ → List ℕ → Type 0) (most readers : �
   pub awaited : s.awaited ≡ open_in 0 0 rows
   pub readers_count : length s.lasts ≡ readers + 1
   pub stand : (before : List Row) (row : Row) (after : List Row) → rows ≡ before ++ row ∷ after
-      → Stands Holds most readers (unanswered before) row (unanswered after)
+      → Stands Holds limits readers (unanswered before) row (unanswered after)
   pub turns : AllTurned (given_of rows)
   pub noted : AllByRecursion (IsNoted s.lasts) (given_of rows)

@@ -10,14 +10,15 @@ use Rattle.index.specs.declared.command.Command.{Command}
 use Rattle.index.specs.State.{state_of}
 use Rattle.search.specs.Pattern.{Pattern, IsPatternOf, IsPatternWithin, HasTree}
 use Rattle.search.specs.Scan.{Answer, IsAnswerOf}
-use Rattle.script.specs.Items.{Item, Numbered, search, search_in}
+use Rattle.script.specs.Items.{Item, Numbered, search, search_in, cancel, status}
 use Rattle.transcript.specs.declared.entry.Entry.{Entry}
-use Rattle.transcript.specs.declared.entry.Entry.TheVariants.{Found, SearchRefused}
+use Rattle.transcript.specs.declared.entry.Entry.TheVariants.{Refused, Found, SearchRefused}
+use Rattle.transcript.specs.declared.entry.Reason.TheVariants.{NoSuchSearch}
 use Rattle.transcript.specs.declared.entry.SearchReason.{SearchReason}
 use Rattle.transcript.specs.declared.entry.SearchReason.TheVariants as reason
 use Rattle.steps.specs.declared.last.Last.{Last}
 use Rattle.steps.specs.Rows.{command_of, accepted_by, version_in, last_or, is_sync, searches_of}
-use Rattle.steps.specs.LegalRows.{IsCommandEntry}
+use Rattle.steps.specs.LegalRows.{Limits, IsCommandEntry, WasAsked, WasNotAsked, status_entry}
 
 -- A search that has no entry yet: its number, from 1, what it asks for, and the version that was published last when it
 -- was asked.
@@ -46,7 +47,7 @@ latest s = last_or 0 s.published
 abbrev pub last_of : List Last → ℕ → Last
 last_of lasts reader = slice_index_or lasts reader (last 0 0)
 
--- an item other than a search or a sync has this entry
+-- a command, a publish or a fault of the script has this entry
 abbrev pub with_entry : Item → Option (List ℕ) → Entry → RunState → RunState
 with_entry item loaded entry s = record s {
   accepted = s.accepted ++ accepted_by (Some entry) (command_of item loaded);
@@ -75,6 +76,14 @@ with_answer reader turn version s = record s { lasts = slice_set s.lasts reader 
 -- The search is open, at this place among the open ones.
 abbrev pub IsOpenAt : RunState → ℕ → OpenSearch → Type 0
 IsOpenAt s place wanted = slice_get s.awaited place ≡ Some wanted
+
+-- No open search has this number.
+abbrev pub IsNotOpen : RunState → ℕ → Type 0
+IsNotOpen s number = All (λ search. search.number ≢ number) s.awaited
+
+-- the entry of a status now
+abbrev pub status_now : Limits → RunState → ℕ → Entry
+status_now limits s line = status_entry line (latest s) s.accepted limits.commands (length s.awaited)
 
 -- Without readers, an item is taken only when no search is open. So is a sync, whatever the readers.
 pub data MayTake (readers : ℕ) (s : RunState) (item : Item) : Type 0 where
@@ -118,27 +127,41 @@ pub record IsAnswerNow (s : RunState) (search : OpenSearch) (reader turn : ℕ) 
   pub later : (last_of s.lasts reader).turn < turn
   pub no_fall : (last_of s.lasts reader).version ≤ answer.version
 
--- One step: at most one item is taken, and at most one entry is written. Holds: what the source holds. most: how many
--- commands are accepted at most. readers: how many readers there are in addition to reader 0.
-pub data IsStep (Holds : List ℕ → List ℕ → Type 0) (most readers : ℕ) (s : RunState) (taken : List Numbered) (written : List Entry)
+-- One step: at most one item is taken, and at most one entry is written. Holds: what the source holds. readers: how many
+-- readers there are in addition to reader 0.
+pub data IsStep (Holds : List ℕ → List ℕ → Type 0) (limits : Limits) (readers : ℕ) (s : RunState) (taken : List Numbered) (written : List Entry)
     (s' : RunState) : Type 0 where
   carried_out : (item : Numbered) (loaded : Option (List ℕ)) (entry : Entry) → MayTake readers s item.item
-      → IsCommandEntry Holds most (state_of s.accepted) loaded item.line item.item entry
-      → taken ≡ item ∷ [] → written ≡ entry ∷ [] → s' ≡ with_entry item.item loaded entry s → IsStep Holds most readers s taken written s'
+      → IsCommandEntry Holds limits.commands (state_of s.accepted) loaded item.line item.item entry
+      → taken ≡ item ∷ [] → written ≡ entry ∷ [] → s' ≡ with_entry item.item loaded entry s → IsStep Holds limits readers s taken written s'
   asked_for : (item : Numbered) → MayTake readers s item.item → searches_of item.item ≡ 1
-      → taken ≡ item ∷ [] → written ≡ [] → s' ≡ with_search item.item s → IsStep Holds most readers s taken written s'
+      → taken ≡ item ∷ [] → written ≡ [] → s' ≡ with_search item.item s → IsStep Holds limits readers s taken written s'
   refused : (item : Numbered) (why : SearchReason) → MayTake readers s item.item → IsFaultOf item.item why
-      → taken ≡ item ∷ [] → written ≡ SearchRefused (s.searches + 1) why ∷ [] → s' ≡ counted s → IsStep Holds most readers s taken written s'
+      → taken ≡ item ∷ [] → written ≡ SearchRefused (s.searches + 1) why ∷ [] → s' ≡ counted s → IsStep Holds limits readers s taken written s'
   answered : (place : ℕ) (search : OpenSearch) (reader turn : ℕ) (answer : Answer) → IsOpenAt s place search
       → IsAnswerNow s search reader turn answer
       → taken ≡ [] → written ≡ Found search.number reader turn answer ∷ [] → s' ≡ without place (with_answer reader turn answer.version s)
-      → IsStep Holds most readers s taken written s'
+      → IsStep Holds limits readers s taken written s'
   -- memory ran out for the answer
   not_answered : (place : ℕ) (search : OpenSearch) → IsOpenAt s place search
       → taken ≡ [] → written ≡ SearchRefused search.number reason.OutOfMemory ∷ [] → s' ≡ without place s
-      → IsStep Holds most readers s taken written s'
+      → IsStep Holds limits readers s taken written s'
+  -- the time for the answer ran out
+  too_slow : (place : ℕ) (search : OpenSearch) → limits.timed ≡ true → IsOpenAt s place search
+      → taken ≡ [] → written ≡ SearchRefused search.number reason.TooSlow ∷ [] → s' ≡ without place s
+      → IsStep Holds limits readers s taken written s'
+  -- a cancel of a search that is open, of one that has its entry, and of one that was never asked
+  cancelled : (item : Numbered) (place : ℕ) (search : OpenSearch) → MayTake readers s item.item → item.item ≡ cancel search.number
+      → IsOpenAt s place search → taken ≡ item ∷ [] → written ≡ SearchRefused search.number reason.Cancelled ∷ [] → s' ≡ without place s
+      → IsStep Holds limits readers s taken written s'
+  too_late : (item : Numbered) (number : ℕ) → MayTake readers s item.item → item.item ≡ cancel number → WasAsked number s.searches
+      → IsNotOpen s number → taken ≡ item ∷ [] → written ≡ [] → s' ≡ s → IsStep Holds limits readers s taken written s'
+  no_such_search : (item : Numbered) (number : ℕ) → MayTake readers s item.item → item.item ≡ cancel number → WasNotAsked number s.searches
+      → taken ≡ item ∷ [] → written ≡ Refused item.line NoSuchSearch ∷ [] → s' ≡ s → IsStep Holds limits readers s taken written s'
+  reported : (item : Numbered) → MayTake readers s item.item → item.item ≡ status
+      → taken ≡ item ∷ [] → written ≡ status_now limits s item.line ∷ [] → s' ≡ s → IsStep Holds limits readers s taken written s'
   sync : (item : Numbered) → is_sync item.item ≡ true → s.awaited ≡ [] → taken ≡ item ∷ [] → written ≡ [] → s' ≡ s
-      → IsStep Holds most readers s taken written s'
+      → IsStep Holds limits readers s taken written s'
 
 -- Before the first item, no reader has answered.
 pub record IsFirst (readers : ℕ) (s : RunState) : Type 0 where
@@ -150,8 +173,8 @@ pub record IsFirst (readers : ℕ) (s : RunState) : Type 0 where
   pub lasts : All (λ l. l ≡ last 0 0) s.lasts
 
 -- Steps lead from one state to another. They take these items, and write these entries.
-pub data Runs (Holds : List ℕ → List ℕ → Type 0) (most readers : ℕ) (from : RunState) : List Numbered → List Entry → RunState → Type 0 where
-  begins : Runs Holds most readers from [] [] from
+pub data Runs (Holds : List ℕ → List ℕ → Type 0) (limits : Limits) (readers : ℕ) (from : RunState) : List Numbered → List Entry → RunState → Type 0 where
+  begins : Runs Holds limits readers from [] [] from
   goes_on : {items items' taken : List Numbered} {entries entries' written : List Entry} {s s' : RunState}
-      → Runs Holds most readers from items entries s → IsStep Holds most readers s taken written s'
-      → items' ≡ items ++ taken → entries' ≡ entries ++ written → Runs Holds most readers from items' entries' s'
+      → Runs Holds limits readers from items entries s → IsStep Holds limits readers s taken written s'
+      → items' ≡ items ++ taken → entries' ≡ entries ++ written → Runs Holds limits readers from items' entries' s'

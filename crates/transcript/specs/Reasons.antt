@@ -28,5 +28,6 @@ text_of_reason (line.Name error) = text_of_name_error error
 text_of_reason (line.Body kind) = text_of_body_error kind
 text_of_reason line.CannotLoad = codes "cannot load"
 text_of_reason line.NoSuchFile = codes "no such file"
+text_of_reason line.NoSuchSearch = codes "no such search"
 text_of_reason line.Full = codes "full"
 text_of_reason line.OutOfMemory = codes "out of memory"

@@ -26,6 +26,8 @@ pub enum Reason {
     CannotLoad,
     /// No document has this name after all accepted commands.
     NoSuchFile,
+    /// No search with this number was asked.
+    NoSuchSearch,
     /// The run has already accepted as many commands as it can.
     Full,
     /// Memory ran out.
@@ -39,6 +41,10 @@ pub enum SearchReason {
     Pattern(EreError),
     /// The name pattern has a fault.
     NamePattern(EreError),
+    /// It was given up before it had an answer.
+    Cancelled,
+    /// It had no answer within its limit of time.
+    TooSlow,
     /// Memory ran out.
     OutOfMemory,
 }
@@ -75,6 +81,18 @@ pub enum Entry {
     SearchRefused {
         search: u32,
         reason: SearchReason,
+    },
+    /// What a run or a session is like between two items: the number of the line, from 1, the version that was published
+    /// last, how many documents it has and how many bytes their bodies have together, how many commands are accepted so
+    /// far and how many can be at most, and how many searches are open.
+    Status {
+        line: u32,
+        version: u32,
+        documents: u32,
+        bytes: u64,
+        accepted: u32,
+        most: u32,
+        open: u32,
     },
 }
 

@@ -4,7 +4,7 @@ ghost use Rattle.std.specs.Prelude.{◌≡◌, ◌++◌, OnOk, OnErr, codes, dec
 ghost use Rattle.ere.specs.Faults.{reason_of};
 ghost use Rattle.search.specs.Text.{line_end};
 ghost use Rattle.transcript.specs.Reasons.{text_of_name_error, text_of_body_error, text_of_reason};
-ghost use Rattle.transcript.specs.Transcript.{text_of_entry, line_refusal, search_refusal};
+ghost use Rattle.transcript.specs.Transcript.{text_of_entry, line_refusal, search_refusal, status_line};
 
 use crate::entry::{Entry, Reason, SearchReason};
 use ere::EreError;
@@ -46,6 +46,7 @@ fn reason_text(reason: Reason) -> &'static str
         Reason::Body(kind) => body_text(kind),
         Reason::CannotLoad => "cannot load",
         Reason::NoSuchFile => "no such file",
+        Reason::NoSuchSearch => "no such search",
         Reason::Full => "full",
         Reason::OutOfMemory => "out of memory",
     }
@@ -98,6 +99,29 @@ fn append_fault(
     )
 }
 
+/// Appends the refusal of a search with this reason. An `Err` leaves `out` as it was.
+fn append_fixed_refusal(
+    out: &mut Vec<u8>,
+    search: u32,
+    reason: &'static [u8],
+) -> Result<(), AllocError>
+    ensures ok { OnOk result (out.new.items ≡ out.old.items ++ codes "search " ++ decimal search ++ codes " refused: "
+        ++ reason.now ++ line_end) }
+    ensures err { OnErr result (out.new.items ≡ out.old.items) }
+{
+    let mut number = Buffer::new();
+    append_all(
+        out,
+        &[
+            b"search ".as_slice(),
+            number.format(search).as_bytes(),
+            b" refused: ".as_slice(),
+            reason,
+            b"\n".as_slice(),
+        ],
+    )
+}
+
 /// An `Err` leaves `out` as it was.
 fn append_search_refusal(
     out: &mut Vec<u8>,
@@ -110,18 +134,57 @@ fn append_search_refusal(
     match reason {
         SearchReason::Pattern(error) => append_fault(out, search, b"", error),
         SearchReason::NamePattern(error) => append_fault(out, search, b"name pattern: ", error),
-        SearchReason::OutOfMemory => {
-            let mut number = Buffer::new();
-            append_all(
-                out,
-                &[
-                    b"search ".as_slice(),
-                    number.format(search).as_bytes(),
-                    b" refused: out of memory\n".as_slice(),
-                ],
-            )
-        }
+        SearchReason::Cancelled => append_fixed_refusal(out, search, b"cancelled"),
+        SearchReason::TooSlow => append_fixed_refusal(out, search, b"too slow"),
+        SearchReason::OutOfMemory => append_fixed_refusal(out, search, b"out of memory"),
     }
+}
+
+/// What a run or a session is like, as `Entry::Status` shows it.
+#[derive(Clone, Copy, Debug)]
+struct Shown {
+    line: u32,
+    version: u32,
+    documents: u32,
+    bytes: u64,
+    accepted: u32,
+    most: u32,
+    open_searches: u32,
+}
+
+/// An `Err` leaves `out` as it was.
+fn append_status(out: &mut Vec<u8>, shown: Shown) -> Result<(), AllocError>
+    ensures ok { OnOk result (out.new.items ≡ out.old.items
+        ++ status_line shown.line shown.version shown.documents shown.bytes shown.accepted shown.most shown.open_searches) }
+    ensures err { OnErr result (out.new.items ≡ out.old.items) }
+{
+    let mut line = Buffer::new();
+    let mut version = Buffer::new();
+    let mut documents = Buffer::new();
+    let mut bytes = Buffer::new();
+    let mut accepted = Buffer::new();
+    let mut most = Buffer::new();
+    let mut open_searches = Buffer::new();
+    append_all(
+        out,
+        &[
+            b"line ".as_slice(),
+            line.format(shown.line).as_bytes(),
+            b" status version ".as_slice(),
+            version.format(shown.version).as_bytes(),
+            b" documents ".as_slice(),
+            documents.format(shown.documents).as_bytes(),
+            b" bytes ".as_slice(),
+            bytes.format(shown.bytes).as_bytes(),
+            b" accepted ".as_slice(),
+            accepted.format(shown.accepted).as_bytes(),
+            b" of ".as_slice(),
+            most.format(shown.most).as_bytes(),
+            b" open ".as_slice(),
+            open_searches.format(shown.open_searches).as_bytes(),
+            b"\n".as_slice(),
+        ],
+    )
 }
 
 /// Appends the text of an entry. With `stats` an answer also shows its number of candidates and of documents. An
@@ -136,5 +199,25 @@ pub fn append_entry(entry: &Entry, stats: bool, out: &mut Vec<u8>) -> Result<(),
         Entry::Refused { line, reason } => append_line_refusal(out, *line, *reason),
         Entry::SearchRefused { search, reason } => append_search_refusal(out, *search, *reason),
         Entry::Found { search, answer, .. } => answer.write_to(*search, stats, out),
+        Entry::Status {
+            line,
+            version,
+            documents,
+            bytes,
+            accepted,
+            most,
+            open,
+        } => append_status(
+            out,
+            Shown {
+                line: *line,
+                version: *version,
+                documents: *documents,
+                bytes: *bytes,
+                accepted: *accepted,
+                most: *most,
+                open_searches: *open,
+            },
+        ),
     }
 }

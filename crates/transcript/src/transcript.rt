@@ -9,7 +9,7 @@ use crate::entry::{Entry, has_hit, is_refusal};
 /// What a run answered.
 #[derive(Debug, Drop)]
 pub struct Transcript {
-    /// In the order of the script, one for each item except `sync`.
+    /// In the order of the script, one for each item. A `sync` has none, and neither has a `cancel` of a search that was asked.
     pub entries: Vec<Entry>,
 }
 

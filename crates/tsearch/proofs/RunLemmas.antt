@@ -11,15 +11,15 @@ use Rattle.script.specs.Position.{Position, position}
 use Rattle.script.specs.Reading as reading
 use Rattle.transcript.specs.declared.entry.Entry.{Entry}
 use Rattle.transcript.specs.declared.entry.Entry.TheVariants.{SearchRefused}
+use Rattle.transcript.specs.declared.entry.Entry.TheVariants as entry_of
 use Rattle.transcript.specs.declared.entry.SearchReason.TheVariants.{OutOfMemory}
 use Rattle.steps.specs.Rows.{Row, entries_of, list_of, version_in, last_or, is_sync, searches_of, count_searches, failures_in, count_failures}
 use Rattle.steps.specs.LegalRows.{IsFailedTimes}
 use Rattle.steps.specs.Entries.{failures_of}
 use Rattle.steps.specs.Steps.{RunState, IsStep, IsFirst, MayTake, last}
 use Rattle.steps.specs.Steps as steps
-use Rattle.steps.specs.StepRows.{AreNext, AreRows, IsOfSearch, open_of, open_in, with_its_entry}
+use Rattle.steps.specs.StepRows.{AreNext, AreRows, HasOwnEntry, IsOfSearch, open_of, open_in, searches_in, with_its_entry}
 use Rattle.steps.specs.StepRows as rows_of
-use Rattle.steps.proofs.EntryLemmas.{plain_entry, plain_by, command_is_no_search, sync_is_no_search, fault_is_of_search}
 use Rattle.steps.proofs.RowLemmas.{count_searches-push}
 use Rattle.steps.proofs.RunLemmas.{next_items, next_entries, same_failures}
 use Rattle.steps.proofs.StepLemmas.{first_rows, next_rows, each_is_legal, are_in_turn}
@@ -30,7 +30,7 @@ use Rattle.service.specs.Private.Entries.{IsCounted}
 use Rattle.service.proofs.ServiceLemmas.{gives_step}
 use Rattle.service.proofs.CollectedLemmas.{AreAnswered, slots_at_end, collected_more, collected_same, collected_filled}
 use Rattle.tsearch.specs.declared.run.Options.{Options}
-use Rattle.tsearch.specs.Legal.{IsLegal}
+use Rattle.tsearch.specs.Legal.{IsLegal, limits_in}
 use Rattle.tsearch.specs.Private.Running.{IsRunning, TakesOne, AreFilled, none, one_more}
 use Rattle.tsearch.proofs.HeldLemmas.{rows_mapped}
 
@@ -64,29 +64,23 @@ number_of_search : (number : ℕ) (entry : Entry) → IsOfSearch number entry �
 number_of_search number _ (rows_of.found reader turn answer) = refl
 number_of_search number _ (rows_of.refused why) = refl
 
--- The entry that an item has at once is a search's exactly if the item is a search.
-entry_place : (Holds : List ℕ → List ℕ → Type 0) (most readers : ℕ) (s : RunState) (item : Numbered) (entry : Entry) (s' : RunState)
-    → IsStep Holds most readers s (item ∷ []) (entry ∷ []) s' → (at : ℕ) → place_in at entry ≡ place_by at (searches_of item.item)
-entry_place Holds most readers s item entry s' (steps.carried_out other loaded entry' may h takes writes same) at =
-    let same_item : item ≡ other = cc in
-    let same_entry : entry ≡ entry' = cc in
-    let no_search : searches_of item.item ≡ 0 =
-    ap (λ i. searches_of i.item) same_item ∙ command_is_no_search Holds most _ loaded other.line other.item entry' h in
-    ap (place_in at) same_entry
-    ∙ plain_by (plain_entry Holds most _ loaded other.line other.item entry' h) (λ e. place_in at e ≡ []) (λ count. refl) (λ why. refl) refl
-    ∙ sym (ap (place_by at) no_search)
-entry_place Holds most readers s item entry s' (steps.asked_for other may one takes writes same) at = cc
-entry_place Holds most readers s item entry s' (steps.refused other why may fault takes writes same) at =
-    let same_item : item ≡ other = cc in
-    let same_entry : entry ≡ SearchRefused (s.searches + 1) why = cc in
-    ap (place_in at) same_entry ∙ sym (ap (λ i. place_by at (searches_of i.item)) same_item ∙ ap (place_by at) (fault_is_of_search other.item why fault))
-entry_place Holds most readers s item entry s' (steps.answered place wanted reader turn answer is_open now takes writes same) at = cc
-entry_place Holds most readers s item entry s' (steps.not_answered place wanted is_open takes writes same) at = cc
-entry_place Holds most readers s item entry s' (steps.sync other is empty takes writes same) at = cc
+-- Where an entry has its place.
+place_of_entry : (at : ℕ) (entry : Entry) → place_in at entry ≡ place_by at (searches_in entry)
+place_of_entry at (entry_of.Accepted line commands) = refl
+place_of_entry at (entry_of.Refused line why) = refl
+place_of_entry at (entry_of.Published line version) = refl
+place_of_entry at (entry_of.Found number reader turn answer) = refl
+place_of_entry at (entry_of.SearchRefused number why) = refl
+place_of_entry at (entry_of.Status line version documents bytes accepted most waiting) = refl
+
+one_of_search : (number : ℕ) (entry : Entry) → IsOfSearch number entry → searches_in entry ≡ 1
+one_of_search number _ (rows_of.found reader turn answer) = refl
+one_of_search number _ (rows_of.refused why) = refl
 
 gives_no_failure : (old : ServiceState) (entry : Entry) (new : ServiceState) → Gives old entry new → failures_of (entry ∷ []) ≡ 0
 gives_no_failure old entry new (service.answered place wanted reader turn answer is_open can next is after) = ap (λ e. failures_of (e ∷ [])) is
 gives_no_failure old entry new (service.not_answered place wanted is_open is after) = ap (λ e. failures_of (e ∷ [])) is
+gives_no_failure old entry new (service.too_slow place wanted timed is_open is after) = ap (λ e. failures_of (e ∷ [])) is
 
 one_of_one : (entry : Option Entry) (e : Entry) → e ∷ [] ≡ list_of entry → entry ≡ Some e
 one_of_one None e is = cc
@@ -104,17 +98,17 @@ module _ (Holds : List ℕ → List ℕ → Type 0) (options : Options) (first :
       → ((rows' : List Row) → AreNext was.rows taken written rows' → new.searches ≡ count_searches rows' → IsCollected rows' collected')
       → IsCounted (failures_of written) failed failed' → IsRunning Holds options first (items ++ taken) new collected' failed'
   steps_on taken written new published' collected' failed' step collects counts =
-      let one : IsStep Holds options.max_commands options.readers (run_of old was.published) taken written (run_of new published') =
-      subst (λ most. IsStep Holds most options.readers (run_of old was.published) taken written (run_of new published')) was.limit step.step in
+      let one : IsStep Holds (limits_in options) options.readers (run_of old was.published) taken written (run_of new published') =
+      subst (λ limits. IsStep Holds limits options.readers (run_of old was.published) taken written (run_of new published')) was.limits step.step in
       let next =
-      next_rows Holds options.max_commands options.readers (run_of old was.published) was.rows was.are_rows taken written (run_of new published') one in
+      next_rows Holds (limits_in options) options.readers (run_of old was.published) was.rows was.are_rows taken written (run_of new published') one in
       record {
         rows = next.0;
         published = published';
         taken = next_items was.rows taken written next.0 next.1 ∙ ap (λ l. l ++ taken) was.taken;
         are_rows = next.2;
         fits = step.fits;
-        limit = step.limit ∙ was.limit;
+        limits = step.limits ∙ was.limits;
         are_collected = collects next.0 next.1 next.2.searches;
         failures =
             subst (λ n. IsCounted n first failed') (sym (next_failures was.rows next.0 taken written next.1))
@@ -131,7 +125,8 @@ module _ (Holds : List ℕ → List ℕ → Type 0) (options : Options) (first :
       (subst (λ n. IsCounted n failed failed) (sym (gives_no_failure old entry new gives)) (none_failed failed)))
     where
       collects : (rows' : List Row) → AreNext was.rows [] (entry ∷ []) rows' → IsCollected rows' collected'
-      collects rows' (rows_of.more row takes writes same) = cc
+      collects rows' (rows_of.more row own takes writes same) = cc
+      collects rows' (rows_of.both before row after entry' more whole empty one its takes writes no_entry no_search same) = cc
       collects rows' (rows_of.filled before row after entry' whole empty one its takes writes same) =
           let is : entry ≡ entry' = cc in
           let number : number_in entry ≡ count_searches before + 1 = ap number_in is ∙ number_of_search _ entry' its in
@@ -168,32 +163,42 @@ module _ (Holds : List ℕ → List ℕ → Type 0) (options : Options) (item : 
         → Steps Holds options.readers old was.published (item ∷ []) written new (was.published ++ versions_in written)
     step_of written takes = takes was.published options.readers was.fits (may was.published settled)
 
+    -- What the new row, and an open search that gets its entry beside it, leave collected.
     takes_on : (written : List Entry) (collected' : CollectedState) → Takes Holds old item written new
-        → ((row : Row) → item ≡ row.numbered → written ≡ list_of row.entry → new.searches ≡ count_searches was.rows + searches_of row.numbered.item
-        → IsCollected (was.rows ++ row ∷ []) collected')
+        → ((row : Row) → HasOwnEntry row → item ≡ row.numbered → written ≡ list_of row.entry
+        → new.searches ≡ count_searches was.rows + searches_of row.numbered.item → IsCollected (was.rows ++ row ∷ []) collected')
+        → ((before : List Row) (row : Row) (after : List Row) (entry : Entry) (more : Row) → was.rows ≡ before ++ row ∷ after → row.entry ≡ None
+        → searches_of row.numbered.item ≡ 1 → IsOfSearch (count_searches before + 1) entry → item ≡ more.numbered → written ≡ entry ∷ []
+        → more.entry ≡ None → searches_of more.numbered.item ≡ 0
+        → IsCollected (before ++ with_its_entry entry row ∷ (after ++ more ∷ [])) collected')
         → IsCounted (failures_of written) failed failed' → IsRunning Holds options first (items ++ item ∷ []) new collected' failed'
-    takes_on written collected' takes collects counts =
+    takes_on written collected' takes collects both counts =
         steps_on Holds options first items old collected failed was (item ∷ []) written new (was.published ++ versions_in written) collected' failed'
         (step_of written takes) by counts
       where
         by : (rows' : List Row) → AreNext was.rows (item ∷ []) written rows' → new.searches ≡ count_searches rows' → IsCollected rows' collected'
-        by rows' (rows_of.more row takes writes same) searches =
+        by rows' (rows_of.more row own takes writes same) searches =
             subst (λ r. IsCollected r collected') (sym same)
-            (collects row (cc) writes (searches ∙ ap count_searches same ∙ count_searches-push was.rows row))
+            (collects row own (cc) writes (searches ∙ ap count_searches same ∙ count_searches-push was.rows row))
         by rows' (rows_of.filled before row after entry' whole empty one its takes writes same) searches = cc
+        by rows' (rows_of.both before row after entry' more whole empty one its takes writes no_entry no_search same) searches =
+            subst (λ r. IsCollected r collected') (sym same)
+            (both before row after entry' more whole empty one its (cc) writes no_entry no_search)
 
   -- it has its entry
-  pub entry_taken : (entry : Entry) (collected' : CollectedState) → Takes Holds old item (entry ∷ []) new
+  pub entry_taken : (entry : Entry) (collected' : CollectedState) → searches_in entry ≡ searches_of item.item → Takes Holds old item (entry ∷ []) new
       → IsCounted (failures_in (Some entry)) failed failed' → collected' ≡ pushed entry collected
       → TakesOne Holds options item old collected failed new collected' failed'
-  entry_taken entry collected' takes counts pushes first items was =
+  entry_taken entry collected' own takes counts pushes first items was =
       takes_on first items was (entry ∷ []) collected' takes
-      (λ row is writes searches.
+      (λ row has_own is writes searches.
       subst (IsCollected (was.rows ++ row ∷ [])) (sym pushes)
       (collected_more was.rows row collected entry was.are_collected
       (ap (λ e. slot_by e (searches_of row.numbered.item) (count_searches was.rows + 1)) (one_of_one row.entry entry writes))
-      (subst (λ i. (at : ℕ) → place_in at entry ≡ place_by at (searches_of i.item)) is
-      (entry_place Holds old.limit options.readers (run_of old was.published) item entry _ (step_of first items was (entry ∷ []) takes).step))))
+      (λ at. place_of_entry at entry ∙ ap (place_by at) (own ∙ ap (λ i. searches_of i.item) is))))
+      (λ before row after entry' more whole empty one its is writes no_entry no_search.
+      let same : entry ≡ entry' = cc in
+      absurd (omega (arith, ap searches_in same ∙ one_of_search _ entry' its, own ∙ ap (λ i. searches_of i.item) is, no_search)))
       (let same : failures_in (Some entry) ≡ failures_of (entry ∷ []) = omega arith in subst (λ n. IsCounted n failed failed') same counts)
 
   -- it is a search, which is open
@@ -202,7 +207,7 @@ module _ (Holds : List ℕ → List ℕ → Type 0) (options : Options) (item : 
       → TakesOne Holds options item old collected failed new collected' failed'
   search_taken one number is_number collected' takes counts pushes first items was =
       takes_on first items was [] collected' takes
-      (λ row is writes searches.
+      (λ row own is writes searches.
       let is_one : searches_of row.numbered.item ≡ 1 = ap (λ i. searches_of i.item) (sym is) ∙ one in
       let counted : number ≡ count_searches was.rows + 1 = omega arith in
       subst (IsCollected (was.rows ++ row ∷ [])) (sym pushes)
@@ -210,16 +215,36 @@ module _ (Holds : List ℕ → List ℕ → Type 0) (options : Options) (item : 
       (ap (λ e. slot_by e (searches_of row.numbered.item) (count_searches was.rows + 1)) (none_of_none row.entry writes)
       ∙ ap (λ n. slot_by None n (count_searches was.rows + 1)) is_one ∙ ap (λ n. SearchRefused n OutOfMemory ∷ []) (sym counted))
       (λ at. sym (ap (place_by at) is_one))))
+      (λ before row after entry more whole empty its_one its is writes no_entry no_search. cc)
       counts
 
-  -- it is a sync
-  pub sync_taken : is_sync item.item ≡ true → Takes Holds old item [] new → IsCounted 0 failed failed'
+  -- it is a cancel, at which an open search has its entry
+  pub cancel_taken : (entry : Entry) (collected' : CollectedState) → (searches_of item.item ≡ 0) × (searches_in entry ≡ 1)
+      → Takes Holds old item (entry ∷ []) new → IsCounted (failures_in (Some entry)) failed failed'
+      → (0 < number_in entry → collected' ≡ filled entry collected) → TakesOne Holds options item old collected failed new collected' failed'
+  cancel_taken entry collected' kind takes counts fills first items was =
+      takes_on first items was (entry ∷ []) collected' takes
+      (λ row own is writes searches.
+      absurd (omega (arith, kind.0, kind.1, own entry (one_of_one row.entry entry writes), ap (λ i. searches_of i.item) is)))
+      (λ before row after entry' more whole empty one its is writes no_entry no_search.
+      let same : entry ≡ entry' = cc in
+      let number : number_in entry ≡ count_searches before + 1 = ap number_in same ∙ number_of_search _ entry' its in
+      let longer : was.rows ++ more ∷ [] ≡ before ++ row ∷ (after ++ more ∷ []) =
+      ap (λ l. l ++ more ∷ []) whole ∙ append_assoc before (row ∷ after) (more ∷ []) in
+      subst (λ c. IsCollected (before ++ with_its_entry entry' row ∷ (after ++ more ∷ [])) c)
+      (ap (λ e. filled e collected) (sym same) ∙ sym (fills (omega arith)))
+      (collected_filled before row (after ++ more ∷ []) entry' empty one its collected
+      (subst (λ r. IsCollected r collected) longer (collected_same was.rows more collected was.are_collected no_entry no_search))))
+      (let same : failures_in (Some entry) ≡ failures_of (entry ∷ []) = omega arith in subst (λ n. IsCounted n failed failed') same counts)
+
+  -- it has no entry
+  pub nothing_taken : searches_of item.item ≡ 0 → Takes Holds old item [] new → IsCounted 0 failed failed'
       → TakesOne Holds options item old collected failed new collected failed'
-  sync_taken is_one takes counts first items was =
+  nothing_taken no_search takes counts first items was =
       takes_on first items was [] collected takes
-      (λ row is writes searches.
-      collected_same was.rows row collected was.are_collected (none_of_none row.entry writes)
-      (ap (λ i. searches_of i.item) (sym is) ∙ sync_is_no_search item.item is_one))
+      (λ row own is writes searches.
+      collected_same was.rows row collected was.are_collected (none_of_none row.entry writes) (ap (λ i. searches_of i.item) (sym is) ∙ no_search))
+      (λ before row after entry more whole empty one its is writes no_entry no_search. cc)
       counts
 
 -- What open searches got before an item was taken, and afterwards, is part of its step.
@@ -249,7 +274,7 @@ no_failures failed = none_failed failed
 
 pub run_begins : (Holds : List ℕ → List ℕ → Type 0) (options : Options) (script : List ℕ) (failed : ℕ) (collected : CollectedState)
     → collected.entries ≡ [] → collected.places ≡ []
-    → IsRun Holds options script failed (position 1 script) (first_service options.max_commands options.readers) collected failed
+    → IsRun Holds options script failed (position 1 script) (first_service (limits_in options) options.readers) collected failed
 run_begins Holds options script failed collected no_entries no_places = record {
   items = [];
   reads = λ more are. are;
@@ -258,7 +283,7 @@ run_begins Holds options script failed collected no_entries no_places = record {
     published = [];
     taken = refl;
     are_rows =
-        first_rows Holds options.max_commands options.readers (run_of (first_service options.max_commands options.readers) []) (record {
+        first_rows Holds (limits_in options) options.readers (run_of (first_service (limits_in options) options.readers) []) (record {
           accepted = refl;
           published = refl;
           searches = refl;
@@ -267,7 +292,7 @@ run_begins Holds options script failed collected no_entries no_places = record {
           lasts = All-replicate (λ l. l ≡ last 0 0) (options.readers + 1) (last 0 0) refl;
         });
     fits = record { latest = refl; kept = first_version };
-    limit = refl;
+    limits = refl;
     are_collected = record { entries = no_entries; places = no_places };
     failures = no_failures failed;
   };
@@ -280,9 +305,9 @@ running_mapped H H' holds options first items service collected failed was = rec
   rows = was.rows;
   published = was.published;
   taken = was.taken;
-  are_rows = rows_mapped H H' holds options.max_commands options.readers (run_of service was.published) was.rows was.are_rows;
+  are_rows = rows_mapped H H' holds (limits_in options) options.readers (run_of service was.published) was.rows was.are_rows;
   fits = was.fits;
-  limit = was.limit;
+  limits = was.limits;
   are_collected = was.are_collected;
   failures = was.failures;
 }
@@ -333,8 +358,8 @@ run_is_legal Holds options script first left old collected failed new collected'
       rows = is.rows;
       items = subst (IsItemsOf script) (append-nil run.items ∙ sym is.taken) (run.reads [] ended);
       whole = is.are_collected.entries ∙ slots_at_end 0 is.rows (are_answered 0 0 is.rows (sym is.are_rows.awaited ∙ empty));
-      each = each_is_legal Holds options.max_commands options.readers (run_of new is.published) is.rows is.are_rows empty;
-      turns = are_in_turn Holds options.max_commands options.readers (run_of new is.published) is.rows is.are_rows;
+      each = each_is_legal Holds (limits_in options) options.readers (run_of new is.published) is.rows is.are_rows empty;
+      turns = are_in_turn Holds (limits_in options) options.readers (run_of new is.published) is.rows is.are_rows;
       failures = is.failures.rises;
     }
   where

@@ -1,10 +1,14 @@
 -- Which transcripts are legal for a script: what a run may answer, whatever its readers and their timing.
-use Rattle.std.specs.Prelude.{◌≡◌, ℕ, List, ◌∷◌, ◌++◌}
+use Rattle.std.specs.Prelude.{◌≡◌, ℕ, List, ◌∷◌, ◌++◌, is_some}
 use Rattle.script.specs.Items.{IsItemsOf}
 use Rattle.transcript.specs.declared.entry.Entry.{Entry}
-use Rattle.steps.specs.LegalRows.{IsLegalRow, AreInTurn, IsFailedTimes}
+use Rattle.steps.specs.LegalRows.{Limits, IsLegalRow, AreInTurn, IsFailedTimes}
 use Rattle.steps.specs.Rows.{Row, items_of, entries_of, count_failures}
 use Rattle.tsearch.specs.declared.run.Options.{Options}
+
+-- what bounds a run with these options
+abbrev pub limits_in : Options → Limits
+limits_in options = record { commands = options.max_commands; timed = is_some options.search_ms }
 
 -- The transcript is legal. Holds: what the source held. failed, failed': how often the source had failed
 -- before the run and after it.
@@ -13,6 +17,6 @@ pub record IsLegal (script : List ℕ) (options : Options) (Holds : List ℕ →
   pub items : IsItemsOf script (items_of rows)
   pub whole : entries ≡ entries_of rows
   pub each : (before : List Row) (row : Row) (after : List Row) → rows ≡ before ++ row ∷ after
-      → IsLegalRow Holds options.max_commands (record { readers = options.readers; before = before; row = row; after = after })
+      → IsLegalRow Holds (limits_in options) (record { readers = options.readers; before = before; row = row; after = after })
   pub turns : AreInTurn rows
   pub failures : IsFailedTimes (count_failures rows) failed failed'

@@ -5,7 +5,7 @@ ghost use Rattle.script.specs.Items.{Numbered as NumberedItem, numbered as numbe
 ghost use Rattle.script.specs.Reading.{shown_item};
 ghost use Rattle.service.specs.Service.{first_service};
 ghost use Rattle.steps.specs.Rows.{is_sync};
-ghost use Rattle.tsearch.specs.Legal.{IsLegal};
+ghost use Rattle.tsearch.specs.Legal.{IsLegal, limits_in};
 ghost use Rattle.tsearch.specs.Private.Running.{TakesOne, AreFilled};
 
 use crate::crew::Crew;
@@ -15,6 +15,7 @@ use service::{Collected, Done, Gate, Naming, Service, Source, Taken, Task};
 use std::alloc::{AllocError, Global};
 use std::marker::PhantomData;
 use std::sync::Wait;
+use std::time::Clock;
 use transcript::{Entry, SearchReason};
 
 /// How many searches are open at most. Before one more item is taken, the run waits for an answer.
@@ -33,14 +34,14 @@ pub struct Plan<'a, J, R, G> {
 }
 
 /// Carries out the items of the script, and waits for all answers. An `Err` means that memory ran out.
-pub fn carry_out_all<J: Naming, R: Wait, S: Source, G: Gate>(
+pub fn carry_out_all<J: Naming, R: Wait + Clock, S: Source, G: Gate>(
     plan: &Plan<'_, J, R, G>,
     crew: &Crew<J>,
     service: &mut Service<J>,
     source: &mut S,
 ) -> Result<Vec<Entry>, AllocError>
     requires script { length plan.now.script.now ≤ MAX_SCRIPT }
-    requires first { service.old ≡ first_service plan.now.options.max_commands plan.now.options.readers }
+    requires first { service.old ≡ first_service (limits_in plan.now.options) plan.now.options.readers }
     ensures legal { IfOk result (λ entries. IsLegal plan.now.script.now plan.now.options (S.holds source.old)
         (S.failed source.old) (S.failed source.new) entries.items) }
     ensures same { (path body : List ℕ) → (S.holds source.new path body → S.holds source.old path body)
@@ -57,7 +58,7 @@ pub fn carry_out_all<J: Naming, R: Wait, S: Source, G: Gate>(
 }
 
 /// Takes an item, once few enough searches are open, and notes an answer that is there.
-fn advance<J: Naming, R: Wait, S: Source, G: Gate>(
+fn advance<J: Naming, R: Wait + Clock, S: Source, G: Gate>(
     plan: &Plan<'_, J, R, G>,
     crew: &Crew<J>,
     service: &mut Service<J>,
@@ -94,7 +95,7 @@ fn most_open(readers: u32, is_alone: bool, item: Item<'_>) -> usize
 }
 
 /// Waits until at most `most` searches are open.
-fn settle<J: Naming, R: Wait, G: Gate>(
+fn settle<J: Naming, R: Wait + Clock, G: Gate>(
     plan: &Plan<'_, J, R, G>,
     crew: &Crew<J>,
     service: &mut Service<J>,
@@ -118,7 +119,7 @@ fn settle<J: Naming, R: Wait, G: Gate>(
 }
 
 /// Notes the entry of a search that a reader has answered.
-fn note<J: Naming, R: Wait, G: Gate>(
+fn note<J: Naming, R: Wait + Clock, G: Gate>(
     plan: &Plan<'_, J, R, G>,
     service: &mut Service<J>,
     collected: &mut Collected,
@@ -133,7 +134,7 @@ fn note<J: Naming, R: Wait, G: Gate>(
 }
 
 /// Takes an item. A search is handed out.
-fn take<J: Naming, R: Wait, S: Source, G: Gate>(
+fn take<J: Naming, R: Wait + Clock, S: Source, G: Gate>(
     plan: &Plan<'_, J, R, G>,
     crew: &Crew<J>,
     service: &mut Service<J>,
@@ -161,12 +162,16 @@ fn take<J: Naming, R: Wait, S: Source, G: Gate>(
             hand_out(plan, crew, service, collected, task);
             Ok(())
         }
-        Taken::Sync => Ok(()),
+        Taken::Cancelled(entry) => {
+            collected.fill(entry);
+            Ok(())
+        }
+        Taken::Nothing => Ok(()),
     }
 }
 
 /// Hands a search to the readers. If they cannot have it, it is answered here.
-fn hand_out<J: Naming, R: Wait, G: Gate>(
+fn hand_out<J: Naming, R: Wait + Clock, G: Gate>(
     plan: &Plan<'_, J, R, G>,
     crew: &Crew<J>,
     service: &mut Service<J>,

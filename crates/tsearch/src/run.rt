@@ -4,7 +4,7 @@ ghost use Rattle.std.specs.Prelude.{◌≡◌, ℕ, ◌<◌, ◌≤◌, ◌↔�
 ghost use Rattle.shared.specs.declared.opening.TheConstants.{MAX_COMMANDS};
 ghost use Rattle.service.specs.Opening.{opened_state};
 ghost use Rattle.service.specs.Service.{first_service};
-ghost use Rattle.tsearch.specs.Legal.{IsLegal};
+ghost use Rattle.tsearch.specs.Legal.{IsLegal, limits_in};
 
 use crate::crew::Crew;
 use crate::items::{Plan, carry_out_all};
@@ -16,6 +16,7 @@ use std::alloc::{AllocError, Global};
 use std::marker::{Brand, PhantomData};
 use std::sync::Wait;
 use std::thread::{self, Threads};
+use std::time::Clock;
 use thiserror::Error;
 use transcript::{Entry, Transcript};
 
@@ -26,6 +27,8 @@ pub struct Options {
     pub readers: u32,
     /// How many commands are accepted at most, 1 to 4,294,967,294.
     pub max_commands: u32,
+    /// After how many milliseconds a search that has no answer yet is given up, if there is such a limit.
+    pub search_ms: Option<u32>,
 }
 
 /// Why a run has no transcript.
@@ -60,7 +63,7 @@ pub enum RunError {
 /// `ScriptTooLong` is returned exactly when the script has over 67,108,864 bytes. `NoPlace` means that a reader got no
 /// place, and `OutOfMemory` that memory ran out for the run itself. After an `Err` there is no transcript. All workers
 /// have ended when `run` returns.
-pub fn run<R: Threads + Wait + Sync, S: Source + Drop, G: Gate>(
+pub fn run<R: Threads + Wait + Clock + Sync, S: Source + Drop, G: Gate>(
     rt: &R,
     alloc: Global,
     script: &[u8],
@@ -81,7 +84,13 @@ pub fn run<R: Threads + Wait + Sync, S: Source + Drop, G: Gate>(
     if is_too_long(script) {
         return Err(RunError::ScriptTooLong);
     }
-    let opened = match open(rt, alloc, options.max_commands, options.readers) {
+    let opened = match open(
+        rt,
+        alloc,
+        options.max_commands,
+        options.search_ms,
+        options.readers,
+    ) {
         Ok(opened) => opened,
         Err(OpenError::NoPlace) => return Err(RunError::NoPlace),
         Err(OpenError::OutOfMemory) => return Err(RunError::OutOfMemory),
@@ -109,13 +118,14 @@ fn is_too_long(script: &[u8]) -> bool
 }
 
 /// Runs the script under the name of its opening.
-fn run_as<J: Naming + Send + Sync + 'static, R: Threads + Wait + Sync, S: Source + Drop, G: Gate>(
-    plan: &Plan<'_, J, R, G>,
-    opened: Opened,
-    source: &mut S,
-) -> Result<Vec<Entry>, AllocError>
+fn run_as<
+    J: Naming + Send + Sync + 'static,
+    R: Threads + Wait + Clock + Sync,
+    S: Source + Drop,
+    G: Gate,
+>(plan: &Plan<'_, J, R, G>, opened: Opened, source: &mut S) -> Result<Vec<Entry>, AllocError>
     requires script { length plan.now.script.now ≤ MAX_SCRIPT }
-    requires opened { opened ≡ opened_state J.book plan.now.options.max_commands plan.now.options.readers }
+    requires opened { opened ≡ opened_state J.book (limits_in plan.now.options) plan.now.options.readers }
     ensures legal { IfOk result (λ entries. IsLegal plan.now.script.now plan.now.options (S.holds source.old)
         (S.failed source.old) (S.failed source.new) entries.items) }
     ensures same { (path body : List ℕ) → (S.holds source.new path body → S.holds source.old path body)
@@ -129,14 +139,19 @@ fn run_as<J: Naming + Send + Sync + 'static, R: Threads + Wait + Sync, S: Source
 }
 
 /// Runs the script with workers in a scope. All of them have ended when it returns.
-fn in_scope<J: Naming + Send + Sync + 'static, R: Threads + Wait + Sync, S: Source + Drop, G: Gate>(
+fn in_scope<
+    J: Naming + Send + Sync + 'static,
+    R: Threads + Wait + Clock + Sync,
+    S: Source + Drop,
+    G: Gate,
+>(
     plan: &Plan<'_, J, R, G>,
     service: &mut Service<J>,
     readers: Vec<Reader<J>>,
     source: &mut S,
 ) -> Result<Vec<Entry>, AllocError>
     requires script { length plan.now.script.now ≤ MAX_SCRIPT }
-    requires first { service.old ≡ first_service plan.now.options.max_commands plan.now.options.readers }
+    requires first { service.old ≡ first_service (limits_in plan.now.options) plan.now.options.readers }
     ensures legal { IfOk result (λ entries. IsLegal plan.now.script.now plan.now.options (S.holds source.old)
         (S.failed source.old) (S.failed source.new) entries.items) }
     ensures same { (path body : List ℕ) → (S.holds source.new path body → S.holds source.old path body)
@@ -148,7 +163,7 @@ fn in_scope<J: Naming + Send + Sync + 'static, R: Threads + Wait + Sync, S: Sour
         readers,
         |source: S, readers: Vec<Reader<J>>| -> (S, Result<Vec<Entry>, AllocError>)
             requires script { length plan.now.script.now ≤ MAX_SCRIPT }
-            requires first { service.now ≡ first_service plan.now.options.max_commands plan.now.options.readers }
+            requires first { service.now ≡ first_service (limits_in plan.now.options) plan.now.options.readers }
             ensures legal { IfOk result.1 (λ entries. IsLegal plan.entry.now.script.now plan.entry.now.options
                 (S.holds source) (S.failed source) (S.failed result.0) entries.items) }
             ensures same { (path body : List ℕ) → (S.holds result.0 path body → S.holds source path body)
@@ -159,14 +174,19 @@ fn in_scope<J: Naming + Send + Sync + 'static, R: Threads + Wait + Sync, S: Sour
 }
 
 /// A closure can keep only values that can be dropped, so the source is passed through it by value.
-fn scoped<J: Naming + Send + Sync + 'static, R: Threads + Wait + Sync, S: Source + Drop, G: Gate>(
+fn scoped<
+    J: Naming + Send + Sync + 'static,
+    R: Threads + Wait + Clock + Sync,
+    S: Source + Drop,
+    G: Gate,
+>(
     plan: &Plan<'_, J, R, G>,
     service: &mut Service<J>,
     readers: Vec<Reader<J>>,
     source: S,
 ) -> (S, Result<Vec<Entry>, AllocError>)
     requires script { length plan.now.script.now ≤ MAX_SCRIPT }
-    requires first { service.old ≡ first_service plan.now.options.max_commands plan.now.options.readers }
+    requires first { service.old ≡ first_service (limits_in plan.now.options) plan.now.options.readers }
     ensures legal { IfOk result.1 (λ entries. IsLegal plan.now.script.now plan.now.options
         (S.holds source) (S.failed source) (S.failed result.0) entries.items) }
     ensures same { (path body : List ℕ) → (S.holds result.0 path body → S.holds source path body) × (S.holds source path body → S.holds result.0 path body) }
@@ -177,7 +197,7 @@ fn scoped<J: Naming + Send + Sync + 'static, R: Threads + Wait + Sync, S: Source
         plan.rt,
         move |scope| -> (S, Result<Vec<Entry>, AllocError>)
             requires script { length plan.now.script.now ≤ MAX_SCRIPT }
-            requires first { service.now ≡ first_service plan.now.options.max_commands plan.now.options.readers }
+            requires first { service.now ≡ first_service (limits_in plan.now.options) plan.now.options.readers }
             ensures legal { IfOk result.1 (λ entries. IsLegal plan.entry.now.script.now plan.entry.now.options
                 (S.holds source) (S.failed source) (S.failed result.0) entries.items) }
             ensures same { (path body : List ℕ) → (S.holds result.0 path body → S.holds source path body)

@@ -18,6 +18,7 @@ use Rattle.transcript.specs.Written.{AppendsFront}
 use Rattle.live.specs.declared.error.LiveError.{LiveError}
 use Rattle.live.specs.declared.marks.Marks.{Marks}
 use Rattle.live.specs.declared.serving.LiveOptions.{LiveOptions}
+use Rattle.live.specs.Served.{limits_in}
 
 -- after one more entry
 abbrev pub marks_with : Marks → Entry → Marks
@@ -46,13 +47,13 @@ now service marks failed output = record { service = service; marks = marks; fai
 
 -- the run of a session before its first item
 abbrev pub first_run : LiveOptions → RunState
-first_run options = run_of (first_service options.max_commands options.readers) []
+first_run options = run_of (first_service (limits_in options) options.readers) []
 
 module _ (Holds : List ℕ → List ℕ → Type 0) (options : LiveOptions) where
   -- Whatever items were taken by what was read, legal steps take them and write these entries.
   abbrev pub Carry : List ReadItem → List Entry → RunState → Type 0
   Carry taken entries end =
-      (items : List Numbered) → AreShown taken items → Runs Holds options.max_commands options.readers (first_run options) items entries end
+      (items : List Numbered) → AreShown taken items → Runs Holds (limits_in options) options.readers (first_run options) items entries end
 
   -- What was read was taken, and the text of the entries is written.
   pub record IsSession (start : Start) (taken : List ReadItem) (at : Now) : Type 0 where
@@ -60,7 +61,7 @@ module _ (Holds : List ℕ → List ℕ → Type 0) (options : LiveOptions) wher
     pub published : List ℕ
     pub carry : Carry taken entries (run_of at.service published)
     pub fits : Fits at.service published
-    pub limit : at.service.limit ≡ options.max_commands
+    pub limits : at.service.limits ≡ limits_in options
     pub written : Appends start.output at.output (text_of_transcript options.stats entries)
     pub marks : at.marks ≡ marks_of entries
     pub failures : IsCounted (failures_of entries) start.failed at.failed

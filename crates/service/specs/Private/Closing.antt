@@ -1,14 +1,19 @@
 -- Open searches that get their entries.
-use Rattle.std.specs.Prelude.{◌≡◌, ℕ, ◌+◌, ◌<◌, ◌≤◌, List, [], ◌∷◌, ◌++◌, length, All, Some, slice_get}
+use Rattle.std.specs.Prelude.{◌≡◌, ◌≢◌, ℕ, ◌+◌, ◌<◌, ◌≤◌, List, [], ◌∷◌, ◌++◌, length, take, drop, All, Bool, Some, slice_get}
 use mathlib.Core.List.{IsPrefix}
 use Rattle.search.specs.Scan.{Answer}
 use Rattle.script.specs.Items.{Item}
+use Rattle.steps.specs.LegalRows.{WasAsked, WasNotAsked}
 use Rattle.steps.specs.Steps.{OpenSearch, IsFaultOf, last}
 use Rattle.steps.specs.declared.last.Last.{Last}
 use Rattle.shared.specs.Desk.{DeskState}
 use Rattle.shared.specs.History.{Known}
-use Rattle.transcript.specs.declared.entry.Entry.TheVariants.{SearchRefused}
+use Rattle.transcript.specs.declared.entry.Entry.{Entry}
+use Rattle.transcript.specs.declared.entry.Entry.TheVariants.{Refused, SearchRefused}
+use Rattle.transcript.specs.declared.entry.Reason.TheVariants.{NoSuchSearch}
 use Rattle.transcript.specs.declared.entry.SearchReason.{SearchReason}
+use Rattle.transcript.specs.declared.entry.SearchReason.TheVariants as search_reason
+use Rattle.service.specs.Opening.{limits_of}
 use Rattle.service.specs.Service.{ServiceState, CanStand}
 use Rattle.service.specs.declared.request.Task.{Task}
 use Rattle.service.specs.declared.taken.Taken.{Taken}
@@ -23,9 +28,9 @@ pub record IsService (service : ServiceState) : Type 0 where
   pub reader_zero : 0 < length service.lasts
 
 -- the service with these parts
-abbrev pub service_of : DeskState → Known → List ℕ → ℕ → List OpenSearch → List Last → ServiceState
-service_of desk told kept searches awaited lasts = record {
-  limit = desk.limit;
+abbrev pub service_of : DeskState → Bool → Known → List ℕ → ℕ → List OpenSearch → List Last → ServiceState
+service_of desk timed told kept searches awaited lasts = record {
+  limits = limits_of desk.limit timed;
   accepted = desk.accepted;
   told = told.commands;
   kept = kept;
@@ -64,3 +69,24 @@ pub record IsRefused (why : SearchReason) (old : ServiceState) (result : Taken) 
 pub data IsAsked (item : Item) (old : ServiceState) (result : Taken) (new : ServiceState) : Type 0 where
   asked_for : (task : Task) → result ≡ taken.Search task → new ≡ with_search item old → IsAsked item old result new
   refused : (why : SearchReason) → IsFaultOf item why → IsRefused why old result new → IsAsked item old result new
+
+-- The open search at this place has this number.
+pub record IsPlaceOf (awaited : List OpenSearch) (number place : ℕ) : Type 0 where
+  pub search : OpenSearch
+  pub is_open : slice_get awaited place ≡ Some search
+  pub same : search.number ≡ number
+
+-- The search at this place is refused for this reason.
+pub record IsGivenUp (place : ℕ) (why : SearchReason) (old : ServiceState) (entry : Entry) (new : ServiceState) : Type 0 where
+  pub search : OpenSearch
+  pub is_open : slice_get old.awaited place ≡ Some search
+  pub refused : entry ≡ SearchRefused search.number why
+  pub left : new ≡ record old { awaited = take place old.awaited ++ drop (place + 1) old.awaited }
+
+-- A cancel was taken: of an open search, of one that has its entry, or of one that was never asked.
+pub data IsCancelled (line number : ℕ) (old : ServiceState) (result : Taken) (new : ServiceState) : Type 0 where
+  given_up : (place : ℕ) (entry : Entry) → (found : IsGivenUp place search_reason.Cancelled old entry new) → found.search.number ≡ number
+      → result ≡ taken.Cancelled entry → IsCancelled line number old result new
+  too_late : WasAsked number old.searches → All (λ search. search.number ≢ number) old.awaited → result ≡ taken.Nothing → new ≡ old
+      → IsCancelled line number old result new
+  no_such_search : WasNotAsked number old.searches → result ≡ taken.Entry (Refused line NoSuchSearch) → new ≡ old → IsCancelled line number old result new

@@ -1,22 +1,17 @@
 -- Items that are carried out.
 use Rattle.std.specs.Prelude.{◌≡◌, ℕ, List, [], ◌++◌, length, true, false, Option, Some}
-use Rattle.script.specs.Items.{Numbered}
+use Rattle.script.specs.Items.{Numbered, cancel, status}
 use Rattle.shared.specs.Desk.{DeskState}
 use Rattle.shared.specs.History.{Known, known}
 use Rattle.service.specs.declared.items.Outcome.{Outcome}
 use Rattle.service.specs.declared.items.Outcome.TheVariants as outcome
 use Rattle.transcript.specs.declared.entry.Entry.{Entry}
-use Rattle.transcript.specs.declared.entry.Entry.TheVariants.{Published, Found, SearchRefused}
+use Rattle.transcript.specs.declared.entry.Entry.TheVariants.{Published}
 use Rattle.steps.specs.Rows.{accepted_by, command_of, version_in, failures_in, searches_of, is_sync}
+use Rattle.steps.specs.StepRows.{searches_in}
 use Rattle.steps.specs.LegalRows.{IsCommandEntry}
 use Rattle.index.specs.State.{state_of}
 use Rattle.service.specs.Private.Entries.{IsCounted}
-
--- 1 if the entry is that of a search, and otherwise 0
-abbrev pub searches_in : Entry → ℕ
-searches_in (Found number reader turn answer) = 1
-searches_in (SearchRefused number why) = 1
-searches_in _ = 0
 
 -- What a reading can learn after the entry: after a publish, everything accepted; otherwise, the same as before.
 pub data Tells (desk : DeskState) (told : Known) (entry : Entry) (told' : Known) : Type 0 where
@@ -37,7 +32,7 @@ pub record IsEntered (Holds : List ℕ → List ℕ → Type 0) (desk : DeskStat
   pub tells : Tells desk told entry told'
   pub counted : IsCounted (failures_in (Some entry)) failed failed'
 
--- Searches and syncs leave everything as it was.
+-- Searches, syncs, cancels and statuses leave the desk as it was.
 abbrev pub IsLeft : DeskState → Known → ℕ → DeskState → Known → ℕ → Type 0
 IsLeft desk told failed desk' told' failed' = (desk' ≡ desk) × (told' ≡ told) × (failed' ≡ failed)
 
@@ -45,3 +40,5 @@ abbrev pub IsCarriedOut : (List ℕ → List ℕ → Type 0) → DeskState → K
 IsCarriedOut Holds desk told failed item (outcome.Entry entry) desk' told' failed' = IsEntered Holds desk told failed item entry desk' told' failed'
 IsCarriedOut Holds desk told failed item outcome.Search desk' told' failed' = (searches_of item.item ≡ 1) × IsLeft desk told failed desk' told' failed'
 IsCarriedOut Holds desk told failed item outcome.Sync desk' told' failed' = (is_sync item.item ≡ true) × IsLeft desk told failed desk' told' failed'
+IsCarriedOut Holds desk told failed item (outcome.Cancel number) desk' told' failed' = (item.item ≡ cancel number) × IsLeft desk told failed desk' told' failed'
+IsCarriedOut Holds desk told failed item outcome.Status desk' told' failed' = (item.item ≡ status) × IsLeft desk told failed desk' told' failed'

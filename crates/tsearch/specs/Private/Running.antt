@@ -7,6 +7,7 @@ use Rattle.transcript.specs.declared.entry.Entry.{Entry}
 use Rattle.service.specs.Collected.{CollectedState, IsCollected, number_in, filled}
 use Rattle.service.specs.Service.{ServiceState, Fits, Gives, run_of}
 use Rattle.service.specs.Private.Entries.{IsCounted}
+use Rattle.tsearch.specs.Legal.{limits_in}
 use Rattle.tsearch.specs.declared.run.Options.{Options}
 
 -- These items were taken. Their rows are those of the run that the service is in, and their entries are collected. failed,
@@ -16,9 +17,9 @@ pub record IsRunning (Holds : List ℕ → List ℕ → Type 0) (options : Optio
   pub rows : List Row
   pub published : List ℕ
   pub taken : items_of rows ≡ items
-  pub are_rows : AreRows Holds options.max_commands options.readers (run_of service published) rows
+  pub are_rows : AreRows Holds (limits_in options) options.readers (run_of service published) rows
   pub fits : Fits service published
-  pub limit : service.limit ≡ options.max_commands
+  pub limits : service.limits ≡ limits_in options
   pub are_collected : IsCollected rows collected
   pub failures : IsCounted (count_failures rows) failed failed'
 

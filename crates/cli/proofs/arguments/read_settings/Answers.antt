@@ -1,16 +1,16 @@
 use Rattle.std.proofs.Common.{◌≡◌, ◌∙◌, ap, codes, arith, sym, subst, ℕ, List, [], true, Option, Some, map}
-use Rattle.std.specs.Prelude.{◌↔◌, string_bytes}
+use Rattle.std.specs.Prelude.{◌↔◌, option_map, string_bytes}
 use Rattle.std.specs.Str.Parse.{ParsesUnsigned, ExplainsUnsignedError, HasUnsignedDigitsIfOk}
 use Rattle.clap.specs.Faults.{fault_of, is_simple_and_free}
 use Rattle.clap.specs.Matches.{found_of, one_text}
 use Rattle.clap.specs.Simple.{App, app_of, is_simple, matches_of}
 use Rattle.clap.specs.Walk.{first_of, one_of, rows_of}
 use Rattle.clap.proofs.WalkLemmas.{first_value-rows, one_text-rows}
-use Rattle.cli.specs.CommandLine.{command_line, found_in, number_or}
-use Rattle.cli.specs.declared.limits.TheConstants.{DEFAULT_MAX_COMMANDS, DEFAULT_READERS, MAX_COMMANDS, MAX_READERS}
-use Rattle.cli.proofs.NumberLemmas.{max_commands_option, number_given, readers_option}
+use Rattle.cli.specs.CommandLine.{command_line, found_in, number_of, number_or}
+use Rattle.cli.specs.declared.limits.TheConstants.{DEFAULT_MAX_COMMANDS, DEFAULT_READERS, MAX_COMMANDS, MAX_READERS, MAX_SEARCH_MS}
+use Rattle.cli.proofs.NumberLemmas.{max_commands_option, number_given, readers_option, search_ms_option}
 use Rattle.cli.proofs.Options.{HasOptions, has_options, line_is_free, line_is_simple}
-use Rattle.cli.proofs.Settled.{settled_flag, settled_number}
+use Rattle.cli.proofs.Settled.{settled_flag, settled_number, settled_optional}
 use Rattle.cli.proofs.arguments.read_settings.Goals as goal
 
 pub returns : goal.returns
@@ -32,6 +32,9 @@ returns c =
     let some_commands = number_given command m parsed options 2 (codes "max-commands") (max_commands_option command options) 1 MAX_COMMANDS options.max_commands
     _ (λ bs r. ParsesUnsigned 32 10 bs r × ExplainsUnsignedError 10 bs r × HasUnsignedDigitsIfOk bs r) (λ u x g. g.0) (omega arith)
     c.get_one-max_commands.result c.get_one-max_commands.ensures.value in
+    let some_search_ms = number_given command m parsed options 4 (codes "search-ms") (search_ms_option command options) 1 MAX_SEARCH_MS options.search_ms
+    _ (λ bs r. ParsesUnsigned 32 10 bs r × ExplainsUnsignedError 10 bs r × HasUnsignedDigitsIfOk bs r) (λ u x g. g.0) (omega arith)
+    c.get_one-search_ms.result c.get_one-search_ms.ensures.value in
     let readers = settled_number _ (λ bs r. ParsesUnsigned 32 10 bs r × ExplainsUnsignedError 10 bs r × HasUnsignedDigitsIfOk bs r) (λ u x g. g.0)
     (one_text (found_of m) (codes "readers")) c.get_one-readers.result c.unwrap_or-2.result 0 MAX_READERS DEFAULT_READERS
     c.unwrap_or-2.ensures c.get_one-readers.ensures.none c.get_one-readers.ensures.value some_readers (omega arith) (omega arith) in
@@ -40,6 +43,9 @@ returns c =
     DEFAULT_MAX_COMMANDS c.unwrap_or-3.ensures
     c.get_one-max_commands.ensures.none c.get_one-max_commands.ensures.value some_commands
     (omega arith) (omega arith) in
+    let search_ms = settled_optional _ (λ bs r. ParsesUnsigned 32 10 bs r × ExplainsUnsignedError 10 bs r × HasUnsignedDigitsIfOk bs r) (λ u x g. g.0)
+    (one_text (found_of m) (codes "search-ms")) c.get_one-search_ms.result 1 MAX_SEARCH_MS
+    c.get_one-search_ms.ensures.none c.get_one-search_ms.ensures.value some_search_ms in
     let live_flag = settled_flag _ (one_text (found_of m) (codes "live")) c.get_one-live.result c.unwrap_or.result c.unwrap_or.ensures
     c.get_one-live.ensures.none c.get_one-live.ensures.value in
     let stats_flag = settled_flag _ (one_text (found_of m) (codes "stats")) c.get_one-stats.result c.unwrap_or-4.result c.unwrap_or-4.ensures
@@ -50,8 +56,9 @@ returns c =
         readers = readers.0 ∙ ap (number_or DEFAULT_READERS) (text_in (codes "readers"));
         max_commands = commands.0 ∙ ap (number_or DEFAULT_MAX_COMMANDS) (text_in (codes "max-commands"));
         stats = subst (λ (text : Option (List ℕ)). (c.unwrap_or-4.result ≡ true) ↔ (text ≡ Some (codes "true"))) (text_in (codes "stats")) stats_flag;
+        search_ms = search_ms.0 ∙ ap (option_map number_of) (text_in (codes "search-ms"));
         file = c.get_str.ensures ∙ first_value-rows (found_of m) (codes "FILE") ∙ ap (first_of (codes "FILE")) rows;
       };
-      limits = record { readers = readers.2; some_commands = commands.1; few_commands = commands.2 };
+      limits = record { readers = readers.2; some_commands = commands.1; few_commands = commands.2; search_ms = search_ms.1 };
       kinds = taken;
     }

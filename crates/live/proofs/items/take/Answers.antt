@@ -17,6 +17,22 @@ returns-in-Entry-clause-err g c =
     (takes_other _ _ _ c.args.line _ c.args.item.now _ c.in-Some.ensures.some c.in-Entry.ensures.takes) _ c.in-Entry.ensures.counted _ wrote)
     c.show.ensures.err
 
+pub returns-in-Cancelled-clause-ok : goal.returns-in-Cancelled-clause-ok
+returns-in-Cancelled-clause-ok g c =
+    on_ok_map c.show-in-Cancelled.result
+    (λ wrote start taken session.
+    took_entry _ _ start taken _ session (record { line = c.args.line; item = c.args.item.now }) c.take.new.self c.requires.may c.in-Cancelled.entry
+    (takes_other _ _ _ c.args.line _ c.args.item.now _ c.in-Some.ensures.some c.in-Cancelled.ensures.takes) _ c.in-Cancelled.ensures.counted _ _
+    c.show-in-Cancelled.ensures.marks wrote) c.show-in-Cancelled.ensures.ok
+
+pub returns-in-Cancelled-clause-err : goal.returns-in-Cancelled-clause-err
+returns-in-Cancelled-clause-err g c =
+    on_err_map c.show-in-Cancelled.result
+    (λ wrote start taken session.
+    took_front _ _ start taken _ session (record { line = c.args.line; item = c.args.item.now }) c.take.new.self c.requires.may c.in-Cancelled.entry
+    (takes_other _ _ _ c.args.line _ c.args.item.now _ c.in-Some.ensures.some c.in-Cancelled.ensures.takes) _ c.in-Cancelled.ensures.counted _ wrote)
+    c.show-in-Cancelled.ensures.err
+
 pub returns-in-Search-clause-ok : goal.returns-in-Search-clause-ok
 returns-in-Search-clause-ok g c =
     on_ok_map c.hand_out.result
@@ -35,7 +51,7 @@ returns-in-Search-clause-err g c =
     (takes_other _ _ _ c.args.line _ c.args.item.now _ c.in-Some.ensures.some c.in-Search.ensures.takes) _ c.in-Search.ensures.counted) _ _ front)
     c.hand_out.ensures.err
 
-pub returns-in-Sync-clause-ok : goal.returns-in-Sync-clause-ok
-returns-in-Sync-clause-ok g c = λ start taken session.
+pub returns-in-Nothing-clause-ok : goal.returns-in-Nothing-clause-ok
+returns-in-Nothing-clause-ok g c = λ start taken session.
     took_open _ _ start taken _ session (record { line = c.args.line; item = c.args.item.now }) c.take.new.self c.requires.may
-    (takes_other _ _ _ c.args.line _ c.args.item.now _ c.in-Some.ensures.some c.in-Sync.ensures.takes) _ c.in-Sync.ensures.counted
+    (takes_other _ _ _ c.args.line _ c.args.item.now _ c.in-Some.ensures.some c.in-Nothing.ensures.takes) _ c.in-Nothing.ensures.counted

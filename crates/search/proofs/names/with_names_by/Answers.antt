@@ -8,7 +8,7 @@ use Rattle.search.proofs.NameLemmas.{keeps_one, keeps_none, keeps_end}
 use Rattle.search.proofs.names.with_names_by.Goals as goal
 
 pub loop-document-preserved : goal.loop-document-preserved
-loop-document-preserved c =
+loop-document-preserved g c =
     let at = c.loop-document in
     let steps : into_iter_items at.document-iterator ≡ c.in-Some.document ∷ into_iter_items c.next.new.self = c.in-Some.ensures.steps.0 in
     record {
@@ -20,8 +20,8 @@ loop-document-preserved c =
       way = c.matches_name.ensures.way;
     }
 
-pub loop-document-preserved-in-Continue-1 : goal.loop-document-preserved-in-Continue-1
-loop-document-preserved-in-Continue-1 c =
+pub loop-document-preserved-in-Continue-branch-2 : goal.loop-document-preserved-in-Continue-branch-2
+loop-document-preserved-in-Continue-branch-2 g c =
     let at = c.loop-document in
     let steps : into_iter_items at.document-iterator ≡ c.in-Some.document ∷ into_iter_items c.next.new.self = c.in-Some.ensures.steps.0 in
     record {
@@ -34,7 +34,7 @@ loop-document-preserved-in-Continue-1 c =
     }
 
 pub returns : goal.returns
-returns c =
+returns g c =
     let at = c.loop-document in
     let none = nil_from_length (into_iter_items at.document-iterator) (sym at.invariant.len ∙ c.in-None.ensures.steps.0) in
     subst (λ all. Selects (IsNamed (form c.args.tree.now)) all at.kept.items) c.into_iter-document-iterator.ensures.into_iter_gives.0

@@ -7,7 +7,7 @@ use Rattle.search.proofs.NameLemmas.{KeepsSoFar}
 use Rattle.search.proofs.names.with_names_by.Given as goal
 
 abbrev pub invariant-loop-document : goal.invariant-loop-document
-invariant-loop-document l = record {
+invariant-loop-document g l = record {
   so_far : KeepsSoFar (IsNamed (form l.tree)) (into_iter_items l.initial.document-iterator) l.kept.items (into_iter_items l.document-iterator);
   len : into_iter_len l.document-iterator ≡ length (into_iter_items l.document-iterator);
   way : Finds (form l.tree) l.way;

@@ -1,7 +1,7 @@
 -- The state after two commands is that of the list of the two.
 use Rattle.std.proofs.Common.{[], ◌∷◌, sym, ◌∙◌, ap, subst}
 use Rattle.index.specs.declared.command.Command.TheVariants.{Put}
-use Rattle.index.specs.State.{state_of, applied}
+use Rattle.index.specs.State.{applied}
 use Rattle.index.proofs.StateLemmas.{state_of-push}
 use Rattle.search.specs.Scan.{IsAnswerOf}
 use Rattle.search.specs.Prepared.{pattern_of}

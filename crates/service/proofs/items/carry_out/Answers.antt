@@ -43,3 +43,9 @@ returns-in-BodyNotClosed-clause-done g c =
 
 pub returns-in-Sync-clause-done : goal.returns-in-Sync-clause-done
 returns-in-Sync-clause-done g c = rw c.in-Sync.is (refl, (refl, refl, refl))
+
+pub returns-in-Cancel-clause-done : goal.returns-in-Cancel-clause-done
+returns-in-Cancel-clause-done g c = rw c.in-Cancel.is (refl, (refl, refl, refl))
+
+pub returns-in-Status-clause-done : goal.returns-in-Status-clause-done
+returns-in-Status-clause-done g c = rw c.in-Status.is (refl, (refl, refl, refl))

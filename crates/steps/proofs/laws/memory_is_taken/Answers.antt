@@ -3,4 +3,4 @@ use Rattle.steps.proofs.WrittenLemmas.{memory_refusal}
 use Rattle.steps.proofs.laws.memory_is_taken.Goals as goal
 
 pub returns : goal.returns
-returns g c = λ most readers s item line s' step. memory_refusal g.H.Holding.holds most readers s item _ s' line refl step
+returns g c = λ limits readers s item line s' step. memory_refusal g.H.Holding.holds limits readers s item _ s' line refl step

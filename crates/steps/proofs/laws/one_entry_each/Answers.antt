@@ -5,8 +5,8 @@ use Rattle.steps.proofs.laws.one_entry_each.Goals as goal
 
 pub returns-clause-one : goal.returns-clause-one
 returns-clause-one g c =
-    λ most readers from items entries s first run empty number some le.
-    let is = run_counted g.H.Holding.holds most readers from first run in
+    λ limits readers from items entries s first run empty number some le.
+    let is = run_counted g.H.Holding.holds limits readers from first run in
     omega (
       arith,
       is.once number some (omega (arith, le, is.searches)),
@@ -15,6 +15,6 @@ returns-clause-one g c =
 
 pub returns-clause-no_other : goal.returns-clause-no_other
 returns-clause-no_other g c =
-    λ most readers from items entries s first run.
-    let is = run_counted g.H.Holding.holds most readers from first run in
+    λ limits readers from items entries s first run.
+    let is = run_counted g.H.Holding.holds limits readers from first run in
     (omega (arith, is.zero), λ number lt. omega (arith, is.past number (omega (arith, lt, is.searches))))

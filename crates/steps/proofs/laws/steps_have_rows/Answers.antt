@@ -3,6 +3,6 @@ use Rattle.steps.proofs.laws.steps_have_rows.Goals as goal
 
 pub returns : goal.returns
 returns g c =
-    λ most readers from items entries s first run.
-    let is = steps_have_rows g.H.Holding.holds most readers from first run in
+    λ limits readers from items entries s first run.
+    let is = steps_have_rows g.H.Holding.holds limits readers from first run in
     (is.rows, is.are, is.same_items, is.same_entries, same_failures is.rows entries is.same_entries)

@@ -1,6 +1,5 @@
-use Rattle.std.proofs.Common.{arith, ap, length}
 use Rattle.transcript.specs.Transcript.{text_of_entry}
-use Rattle.transcript.proofs.WriteLemmas.{front_of_more, held_back, held_in_part, held_less, held_none, held_with_next, on_err_weaker}
+use Rattle.transcript.proofs.WriteLemmas.{front_of_more, held_back, held_in_part, held_less, held_with_next, on_err_weaker}
 use Rattle.transcript.proofs.output.write_transcript.Goals as goal
 
 pub returns-in-Err-clause-err : goal.returns-in-Err-clause-err

@@ -7,12 +7,12 @@ invariant_of-self g c = (
   same_opening_after c.put_read.result _ c.self.inside.desk c.put_read.new.desk c.put_read.ensures.desk ∙ c.self.invariant.0,
   c.self.invariant.1,
   c.self.invariant.2,
-  put_is_service c.self.inside.desk c.put_read.new.desk c.self.inside.told _ _ _ _ c.args.name.now c.args.body.items c.args.line c.put_read.result
+  put_is_service c.self.inside.desk c.put_read.new.desk _ c.self.inside.told _ _ _ _ c.args.name.now c.args.body.items c.args.line c.put_read.result
       (c.put_read.ensures.entry c.args.line) c.put_read.ensures.desk c.self.invariant.3,
 )
 
 pub returns-clause-takes : goal.returns-clause-takes
 returns-clause-takes g c =
     rw (← c.self.view_is)
-    (put_left c.self.inside.desk c.put_read.new.desk c.self.inside.told _ _ _ _ c.args.name.now c.args.body.items c.args.line c.put_read.result
+    (put_left c.self.inside.desk c.put_read.new.desk _ c.self.inside.told _ _ _ _ c.args.name.now c.args.body.items c.args.line c.put_read.result
     c.entry_of.result c.entry_of.ensures (c.put_read.ensures.entry c.args.line) c.put_read.ensures.desk)

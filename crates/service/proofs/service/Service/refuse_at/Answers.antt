@@ -1,12 +1,12 @@
 use Rattle.std.proofs.Common.{ap, sym, subst, ◌<◌, length}
-use Rattle.service.proofs.ServiceLemmas.{gives_refusal, refusal_is_service}
+use Rattle.service.proofs.ServiceLemmas.{is_refused, refusal_is_service}
 use Rattle.service.proofs.service.Service.refuse_at.Goals as goal
 
-pub returns-clause-gives : goal.returns-clause-gives
-returns-clause-gives g c =
+pub returns : goal.returns
+returns g c =
     rw (← c.self.view_is)
-    (gives_refusal _ c.args.place _ (subst (λ s. c.args.place < length s.awaited) (sym c.self.view_is) c.requires) c.remove-search.result
-    c.remove-search.ensures.value (ap (λ s. s.number) c.search.view_is) _ c.remove-search.ensures.by_index.2)
+    (is_refused _ c.args.place _ (subst (λ s. c.args.place < length s.awaited) (sym c.self.view_is) c.requires) c.remove-search.result
+    c.remove-search.ensures.value (ap (λ s. s.number) c.search.view_is) _ c.remove-search.ensures.by_index.2 c.args.reason)
 
 pub invariant_of-self : goal.invariant_of-self
 invariant_of-self g c = (

@@ -5,4 +5,4 @@ use Rattle.service.proofs.service.Service.refuse_lost_put.Goals as goal
 pub returns : goal.returns
 returns g c body =
     refused_put c.args.self.now c.args.name.now body c.args.line c.reason_of_lost_put.result c.entry_of.result c.entry_of.ensures
-    (c.reason_of_lost_put.ensures c.args.self.now.limit (state_of c.args.self.now.accepted) body c.args.line)
+    (c.reason_of_lost_put.ensures c.args.self.now.limits.commands (state_of c.args.self.now.accepted) body c.args.line)

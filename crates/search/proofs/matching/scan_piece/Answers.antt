@@ -1,0 +1,17 @@
+use Rattle.std.proofs.lemmas.Result.{on_ok_weaker}
+use Rattle.ere.specs.Tree.{form}
+use Rattle.search.proofs.WayLemmas.{finder_of, finds_by}
+use Rattle.search.proofs.matching.scan_piece.Goals as goal
+
+pub returns-in-FromMatchToMatch-clause-hits : goal.returns-in-FromMatchToMatch-clause-hits
+returns-in-FromMatchToMatch-clause-hits c =
+    on_ok_weaker c.sweep_lines.result (λ added.
+    added (form c.args.tree.now)
+    (finder_of (form c.args.tree.now) c.args.way.now c.in-FromMatchToMatch.finder c.in-FromMatchToMatch.is c.requires.way))
+    c.sweep_lines.ensures.hits
+
+pub returns-in-FromMatchToMatch-clause-way : goal.returns-in-FromMatchToMatch-clause-way
+returns-in-FromMatchToMatch-clause-way c =
+    finds_by (form c.args.tree.now) c.sweep_lines.new.finder
+    (c.sweep_lines.ensures.same (form c.args.tree.now)
+    (finder_of (form c.args.tree.now) c.args.way.now c.in-FromMatchToMatch.finder c.in-FromMatchToMatch.is c.requires.way))

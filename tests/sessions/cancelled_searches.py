@@ -1,0 +1,480 @@
+#!/usr/bin/env python3
+"""Cancels searches of the built program, gives searches a limit of time, and asks for statuses while searches are open.
+
+A long search would take minutes. It goes through many documents, and each of them takes some tenths of a second. So what waits for the
+whole search does not come within the limit of time, and what waits for one document does. The order of the texts shows which of the two
+it is, and no time is measured. A slow search takes some tenths of a second, in a document with one long line, and a quick one next to
+nothing. What a session has written is also judged (judge/transcripts.py): each search has one entry, and each status shows what is so.
+
+Usage: tests/sessions/cancelled_searches.py [NAME..]   The last line counts: N passed, M failed.
+"""
+
+import os
+import pathlib
+import random
+import re
+import subprocess
+import sys
+
+sys.path.insert(0, str(pathlib.Path(__file__).resolve().parent.parent))
+
+from built import PROGRAM, put  # noqa: E402
+from counted import Wrong, run_tests  # noqa: E402
+from judge import transcripts  # noqa: E402
+from live import MEBIBYTE, SECONDS, Session, faults_with_each, same  # noqa: E402
+from sessions.slow_searches import SLOW, TABLE, slow_body  # noqa: E402
+
+ROUNDS, OPEN, BATCHES = 5, 200, 400
+# While so many searches are open, no item is taken.
+MOST_OPEN = 256
+# A body of one line that is too long for the first documents of a search, which are looked at in another way.
+MANY, LENGTH = 800, 8_300
+LETTERS = bytes(b"ab"[byte % 2] for byte in range(256))
+
+
+def long_bodies():
+    source = random.Random(1)
+    return {b"long%03d" % number: b"x" + source.randbytes(LENGTH).translate(LETTERS) for number in range(MANY)}
+
+
+BODIES = {**long_bodies(), b"slow": slow_body(1, 4_000), b"quick": b"hello\n"}
+DOCUMENTS = b"".join(put(*pair) for pair in BODIES.items()) + b"publish\n"
+VERSION, BYTES = len(BODIES), sum(map(len, BODIES.values()))
+
+LONG_SEARCH, SLOW_SEARCH, QUICK_SEARCH = b"searchin ^long " + SLOW + b"\n", b"searchin ^slow$ " + SLOW + b"\n", b"searchin ^quick$ hello\n"
+# The patterns that are not plain, each with its spelling for the judge or the reason of its refusal.
+PATTERNS = {**TABLE, b"(": "group not closed at 0"}
+QUICK = b"search %%d version %d lines 1\nquick:1:hello\n" % VERSION
+FOUND = b"search %%d version %d lines 1\nslow:2:end\n" % VERSION
+CANCELLED, TOO_SLOW = b"search %d refused: cancelled\n", b"search %d refused: too slow\n"
+REFUSED, BAD_LINE, NO_SUCH_SEARCH = b"line %d refused: %s\n", b"bad line", b"no such search"
+STATUS = b"line %d status version %d documents %d bytes %d accepted %d of 1000000 open %d\n"
+
+
+class Talk:
+    """What was sent to a session and what it has written. It begins with the documents."""
+
+    def __init__(self, session, readers, timed=False, documents=DOCUMENTS):
+        self.session, self.how = session, {"readers": readers, "timed": timed}
+        self.sent, self.written, self.line, self.searches = [], [], 1, 0
+        self.send(documents)
+
+    def send(self, items):
+        """Sends items, and returns the line of the first."""
+        self.session.send(items)
+        self.sent.append(items)
+        line, self.line = self.line, self.line + items.count(b"\n")
+        self.searches += len(re.findall(rb"^search(?:in)? ", items, re.MULTILINE))
+        return line
+
+    def ask(self, *searches):
+        """Sends searches, and returns their numbers."""
+        first = self.searches + 1
+        self.send(b"".join(searches))
+        return list(range(first, self.searches + 1))
+
+    def cancel(self, numbers):
+        return self.send(b"".join(b"cancel %d\n" % number for number in numbers))
+
+    def read(self):
+        entry = self.session.read_entry()
+        self.written.append(entry)
+        return entry
+
+    def expect(self, *wanted):
+        """Reads as many entries as are wanted. They must be these, in this order."""
+        for text in wanted:
+            same("the next entry", self.read(), text)
+
+    def expect_in_any_order(self, wanted):
+        """Reads as many entries as are wanted. They must be these."""
+        got = [self.read() for _ in wanted]
+        same("the entries", sorted(got), sorted(wanted))
+        return got
+
+    def expect_open(self, count, version=VERSION, documents=VERSION, size=BYTES, accepted=VERSION):
+        """Asks for the status, which must come next and show so many open searches."""
+        line = self.send(b"status\n")
+        self.expect(STATUS % (line, version, documents, size, accepted, count))
+
+    def ask_until_answered(self):
+        """Asks a quick search again and again while it is too slow."""
+        for _ in range(100):
+            number, = self.ask(QUICK_SEARCH)
+            entry = self.read()
+            if entry != TOO_SLOW % number:
+                same("the answer", entry, QUICK % number)
+                return
+        raise Wrong("a quick search is too slow a hundred times")
+
+    def judge(self, status, **how):
+        script, text = b"".join(self.sent), b"".join(self.written)
+        fault = transcripts.fault_of(script, text, status, session=True, table=PATTERNS, **self.how, **how)
+        if fault:
+            raise Wrong(f"{fault}: {text!r}")
+
+    def end(self, status, close=True):
+        """Ends the session, which has written all that must come."""
+        self.session.end(status, close=close)
+        self.judge(status)
+
+    def leave(self):
+        """Leaves the session while searches are open."""
+        self.session.expect_quiet()
+        self.judge(2, whole=False)
+
+
+def readers_of(start):
+    """With how many readers it starts a session."""
+    return int(start.args[start.args.index("--readers") + 1])
+
+
+def every_second_of_many_open_searches(start):
+    """While each reader has a long search, many more are open: long ones, which are all cancelled, and quick ones, which are answered once
+    the readers are free."""
+    readers = readers_of(start)
+    with start() as session:
+        talk = Talk(session, readers)
+        for _ in range(ROUNDS):
+            held = talk.ask(*[LONG_SEARCH] * readers)
+            asked = talk.ask(*[LONG_SEARCH, QUICK_SEARCH] * (OPEN // 2))
+            talk.expect_open(readers + OPEN)
+            talk.cancel(asked[::2])
+            talk.expect(*(CANCELLED % number for number in asked[::2]))
+            talk.expect_open(readers + OPEN // 2)
+            talk.cancel(held)
+            cancelled = [CANCELLED % number for number in held]
+            got = talk.expect_in_any_order(cancelled + [QUICK % number for number in asked[1::2]])
+            same("the order of the cancelled searches", [entry for entry in got if entry in cancelled], cancelled)
+            talk.expect_open(0)
+        talk.end(2)
+
+
+def cancelled_search_frees_its_reader(start):
+    """All readers have long searches, and a quick one waits. Once the first is cancelled, the quick one is answered."""
+    readers = readers_of(start)
+    with start() as session:
+        talk = Talk(session, readers)
+        held, (quick,) = talk.ask(*[LONG_SEARCH] * readers), talk.ask(QUICK_SEARCH)
+        session.expect_quiet()
+        talk.cancel(held[:1])
+        talk.expect(CANCELLED % held[0], QUICK % quick)
+        talk.expect_open(readers - 1)
+        talk.leave()
+
+
+def cancel_right_behind_its_search(start):
+    """The search, its cancel and the next search are sent together, again and again."""
+    with start() as session:
+        talk = Talk(session, readers_of(start))
+        for number in range(1, OPEN // 2, 2):
+            talk.send(LONG_SEARCH + b"cancel %d\n" % number + QUICK_SEARCH)
+            talk.expect(CANCELLED % number, QUICK % (number + 1))
+        talk.end(2)
+
+
+def search_is_given_up_within_a_document():
+    """Two readers have a document each, and the first document takes twice as long as the second. The search of the first is cancelled.
+    Then its reader has the next search before the second is done with its document, which takes half a minute."""
+    with Session("--readers", "2") as session:
+        session.send(put(b"a", slow_body(64, 16_000)) + put(b"b", slow_body(32, 16_000)) + b"publish\n")
+        session.send(b"".join(b"searchin ^%s$ %s\n" % (name, SLOW) for name in (b"a", b"b")) + b"searchin ^c$ x\n")
+        session.expect_quiet()
+        session.ask(b"cancel 1\n", CANCELLED % 1 + b"search 3 version 2 lines 0\n")
+        session.ask(b"cancel 2\n", CANCELLED % 2)
+        session.end(2)
+
+
+def cancel_behind_a_sync(start):
+    """It waits until the search has its answer, and then does nothing."""
+    with start() as session:
+        talk = Talk(session, readers_of(start))
+        line = talk.send(SLOW_SEARCH + b"sync\ncancel 1\nwhat\n" + SLOW_SEARCH + QUICK_SEARCH + b"sync\ncancel 2\ncancel 3\nstatus\n")
+        talk.expect(FOUND % 1, REFUSED % (line + 3, BAD_LINE))
+        talk.expect_in_any_order([FOUND % 2, QUICK % 3])
+        talk.expect(STATUS % (line + 9, VERSION, VERSION, BYTES, VERSION, 0))
+        talk.end(2)
+
+
+def cancel_of_a_search_that_has_its_entry(start):
+    """It has no entry, whether the search was answered, refused for its pattern, or cancelled before."""
+    with start() as session:
+        talk = Talk(session, readers_of(start))
+        talk.ask(QUICK_SEARCH)
+        talk.expect(QUICK % 1)
+        line = talk.send(b"cancel 1\ncancel 1\nwhat\nsearch (\ncancel 2\nwhat\n" + LONG_SEARCH + b"cancel 3\ncancel 3\ncancel 2\ncancel 1\nwhat\n")
+        talk.expect(REFUSED % (line + 2, BAD_LINE), b"search 2 refused: group not closed at 0\n", REFUSED % (line + 5, BAD_LINE))
+        talk.expect(CANCELLED % 3, REFUSED % (line + 11, BAD_LINE))
+        session.expect_quiet()
+        talk.ask(QUICK_SEARCH)
+        talk.expect(QUICK % 4)
+        talk.end(2)
+
+
+def cancel_of_a_search_that_was_not_asked(start):
+    """It is refused in its turn, also while searches are open, and cancels no other search."""
+    with start() as session:
+        talk = Talk(session, readers_of(start))
+        line = talk.cancel([1])
+        talk.expect(REFUSED % (line, NO_SUCH_SEARCH))
+        talk.ask(LONG_SEARCH)
+        for number in 0, 2, 3, 2**32, 2**32 + 1, 2**64 + 1, 10**4_000 + 1:
+            line = talk.cancel([number])
+            talk.expect(REFUSED % (line, NO_SUCH_SEARCH))
+        talk.expect_open(1)
+        talk.send(b"cancel " + b"0" * 5_000 + b"1\n")
+        talk.expect(CANCELLED % 1)
+        talk.end(2)
+
+
+def cancel_comes_in_its_turn(start):
+    """The refusal of a cancelled search comes between those of the items before and after its cancel."""
+    with start() as session:
+        talk = Talk(session, readers_of(start))
+        talk.ask(LONG_SEARCH, LONG_SEARCH)
+        line = talk.send(b"what\ncancel 2\nremove b\ncancel 1\ncancel 3\n")
+        talk.expect(REFUSED % (line, BAD_LINE), CANCELLED % 2, REFUSED % (line + 2, b"no such file"), CANCELLED % 1)
+        talk.expect(REFUSED % (line + 4, NO_SUCH_SEARCH))
+        talk.end(2)
+
+
+def answer_of_a_cancelled_search_is_dropped(start):
+    """A slow search has one document, so its reader finds its answer before it looks again. The reader then has another search, which has
+    the only answer."""
+    readers = readers_of(start)
+    with start() as session:
+        talk = Talk(session, readers)
+        slow = talk.ask(*[SLOW_SEARCH] * readers)
+        talk.cancel(slow)
+        talk.expect(*(CANCELLED % number for number in slow))
+        again = talk.ask(*[SLOW_SEARCH] * readers)
+        talk.expect_in_any_order([FOUND % number for number in again])
+        talk.end(2)
+
+
+def many_cancels_leave_memory_level(start):
+    """Quick searches, each with a cancel right behind it, and statuses."""
+    with start() as session:
+        talk = Talk(session, readers_of(start), documents=put(b"quick", b"hello\n") + b"publish\n")
+        early = 0
+        for batch in range(BATCHES):
+            first = batch * OPEN + 1
+            talk.send(b"".join(QUICK_SEARCH + b"cancel %d\n" % number for number in range(first, first + OPEN)) + b"status\nsync\nstatus\n")
+            for _ in range(OPEN + 2):
+                talk.read()
+            if batch == BATCHES // 10:
+                early = session.memory("VmRSS")
+        late = session.memory("VmRSS")
+        if late - early > 2 * MEBIBYTE:
+            raise Wrong(f"{early} bytes after a tenth of the cancels, and {late} after all")
+        talk.end(2)
+
+
+def status_beside_open_searches(start):
+    """It shows what is published, what is accepted, and how many searches are open, and waits for none of them."""
+    with start() as session:
+        talk = Talk(session, readers_of(start))
+        talk.expect_open(0)
+        for count in 1, 2, 3:
+            talk.ask(LONG_SEARCH)
+            talk.expect_open(count)
+        talk.send(put(b"quick", b"bye") + b"remove slow\n")
+        talk.expect_open(3, accepted=VERSION + 2)
+        talk.send(b"publish\n")
+        now = {"version": VERSION + 2, "documents": VERSION - 1, "accepted": VERSION + 2}
+        now["size"] = BYTES - len(BODIES[b"slow"]) - len(b"hello\n") + len(b"bye")
+        talk.expect_open(3, **now)
+        talk.cancel([2])
+        talk.expect(CANCELLED % 2)
+        talk.expect_open(2, **now)
+        talk.cancel([1, 3])
+        talk.expect(CANCELLED % 1, CANCELLED % 3)
+        talk.expect_open(0, **now)
+        talk.end(2)
+
+
+def items_wait_while_very_many_searches_are_open(start):
+    """A status is taken while 255 are open. While 256 are, it waits, and so does a cancel."""
+    with start() as session:
+        talk = Talk(session, readers_of(start))
+        talk.ask(*[LONG_SEARCH] * (MOST_OPEN - 1))
+        talk.expect_open(MOST_OPEN - 1)
+        talk.ask(LONG_SEARCH)
+        talk.send(b"status\ncancel 1\n")
+        talk.leave()
+
+
+def input_that_ends_behind_cancels(start):
+    """The session ends although the cancelled searches would take minutes."""
+    for last, refused in (b"", []), (b"put a\n", [b"bad put"]), (b"put a 1\nxy", [b"body not closed"]):
+        with start() as session:
+            talk = Talk(session, readers_of(start))
+            numbers = talk.ask(*[LONG_SEARCH] * 20)
+            talk.cancel(numbers)
+            line = talk.send(last)
+            talk.expect(*(CANCELLED % number for number in numbers), *(REFUSED % (line, reason) for reason in refused))
+            talk.end(2, close=not last)
+
+
+def send_until_the_end(session, items):
+    """Sends items one by one until the session ends. A process that another thread starts has the session's output open for a moment, so
+    what is written then is taken although nobody reads it."""
+    for item in items:
+        try:
+            session.send(item)
+            session.process.wait(0.5)
+        except (BrokenPipeError, subprocess.TimeoutExpired):
+            pass
+
+
+def output_that_fails_while_long_searches_are_at_work(start):
+    """The session ends at its next text, which may be that of a cancel or a status, and does not wait for the searches."""
+    for items in [b"cancel %d\n" % number for number in range(1, 21)], [b"status\n"] * 20, [b"cancel 99\n"] * 20:
+        with start() as session:
+            session.send(DOCUMENTS + LONG_SEARCH * 20)
+            session.ask(b"what\n", REFUSED % (DOCUMENTS.count(b"\n") + 21, BAD_LINE))
+            session.process.stdout.close()
+            send_until_the_end(session, items)
+            session.end(2, close=False)
+        with open("/dev/full", "wb") as full, start(output=full) as session:
+            session.send(DOCUMENTS + LONG_SEARCH * 20 + items[0])
+            session.end(2, b"tsearch: cannot write\n", close=False)
+
+
+def long_searches_are_too_slow(start):
+    """Each is given up in time, and the session goes on."""
+    readers = readers_of(start)
+    with start("--search-ms", "50") as session:
+        talk = Talk(session, readers, timed=True)
+        numbers = talk.ask(*[LONG_SEARCH] * 20)
+        talk.expect_in_any_order([TOO_SLOW % number for number in numbers])
+        talk.expect_open(0)
+        line = talk.send(b"cancel 1\nwhat\n")
+        talk.expect(REFUSED % (line + 1, BAD_LINE))
+        talk.ask_until_answered()
+        talk.end(2)
+
+
+def searches_have_much_time(start):
+    """With a limit that none of them comes to, slow and quick searches are answered."""
+    for limit in "60000", "4294967295":
+        with start("--search-ms", limit) as session:
+            talk = Talk(session, readers_of(start), timed=True)
+            first, second = talk.ask(SLOW_SEARCH, QUICK_SEARCH)
+            talk.expect_in_any_order([FOUND % first, QUICK % second])
+            talk.end(0)
+
+
+def time_of_a_search_that_waits_for_a_reader():
+    """It counts too: behind a slow search, which its reader does not give up within a line, a quick one is too slow."""
+    with Session("--readers", "1", "--search-ms", "100") as session:
+        talk = Talk(session, 1, timed=True)
+        talk.ask(SLOW_SEARCH, QUICK_SEARCH)
+        first = talk.read()
+        if first not in (FOUND % 1, TOO_SLOW % 1):
+            raise Wrong(f"the slow search has the entry {first!r}")
+        talk.expect(TOO_SLOW % 2)
+        talk.ask_until_answered()
+        talk.end(2)
+
+
+def status_behind_very_many_searches_that_are_too_slow():
+    """It is taken once the first of 256 is given up, and shows how many are left."""
+    with Session("--readers", "1", "--search-ms", "1000") as session:
+        talk = Talk(session, 1, timed=True)
+        numbers = talk.ask(*[LONG_SEARCH] * MOST_OPEN)
+        talk.send(b"status\n")
+        got = [talk.read() for _ in range(MOST_OPEN + 1)]
+        same("the searches", [entry for entry in got if b"status" not in entry], [TOO_SLOW % number for number in numbers])
+        same("the first entry", got[0], TOO_SLOW % numbers[0])
+        talk.end(2)
+
+
+def run(readers, *words, items):
+    """The status and the text of a run that begins with the documents."""
+    done = subprocess.run([PROGRAM, "--readers", str(readers), *words], input=DOCUMENTS + items, capture_output=True, check=False, timeout=2 * SECONDS)
+    same("standard error", done.stderr, b"")
+    return done.returncode, done.stdout
+
+
+def run_that_cancels_long_searches():
+    """Readers have the searches when the cancels are taken, and the run does not wait for them."""
+    line = DOCUMENTS.count(b"\n") + 1
+    cancels = b"".join(b"cancel %d\n" % number for number in range(1, 21))
+    items = LONG_SEARCH * 20 + b"status\n" + cancels + b"status\ncancel 5\ncancel 21\n" + QUICK_SEARCH
+    shown = [STATUS % (line + at, VERSION, VERSION, BYTES, VERSION, count) for at, count in ((20, 20), (41, 0))]
+    cancelled = b"".join(CANCELLED % number for number in range(1, 21))
+    for readers in 1, 2, 16:
+        same("the run", run(readers, items=items), (2, cancelled + b"".join(shown) + REFUSED % (line + 43, NO_SUCH_SEARCH) + QUICK % 21))
+
+
+def run_whose_searches_are_too_slow():
+    for readers in 0, 1, 2, 16:
+        script = LONG_SEARCH * 3 + b"sync\nstatus\n" + QUICK_SEARCH
+        status, text = run(readers, "--search-ms", "1000", items=script)
+        line = DOCUMENTS.count(b"\n") + 1
+        begin = b"".join(TOO_SLOW % number for number in (1, 2, 3)) + STATUS % (line + 4, VERSION, VERSION, BYTES, VERSION, 0)
+        same("the run", (status, text), (2, begin + QUICK % 4))
+
+
+# Scripts with slow searches beside cancels, statuses and other items.
+SMALL = put(b"slow", slow_body(1, 3_000)) + b"publish\n"
+JUDGED = [
+    SLOW_SEARCH + b"cancel 1\nstatus\n" + put(b"a", b"hi") + b"publish\nstatus\nsearch h\ncancel 2\ncancel 1\nwhat\n" + SLOW_SEARCH + b"status\n",
+    SLOW_SEARCH * 3 + b"status\ncancel 2\nstatus\nsync\ncancel 1\ncancel 4\nstatus\n" + SLOW_SEARCH * 2 + b"cancel 4\nstatus\n",
+    (SLOW_SEARCH + b"search end\nstatus\n") * 3 + b"cancel 3\npublish\ncancel 6\nsearch (\nstatus\ncancel 1\ncancel 7\ncancel 8\nsync\nstatus\n",
+    b"cancel 1\n" + SLOW_SEARCH + put(b"slow", b"end") + b"publish\ncancel 1\n" + SLOW_SEARCH + b"cancel 2\nstatus\nremove slow\npublish\nstatus\n" + SLOW_SEARCH,
+]
+
+
+def judge(words, readers, script):
+    done = subprocess.run([PROGRAM, *words], input=script, capture_output=True, check=False, timeout=SECONDS)
+    same("standard error", done.stderr, b"")
+    how = {"session": "--live" in words, "timed": "--search-ms" in words, "readers": readers}
+    fault = transcripts.fault_of(script, done.stdout, done.returncode, table=PATTERNS, **how)
+    if fault:
+        raise Wrong(f"{words}: {fault}: {done.stdout!r}")
+
+
+def runs_and_sessions_with_slow_searches_are_legal():
+    for readers in 0, 1, 2, 16:
+        for words in [], ["--live"]:
+            for limit in [], ["--search-ms", "1"], ["--search-ms", "300"]:
+                for items in JUDGED:
+                    judge(words + ["--readers", str(readers)] + limit, readers, SMALL + items)
+
+
+# Tests with each number of readers but 0, and tests with each.
+WITH_READERS = [
+    every_second_of_many_open_searches,
+    cancelled_search_frees_its_reader,
+    cancel_right_behind_its_search,
+    cancel_behind_a_sync,
+    cancel_of_a_search_that_has_its_entry,
+    cancel_of_a_search_that_was_not_asked,
+    cancel_comes_in_its_turn,
+    answer_of_a_cancelled_search_is_dropped,
+    many_cancels_leave_memory_level,
+    status_beside_open_searches,
+    items_wait_while_very_many_searches_are_open,
+    input_that_ends_behind_cancels,
+    output_that_fails_while_long_searches_are_at_work,
+]
+WITH_EACH = [long_searches_are_too_slow, searches_have_much_time]
+ONCE = [
+    search_is_given_up_within_a_document,
+    time_of_a_search_that_waits_for_a_reader,
+    status_behind_very_many_searches_that_are_too_slow,
+    run_that_cancels_long_searches,
+    run_whose_searches_are_too_slow,
+    runs_and_sessions_with_slow_searches_are_legal,
+]
+
+
+def faults_of(test):
+    numbers = ["0", "1", "2", "16"] if test in WITH_EACH else ["1", "2", "16"]
+    return faults_with_each(WITH_READERS + WITH_EACH, numbers)(test)
+
+
+if __name__ == "__main__":
+    run_tests(WITH_READERS + WITH_EACH + ONCE, faults_of, os.cpu_count())
