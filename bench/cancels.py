@@ -1,6 +1,6 @@
 """How soon a cancel is answered and its reader free, and what it costs to look for one: python3 bench/cancels.py FOLDER.
 
-Prints two tables, in some twenty minutes, for sessions with one reader over the folder's files and a few documents of long lines:
+Prints two tables, in some six minutes, for sessions with one reader over the folder's files and a few documents of long lines:
 
 - how long it takes from before a cancel is sent until its entry is read, and until the search that is sent with it is answered, which
   finds nothing and takes next to no time by itself. The cancel comes at a random moment of a search that is at work. Searches that are
@@ -9,8 +9,8 @@ Prints two tables, in some twenty minutes, for sessions with one reader over the
 - how many searches a second a session answers with a limit of time, which no search comes to, and without: for each name and each
   document a search reads the clock if there is a limit, and a flag in any case.
 
-The first table has the median, the 99th percentile and the worst time of at least 200 cancels for each pattern, if the search takes long
-enough. What is compared in the second is measured in turns, so that the machine is equally fast for all of it. The client is one thread
+The first table has the median, the 99th percentile and the worst time of 200 cancels for each pattern, or of as many as half a minute
+allows. What is compared in the second is measured in turns, so that the machine is equally fast for all of it. The client is one thread
 in Python.
 """
 import os
@@ -30,6 +30,8 @@ CANCELS = 200
 # So many seconds of a search are its moments, if it takes as long.
 MOMENTS = 0.5
 MOST_TRIES = 4_000
+# So many seconds are spent on a pattern at most.
+SECONDS = 30
 NOTHING = b"search zzqqxxyy_none\n"
 LIMIT = ["--search-ms", "60000"]
 BATCH = 100
@@ -141,8 +143,8 @@ def cancels(documents):
     columns = ["pattern", "the search by itself, ms", "cancels", "to the entry, median / 99% / most, ms", "to the next answer, median / 99% / most, ms"]
     sessions.head("A cancel, from before it is sent", columns)
     for what, search in CANCELLED:
-        alone, times, tries = seconds_alone(session, search), [], 0
-        while len(times) < CANCELS and tries < MOST_TRIES:
+        alone, times, tries, begun = seconds_alone(session, search), [], 0, time.perf_counter()
+        while len(times) < CANCELS and tries < MOST_TRIES and time.perf_counter() - begun < SECONDS:
             tries += 1
             found = seconds_of_cancel(session, search, alone * chance.random())
             times += [found] if found else []

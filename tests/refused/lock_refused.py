@@ -1,5 +1,6 @@
 #!/usr/bin/env python3
-"""Shows that a search cannot take a lock: `Reading::take` with a lock around the index does not compile.
+"""Shows that a search cannot take a lock: `Reading::take` with a lock around the index does not compile. The tests of `shared` are
+what is compiled, with the crates below them.
 
 A call that may wait for another thread takes a handle with the bound `Wait`. `Reading::search`, `take`, `learn` and `seen` get
 no such handle. The compiler refuses the code before the prover sees it, so it cannot be an edit of must-fail.
@@ -28,13 +29,13 @@ WANTED = "the trait bound `Global: Wait` is not satisfied"
 
 def main():
     with tempfile.TemporaryDirectory() as folder:
-        copies.copy_crates(folder, ["shared"])
+        copies.copy_crates(folder, ["shared_tests"])
         crate = pathlib.Path(folder, "crates", "shared")
         text = (crate / "src/reading.rt").read_text(encoding="utf-8")
         if text.count(OLD) != 1:
             sys.exit(f"{script_name()}: reading.rt does not have the lines to replace")
         (crate / "src/reading.rt").write_text(text.replace(OLD, NEW), encoding="utf-8")
-        done = subprocess.run(["rt", "try", "--test"], cwd=crate, capture_output=True, text=True, check=False)
+        done = subprocess.run(["rt", "try", "--test"], cwd=crate.parent / "shared_tests", capture_output=True, text=True, check=False)
     errors = [line for line in (done.stdout + done.stderr).splitlines() if ": error" in line]
     refused = done.returncode != 0 and len(errors) == 1 and WANTED in errors[0]
     what = "a lock around the index: %s" % ("; ".join(errors) or "NOT REFUSED")

@@ -20,18 +20,16 @@ use Rattle.search.specs.Prepared.{pattern_of}
 use Rattle.search.specs.declared.pattern.Prepared.{Prepared}
 use Rattle.script.specs.Items.{Item, Numbered, numbered, put}
 use Rattle.script.specs.Items as item
-use Rattle.shared.specs.Counts.{AreCountsOf}
-use Rattle.shared.specs.declared.counts.Counts.{Counts}
 use Rattle.shared.specs.Desk.{DeskState}
 use Rattle.shared.specs.History.{Known}
 use Rattle.transcript.specs.declared.entry.Entry.{Entry}
-use Rattle.transcript.specs.declared.entry.Entry.TheVariants.{Refused, Published, Found, SearchRefused, Status}
+use Rattle.transcript.specs.declared.entry.Entry.TheVariants.{Refused, Published, Found, SearchRefused}
 use Rattle.transcript.specs.declared.entry.Reason.{Reason}
 use Rattle.transcript.specs.declared.entry.SearchReason.{SearchReason}
 use Rattle.transcript.specs.declared.entry.SearchReason.TheVariants as reason
 use Rattle.steps.specs.declared.last.Last.{Last}
 use Rattle.steps.specs.Rows.{accepted_by, command_of, version_in, last_or, searches_of, is_sync}
-use Rattle.steps.specs.LegalRows.{IsPut, documents_at, status_entry}
+use Rattle.steps.specs.LegalRows.{IsPut, status_entry}
 use Rattle.steps.specs.Steps.{OpenSearch, RunState, IsStep, MayTake, Asks, IsFaultOf, last, last_of, asked}
 use Rattle.steps.specs.Steps as steps
 use Rattle.service.specs.declared.taken.Taken.{Taken}
@@ -496,21 +494,6 @@ pub left_same : (desk : DeskState) (told : Known) (failed : ℕ) (desk' : DeskSt
     (awaited : List OpenSearch) (lasts : List Last) → IsLeft desk told failed desk' told' failed'
     → service_of desk' timed told' kept searches awaited lasts ≡ service_of desk timed told kept searches awaited lasts
 left_same desk told failed desk' told' failed' timed kept searches awaited lasts left = rw (left.0, left.1) refl
-
--- the documents of what was published last are those of its version
-pub told_documents : (service : ServiceState) → IsService service → documents_at (length service.told) service.accepted ≡ (state_of service.told).documents
-told_documents service is =
-    ap (λ c. (state_of c).documents)
-    (ap (take (length service.told)) (sym is.begins.1) ∙ take-append_seam service.told is.begins.0)
-
--- the counts of what was published last, as a status shows them
-pub is_status : (service : ServiceState) (line : ℕ) (counts : Counts) (accepted most waiting : ℕ) → IsService service
-    → AreCountsOf (state_of service.told) counts → accepted ≡ length service.accepted → most ≡ service.limits.commands
-    → waiting ≡ length service.awaited
-    → Status line counts.version counts.documents counts.bytes accepted most waiting
-    ≡ status_entry line (length service.told) service.accepted service.limits.commands (length service.awaited)
-is_status service line counts accepted most waiting is are accepted_is most_is waiting_is =
-    rw (told_documents service is, are.version, are.documents, are.bytes, accepted_is, most_is, waiting_is) refl
 
 -- few searches are open
 pub few_open : (service : ServiceState) → IsService service → length service.awaited ≤ service.searches
