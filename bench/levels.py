@@ -20,7 +20,7 @@ METER = r"""//! One call for a tree or a query of this height.
 
 use ere::{ByteSet, Ere};
 use matcher::{has_star_height, steps_of};
-use query::{Query, Trigram, copied, simplify};
+use query::{Query, Trigram, simplify};
 use std::alloc::{AllocError, Global};
 use std::env::{self, Env};
 use std::io;
@@ -92,10 +92,6 @@ fn with_query(alloc: Global, call: &[u8], height: u32) -> Result<bool, AllocErro
         let other = query_of(alloc, height)?;
         return Ok(query == other);
     }
-    if call == b"copied".as_slice() {
-        let other = copied(alloc, &query)?;
-        return Ok(true);
-    }
     if call == b"simplify".as_slice() {
         let other = simplify(alloc, query)?;
         return Ok(true);
@@ -123,7 +119,7 @@ CALLS = {
     "repeats": ["drop", "clone", "==", "within_limits", "steps_of", "has_star_height"],
     "cats": ["drop", "clone", "==", "within_limits", "steps_of", "has_star_height"],
     "alternatives": ["drop", "clone", "==", "within_limits", "steps_of", "has_star_height"],
-    "query": ["drop", "clone", "==", "copied", "simplify"],
+    "query": ["drop", "clone", "==", "simplify"],
 }
 HEIGHTS = (20000, 60000)
 

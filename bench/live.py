@@ -3,10 +3,11 @@
 
 Usage: bench/live.py FOLDER..
 
-For each folder a session gets all files that may be documents, and then ten thousand changes of files of about 10 KB in
-a row: a put of the file with one line more, a publish, and a search for a word of this line. The time is from before
-the first byte is sent until after the last byte of the answer is read, by a client in Python that waits for each answer.
-Searches alone and changes of files of other lengths are measured too, and the resident memory before and after.
+For each folder a session gets a thousand of the files that may be documents, and then one gets all of them. In each, files are
+changed one after the other: a put of the file with one line more, or of the body of another file of such a length with that
+line, a publish, and a search for a word of the line. The time is from before the first byte is sent until after the last byte
+of the answer is read, by a client in Python that waits for each answer. Searches alone are measured too, and the resident
+memory after the first publish, after the second, when both copies of the index have all documents, and at the end.
 """
 import os
 import random
@@ -21,7 +22,8 @@ from timed import PROGRAM, need_program
 
 ROUNDS = 10_000
 OTHER_ROUNDS = 1_000
-LENGTHS = {"1 KB": (900, 1_100), "10 KB": (9_000, 11_000), "100 KB": (80_000, 120_000)}
+FEW_FILES = 1_000
+LENGTHS = {"600 bytes": (500, 700), "10 KB": (9_000, 11_000), "100 KB": (80_000, 120_000)}
 
 
 class Session:
@@ -79,13 +81,15 @@ def shown(seconds):
     return "%.2f / %.2f / %.2f / %.2f" % (times[0], statistics.median(times), times[len(times) * 99 // 100], times[-1])
 
 
-def changes(session, documents, names, rounds, rng):
-    """Changes files, and returns the seconds of each change until the answer that shows it is read."""
+def changes(session, documents, names, other, rounds, rng):
+    """Changes files, each to its own body or to that of another one, with one line more. Returns the seconds of each change
+    until the answer that shows it is read."""
     seconds = []
     for number in range(rounds):
         name = rng.choice(names)
+        body = documents[rng.choice(names) if other else name]
         word = b"changed_%d_%d" % (session.searches, number)
-        items = put(name, documents[name] + b"\nint %s;\n" % word) + b"publish\nsearch %s\n" % word
+        items = put(name, body + b"\nint %s;\n" % word) + b"publish\nsearch %s\n" % word
         text, took = session.ask(items)
         if text.count(b"\n") != 2 or not text.endswith(b":int %s;\n" % word):
             sys.exit("bench/live.py: %r is not found: %r" % (word, text[:200]))
@@ -93,27 +97,30 @@ def changes(session, documents, names, rounds, rng):
     return seconds
 
 
-def measure(folder):
-    documents = documents_of(folder)
+def measure(documents, rng):
+    """Measures a session with these documents."""
     size = sum(map(len, documents.values()))
-    rng = random.Random(1)
     session = Session()
     # all of it can be sent before anything is read, since the session writes nothing before its first answer
     _, first = session.ask(b"".join(put(*pair) for pair in documents.items()) + b"publish\nsearch zzqqxxyy\n")
     before = session.resident()
-    print("\n%s: %d files, %.1f MB; to the first answer %.0f ms; resident %.1f MB" % (folder, len(documents), size / 1e6, 1000 * first, before / 1e6))
+    session.ask(b"publish\nsearch zzqqxxyy\n")
+    both = session.resident()
+    print("\n%d files, %.1f MB; to the first answer %.0f ms" % (len(documents), size / 1e6, 1000 * first))
+    print("\nresident for each byte of the documents %.2f, and %.2f after a second publish" % (before / size, both / size))
     print("\n| what | rounds | least / median / 99% / most, ms |\n|---|---|---|")
     for label, (low, high) in LENGTHS.items():
         names = [name for name, body in documents.items() if low <= len(body) <= high]
-        rounds = ROUNDS if label == "10 KB" else OTHER_ROUNDS
-        if names:
-            what = "a change of a file of " + label
-            seconds = quiet.measured(what, lambda: changes(session, documents, names, rounds, rng))
-            print("| %s | %d | %s |" % (what, rounds, shown(seconds)), flush=True)
+        for other, how in (False, "one line more"), (True, "another body"):
+            rounds = ROUNDS if label == "10 KB" and not other else OTHER_ROUNDS
+            if names:
+                what = "a file of %s: %s" % (label, how)
+                seconds = quiet.measured(what, lambda: changes(session, documents, names, other, rounds, rng))
+                print("| %s | %d | %s |" % (what, rounds, shown(seconds)), flush=True)
     alone = quiet.measured("a search alone", lambda: [session.ask(b"search changed_none\n")[1] for _ in range(OTHER_ROUNDS)])
     print("| a search for a rare literal alone | %d | %s |" % (OTHER_ROUNDS, shown(alone)))
     after = session.resident()
-    print("\nresident %.1f MB after them; the end takes %.0f ms" % (after / 1e6, 1000 * session.end()))
+    print("\nresident %.1f MB after them, %.1f before; the end takes %.0f ms" % (after / 1e6, both / 1e6, 1000 * session.end()))
 
 
 def main():
@@ -121,7 +128,11 @@ def main():
         sys.exit(__doc__)
     need_program()
     for folder in sys.argv[1:]:
-        measure(folder)
+        documents = documents_of(folder)
+        rng = random.Random(1)
+        print("\n%s" % folder)
+        for count in sorted({min(FEW_FILES, len(documents)), len(documents)}):
+            measure(dict(rng.sample(sorted(documents.items()), count)), rng)
     print("\n" + quiet.told())
 
 

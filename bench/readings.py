@@ -146,7 +146,7 @@ fn search_until(alloc: Global, mut reading: Reading, pattern: &Prepared, done: &
         }
         if let Ok(answer) = reading.search(alloc, pattern) {
             answers = answers.wrapping_add(1);
-            lines = answer.hits().len() as u64;
+            lines = answer.hit_count() as u64;
         }
     }
     (reading, answers, lines)

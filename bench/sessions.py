@@ -163,7 +163,7 @@ def changes(documents):
     def measure(session):
         if session is sessions["a long search"]:
             keep_busy(session)
-        return live.changes(session, documents, names, CHANGES, rng)
+        return live.changes(session, documents, names, False, CHANGES, rng)
 
     taken = in_turns("changes", sessions, measure)
     idle = statistics.median(taken["nothing else"])

@@ -110,9 +110,11 @@ class Runs:
         return messages, written
 
     def count_instructions(self, way, script):
-        """How many instructions a run executes."""
+        """How many instructions a run executes. The C library keeps no small pieces of memory aside: it joins them at some later request,
+        which then takes as long as there are many, and would be counted for what comes then."""
         tool = ["valgrind", "--tool=cachegrind", "--cache-sim=no", "--cachegrind-out-file=/dev/null"]
-        messages, _ = self.run([*tool, str(PROGRAM), *WORDS[way]], script)
+        env = dict(os.environ, GLIBC_TUNABLES="glibc.malloc.mxfast=0")
+        messages, _ = self.run([*tool, str(PROGRAM), *WORDS[way]], script, env)
         return int(re.search(r"I +refs: +([\d,]+)", messages)[1].replace(",", ""))
 
     def count_memory(self, way, script, least=0):
@@ -467,9 +469,9 @@ def patterns_are_compiled_once(runs):
 
 
 def lines_are_matched_once(runs):
-    """A hit takes one request for memory, and a byte that is only looked at less than one instruction."""
+    """A hit takes no request for memory of its own, and a byte that is only looked at less than one instruction."""
     few, many = (runs.memory(SESSION, hits(count)[1]).requests for count in (10_000, 40_000))
-    yield "requests for 30,000 hits", many - few, 0, 33_000
+    yield "requests for 30,000 hits", many - few, 0, 50
     few, many = (counts_of(runs, length_of_a_searched_body, count, SESSION)[0] for count in (10_000, 90_000))
     yield "instructions for 800,000 bytes that are searched", many - few, 0, 720_000
 

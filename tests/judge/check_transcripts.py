@@ -113,13 +113,13 @@ def opens(*shown):
 
 
 # More searches than can be open, and then a status.
-CROWD = b"search x\n" * 300 + b"status\n"
+CROWD = b"search x\n" * 1_100 + b"status\n"
 
 
 def crowd(count, shown):
     """A text of CROWD in which the status comes after so many answers, and shows so many open searches."""
-    answers = [AT_0 % number for number in range(1, 301)]
-    return b"".join(answers[:count]) + OPEN % (301, shown) + b"".join(answers[count:])
+    answers = [AT_0 % number for number in range(1, 1_101)]
+    return b"".join(answers[:count]) + OPEN % (1_101, shown) + b"".join(answers[count:])
 
 
 # The patterns of the judged tests/cases that are not plain, each with its spelling for `re` or the reason of its refusal.
@@ -170,7 +170,7 @@ LEGAL = [
     (TWICE, {}, AT_0 % 1 + AT_X % 2 + OPEN % (3, 1) + OPEN % (4, 1), 0),
     (TWICE, {}, CANCELLED % 1 + AT_0 % 2 + OPEN % (3, 2) + OPEN % (4, 1), 2),
     (TWICE, {"timed": True}, TOO_SLOW % 1 + AT_X % 2 + OPEN % (3, 2) + OPEN % (4, 1), 2),
-    (CROWD, {}, crowd(300, 255), 1),
+    (CROWD, {}, crowd(1_100, 1_023), 1),
     # the first search has its entry before its cancel, and the second not before the second status
     (b"search x\nsearch x\nstatus\ncancel 1\nstatus\n", {}, AT_0 % 1 + AT_0 % 2 + OPEN % (3, 1) + OPEN % (5, 1), 1),
     # version 0 is there before it is published
@@ -278,12 +278,12 @@ WRONG = [
     (OPENS, {}, opens(2, 0, 1, 0), 2),
     (OPENS, {}, opens(2, 0, 0, 1), 2),
     (OPENS, {"readers": 0}, opens(1, 0, 0, 0), 2),
-    # a search that is open again, has its entry before its cancel or before the publish of its version, or is open behind 255 others
+    # a search that is open again, has its entry before its cancel or before the publish of its version, or is open behind 1,023 others
     (TWICE, {}, AT_0 % 1 + AT_0 % 2 + OPEN % (3, 1) + OPEN % (4, 2), 1),
     (TWICE, {}, CANCELLED % 1 + AT_0 % 2 + OPEN % (3, 0) + OPEN % (4, 0), 2),
     (TWICE, {}, CANCELLED % 1 + AT_X % 2 + OPEN % (3, 2) + OPEN % (4, 1), 2),
     (TWICE, {}, AT_0 % 1 + AT_X % 2 + OPEN % (3, 0) + OPEN % (4, 0), 0),
-    (CROWD, {}, crowd(300, 256), 1),
+    (CROWD, {}, crowd(1_100, 1_024), 1),
 ] + [(REFUSALS, {"max_commands": 1}, b"".join(REFUSED[:left_out] + REFUSED[left_out + 1 :]), 2) for left_out in range(len(REFUSED))]
 WRONG += [(STATUSES, {"max_commands": 5}, status_text(shown), 2) for shown in off_by_one()]
 
@@ -351,7 +351,7 @@ LEGAL_SESSIONS = [
     (TWO_OPEN, {}, AT_0 % 1 + AT_0 % 2 + OPEN % (3, 0), 1),
     (TWO_OPEN, {"readers": 0}, AT_0 % 1 + AT_0 % 2 + OPEN % (3, 0), 1),
     (TWO_OPEN, {"timed": True}, TOO_SLOW % 1 + OPEN % (3, 1) + AT_0 % 2, 2),
-    (CROWD, {}, crowd(45, 255), 1),
+    (CROWD, {}, crowd(77, 1_023), 1),
     # sessions that ended early
     (SEARCH_BESIDE, NOT_WHOLE, b"", 2),
     (SEARCH_BESIDE, NOT_WHOLE, WHAT, 2),
@@ -434,9 +434,9 @@ WRONG_SESSIONS = [
     (TWO_OPEN, {}, AT_0 % 1 + OPEN % (3, 2) + AT_0 % 2, 1),
     (TWO_OPEN, {}, AT_0 % 1 + AT_0 % 2 + OPEN % (3, 1), 1),
     (TWO_OPEN, {"readers": 0}, OPEN % (3, 2) + AT_0 % 1 + AT_0 % 2, 1),
-    # an item that is taken while 256 searches are open
-    (CROWD, {}, crowd(0, 300), 1),
-    (CROWD, {}, crowd(44, 256), 1),
+    # an item that is taken while 1,024 searches are open
+    (CROWD, {}, crowd(0, 1_100), 1),
+    (CROWD, {}, crowd(76, 1_024), 1),
     # refused for memory although there is enough, or for a fault that it has not
     (SEARCH_BESIDE, {}, WHAT + X2 + b"search 1 refused: out of memory\n" + Y3, 2),
     (SEARCH_BESIDE, {"scarce": True}, WHAT + X2 + b"search 1 refused: bad range at 0\n" + Y3, 2),

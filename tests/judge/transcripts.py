@@ -21,7 +21,7 @@ from built import TOP
 
 MAX_BODY, MAX_LINE, MAX_PATTERN = 1_048_576, 16_384, 1_024
 # While so many searches are open, no item is taken.
-MOST_OPEN = 256
+MOST_OPEN = 1_024
 
 ATOM = rb"(?:[^\x00\n.\[\\()*+?{|^$]|\.|\[\^?(?:a-z|A-Z|0-9|[0-9A-Za-z_ ])+\]|\\[.\[\\()*+?{|^$])"
 PIECES = rb"(?:%s[*+?]?|[\^$])*" % ATOM

@@ -56,8 +56,9 @@ SEARCHES = {
     b"searchin ((a*|b)*|c)*b$ 0x0034[0-3]": ("the search refused", 200),
 }
 
-# Requests of at least this many bytes are large: those for a body of LONG, for a hit of each line of MANY, and for the texts below.
-LARGE_REQUEST = 500_000
+# Requests of at least this many bytes are large: those for a body of LONG, for the hits of MANY, and for the texts below, and none for
+# the sets of the index.
+LARGE_REQUEST = 930_000
 EVERY = 1_000_000
 LONG = b"of no use\n" * 99_999 + b"last line\n"
 MANY = b"x\n" * 50_000 + b"y\n"

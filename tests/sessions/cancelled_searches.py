@@ -24,9 +24,9 @@ from judge import transcripts  # noqa: E402
 from live import MEBIBYTE, SECONDS, Session, faults_with_each, same  # noqa: E402
 from sessions.slow_searches import SLOW, TABLE, slow_body  # noqa: E402
 
-ROUNDS, OPEN, BATCHES = 5, 200, 400
+ROUNDS, OPEN, BATCHES = 2, 1_000, 80
 # While so many searches are open, no item is taken.
-MOST_OPEN = 256
+MOST_OPEN = 1_024
 # A body of one line that is too long for the first documents of a search, which are looked at in another way.
 MANY, LENGTH = 800, 8_300
 LETTERS = bytes(b"ab"[byte % 2] for byte in range(256))
@@ -130,7 +130,7 @@ def readers_of(start):
 
 
 def every_second_of_many_open_searches(start):
-    """While each reader has a long search, many more are open: long ones, which are all cancelled, and quick ones, which are answered once
+    """While each reader has a long search, a thousand more are open: long ones, which are all cancelled, and quick ones, which are answered once
     the readers are free."""
     readers = readers_of(start)
     with start() as session:
@@ -294,7 +294,7 @@ def status_beside_open_searches(start):
 
 
 def items_wait_while_very_many_searches_are_open(start):
-    """A status is taken while 255 are open. While 256 are, it waits, and so does a cancel."""
+    """A status is taken while 1,023 are open. While 1,024 are, it waits, and so does a cancel."""
     with start() as session:
         talk = Talk(session, readers_of(start))
         talk.ask(*[LONG_SEARCH] * (MOST_OPEN - 1))
@@ -379,7 +379,7 @@ def time_of_a_search_that_waits_for_a_reader():
 
 
 def status_behind_very_many_searches_that_are_too_slow():
-    """It is taken once the first of 256 is given up, and shows how many are left."""
+    """It is taken once the first of 1,024 is given up, and shows how many are left."""
     with Session("--readers", "1", "--search-ms", "1000") as session:
         talk = Talk(session, 1, timed=True)
         numbers = talk.ask(*[LONG_SEARCH] * MOST_OPEN)

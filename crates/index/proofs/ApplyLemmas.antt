@@ -1,94 +1,53 @@
 -- The state of an index after a put or a remove.
-use Rattle.std.proofs.Common.{◌≡◌, ◌≢◌, ℕ, suc, ◌+◌, ◌*◌, ◌<◌, ◌≤◌, ◌==◌, Bool, true, false, not, cond, List, [], ◌∷◌, ◌++◌, map, length}
-use Rattle.std.proofs.Common.{Option, Some, None, refl, sym, ◌∙◌, ap, subst, arith}
-use Rattle.std.specs.Prelude.{All, AllPairs, bytes_eq}
+use Rattle.std.proofs.Common.{◌≡◌, ◌≢◌, ℕ, ◌+◌, ◌*◌, ◌<◌, ◌≤◌, ◌==◌, Bool, true, false, not, cond, List, [], ◌∷◌, ◌++◌, map, length}
+use Rattle.std.proofs.Common.{get_or, Option, Some, None, refl, sym, ◌∙◌, ap, subst, arith}
+use Rattle.std.specs.Prelude.{All, IsSome, is_some, bytes_eq}
+use Rattle.std.specs.List.Sorted.{IsStrictlyIncreasing}
 use Rattle.std.proofs.lemmas.Bool.{false≢true}
-use Rattle.std.proofs.lemmas.Bool.Decides.{nat_tests}
-use Rattle.std.proofs.lemmas.List.{map-append}
-use Rattle.std.proofs.lemmas.List.Elements.{All-head, All-tail, All-nil, All-cons, All-push, All-weaker, All-filter, All-map}
+use Rattle.std.proofs.lemmas.List.{map-append, length-map, get_or-map}
+use Rattle.std.proofs.lemmas.List.Elements.{All-head, All-tail, All-push, All-weaker, All-filter, All-map, Contains-get_or}
 use Rattle.std.proofs.lemmas.List.Kept.{AllPairs-filter}
 use Rattle.std.proofs.lemmas.List.Quantifiers.{all_pairs_push}
 use Rattle.posting.proofs.Rising.{rising-push}
 use Rattle.index.specs.Text.{IsName, IsBody}
-use Rattle.index.specs.Documents.{Document, document, number_of}
-use Rattle.index.specs.State.{state, without, body_bytes, IsGoodDocument, IsState}
-use Rattle.index.specs.Private.Slots.{without_number}
-use Rattle.index.specs.Private.Store.{left_after}
-use Rattle.index.proofs.DocumentLemmas.{same_name, bytes_eq-refl}
-use Rattle.index.proofs.StateLemmas.{bytes_eq-sym}
+use Rattle.index.specs.Documents.{Document, document, document_at, number_of, without, with_body}
+use Rattle.index.specs.State.{state, body_bytes, IsGoodDocument, IsState}
+use Rattle.index.specs.Private.Slots.{without_number, with_body_at}
+use Rattle.index.proofs.DocumentLemmas.{same_name, bytes_eq-refl, bytes_eq-sym, Contains-number_of, Contains-untaken, filter_same}
+use Rattle.index.proofs.DocumentLemmas.{replaced-same, numbers-replaced, All-replaced}
 use Rattle.index.proofs.RisingLemmas.{rise-filter}
 use Rattle.index.proofs.StoredLemmas.{Numbered, Numbered-rise, body_bytes-cons}
-
--- ---- each name once
-
-abbrev pub Named : List Document → Type 0
-Named [] = Unit {0}
-Named (d ∷ ds) = All (λ e. d.name ≢ e.name) ds × Named ds
-
-pub Named-pairs : (ds : List Document) → AllPairs (λ d e. d.name ≢ e.name) ds → Named ds
-Named-pairs [] apart = tt
-Named-pairs (d ∷ ds) apart = (
-  λ k x inside.
-      apart 0 (suc k) x (omega arith) (omega arith),
-  Named-pairs ds (λ i j x before inside. apart (suc i) (suc j) x (omega arith) (omega arith)),
-)
-
-other_name : (x y : List ℕ) → x ≢ y → bytes_eq x y ≡ false
-other_name x y apart = go (bytes_eq x y) refl
-  where
-    go : (t : Bool) → bytes_eq x y ≡ t → t ≡ false
-    go true e = absurd (apart (same_name x y e))
-    go false e = refl
+use Rattle.index.proofs.OrderLemmas.{Named, document_at-Contains, name-number}
 
 -- ---- the document with a name, and the document with its number
 
-without-others : (name : List ℕ) (ds : List Document) → All (λ d. d.name ≢ name) ds → without name ds ≡ ds
-without-others name [] others = refl
-without-others name (d ∷ ds) others =
-    rw (other_name d.name name (All-head (λ e. e.name ≢ name) d ds others))
-    (ap (λ xs. d ∷ xs) (without-others name ds (All-tail (λ e. e.name ≢ name) d ds others)))
+pub without-numbered : (ds : List Document) → Numbered ds → Named ds → (name : List ℕ) (number : ℕ) → number_of name ds ≡ Some number
+    → without name ds ≡ without_number number ds
+without-numbered ds numbered named name number found =
+    filter_same (λ d. not (bytes_eq d.name name)) (λ d. not (d.number == number)) ds
+    (λ d there. ap not (name-number ds numbered named name number found d there))
 
-without_number-others : (number : ℕ) (ds : List Document) → All (λ d. number < d.number) ds → without_number number ds ≡ ds
-without_number-others number [] above = refl
-without_number-others number (d ∷ ds) above =
-    let more = All-head (λ e. number < e.number) d ds above in
-    let no : (d.number == number) ≡ false = grind (arith, nat_tests) in
-    rw no (ap (λ xs. d ∷ xs) (without_number-others number ds (All-tail (λ e. number < e.number) d ds above)))
-
-found_above : (low : ℕ) (name : List ℕ) (ds : List Document) (number : ℕ) → All (λ d. low < d.number) ds → number_of name ds ≡ Some number → low < number
+pub without-none : (ds : List Document) (name : List ℕ) → number_of name ds ≡ None → without name ds ≡ ds
 unfolding number_of
-found_above low name [] number above e = cc
-found_above low name (d ∷ ds) number above e = go (bytes_eq d.name name) e (found_above low name ds number (All-tail (λ x. low < x.number) d ds above))
+without-none [] name none = refl
+without-none (d ∷ ds) name none = go (bytes_eq d.name name) none (without-none ds name)
   where
-    go : (t : Bool) → cond t (Some d.number) (number_of name ds) ≡ Some number → (number_of name ds ≡ Some number → low < number) → low < number
-    go true h deeper =
-        let here = All-head (λ x. low < x.number) d ds above in
-        let same : d.number ≡ number = cc in
-        omega arith
-    go false h deeper = deeper h
+    go : (t : Bool) → cond t (Some d.number) (number_of name ds) ≡ None → (number_of name ds ≡ None → without name ds ≡ ds)
+        → cond (not t) (d ∷ without name ds) (without name ds) ≡ d ∷ ds
+    go true h deeper = cc
+    go false h deeper = ap (λ xs. d ∷ xs) (deeper h)
 
-pub without-left : (name : List ℕ) (ds : List Document) → Numbered ds → Named ds → without name ds ≡ left_after (number_of name ds) ds
-unfolding number_of
-without-left name [] numbered named = refl
-without-left name (d ∷ ds) numbered named = go (bytes_eq d.name name) refl (without-left name ds numbered.1 named.1)
-  where
-    rest_of : (found : Option ℕ) → number_of name ds ≡ found → without name ds ≡ left_after found ds → d ∷ without name ds ≡ left_after found (d ∷ ds)
-    rest_of None e deeper = ap (λ xs. d ∷ xs) deeper
-    rest_of (Some number) e deeper =
-        let above = found_above d.number name ds number numbered.0 e in
-        let no : (d.number == number) ≡ false = grind (arith, nat_tests) in
-        rw no (ap (λ xs. d ∷ xs) deeper)
+pub with_body-numbered : (ds : List Document) → Numbered ds → Named ds → (name body : List ℕ) (number : ℕ) → number_of name ds ≡ Some number
+    → map (with_body_at number body) ds ≡ map (with_body name body) ds
+with_body-numbered ds numbered named name body number found =
+    replaced-same (λ d. d.number == number) (λ d. bytes_eq d.name name) body ds
+    (λ d there. sym (name-number ds numbered named name number found d there))
 
-    go : (t : Bool) → bytes_eq d.name name ≡ t → without name ds ≡ left_after (number_of name ds) ds
-        → cond (not t) (d ∷ without name ds) (without name ds) ≡ left_after (cond t (Some d.number) (number_of name ds)) (d ∷ ds)
-    go true e deeper =
-        let is = same_name d.name name e in
-        let same : (d.number == d.number) ≡ true = grind (arith, nat_tests) in
-        let others : without name ds ≡ ds =
-        subst (λ n. without n ds ≡ ds) is
-        (without-others d.name ds (λ k x inside. (let apart = named.0 k x inside in λ h. apart (sym h)))) in
-        others ∙ sym (rw same (without_number-others d.number ds numbered.0))
-    go false e deeper = rest_of (number_of name ds) refl deeper
+pub document_at-named : (ds : List Document) → Numbered ds → (name : List ℕ) (number : ℕ) → number_of name ds ≡ Some number
+    → IsSome (document_at number ds)
+document_at-named ds numbered name number found =
+    let at = Contains-number_of ds name number found in
+    subst IsSome (sym (document_at-Contains ds numbered (document number name at.0) at.1)) refl
 
 -- ---- the number of a name
 
@@ -141,14 +100,13 @@ number_of-new (x ∷ ds) d q e none = go (bytes_eq x.name q) none (number_of-new
     go true h deeper = cc
     go false h deeper = deeper h
 
-pub number_of-put : (number : ℕ) (name body : List ℕ) (ds : List Document) (q : List ℕ)
-    → number_of q (without name ds ++ document number name body ∷ []) ≡ cond (bytes_eq name q) (Some number) (number_of q ds)
-number_of-put number name body ds q = go (bytes_eq name q) refl (number_of-without name ds q)
+pub number_of-put : (number : ℕ) (name body : List ℕ) (ds : List Document) (q : List ℕ) → number_of name ds ≡ None
+    → number_of q (ds ++ document number name body ∷ []) ≡ cond (bytes_eq name q) (Some number) (number_of q ds)
+number_of-put number name body ds q none = go (bytes_eq name q) refl
   where
-    go : (t : Bool) → bytes_eq name q ≡ t → number_of q (without name ds) ≡ cond (bytes_eq name q) None (number_of q ds)
-        → number_of q (without name ds ++ document number name body ∷ []) ≡ cond t (Some number) (number_of q ds)
-    go true e left = number_of-new (without name ds) (document number name body) q e (rw e at left)
-    go false e left = number_of-append (without name ds) (document number name body) q e ∙ rw e at left
+    go : (t : Bool) → bytes_eq name q ≡ t → number_of q (ds ++ document number name body ∷ []) ≡ cond t (Some number) (number_of q ds)
+    go true e = number_of-new ds (document number name body) q e (subst (λ n. number_of n ds ≡ None) (same_name name q e) none)
+    go false e = number_of-append ds (document number name body) q e
 
 -- ---- the state
 
@@ -164,33 +122,48 @@ IsState-remove version ds name is = record {
   names = AllPairs-filter (λ d e. d.name ≢ e.name) (λ d. not (bytes_eq d.name name)) ds is.names;
 }
 
-without_name : (name : List ℕ) (ds : List Document) → All (λ d. d.name ≢ name) (without name ds)
-without_name name [] = All-nil (λ d. d.name ≢ name)
-without_name name (d ∷ ds) = go (bytes_eq d.name name) refl (without_name name ds)
+pub IsState-replace : (version : ℕ) (ds : List Document) (number : ℕ) (body : List ℕ) → IsBody body → IsState (state version ds)
+    → IsState (state (version + 1) (map (with_body_at number body) ds))
+IsState-replace version ds number body is_body is = record {
+  rise = subst IsStrictlyIncreasing (sym (numbers-replaced chosen body ds)) is.rise;
+  good =
+      All-replaced chosen body (λ d. IsGoodDocument (version + 1) d) ds (λ d good. (good.0, good.1, good.2, is_body))
+      (All-weaker (λ d. IsGoodDocument version d) (λ d. IsGoodDocument (version + 1) d) (later_good version) ds is.good);
+  names = λ i j d before inside.
+      (let within : j < length ds = omega (arith, length-map ds (with_body_at number body)) in
+      let first = name_at i d (omega arith) in
+      let second = name_at j d within in
+      λ same. is.names i j d before within (sym first ∙ (same ∙ second)));
+}
   where
-    go : (t : Bool) → bytes_eq d.name name ≡ t → All (λ x. x.name ≢ name) (without name ds)
-        → All (λ x. x.name ≢ name) (cond (not t) (d ∷ without name ds) (without name ds))
-    go true e rest = rest
-    go false e rest =
-        All-cons (λ x. x.name ≢ name) d (without name ds)
-        (λ is. false≢true (sym e ∙ subst (λ n. bytes_eq n name ≡ true) (sym is) (bytes_eq-refl name))) rest
+    chosen : Document → Bool
+    chosen d = d.number == number
 
-pub IsState-put : (version : ℕ) (ds : List Document) (name body : List ℕ) → IsName name → IsBody body → IsState (state version ds)
-    → IsState (state (version + 1) (without name ds ++ document (version + 1) name body ∷ []))
-IsState-put version ds name body is_name is_body is =
-    let left = IsState-remove version ds name is in
-    let low : All (λ d. d.number < version + 1) (without name ds) =
-    All-filter (λ d. not (bytes_eq d.name name)) (λ d. d.number < version + 1) ds
-    (λ k d inside. (let good = is.good k d inside in omega (arith, good.1))) in
+    kept : (d : Document) → (with_body_at number body d).name ≡ d.name
+    kept d = go (d.number == number)
+      where
+        go : (t : Bool) → (cond t (document d.number d.name body) d).name ≡ d.name
+        go true = refl
+        go false = refl
+
+    name_at : (k : ℕ) (d : Document) → k < length ds → (get_or (map (with_body_at number body) ds) k d).name ≡ (get_or ds k d).name
+    name_at k d inside = ap (λ x. x.name) (get_or-map (with_body_at number body) ds k d d inside) ∙ kept (get_or ds k d)
+
+pub IsState-new : (version : ℕ) (ds : List Document) (name body : List ℕ) → number_of name ds ≡ None → IsName name → IsBody body
+    → IsState (state version ds) → IsState (state (version + 1) (ds ++ document (version + 1) name body ∷ []))
+IsState-new version ds name body none is_name is_body is =
+    let low : All (λ d. d.number < version + 1) ds = λ k d inside. (let good = is.good k d inside in omega (arith, good.1)) in
     record {
       rise =
-          rw (map-append (λ d. d.number) (without name ds) (document (version + 1) name body ∷ []))
-          (rising-push (map (λ d. d.number) (without name ds)) (version + 1) left.rise
-          (All-map (λ n. n < version + 1) (λ d. d.number) (without name ds) low));
+          rw (map-append (λ d. d.number) ds (document (version + 1) name body ∷ []))
+          (rising-push (map (λ d. d.number) ds) (version + 1) is.rise (All-map (λ n. n < version + 1) (λ d. d.number) ds low));
       good =
-          All-push (λ d. IsGoodDocument (version + 1) d) (without name ds) (document (version + 1) name body) left.good
+          All-push (λ d. IsGoodDocument (version + 1) d) ds (document (version + 1) name body)
+          (All-weaker (λ d. IsGoodDocument version d) (λ d. IsGoodDocument (version + 1) d) (later_good version) ds is.good)
           (omega arith, omega arith, is_name, is_body);
-      names = all_pairs_push (λ d e. d.name ≢ e.name) (without name ds) (document (version + 1) name body) left.names (without_name name ds);
+      names = all_pairs_push (λ d e. d.name ≢ e.name) ds (document (version + 1) name body) is.names (λ k d inside.
+          (let other = Contains-untaken name ds (ap is_some none) (get_or ds k d) (Contains-get_or ds k d inside) in
+          λ same. false≢true (sym other ∙ (ap (λ n. bytes_eq n name) same ∙ bytes_eq-refl name))));
     }
 
 -- ---- how many documents there can be

@@ -20,9 +20,8 @@ use Rattle.index.specs.declared.document.SharedDocument.{SharedDocument}
 use Rattle.index.specs.Documents.{Document, document, document_at, IsInNameOrder}
 use Rattle.index.specs.Shared.{document_of, documents_shared}
 use Rattle.index.specs.Private.Chosen.{numbered_document, document_numbered, documents_numbered}
-use Rattle.index.proofs.DocumentLemmas.{same_name}
+use Rattle.index.proofs.DocumentLemmas.{same_name, filter_same}
 use Rattle.index.proofs.StoredLemmas.{Numbered, document_at-none}
-use Rattle.index.proofs.OrderLemmas.{filter_same}
 
 -- ---- found by their numbers
 

@@ -1,14 +1,13 @@
--- The documents that commands leave, by their numbers and by their names.
-use Rattle.std.proofs.Common.{◌≡◌, ℕ, zero, suc, ◌+◌, ◌<◌, ◌==◌, ◌||◌, Bool, true, false, cond, List, [], ◌∷◌, drop, Option, Some, None}
-use Rattle.std.proofs.Common.{refl, sym, ◌∙◌, ap, subst, arith}
-use Rattle.std.specs.Prelude.{bytes_eq, slice_get}
+-- Names, and which documents a list has.
+use Rattle.std.proofs.Common.{◌≡◌, ℕ, zero, suc, ◌<◌, ◌||◌, ◌⊎◌, inl, inr, Bool, true, false, cond, List, [], ◌∷◌, ◌++◌, map, length, get_or}
+use Rattle.std.proofs.Common.{Option, Some, None, Contains, refl, sym, ◌∙◌, ap, subst, arith}
+use Rattle.std.specs.Prelude.{All, bytes_eq, filter, is_some}
 use Rattle.std.specs.Cmp.Lexicographic.{bytes_decides}
 use Rattle.std.proofs.lemmas.Cmp.{nat_list_eq_equiv}
 use Rattle.std.proofs.lemmas.Bool.{false≢true}
-use Rattle.std.proofs.lemmas.Bool.Decides.{nat_tests}
+use Rattle.std.proofs.lemmas.List.Elements.{All-map}
 use Rattle.index.specs.declared.command.Command.{Command}
-use Rattle.index.specs.declared.command.Command.TheVariants.{Put, Remove}
-use Rattle.index.specs.Documents.{document, name_of, names, documents_from, document_at, number_of}
+use Rattle.index.specs.Documents.{Document, document, name_of, names, number_of, is_taken}
 
 pub same_name : (x y : List ℕ) → bytes_eq x y ≡ true → x ≡ y
 same_name x y e = (bytes_decides x y).0 e
@@ -16,96 +15,176 @@ same_name x y e = (bytes_decides x y).0 e
 pub bytes_eq-refl : (x : List ℕ) → bytes_eq x x ≡ true
 bytes_eq-refl x = nat_list_eq_equiv.refl x
 
--- a number below those of all commands
-pub document_at-below : (number place : ℕ) (c : List Command) → number < place → document_at number (documents_from place c) ≡ None
-unfolding documents_from document_at
-document_at-below number place [] h = refl
-document_at-below number place (Remove name ∷ later) h = document_at-below number (suc place) later (omega arith)
-document_at-below number place (Put name body ∷ later) h = go (names later name) (document_at-below number (suc place) later (omega arith))
-  where
-    go : (t : Bool) → document_at number (documents_from (suc place) later) ≡ None
-        → document_at number (cond t (documents_from (suc place) later) (document place name body ∷ documents_from (suc place) later))
-        ≡ None
-    go true deeper = deeper
-    go false deeper =
-        let apart : (place == number) ≡ false = grind (arith, nat_tests) in
-        rw apart deeper
+pub bytes_eq-sym : (x y : List ℕ) → bytes_eq x y ≡ bytes_eq y x
+bytes_eq-sym x y = nat_list_eq_equiv.symm x y
 
--- the document that a command leaves if these commands come after it
-abbrev pub left_by : Option Command → List Command → Option (List ℕ × List ℕ)
-left_by None later = None
-left_by (Some (Remove name)) later = None
-left_by (Some (Put name body)) later = cond (names later name) None (Some (name, body))
-
-pub document_at-place : (place i : ℕ) (c : List Command) → document_at (place + i) (documents_from place c) ≡ left_by (slice_get c i) (drop (suc i) c)
-unfolding documents_from document_at
-document_at-place place i [] = refl
-document_at-place place zero (Remove name ∷ later) = document_at-below (place + 0) (suc place) later (omega arith)
-document_at-place place zero (Put name body ∷ later) = go (names later name)
-  where
-    go : (t : Bool)
-        → document_at (place + 0) (cond t (documents_from (suc place) later) (document place name body ∷ documents_from (suc place) later))
-        ≡ cond t None (Some (name, body))
-    go true = document_at-below (place + 0) (suc place) later (omega arith)
-    go false =
-        let here : (place == place + 0) ≡ true = grind (arith, nat_tests) in
-        rw here refl
-document_at-place place (suc i) (Remove name ∷ later) =
-    let moved : place + suc i ≡ suc place + i = omega arith in
-    rw moved (document_at-place (suc place) i later)
-document_at-place place (suc i) (Put name body ∷ later) = go (names later name) (document_at-place (suc place) i later)
-  where
-    go : (t : Bool) → document_at (suc place + i) (documents_from (suc place) later) ≡ left_by (slice_get later i) (drop (suc i) later)
-        → document_at (place + suc i)
-        (cond t (documents_from (suc place) later) (document place name body ∷ documents_from (suc place) later))
-        ≡ left_by (slice_get later i) (drop (suc i) later)
-    go true deeper =
-        let moved : place + suc i ≡ suc place + i = omega arith in
-        rw moved deeper
-    go false deeper =
-        let apart : (place == place + suc i) ≡ false = grind (arith, nat_tests) in
-        let moved : suc place + i ≡ place + suc i = omega arith in
-        rw apart (subst (λ n. document_at n (documents_from (suc place) later) ≡ left_by (slice_get later i) (drop (suc i) later)) moved deeper)
-
-or_true : (a : Bool) → (a || true) ≡ true
-or_true true = refl
-or_true false = refl
-
--- a command names its name
-pub names-at : (c : List Command) (i : ℕ) (command : Command) → slice_get c i ≡ Some command → names c (name_of command) ≡ true
+pub names-push : (c : List Command) (command : Command) (name : List ℕ) → names (c ++ command ∷ []) name ≡ (names c name || bytes_eq (name_of command) name)
 unfolding names
-names-at [] i command e = cc
-names-at (first ∷ later) zero command e =
-    let same : first ≡ command = cc in
-    rw same (rw (bytes_eq-refl (name_of command)) refl)
-names-at (first ∷ later) (suc i) command e = rw (names-at later i command e) (or_true (bytes_eq (name_of first) (name_of command)))
-
--- A Put that no later command names is found by its name.
-pub number_of-place : (place i : ℕ) (c : List Command) (name body : List ℕ) → slice_get c i ≡ Some (Put name body)
-    → names (drop (suc i) c) name ≡ false → number_of name (documents_from place c) ≡ Some (place + i)
-unfolding documents_from number_of
-number_of-place place i [] name body e h = cc
-number_of-place place zero (first ∷ later) name body e h =
-    let same : first ≡ Put name body = cc in
-    let start : place ≡ place + 0 = omega arith in
-    rw same (rw h (rw (bytes_eq-refl name) (ap Some start)))
-number_of-place place (suc i) (Remove other ∷ later) name body e h =
-    let moved : place + suc i ≡ suc place + i = omega arith in
-    rw moved (number_of-place (suc place) i later name body e h)
-number_of-place place (suc i) (Put other text ∷ later) name body e h =
-    go (names later other) refl (bytes_eq other name) refl (number_of-place (suc place) i later name body e h)
+names-push [] command name = or_none (bytes_eq (name_of command) name)
   where
-    go : (t : Bool) → names later other ≡ t → (u : Bool) → bytes_eq other name ≡ u
-        → number_of name (documents_from (suc place) later) ≡ Some (suc place + i)
-        → number_of name (cond t (documents_from (suc place) later) (document place other text ∷ documents_from (suc place) later))
-        ≡ Some (place + suc i)
-    go true n u b deeper =
-        let moved : place + suc i ≡ suc place + i = omega arith in
-        rw moved deeper
-    go false n false b deeper =
-        let moved : place + suc i ≡ suc place + i = omega arith in
-        rw b (rw moved deeper)
-    go false n true b deeper =
-        let same = same_name other name b in
-        let named = names-at later i (Put name body) e in
-        absurd (false≢true (sym n ∙ (ap (names later) same ∙ named)))
+    or_none : (a : Bool) → (a || false) ≡ a
+    or_none true = refl
+    or_none false = refl
+names-push (first ∷ c) command name = rw (names-push c command name) (or_assoc (bytes_eq (name_of first) name) (names c name) (bytes_eq (name_of command) name))
+  where
+    or_assoc : (a b d : Bool) → (a || (b || d)) ≡ ((a || b) || d)
+    or_assoc true b d = refl
+    or_assoc false b d = refl
+
+-- ---- which elements a list has
+
+pub Contains-cons : {X : Type 0} (x : X) (xs : List X) (d : X) → Contains (x ∷ xs) d → (x ≡ d) ⊎ Contains xs d
+Contains-cons x xs d h = go h.0 h.1 h.2
+  where
+    go : (k : ℕ) → k < suc (length xs) → get_or (x ∷ xs) k d ≡ d → (x ≡ d) ⊎ Contains xs d
+    go zero below is = inl is
+    go (suc k) below is = inr (k, omega arith, is)
+
+pub Contains-head : {X : Type 0} (x : X) (xs : List X) → Contains (x ∷ xs) x
+Contains-head x xs = (0, omega arith, refl)
+
+pub Contains-tail : {X : Type 0} (x : X) (xs : List X) (d : X) → Contains xs d → Contains (x ∷ xs) d
+Contains-tail x xs d h = (suc h.0, omega (arith, h.1), h.2)
+
+pub Contains-map : {X Y : Type 0} (f : X → Y) (xs : List X) (x : X) → Contains xs x → Contains (map f xs) (f x)
+Contains-map f [] x h = absurd (omega (arith, h.1))
+Contains-map f (y ∷ xs) x h =
+    elim (Contains-cons y xs x h) [
+      | inl is ↦ subst (λ z. Contains (f y ∷ map f xs) (f z)) is (Contains-head (f y) (map f xs))
+      | inr rest ↦ Contains-tail (f y) (map f xs) (f x) (Contains-map f xs x rest)
+    ]
+
+pub map-Contains : {X Y : Type 0} (f : X → Y) (xs : List X) (y : Y) → Contains (map f xs) y → (x : X) × Contains xs x × (f x ≡ y)
+map-Contains f [] y h = absurd (omega (arith, h.1))
+map-Contains f (x ∷ xs) y h =
+    elim (Contains-cons (f x) (map f xs) y h) [
+      | inl is ↦ (x, Contains-head x xs, is)
+      | inr rest ↦ (let at = map-Contains f xs y rest in (at.0, Contains-tail x xs at.0 at.1, at.2))
+    ]
+
+pub filter-Contains : {X : Type 0} (p : X → Bool) (xs : List X) (d : X) → Contains (filter p xs) d → Contains xs d × (p d ≡ true)
+filter-Contains p [] d h = absurd (omega (arith, h.1))
+filter-Contains p (x ∷ xs) d h = go (p x) refl (filter-Contains p xs d) h
+  where
+    go : (t : Bool) → p x ≡ t → (Contains (filter p xs) d → Contains xs d × (p d ≡ true))
+        → Contains (cond t (x ∷ filter p xs) (filter p xs)) d → Contains (x ∷ xs) d × (p d ≡ true)
+    go true e deeper h =
+        elim (Contains-cons x (filter p xs) d h) [
+          | inl is ↦ (subst (λ y. Contains (x ∷ xs) y) is (Contains-head x xs), subst (λ y. p y ≡ true) is e)
+          | inr rest ↦ (let at = deeper rest in (Contains-tail x xs d at.0, at.1))
+        ]
+    go false e deeper h = let at = deeper h in (Contains-tail x xs d at.0, at.1)
+
+pub Contains-filter : {X : Type 0} (p : X → Bool) (xs : List X) (d : X) → Contains xs d → p d ≡ true → Contains (filter p xs) d
+Contains-filter p [] d h passes = absurd (omega (arith, h.1))
+Contains-filter p (x ∷ xs) d h passes = go (p x) refl (Contains-cons x xs d h) (λ there. Contains-filter p xs d there passes)
+  where
+    go : (t : Bool) → p x ≡ t → (x ≡ d) ⊎ Contains xs d → (Contains xs d → Contains (filter p xs) d) → Contains (cond t (x ∷ filter p xs) (filter p xs)) d
+    go true e (inl is) deeper = subst (λ y. Contains (x ∷ filter p xs) y) is (Contains-head x (filter p xs))
+    go true e (inr rest) deeper = Contains-tail x (filter p xs) d (deeper rest)
+    go false e (inl is) deeper = absurd (false≢true (sym e ∙ (ap p is ∙ passes)))
+    go false e (inr rest) deeper = deeper rest
+
+-- ---- documents by their names
+
+-- a number that is found is that of a document
+pub Contains-number_of : (documents : List Document) (name : List ℕ) (number : ℕ) → number_of name documents ≡ Some number
+    → (body : List ℕ) × Contains documents (document number name body)
+unfolding number_of
+Contains-number_of [] name number e = cc
+Contains-number_of (first ∷ others) name number e = go (bytes_eq first.name name) refl (Contains-number_of others name number) e
+  where
+    go : (t : Bool) → bytes_eq first.name name ≡ t
+        → (number_of name others ≡ Some number → (body : List ℕ) × Contains others (document number name body))
+        → cond t (Some first.number) (number_of name others) ≡ Some number
+        → (body : List ℕ) × Contains (first ∷ others) (document number name body)
+    go true same deeper found =
+        let is : first.number ≡ number = cc in
+        let named = same_name first.name name same in (
+          first.body,
+          subst (λ n. Contains (first ∷ others) (document n name first.body)) is
+              (subst (λ n. Contains (first ∷ others) (document first.number n first.body)) named (Contains-head first others)),
+        )
+    go false same deeper found = let rest = deeper found in (rest.0, Contains-tail first others (document number name rest.0) rest.1)
+
+-- a name that is taken is that of a document
+pub taken-Contains : (name : List ℕ) (documents : List Document) → is_taken name documents ≡ true
+    → (number : ℕ) × (body : List ℕ) × Contains documents (document number name body)
+taken-Contains name documents taken = go (number_of name documents) refl taken
+  where
+    go : (found : Option ℕ) → number_of name documents ≡ found → is_some found ≡ true
+        → (number : ℕ) × (body : List ℕ) × Contains documents (document number name body)
+    go None e taken = absurd (false≢true taken)
+    go (Some number) e taken = let at = Contains-number_of documents name number e in (number, at.0, at.1)
+
+pub Contains-untaken : (name : List ℕ) (documents : List Document) → is_taken name documents ≡ false → (d : Document) → Contains documents d
+    → bytes_eq d.name name ≡ false
+unfolding number_of
+Contains-untaken name [] free d h = absurd (omega (arith, h.1))
+Contains-untaken name (first ∷ others) free d h =
+    go (bytes_eq first.name name) refl free (λ there. Contains-untaken name others there d) (Contains-cons first others d h)
+  where
+    go : (t : Bool) → bytes_eq first.name name ≡ t → is_some (cond t (Some first.number) (number_of name others)) ≡ false
+        → (is_taken name others ≡ false → Contains others d → bytes_eq d.name name ≡ false) → (first ≡ d) ⊎ Contains others d
+        → bytes_eq d.name name ≡ false
+    go true e free deeper at = absurd (false≢true (sym free))
+    go false e free deeper (inl is) = subst (λ x. bytes_eq x.name name ≡ false) is e
+    go false e free deeper (inr rest) = deeper free rest
+
+-- ---- documents with another body
+
+-- the document, with this body if it is chosen
+abbrev pub replaced : (Document → Bool) → List ℕ → Document → Document
+replaced chosen body d = cond (chosen d) (document d.number d.name body) d
+
+module _ (chosen : Document → Bool) (body : List ℕ) where
+  pub numbers-replaced : (ds : List Document) → map (λ d. d.number) (map (replaced chosen body) ds) ≡ map (λ d. d.number) ds
+  numbers-replaced [] = refl
+  numbers-replaced (d ∷ ds) = go (chosen d) (numbers-replaced ds)
+    where
+      go : (t : Bool) → map (λ x. x.number) (map (replaced chosen body) ds) ≡ map (λ x. x.number) ds
+          → (cond t (document d.number d.name body) d).number ∷ map (λ x. x.number) (map (replaced chosen body) ds) ≡ d.number ∷ map (λ x. x.number) ds
+      go true e = ap (λ xs. d.number ∷ xs) e
+      go false e = ap (λ xs. d.number ∷ xs) e
+
+  pub names-replaced : (ds : List Document) → map (λ d. d.name) (map (replaced chosen body) ds) ≡ map (λ d. d.name) ds
+  names-replaced [] = refl
+  names-replaced (d ∷ ds) = go (chosen d) (names-replaced ds)
+    where
+      go : (t : Bool) → map (λ x. x.name) (map (replaced chosen body) ds) ≡ map (λ x. x.name) ds
+          → (cond t (document d.number d.name body) d).name ∷ map (λ x. x.name) (map (replaced chosen body) ds) ≡ d.name ∷ map (λ x. x.name) ds
+      go true e = ap (λ xs. d.name ∷ xs) e
+      go false e = ap (λ xs. d.name ∷ xs) e
+
+  pub number_of-replaced : (name : List ℕ) (ds : List Document) → number_of name (map (replaced chosen body) ds) ≡ number_of name ds
+  unfolding number_of
+  number_of-replaced name [] = refl
+  number_of-replaced name (d ∷ ds) = go (chosen d) (number_of-replaced name ds)
+    where
+      go : (t : Bool) → number_of name (map (replaced chosen body) ds) ≡ number_of name ds
+          → number_of name (cond t (document d.number d.name body) d ∷ map (replaced chosen body) ds)
+          ≡ cond (bytes_eq d.name name) (Some d.number) (number_of name ds)
+      go true e = ap (λ rest. cond (bytes_eq d.name name) (Some d.number) rest) e
+      go false e = ap (λ rest. cond (bytes_eq d.name name) (Some d.number) rest) e
+
+  pub All-replaced : (P : Document → Type 0) (ds : List Document) → ((d : Document) → P d → P (document d.number d.name body)) → All P ds
+      → All P (map (replaced chosen body) ds)
+  All-replaced P ds other each = All-map P (replaced chosen body) ds (λ k d inside. go (get_or ds k d) (chosen (get_or ds k d)) (each k d inside))
+    where
+      go : (d : Document) (t : Bool) → P d → P (cond t (document d.number d.name body) d)
+      go d true p = other d p
+      go d false p = p
+
+-- two ways to choose that agree at each document
+pub replaced-same : (p q : Document → Bool) (body : List ℕ) (ds : List Document) → ((d : Document) → Contains ds d → p d ≡ q d)
+    → map (replaced p body) ds ≡ map (replaced q body) ds
+replaced-same p q body [] each = refl
+replaced-same p q body (d ∷ ds) each =
+    ap (λ t. cond t (document d.number d.name body) d ∷ map (replaced p body) ds) (each d (Contains-head d ds))
+    ∙ ap (λ xs. cond (q d) (document d.number d.name body) d ∷ xs) (replaced-same p q body ds (λ x there. each x (Contains-tail d ds x there)))
+
+pub filter_same : (p q : Document → Bool) (ds : List Document) → ((d : Document) → Contains ds d → p d ≡ q d) → filter p ds ≡ filter q ds
+filter_same p q [] each = refl
+filter_same p q (d ∷ ds) each =
+    let rest = filter_same p q ds (λ x there. each x (Contains-tail d ds x there)) in
+    ap (λ t. cond t (d ∷ filter p ds) (filter p ds)) (each d (Contains-head d ds)) ∙ ap (λ xs. cond (q d) (d ∷ xs) xs) rest

@@ -1,21 +1,24 @@
 -- What an index keeps, from one command to the next.
-use Rattle.std.proofs.Common.{◌≡◌, ℕ, ◌+◌, ◌^◌, ◌<◌, Bool, true, false, cond, List, [], ◌∷◌, ◌++◌, length, Option, Some, None, refl, sym, ◌∙◌, ap, subst, arith}
-use Rattle.std.specs.Prelude.{bytes_eq}
-use Rattle.std.specs.Ordering.{nat_cmp, is_eq}
-use Rattle.std.specs.declared.cmp.Ordering.TheVariants.{Equal}
+use Rattle.std.proofs.Common.{◌≡◌, ℕ, ◌+◌, ◌^◌, ◌<◌, ◌==◌, Bool, true, false, cond, List, [], ◌∷◌, ◌++◌, map, length, Option, Some, None, refl, sym, ◌∙◌, ap}
+use Rattle.std.proofs.Common.{subst, arith}
+use Rattle.std.specs.Prelude.{bytes_eq, is_some}
+use Rattle.std.specs.Ordering.{nat_cmp}
 use Rattle.std.specs.Cmp.Lexicographic.{slice_cmp, texts_ties}
 use Rattle.std.specs.BTreeMap.{BTreeMap, get, is_at, IsUnchanged}
 use Rattle.std.specs.Map.{lookup}
 use Rattle.std.proofs.lemmas.List.Elements.{All-nil}
 use Rattle.index.specs.Text.{IsName, IsBody}
-use Rattle.index.specs.declared.command.Command.TheVariants.{Put, Remove}
+use Rattle.index.specs.declared.command.Command.TheVariants.{Put}
 use Rattle.index.specs.declared.store.Store.{Store}
-use Rattle.index.specs.Documents.{Document, document, number_of}
-use Rattle.index.specs.State.{state, without, applied, body_bytes, IsGoodDocument, IsState}
-use Rattle.index.specs.Private.Store.{stored, IsStore, left_after, IsIndex}
-use Rattle.index.proofs.DocumentLemmas.{same_name}
+use Rattle.index.specs.Documents.{Document, document, number_of, without, with_body}
+use Rattle.index.specs.State.{State, state, applied, body_bytes, IsGoodDocument, IsState}
+use Rattle.index.specs.Private.Slots.{without_number, with_body_at}
+use Rattle.index.specs.Private.Store.{stored, IsStore, IsIndex}
+use Rattle.index.proofs.DocumentLemmas.{same_name, number_of-replaced}
 use Rattle.index.proofs.StoredLemmas.{Numbered, Numbered-rise}
-use Rattle.index.proofs.ApplyLemmas.{Named, Named-pairs, without-left, number_of-put, number_of-without, IsState-put, IsState-remove, bytes-documents}
+use Rattle.index.proofs.OrderLemmas.{Named, Named-pairs}
+use Rattle.index.proofs.ApplyLemmas.{without-numbered, without-none, with_body-numbered, number_of-put, number_of-without, IsState-new}
+use Rattle.index.proofs.ApplyLemmas.{IsState-replace, IsState-remove, bytes-documents}
 
 pub numbered : (version : ℕ) (ds : List Document) → IsState (state version ds) → Numbered ds
 numbered version ds is = Numbered-rise ds is.rise
@@ -50,13 +53,13 @@ IsIndex-unchanged version old new store is same = record {
   few = is.few;
 }
 
--- undoing the entry of a name's number
-pub IsIndex-back : (version number : ℕ) (old noted new : BTreeMap (List ℕ) ℕ) (store : Store) (name : List ℕ) (gone : Option ℕ)
-    → IsIndex version old store → gone ≡ get (slice_cmp nat_cmp) old name
-    → ((q : List ℕ) → get (slice_cmp nat_cmp) noted q ≡ cond (bytes_eq name q) (Some number) (get (slice_cmp nat_cmp) old q))
-    → ((q : List ℕ) → get (slice_cmp nat_cmp) new q ≡ cond (bytes_eq name q) gone (get (slice_cmp nat_cmp) noted q))
+-- undoing the entry of a name
+pub IsIndex-back : (version number : ℕ) (old entered new : BTreeMap (List ℕ) ℕ) (store : Store) (name : List ℕ)
+    → IsIndex version old store → number_of name (stored store) ≡ None
+    → ((q : List ℕ) → get (slice_cmp nat_cmp) entered q ≡ cond (bytes_eq name q) (Some number) (get (slice_cmp nat_cmp) old q))
+    → ((q : List ℕ) → get (slice_cmp nat_cmp) new q ≡ cond (bytes_eq name q) None (get (slice_cmp nat_cmp) entered q))
     → IsIndex version new store
-IsIndex-back version number old noted new store name gone is was there back = record {
+IsIndex-back version number old entered new store name is none there back = record {
   kept = is.kept;
   is_state = is.is_state;
   number = λ q. back q ∙ (go q (bytes_eq name q) refl (there q) ∙ is.number q);
@@ -64,9 +67,9 @@ IsIndex-back version number old noted new store name gone is was there back = re
 }
   where
     go : (q : List ℕ) (t : Bool) → bytes_eq name q ≡ t
-        → get (slice_cmp nat_cmp) noted q ≡ cond (bytes_eq name q) (Some number) (get (slice_cmp nat_cmp) old q)
-        → cond (bytes_eq name q) gone (get (slice_cmp nat_cmp) noted q) ≡ get (slice_cmp nat_cmp) old q
-    go q true e h = rw e (was ∙ ap (get (slice_cmp nat_cmp) old) (same_name name q e))
+        → get (slice_cmp nat_cmp) entered q ≡ cond (bytes_eq name q) (Some number) (get (slice_cmp nat_cmp) old q)
+        → cond (bytes_eq name q) None (get (slice_cmp nat_cmp) entered q) ≡ get (slice_cmp nat_cmp) old q
+    go q true e h = rw e (sym none ∙ (sym (is.number name) ∙ ap (get (slice_cmp nat_cmp) old) (same_name name q e)))
     go q false e h = rw e (rw e at h)
 
 -- ---- one more command
@@ -76,63 +79,81 @@ later_store version store is = record {
   slots = record { rise = is.slots.rise; below = λ k d inside. (let low = is.slots.below k d inside in omega arith) };
   few = is.few;
   sets = is.sets;
+  counted = is.counted;
   bytes = is.bytes;
 }
 
-left : (version : ℕ) (numbers : BTreeMap (List ℕ) ℕ) (store : Store) (name : List ℕ) (gone : Option ℕ) → IsIndex version numbers store
-    → gone ≡ get (slice_cmp nat_cmp) numbers name → left_after gone (stored store) ≡ without name (stored store)
-left version numbers store name found is was =
-    sym (without-left name (stored store) (numbered version (stored store) is.is_state) (named version (stored store) is.is_state)
-    ∙ ap (λ g. left_after g (stored store)) (sym (was ∙ is.number name)))
+pub replaced_is_applied : (s : State) → IsState s → (name body : List ℕ) (number : ℕ) → number_of name s.documents ≡ Some number
+    → state (s.version + 1) (map (with_body_at number body) s.documents) ≡ applied (Put name body) s
+replaced_is_applied s is name body number found =
+    let ds = s.documents in
+    ap (state (s.version + 1))
+    (with_body-numbered ds (numbered s.version ds is) (named s.version ds is) name body number found
+    ∙ sym (ap (λ t. cond (is_some t) (map (with_body name body) ds) (ds ++ document (s.version + 1) name body ∷ [])) found))
 
-pub put_documents : (version : ℕ) (numbers : BTreeMap (List ℕ) ℕ) (before after : Store) (name body : List ℕ) (gone : Option ℕ)
-    → IsIndex version numbers before → gone ≡ get (slice_cmp nat_cmp) numbers name
-    → stored after ≡ left_after gone (stored before) ++ document (version + 1) name body ∷ []
-    → state (version + 1) (stored after) ≡ applied (Put name body) (state version (stored before))
-put_documents version numbers before after name body gone is was documents =
-    ap (state (version + 1))
-    (documents ∙ ap (λ ds. ds ++ document (version + 1) name body ∷ []) (left version numbers before name gone is was))
+pub new_is_applied : (s : State) (name body : List ℕ) → number_of name s.documents ≡ None
+    → state (s.version + 1) (s.documents ++ document (s.version + 1) name body ∷ []) ≡ applied (Put name body) s
+new_is_applied s name body none =
+    let ds = s.documents in
+    ap (state (s.version + 1))
+    (sym (ap (λ t. cond (is_some t) (map (with_body name body) ds) (ds ++ document (s.version + 1) name body ∷ [])) none))
 
-pub IsIndex-put : (version : ℕ) (old new : BTreeMap (List ℕ) ℕ) (before after : Store) (name body : List ℕ) (gone : Option ℕ)
-    → IsIndex version old before → IsName name → IsBody body → version + 1 < 2 ^ 32 → gone ≡ get (slice_cmp nat_cmp) old name
+pub removed_is_without : (version : ℕ) (numbers : BTreeMap (List ℕ) ℕ) (store : Store) (name : List ℕ) (number : ℕ) → IsIndex version numbers store
+    → get (slice_cmp nat_cmp) numbers name ≡ Some number → without_number number (stored store) ≡ without name (stored store)
+removed_is_without version numbers store name number is found =
+    let ds = stored store in
+    sym (without-numbered ds (numbered version ds is.is_state) (named version ds is.is_state) name number (sym (is.number name) ∙ found))
+
+pub absent_is_without : (version : ℕ) (numbers : BTreeMap (List ℕ) ℕ) (store : Store) (name : List ℕ) → IsIndex version numbers store
+    → get (slice_cmp nat_cmp) numbers name ≡ None → stored store ≡ without name (stored store)
+absent_is_without version numbers store name is none = sym (without-none (stored store) name (sym (is.number name) ∙ none))
+
+pub IsIndex-replace : (version : ℕ) (numbers : BTreeMap (List ℕ) ℕ) (before after : Store) (number : ℕ) (body : List ℕ)
+    → IsIndex version numbers before → IsBody body → version + 1 < 2 ^ 32
+    → stored after ≡ map (with_body_at number body) (stored before) → IsStore version after → IsIndex (version + 1) numbers after
+IsIndex-replace version numbers before after number body is is_body few documents kept = record {
+  kept = later_store version after kept;
+  is_state =
+      subst (λ ds. IsState (state (version + 1) ds)) (sym documents) (IsState-replace version (stored before) number body is_body is.is_state);
+  number =
+      λ q.
+      is.number q
+      ∙ (sym (number_of-replaced (λ d. d.number == number) body q (stored before)) ∙ ap (number_of q) (sym documents));
+  few = few;
+}
+
+pub IsIndex-new : (version : ℕ) (old new : BTreeMap (List ℕ) ℕ) (before after : Store) (name body : List ℕ) → IsIndex version old before
+    → number_of name (stored before) ≡ None → IsName name → IsBody body → version + 1 < 2 ^ 32
     → ((q : List ℕ) → get (slice_cmp nat_cmp) new q ≡ cond (bytes_eq name q) (Some (version + 1)) (get (slice_cmp nat_cmp) old q))
-    → stored after ≡ left_after gone (stored before) ++ document (version + 1) name body ∷ [] → IsStore (version + 1) after
+    → stored after ≡ stored before ++ document (version + 1) name body ∷ [] → IsStore (version + 1) after
     → IsIndex (version + 1) new after
-IsIndex-put version old new before after name body gone is is_name is_body few was noted documents kept =
-    let all : stored after ≡ without name (stored before) ++ document (version + 1) name body ∷ [] =
-    documents ∙ ap (λ ds. ds ++ document (version + 1) name body ∷ []) (left version old before name gone is was) in
-    record {
-      kept = kept;
-      is_state = subst (λ ds. IsState (state (version + 1) ds)) (sym all) (IsState-put version (stored before) name body is_name is_body is.is_state);
-      number =
-          λ q.
-          noted q
-          ∙ (ap (λ found. cond (bytes_eq name q) (Some (version + 1)) found) (is.number q)
-          ∙ (sym (number_of-put (version + 1) name body (stored before) q) ∙ ap (number_of q) (sym all)));
-      few = few;
-    }
+IsIndex-new version old new before after name body is none is_name is_body few entered documents kept = record {
+  kept = kept;
+  is_state =
+      subst (λ ds. IsState (state (version + 1) ds)) (sym documents)
+      (IsState-new version (stored before) name body none is_name is_body is.is_state);
+  number =
+      λ q.
+      entered q
+      ∙ (ap (λ found. cond (bytes_eq name q) (Some (version + 1)) found) (is.number q)
+      ∙ (sym (number_of-put (version + 1) name body (stored before) q none) ∙ ap (number_of q) (sym documents)));
+  few = few;
+}
 
-pub remove_documents : (version : ℕ) (numbers : BTreeMap (List ℕ) ℕ) (before after : Store) (name : List ℕ) (gone : Option ℕ)
-    → IsIndex version numbers before → gone ≡ get (slice_cmp nat_cmp) numbers name → stored after ≡ left_after gone (stored before)
-    → state (version + 1) (stored after) ≡ applied (Remove name) (state version (stored before))
-remove_documents version numbers before after name gone is was documents = ap (state (version + 1)) (documents ∙ left version numbers before name gone is was)
-
-pub IsIndex-remove : (version : ℕ) (old new : BTreeMap (List ℕ) ℕ) (before after : Store) (name : List ℕ) (gone : Option ℕ)
-    → IsIndex version old before → version + 1 < 2 ^ 32 → gone ≡ get (slice_cmp nat_cmp) old name
+pub IsIndex-remove : (version : ℕ) (old new : BTreeMap (List ℕ) ℕ) (before after : Store) (name : List ℕ) → IsIndex version old before
+    → version + 1 < 2 ^ 32
     → ((q : List ℕ) → get (slice_cmp nat_cmp) new q ≡ cond (bytes_eq name q) None (get (slice_cmp nat_cmp) old q))
-    → stored after ≡ left_after gone (stored before) → IsStore version after → IsIndex (version + 1) new after
-IsIndex-remove version old new before after name gone is few was removed documents kept =
-    let all : stored after ≡ without name (stored before) = documents ∙ left version old before name gone is was in
-    record {
-      kept = later_store version after kept;
-      is_state = subst (λ ds. IsState (state (version + 1) ds)) (sym all) (IsState-remove version (stored before) name is.is_state);
-      number =
-          λ q.
-          removed q
-          ∙ (ap (λ found. cond (bytes_eq name q) None found) (is.number q)
-          ∙ (sym (number_of-without name (stored before) q) ∙ ap (number_of q) (sym all)));
-      few = few;
-    }
+    → stored after ≡ without name (stored before) → IsStore version after → IsIndex (version + 1) new after
+IsIndex-remove version old new before after name is few removed documents kept = record {
+  kept = later_store version after kept;
+  is_state = subst (λ ds. IsState (state (version + 1) ds)) (sym documents) (IsState-remove version (stored before) name is.is_state);
+  number =
+      λ q.
+      removed q
+      ∙ (ap (λ found. cond (bytes_eq name q) None found) (is.number q)
+      ∙ (sym (number_of-without name (stored before) q) ∙ ap (number_of q) (sym documents)));
+  few = few;
+}
 
 -- the count of bytes still fits in 64 bits with one more body
 pub room_for_bytes : (version : ℕ) (ds : List Document) (body : List ℕ) → IsState (state version ds) → IsBody body → version < 2 ^ 32
@@ -158,7 +179,3 @@ pub changed_at : (old new : BTreeMap (List ℕ) ℕ) (name : List ℕ) (left : O
     → ((q : List ℕ) → get (slice_cmp nat_cmp) new q ≡ cond (is_at (slice_cmp nat_cmp name) q) left (get (slice_cmp nat_cmp) old q))
     → (q : List ℕ) → get (slice_cmp nat_cmp) new q ≡ cond (bytes_eq name q) left (get (slice_cmp nat_cmp) old q)
 changed_at old new name left updates q = updates q ∙ ap (λ t. cond t left (get (slice_cmp nat_cmp) old q)) (sym (texts_ties name q))
-
--- a name that `get_key_value` found
-pub alike : (x y : List ℕ) → slice_cmp nat_cmp x y ≡ Equal → y ≡ x
-alike x y e = sym (same_name x y (texts_ties x y ∙ ap is_eq e))

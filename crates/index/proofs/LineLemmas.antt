@@ -1,42 +1,20 @@
 -- The lines of a text, one after another.
-use Rattle.std.proofs.Common.{◌≡◌, ◌≢◌, ℕ, zero, suc, ◌+◌, ◌-◌, ◌<◌, ◌≤◌, ◌==◌, ◌||◌, Bool, true, false, nat_lt, List, [], ◌∷◌, length}
-use Rattle.std.proofs.Common.{take, drop, get_or, Option, Some, None, refl, sym, ◌∙◌, ap, arith, is_some, add-one}
+use Rattle.std.proofs.Common.{◌≡◌, ℕ, zero, suc, ◌+◌, ◌-◌, ◌<◌, ◌≤◌, ◌==◌, ◌||◌, Bool, true, false, nat_lt, List, [], ◌∷◌, length}
+use Rattle.std.proofs.Common.{take, drop, get_or, Option, Some, None, refl, sym, ◌∙◌, ap, arith, is_some, add-one, zero-add}
 use Rattle.std.specs.List.{list_any}
 use Rattle.std.proofs.lemmas.Bool.Decides.{nat_tests}
-use Rattle.std.proofs.lemmas.List.{length-take, length-drop, take_all}
+use Rattle.std.proofs.lemmas.List.{length-take, length-drop, take_all, get_or-take}
 use Rattle.index.specs.Text.{has_byte_0, has_long_line}
 use Rattle.lines.specs.Lines.{lines_of, with_byte_in_front}
-use Rattle.memchr.specs.Find.{IsFirstByte, is_byte, Nowhere, NoneBefore, Passes}
+use Rattle.memchr.specs.Find.{IsFirstByte, is_byte, Nowhere, NoneAfter, Passes}
 
--- The text up to its first line feed, which is at the place, is the first line.
-pub lines_of-first : (place : ℕ) (text : List ℕ) → place < length text → get_or text place 0 ≡ 10
-    → ((k : ℕ) → k < place → get_or text k 0 ≢ 10) → lines_of text ≡ take place text ∷ lines_of (drop (suc place) text)
-unfolding lines_of
-lines_of-first place [] below found before = absurd (omega arith)
-lines_of-first zero (b ∷ text) below found before =
-    let here : (b == 10) ≡ true = grind (arith, nat_tests) in
-    rw here refl
-lines_of-first (suc place) (b ∷ text) below found before =
-    let other = before 0 (omega arith) in
-    let apart : (b == 10) ≡ false = grind (arith, nat_tests) in
-    rw apart (ap (with_byte_in_front b) (lines_of-first place text (omega arith) found (λ k h. before (suc k) (omega arith))))
+abbrev pub some_long : List (List ℕ) → Bool
+some_long lines = list_any (λ line. nat_lt 16384 (length line)) lines
 
--- the lines of a text without a line feed: itself, unless it is empty
-abbrev pub only_line : List ℕ → List (List ℕ)
-only_line [] = []
-only_line (b ∷ text) = (b ∷ text) ∷ []
-
-pub lines_of-last : (text : List ℕ) → ((k : ℕ) → k < length text → get_or text k 0 ≢ 10) → lines_of text ≡ only_line text
-unfolding lines_of
-lines_of-last [] none = refl
-lines_of-last (b ∷ text) none =
-    let other = none 0 (omega arith) in
-    let apart : (b == 10) ≡ false = grind (arith, nat_tests) in
-    rw (apart, lines_of-last text (λ k h. none (suc k) (omega arith))) (more text)
-  where
-    more : (text : List ℕ) → with_byte_in_front b (only_line text) ≡ (b ∷ text) ∷ []
-    more [] = refl
-    more (c ∷ text) = refl
+-- whether some line is long, once the first one has n more bytes
+abbrev pub long_with : ℕ → List (List ℕ) → Bool
+long_with n [] = nat_lt 16384 n
+long_with n (line ∷ lines) = nat_lt 16384 (n + length line) || some_long lines
 
 is_false : (t : Bool) → (t ≡ true → ⊥) → t ≡ false
 is_false true h = absurd (h refl)
@@ -60,38 +38,88 @@ pub has_byte_0-memchr : (text : List ℕ) (found : Option ℕ) → IsFirstByte (
 has_byte_0-memchr text None none = sym (no_zero text (λ k below. none k (omega arith) below))
 has_byte_0-memchr text (Some place) first = sym (some_zero text place first.0.high first.1)
 
--- where memchr finds the first line feed
-pub lines_of-memchr : (text : List ℕ) (place : ℕ)
-    → (NoneBefore (Passes (is_byte 10) text) 0 (length text) place × Passes (is_byte 10) text place)
-    → lines_of text ≡ take place text ∷ lines_of (drop (suc place) text)
-lines_of-memchr text place first =
-    let found : (get_or text place 0 == 10) ≡ true = first.1 in
-    lines_of-first place text first.0.high (grind (arith, nat_tests)) (λ k below e. first.0.before k (omega arith) below (rw e refl))
-
-pub lines_of-none : (text : List ℕ) → Nowhere (Passes (is_byte 10) text) 0 (length text) → lines_of text ≡ only_line text
-lines_of-none text none = lines_of-last text (λ k below e. none k (omega arith) below (rw e refl))
-
-pub long-first : (text : List ℕ) (place : ℕ)
-    → (NoneBefore (Passes (is_byte 10) text) 0 (length text) place × Passes (is_byte 10) text place)
-    → (16384 < place → has_long_line text ≡ true) × (place ≤ 16384 → has_long_line text ≡ has_long_line (drop (suc place) text))
-long-first text place first =
-    let cut : lines_of text ≡ take place text ∷ lines_of (drop (suc place) text) = lines_of-memchr text place first in
-    let size : length (take place text) ≡ place = simp length-take (omega (arith, first.0.high)) in
-    let parts : has_long_line text ≡ (nat_lt 16384 place || has_long_line (drop (suc place) text)) = rw cut (rw size refl) in (
-      λ h. let long : nat_lt 16384 place ≡ true = grind (arith, nat_tests) in parts ∙ rw long refl,
-      λ h. let short : nat_lt 16384 place ≡ false = grind (arith, nat_tests) in parts ∙ rw short refl,
-    )
-
 or_none : (a : Bool) → (a || false) ≡ a
 or_none true = refl
 or_none false = refl
 
-pub long-last : (text : List ℕ) → Nowhere (Passes (is_byte 10) text) 0 (length text) → has_long_line text ≡ nat_lt 16384 (length text)
-long-last text none = ap (λ lines. list_any (λ line. nat_lt 16384 (length line)) lines) (lines_of-none text none) ∙ one text
+long_with-none : (lines : List (List ℕ)) → some_long lines ≡ long_with 0 lines
+long_with-none [] = refl
+long_with-none (line ∷ lines) = ap (λ n. nat_lt 16384 n || some_long lines) (sym (zero-add (length line)))
+
+long_with-byte : (b n : ℕ) (lines : List (List ℕ)) → long_with n (with_byte_in_front b lines) ≡ long_with (suc n) lines
+long_with-byte b n [] = or_none (nat_lt 16384 (n + 1)) ∙ ap (nat_lt 16384) (add-one n)
+long_with-byte b n (line ∷ lines) =
+    let one : n + suc (length line) ≡ suc n + length line = omega arith in
+    ap (λ n. nat_lt 16384 n || some_long lines) one
+
+-- the lines of a text that begins with a line feed, and of one that does not
+long_with-feed : (b n : ℕ) (text : List ℕ) → n ≤ 16384 → (b == 10) ≡ true → long_with n (lines_of (b ∷ text)) ≡ long_with 0 (lines_of text)
+unfolding lines_of
+long_with-feed b n text short here =
+    let none : nat_lt 16384 (n + 0) ≡ false = grind (arith, nat_tests) in
+    rw (here, none) (long_with-none (lines_of text))
+
+long_with-other : (b n : ℕ) (text : List ℕ) → (b == 10) ≡ false → long_with n (lines_of (b ∷ text)) ≡ long_with (suc n) (lines_of text)
+unfolding lines_of
+long_with-other b n text other = rw other (long_with-byte b n (lines_of text))
+
+-- Up to a line feed that comes early enough no line is long.
+feed_within : (place n : ℕ) (text : List ℕ) → n + place ≤ 16384 → place < length text → (get_or text place 0 == 10) ≡ true
+    → long_with n (lines_of text) ≡ long_with 0 (lines_of (drop (suc place) text))
+feed_within place n [] early below found = absurd (omega arith)
+feed_within zero n (b ∷ text) early below found = long_with-feed b n text (omega arith) found
+feed_within (suc place) n (b ∷ text) early below found =
+    go (feed_within place 0 text (omega arith) (omega arith) found) (feed_within place (suc n) text (omega arith) (omega arith) found) (b == 10) refl
   where
-    one : (text : List ℕ) → list_any (λ line. nat_lt 16384 (length line)) (only_line text) ≡ nat_lt 16384 (length text)
-    one [] = refl
-    one (b ∷ text) = or_none (nat_lt 16384 (length (b ∷ text)))
+    go : long_with 0 (lines_of text) ≡ long_with 0 (lines_of (drop (suc place) text))
+        → long_with (suc n) (lines_of text) ≡ long_with 0 (lines_of (drop (suc place) text)) → (t : Bool) → (b == 10) ≡ t
+        → long_with n (lines_of (b ∷ text)) ≡ long_with 0 (lines_of (drop (suc place) text))
+    go from_feed from_other true here = long_with-feed b n text (omega arith) here ∙ from_feed
+    go from_feed from_other false other = long_with-other b n text other ∙ from_other
+
+-- With no line feed among so many bytes, a line is long.
+none_within : (count n : ℕ) (text : List ℕ) → count ≤ length text → 16384 < n + count
+    → ((k : ℕ) → k < count → (get_or text k 0 == 10) ≡ true → ⊥) → long_with n (lines_of text) ≡ true
+none_within zero n text inside long none = already (lines_of text)
+  where
+    already : (lines : List (List ℕ)) → long_with n lines ≡ true
+    already [] = grind (arith, nat_tests)
+    already (line ∷ lines) = let first : nat_lt 16384 (n + length line) ≡ true = grind (arith, nat_tests) in rw first refl
+none_within (suc count) n [] inside long none = absurd (omega arith)
+none_within (suc count) n (b ∷ text) inside long none =
+    long_with-other b n text (is_false (b == 10) (none 0 (omega arith)))
+    ∙ none_within count (suc n) text (omega arith) (omega arith) (λ k below. none (suc k) (omega arith))
+
+-- a short text has no long line
+short_within : (n : ℕ) (text : List ℕ) → n + length text ≤ 16384 → long_with n (lines_of text) ≡ false
+unfolding lines_of
+short_within n [] short = grind (arith, nat_tests)
+short_within n (b ∷ text) short = go (short_within 0 text (omega arith)) (short_within (suc n) text (omega arith)) (b == 10) refl
+  where
+    go : long_with 0 (lines_of text) ≡ false → long_with (suc n) (lines_of text) ≡ false → (t : Bool) → (b == 10) ≡ t
+        → long_with n (lines_of (b ∷ text)) ≡ false
+    go from_feed from_other true here = long_with-feed b n text (omega arith) here ∙ from_feed
+    go from_feed from_other false other = long_with-other b n text other ∙ from_other
+
+pub long-short : (text : List ℕ) → length text ≤ 16384 → has_long_line text ≡ false
+long-short text short = long_with-none (lines_of text) ∙ short_within 0 text (omega arith)
+
+-- where memrchr finds the last line feed of so many bytes
+pub long-feed : (text : List ℕ) (place : ℕ) → 16384 < length text
+    → (NoneAfter (Passes (is_byte 10) (take 16385 text)) 0 (length (take 16385 text)) place × Passes (is_byte 10) (take 16385 text) place)
+    → has_long_line text ≡ has_long_line (drop (suc place) text)
+long-feed text place long last =
+    let below : place < 16385 = omega (arith, last.0.high, length-take 16385 text) in
+    let found : (get_or text place 0 == 10) ≡ true = ap (λ b. b == 10) (sym (get_or-take 16385 text place 0 below)) ∙ last.1 in
+    long_with-none (lines_of text) ∙ feed_within place 0 text (omega arith) (omega arith) found ∙ sym (long_with-none (lines_of (drop (suc place) text)))
+
+pub long-none : (text : List ℕ) → 16384 < length text → Nowhere (Passes (is_byte 10) (take 16385 text)) 0 (length (take 16385 text))
+    → has_long_line text ≡ true
+long-none text long none =
+    long_with-none (lines_of text)
+    ∙ none_within 16385 0 text (omega arith) (omega arith)
+    (λ k below here.
+    none k (omega arith) (omega (arith, length-take 16385 text)) (ap (λ b. b == 10) (get_or-take 16385 text k 0 below) ∙ here))
 
 -- what `&text[place + 1..]` is
 pub rest-after : (text : List ℕ) (place : ℕ) → take (length text - (place + 1)) (drop (place + 1) text) ≡ drop (suc place) text

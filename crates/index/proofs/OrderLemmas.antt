@@ -1,7 +1,7 @@
 -- The documents in the order of their names.
-use Rattle.std.proofs.Common.{◌≡◌, ℕ, zero, suc, ◌<◌, ◌==◌, ◌||◌, ◌⊎◌, inl, inr, Bool, true, false, cond, List, [], ◌∷◌, map, length}
+use Rattle.std.proofs.Common.{◌≡◌, ◌≢◌, ℕ, zero, suc, ◌<◌, ◌==◌, ◌||◌, ◌⊎◌, inl, inr, Bool, true, false, cond, List, [], ◌∷◌, map, length}
 use Rattle.std.proofs.Common.{get_or, Option, Some, None, Contains, refl, sym, ◌∙◌, ap, subst, arith}
-use Rattle.std.specs.Prelude.{slice_get, bytes_eq, filter}
+use Rattle.std.specs.Prelude.{All, AllPairs, slice_get, bytes_eq, filter}
 use Rattle.std.specs.List.{AllByRecursion}
 use Rattle.std.specs.declared.cmp.Ordering.TheVariants.{Less}
 use Rattle.std.proofs.lemmas.Bool.{false≢true}
@@ -16,15 +16,28 @@ use Rattle.std.specs.List.Sorted.{IsStrictlySortedBy}
 use Rattle.std.specs.Map.{keys_of, values_of}
 use Rattle.std.specs.BTreeMap.{BTreeMap, get, IsOrdered, is_at, values}
 use Rattle.std.proofs.lemmas.Map.Entries.{place_from_lookup, btree_map_get_place}
-use Rattle.std.proofs.lemmas.Option.{slice_get_within, get_or_from_slice_get}
+use Rattle.std.proofs.lemmas.Option.{slice_get_within, get_or_from_slice_get, some_pair_parts}
 use Rattle.index.specs.declared.sets.Sets.{Sets}
 use Rattle.index.specs.Documents.{Document, document, document_at, number_of, meets, IsInNameOrder, RisesByName}
 use Rattle.index.specs.Private.Sets.{AreSetsOf, trigrams_shown}
 use Rattle.index.specs.Private.Chosen.{numbered_document, document_numbered, documents_numbered}
-use Rattle.index.proofs.DocumentLemmas.{same_name, bytes_eq-refl}
-use Rattle.index.proofs.PutLemmas.{Contains-cons, Contains-head, Contains-tail, Contains-number_of}
+use Rattle.index.proofs.DocumentLemmas.{same_name, bytes_eq-refl, Contains-cons, Contains-head, Contains-tail, Contains-number_of}
+use Rattle.index.proofs.DocumentLemmas.{filter-Contains, Contains-filter, filter_same}
 use Rattle.index.proofs.StoredLemmas.{Numbered, same_bool}
-use Rattle.index.proofs.ApplyLemmas.{Named}
+
+-- ---- each name once
+
+abbrev pub Named : List Document → Type 0
+Named [] = Unit {0}
+Named (d ∷ ds) = All (λ e. d.name ≢ e.name) ds × Named ds
+
+pub Named-pairs : (ds : List Document) → AllPairs (λ d e. d.name ≢ e.name) ds → Named ds
+Named-pairs [] apart = tt
+Named-pairs (d ∷ ds) apart = (
+  λ k x inside.
+      apart 0 (suc k) x (omega arith) (omega arith),
+  Named-pairs ds (λ i j x before inside. apart (suc i) (suc j) x (omega arith) (omega arith)),
+)
 
 -- ---- a document by its number and by its name
 
@@ -56,11 +69,26 @@ number_of-Contains (x ∷ ds) named d h = go (bytes_eq x.name d.name) refl (Cont
     go false e (inl is) deeper = absurd (false≢true (sym e ∙ subst (λ y. bytes_eq x.name y.name ≡ true) is (bytes_eq-refl x.name)))
     go false e (inr there) deeper = deeper there
 
-pub filter_same : (p q : Document → Bool) (ds : List Document) → ((d : Document) → Contains ds d → p d ≡ q d) → filter p ds ≡ filter q ds
-filter_same p q [] each = refl
-filter_same p q (d ∷ ds) each =
-    let rest = filter_same p q ds (λ x there. each x (Contains-tail d ds x there)) in
-    ap (λ t. cond t (d ∷ filter p ds) (filter p ds)) (each d (Contains-head d ds)) ∙ ap (λ xs. cond (q d) (d ∷ xs) xs) rest
+-- A document has the name exactly if it has the number that is found under the name.
+pub name-number : (ds : List Document) → Numbered ds → Named ds → (name : List ℕ) (number : ℕ) → number_of name ds ≡ Some number
+    → (d : Document) → Contains ds d → bytes_eq d.name name ≡ (d.number == number)
+name-number ds numbered named name number found d there = same_bool (bytes_eq d.name name) (d.number == number) forth back
+  where
+    forth : bytes_eq d.name name ≡ true → (d.number == number) ≡ true
+    forth e =
+        let both : Some d.number ≡ Some number = sym (number_of-Contains ds named d there) ∙ (ap (λ n. number_of n ds) (same_name d.name name e) ∙ found) in
+        let same : d.number ≡ number = cc in
+        grind (arith, nat_tests)
+
+    back : (d.number == number) ≡ true → bytes_eq d.name name ≡ true
+    back e =
+        let same : d.number ≡ number = grind (arith, nat_tests) in
+        let at = Contains-number_of ds name number found in
+        let both : Some (d.name, d.body) ≡ Some (name, at.0) =
+        sym (document_at-Contains ds numbered d there)
+        ∙ (ap (λ n. document_at n ds) same ∙ document_at-Contains ds numbered (document number name at.0) at.1) in
+        let is : d.name ≡ name = (some_pair_parts d.name name d.body at.0 both).0 in
+        ap (λ n. bytes_eq n name) is ∙ bytes_eq-refl name
 
 -- ---- entries of the map from names to numbers
 
@@ -103,30 +131,6 @@ shown-Contains : (documents : List Document) (entries : List (List ℕ × ℕ)) 
 shown-Contains documents [] d k below e = absurd (omega arith)
 shown-Contains documents (entry ∷ entries) d zero below e = (entry, refl, e)
 shown-Contains documents (entry ∷ entries) d (suc k) below e = shown-Contains documents entries d k (omega arith) e
-
--- what a filter keeps
-pub filter-Contains : (p : Document → Bool) (ds : List Document) (d : Document) → Contains (filter p ds) d → Contains ds d × (p d ≡ true)
-filter-Contains p [] d h = absurd (omega (arith, h.1))
-filter-Contains p (x ∷ ds) d h = go (p x) refl (filter-Contains p ds d) h
-  where
-    go : (t : Bool) → p x ≡ t → (Contains (filter p ds) d → Contains ds d × (p d ≡ true))
-        → Contains (cond t (x ∷ filter p ds) (filter p ds)) d → Contains (x ∷ ds) d × (p d ≡ true)
-    go true e deeper h =
-        elim (Contains-cons x (filter p ds) d h) [
-          | inl is ↦ (subst (λ y. Contains (x ∷ ds) y) is (Contains-head x ds), subst (λ y. p y ≡ true) is e)
-          | inr rest ↦ (let at = deeper rest in (Contains-tail x ds d at.0, at.1))
-        ]
-    go false e deeper h = let at = deeper h in (Contains-tail x ds d at.0, at.1)
-
-pub Contains-filter : (p : Document → Bool) (ds : List Document) (d : Document) → Contains ds d → p d ≡ true → Contains (filter p ds) d
-Contains-filter p [] d h passes = absurd (omega (arith, h.1))
-Contains-filter p (x ∷ ds) d h passes = go (p x) refl (Contains-cons x ds d h) (λ there. Contains-filter p ds d there passes)
-  where
-    go : (t : Bool) → p x ≡ t → (x ≡ d) ⊎ Contains ds d → (Contains ds d → Contains (filter p ds) d) → Contains (cond t (x ∷ filter p ds) (filter p ds)) d
-    go true e (inl is) deeper = subst (λ y. Contains (x ∷ filter p ds) y) is (Contains-head x (filter p ds))
-    go true e (inr rest) deeper = Contains-tail x (filter p ds) d (deeper rest)
-    go false e (inl is) deeper = absurd (false≢true (sym e ∙ (ap p is ∙ passes)))
-    go false e (inr rest) deeper = deeper rest
 
 names-above : (name : List ℕ) (p : Document → Bool) (xs : List Document)
     → AllByRecursion (λ n. slice_cmp nat_cmp name n ≡ Less) (map (λ d. d.name) xs)

@@ -1,193 +1,386 @@
--- Documents are the Puts that no later command names.
-use Rattle.std.proofs.Common.{◌≡◌, ℕ, zero, suc, ◌+◌, ◌<◌, ◌⊎◌, inl, inr, Bool, true, false, cond, List, [], ◌∷◌, ◌++◌, map, length, take}
-use Rattle.std.proofs.Common.{drop, get_or, Some, None, Contains, refl, sym, ◌∙◌, ap, subst, arith}
-use Rattle.std.specs.Prelude.{bytes_eq, slice_get}
-use Rattle.std.specs.Ordering.{nat_cmp}
-use Rattle.std.specs.declared.cmp.Ordering.TheVariants.{Less}
-use Rattle.std.specs.List.{AllByRecursion}
-use Rattle.std.specs.List.Sorted.{IsStrictlySortedBy, IsStrictlyIncreasing}
-use Rattle.std.proofs.lemmas.Map.Keys.{IsStrictlyIncreasing-from_sorted}
+-- What the last and the first Puts of a name say of its document.
+use Rattle.std.proofs.Common.{◌≡◌, ◌≢◌, ℕ, suc, ◌<◌, ◌||◌, ◌⊎◌, inl, inr, not, Bool, true, false, cond, List, [], ◌∷◌, ◌++◌, map, length, get_or}
+use Rattle.std.proofs.Common.{Contains, refl, sym, ◌∙◌, ap, subst, arith, append_assoc}
+use Rattle.std.specs.Prelude.{All, bytes_eq}
+use Rattle.std.specs.List.Sorted.{IsStrictlyIncreasing}
 use Rattle.std.proofs.lemmas.Bool.{false≢true}
-use Rattle.std.proofs.lemmas.Bool.Decides.{nat_tests}
-use Rattle.std.proofs.lemmas.List.{length-take}
-use Rattle.std.proofs.lemmas.Option.{slice_get_within}
+use Rattle.std.proofs.lemmas.List.{length-append, append-nil, map-append}
+use Rattle.std.proofs.lemmas.List.Elements.{All-nil, All-head, All-tail, All-push, All-map, All-filter, All-weaker, All-contains, All-contains_itself}
+use Rattle.std.proofs.lemmas.List.Elements.{Contains-append_left, Contains-append_right, Contains-append_cases}
+use Rattle.posting.proofs.Rising.{rising-push}
 use Rattle.index.specs.declared.command.Command.{Command}
 use Rattle.index.specs.declared.command.Command.TheVariants.{Put, Remove}
-use Rattle.index.specs.Documents.{Document, document, names, documents_from, documents_of, document_at, number_of, IsDocument}
-use Rattle.index.proofs.DocumentLemmas.{document_at-place, number_of-place, left_by, same_name}
+use Rattle.index.specs.Documents.{Document, document, name_of, names, is_taken, with_body, without, documents_after, documents_from, documents_of}
+use Rattle.index.specs.Documents.{IsPutLast, IsDocument}
+use Rattle.index.proofs.DocumentLemmas.{same_name, bytes_eq-refl, bytes_eq-sym, names-push, Contains-cons, Contains-head, Contains-map}
+use Rattle.index.proofs.DocumentLemmas.{map-Contains, Contains-filter, filter-Contains, taken-Contains, Contains-untaken, numbers-replaced, All-replaced}
+use Rattle.index.proofs.RisingLemmas.{rise-filter}
 
--- the document is a Put of the list, whose first command has the given place
-pub record IsPutAt (place : ℕ) (c : List Command) (d : Document) : Type 0 where
-  pub i : ℕ
-  pub put : slice_get c i ≡ Some (Put d.name d.body)
-  pub unnamed : names (drop (suc i) c) d.name ≡ false
-  pub number : d.number ≡ place + i
+-- ---- one list cut at two places
 
-pub Contains-cons : {X : Type 0} (x : X) (xs : List X) (d : X) → Contains (x ∷ xs) d → (x ≡ d) ⊎ Contains xs d
-Contains-cons x xs d h = go h.0 h.1 h.2
+-- The second cut comes later.
+record IsLaterCut (before : List Command) (at : Command) (after before' : List Command) (at' : Command) (after' : List Command) : Type 0 where
+  between : List Command
+  longer : before' ≡ before ++ at ∷ between
+  rest : after ≡ between ++ at' ∷ after'
+
+record IsSameCut (before : List Command) (at : Command) (after before' : List Command) (at' : Command) (after' : List Command) : Type 0 where
+  before_same : before ≡ before'
+  at_same : at ≡ at'
+  after_same : after ≡ after'
+
+cuts : (before : List Command) (at : Command) (after before' : List Command) (at' : Command) (after' : List Command)
+    → before ++ at ∷ after ≡ before' ++ at' ∷ after'
+    → IsSameCut before at after before' at' after'
+    ⊎ (IsLaterCut before at after before' at' after' ⊎ IsLaterCut before' at' after' before at after)
+cuts [] at after [] at' after' e = inl (record { before_same = refl; at_same = cc; after_same = cc })
+cuts [] at after (x ∷ before') at' after' e = inr (inl (record { between = before'; longer = cc; rest = cc }))
+cuts (x ∷ before) at after [] at' after' e = inr (inr (record { between = before; longer = cc; rest = cc }))
+cuts (x ∷ before) at after (y ∷ before') at' after' e =
+    let first : x ≡ y = cc in
+    let tail : before ++ at ∷ after ≡ before' ++ at' ∷ after' = cc in
+    elim (cuts before at after before' at' after' tail) [
+      | inl h ↦ inl (record { before_same = cc (first, h.before_same); at_same = h.at_same; after_same = h.after_same })
+      | inr (inl h) ↦ inr (inl (record { between = h.between; longer = cc (first, h.longer); rest = h.rest }))
+      | inr (inr h) ↦ inr (inr (record { between = h.between; longer = cc (first, h.longer); rest = h.rest }))
+    ]
+
+-- ---- the last Put of a name
+
+now_last : (done : List Command) (name body : List ℕ) → IsPutLast (done ++ Put name body ∷ []) name body
+unfolding names
+now_last done name body = record { before = done; later = []; put = refl; unnamed = refl }
+
+still_last : (done : List Command) (c : Command) (name body : List ℕ) → IsPutLast done name body → bytes_eq (name_of c) name ≡ false
+    → IsPutLast (done ++ c ∷ []) name body
+still_last done c name body h other = record {
+  before = h.before;
+  later = h.later ++ c ∷ [];
+  put = ap (λ xs. xs ++ c ∷ []) h.put ∙ append_assoc h.before (Put name body ∷ h.later) (c ∷ []);
+  unnamed = names-push h.later c name ∙ rw (h.unnamed, other) refl;
+}
+
+was_last : (done : List Command) (c : Command) (name body : List ℕ) → IsPutLast (done ++ c ∷ []) name body
+    → (c ≡ Put name body) ⊎ (IsPutLast done name body × (bytes_eq (name_of c) name ≡ false))
+was_last done c name body h =
+    elim (cuts h.before (Put name body) h.later done c [] (sym h.put)) [
+      | inl same ↦ inl (sym same.at_same)
+      | inr (inl later) ↦ inr (before later)
+      | inr (inr later) ↦ absurd (none later)
+    ]
   where
-    go : (k : ℕ) → k < suc (length xs) → get_or (x ∷ xs) k d ≡ d → (x ≡ d) ⊎ Contains xs d
-    go zero below is = inl is
-    go (suc k) below is = inr (k, omega arith, is)
+    or_parts : (a b : Bool) → (a || b) ≡ false → (a ≡ false) × (b ≡ false)
+    or_parts true b e = absurd (false≢true (sym e))
+    or_parts false b e = (refl, e)
 
-pub Contains-head : {X : Type 0} (x : X) (xs : List X) → Contains (x ∷ xs) x
-Contains-head x xs = (0, omega arith, refl)
+    before : IsLaterCut h.before (Put name body) h.later done c [] → IsPutLast done name body × (bytes_eq (name_of c) name ≡ false)
+    before later =
+        let both =
+        or_parts (names later.between name) (bytes_eq (name_of c) name)
+        (sym (names-push later.between c name) ∙ (ap (λ xs. names xs name) (sym later.rest) ∙ h.unnamed)) in
+        (record { before = h.before; later = later.between; put = later.longer; unnamed = both.0 }, both.1)
 
-pub Contains-tail : {X : Type 0} (x : X) (xs : List X) (d : X) → Contains xs d → Contains (x ∷ xs) d
-Contains-tail x xs d h = (suc h.0, omega (arith, h.1), h.2)
+    none : IsLaterCut done c [] h.before (Put name body) h.later → ⊥
+    none later =
+        let size = ap length later.rest in
+        omega (arith, size, length-append later.between (Put name body ∷ h.later))
 
-deeper_put : (place : ℕ) (first : Command) (later : List Command) (d : Document) → IsPutAt (suc place) later d → IsPutAt place (first ∷ later) d
-deeper_put place first later d h = record { i = suc h.i; put = h.put; unnamed = h.unnamed; number = omega (arith, h.number) }
-
-pub put_at : (place : ℕ) (c : List Command) (d : Document) → Contains (documents_from place c) d → IsPutAt place c d
-unfolding documents_from
-put_at place [] d h = absurd (omega (arith, h.1))
-put_at place (Remove name ∷ later) d h = deeper_put place (Remove name) later d (put_at (suc place) later d h)
-put_at place (Put name body ∷ later) d h = go (names later name) refl (put_at (suc place) later d) h
+last_or_none : (name : List ℕ) (commands : List Command) → All (λ c. c ≢ Remove name) commands
+    → (names commands name ≡ false) ⊎ ((body : List ℕ) × IsPutLast commands name body)
+unfolding names
+last_or_none name [] kept = inl refl
+last_or_none name (c ∷ later) kept =
+    elim (last_or_none name later (All-tail (λ x. x ≢ Remove name) c later kept)) [
+      | inl none ↦ first c (bytes_eq (name_of c) name) refl (All-head (λ x. x ≢ Remove name) c later kept) none
+      | inr at ↦ inr (
+        at.0,
+        record {
+          before = c ∷ at.1.before;
+          later = at.1.later;
+          put = ap (λ xs. c ∷ xs) at.1.put;
+          unnamed = at.1.unnamed;
+        },
+      )
+    ]
   where
-    here : document place name body ≡ d → names later name ≡ false → IsPutAt place (Put name body ∷ later) d
-    here is unnamed = record {
-      i = 0;
-      put = ap (λ x. Some (Put x.name x.body)) is;
-      unnamed = ap (λ x. names later x.name) (sym is) ∙ unnamed;
-      number = let same : d.number ≡ place = ap (λ x. x.number) (sym is) in omega arith;
-    }
-
-    go : (t : Bool) → names later name ≡ t → (Contains (documents_from (suc place) later) d → IsPutAt (suc place) later d)
-        → Contains (cond t (documents_from (suc place) later) (document place name body ∷ documents_from (suc place) later)) d
-        → IsPutAt place (Put name body ∷ later) d
-    go true e deeper h = deeper_put place (Put name body) later d (deeper h)
-    go false e deeper h =
-        elim (Contains-cons (document place name body) (documents_from (suc place) later) d h)
-        [ inl is ↦ here is e | inr rest ↦ deeper_put place (Put name body) later d (deeper rest) ]
-
-pub Contains-put : (place : ℕ) (c : List Command) (i : ℕ) (name body : List ℕ) → slice_get c i ≡ Some (Put name body)
-    → names (drop (suc i) c) name ≡ false → Contains (documents_from place c) (document (place + i) name body)
-unfolding documents_from
-Contains-put place [] i name body put unnamed = cc
-Contains-put place (first ∷ later) zero name body put unnamed =
-    let same : first ≡ Put name body = cc in
-    let start : place ≡ place + 0 = omega arith in
-    subst (λ x. Contains (documents_from place (x ∷ later)) (document (place + 0) name body)) (sym same) (go (names later name) unnamed)
-  where
-    go : (t : Bool) → t ≡ false
-        → Contains (cond t (documents_from (suc place) later) (document place name body ∷ documents_from (suc place) later))
-        (document (place + 0) name body)
-    go true e = absurd (false≢true (sym e))
-    go false e =
-        let start : place ≡ place + 0 = omega arith in
-        subst (λ n. Contains (document place name body ∷ documents_from (suc place) later) (document n name body)) start
-        (Contains-head (document place name body) (documents_from (suc place) later))
-Contains-put place (Remove other ∷ later) (suc i) name body put unnamed =
-    let moved : suc place + i ≡ place + suc i = omega arith in
-    subst (λ n. Contains (documents_from (suc place) later) (document n name body)) moved (Contains-put (suc place) later i name body put unnamed)
-Contains-put place (Put other text ∷ later) (suc i) name body put unnamed = go (names later other) (Contains-put (suc place) later i name body put unnamed)
-  where
-    go : (t : Bool) → Contains (documents_from (suc place) later) (document (suc place + i) name body)
-        → Contains (cond t (documents_from (suc place) later) (document place other text ∷ documents_from (suc place) later))
-        (document (place + suc i) name body)
-    go true h =
-        let moved : suc place + i ≡ place + suc i = omega arith in
-        subst (λ n. Contains (documents_from (suc place) later) (document n name body)) moved h
-    go false h =
-        let moved : suc place + i ≡ place + suc i = omega arith in
-        Contains-tail (document place other text) (documents_from (suc place) later) (document (place + suc i) name body)
-        (subst (λ n. Contains (documents_from (suc place) later) (document n name body)) moved h)
-
--- what is known of a document by its number and by its name
-pub document_at-Contains : (c : List Command) (d : Document) → Contains (documents_of c) d → document_at d.number (documents_of c) ≡ Some (d.name, d.body)
-document_at-Contains c d h =
-    let put = put_at 1 c d h in
-    ap (λ n. document_at n (documents_of c)) put.number
-    ∙ (document_at-place 1 put.i c
-    ∙ (ap (λ command. left_by command (drop (suc put.i) c)) put.put ∙ ap (λ t. cond t None (Some (d.name, d.body))) put.unnamed))
-
-pub number_of-Contains : (c : List Command) (d : Document) → Contains (documents_of c) d → number_of d.name (documents_of c) ≡ Some d.number
-number_of-Contains c d h =
-    let put = put_at 1 c d h in
-    number_of-place 1 put.i c d.name d.body put.put put.unnamed ∙ ap Some (sym put.number)
-
--- a number that is found is that of a document
-pub Contains-number_of : (documents : List Document) (name : List ℕ) (number : ℕ) → number_of name documents ≡ Some number
-    → (body : List ℕ) × Contains documents (document number name body)
-unfolding number_of
-Contains-number_of [] name number e = cc
-Contains-number_of (first ∷ others) name number e = go (bytes_eq first.name name) refl (Contains-number_of others name number) e
-  where
-    go : (t : Bool) → bytes_eq first.name name ≡ t
-        → (number_of name others ≡ Some number → (body : List ℕ) × Contains others (document number name body))
-        → cond t (Some first.number) (number_of name others) ≡ Some number
-        → (body : List ℕ) × Contains (first ∷ others) (document number name body)
-    go true same deeper found =
-        let is : first.number ≡ number = cc in
-        let named = same_name first.name name same in (
-          first.body,
-          subst (λ n. Contains (first ∷ others) (document n name first.body)) is
-              (subst (λ n. Contains (first ∷ others) (document first.number n first.body)) named (Contains-head first others)),
+    first : (c : Command) (t : Bool) → bytes_eq (name_of c) name ≡ t → c ≢ Remove name → names later name ≡ false
+        → ((bytes_eq (name_of c) name || names later name) ≡ false) ⊎ ((body : List ℕ) × IsPutLast (c ∷ later) name body)
+    first c false e kept none = inl (rw (e, none) refl)
+    first (Put other body) true e kept none =
+        inr (
+          body,
+          record {
+            before = [];
+            later = later;
+            put = ap (λ n. Put n body ∷ later) (same_name other name e);
+            unnamed = none;
+          },
         )
-    go false same deeper found = let rest = deeper found in (rest.0, Contains-tail first others (document number name rest.0) rest.1)
+    first (Remove other) true e kept none = absurd (kept (ap Remove (same_name other name e)))
+
+-- Where no later command removes a name, its last Put is no earlier.
+put_stays : (name body : List ℕ) (before later : List Command) → All (λ c. c ≢ Remove name) later
+    → (last : List ℕ) × IsPutLast (before ++ Put name body ∷ later) name last
+put_stays name body before later kept =
+    elim (last_or_none name later kept) [
+      | inl none ↦ (body, record { before = before; later = later; put = refl; unnamed = none })
+      | inr at ↦ (
+        at.0,
+        record {
+          before = before ++ Put name body ∷ at.1.before;
+          later = at.1.later;
+          put =
+              ap (λ xs. before ++ Put name body ∷ xs) at.1.put
+              ∙ sym (append_assoc before (Put name body ∷ at.1.before) (Put name at.0 ∷ at.1.later));
+          unnamed = at.1.unnamed;
+        },
+      )
+    ]
+
+-- ---- the first Put of a name since it was removed
+
+-- The document stays, with another body or the same.
+stays : (done : List Command) (c : Command) (d : Document) (body : List ℕ) → IsDocument done d → c ≢ Remove d.name
+    → IsPutLast (done ++ c ∷ []) d.name body → IsDocument (done ++ c ∷ []) (document d.number d.name body)
+stays done c d body h kept last = record {
+  last = last;
+  before = h.before;
+  first = h.first;
+  since = h.since ++ c ∷ [];
+  put = ap (λ xs. xs ++ c ∷ []) h.put ∙ append_assoc h.before (Put d.name h.first ∷ h.since) (c ∷ []);
+  number = h.number;
+  kept = All-push (λ x. x ≢ Remove d.name) h.since c h.kept kept;
+  fresh = h.fresh;
+}
+
+starts : (done : List Command) (name body : List ℕ) → ((last : List ℕ) → IsPutLast done name last → ⊥)
+    → IsDocument (done ++ Put name body ∷ []) (document (suc (length done)) name body)
+starts done name body fresh = record {
+  last = now_last done name body;
+  before = done;
+  first = body;
+  since = [];
+  put = refl;
+  number = omega arith;
+  kept = All-nil (λ c. c ≢ Remove name);
+  fresh = fresh;
+}
+
+kept_between : (name : List ℕ) (between after : List Command) (at : Command) (all : List Command) → all ≡ between ++ at ∷ after
+    → All (λ c. c ≢ Remove name) all → All (λ c. c ≢ Remove name) between
+kept_between name between after at all is kept = λ k c inside.
+    (let x = get_or between k c in
+    All-contains (λ y. y ≢ Remove name) all x kept
+    (subst (λ xs. Contains xs x) (sym is) (Contains-append_left between (at ∷ after) x (All-contains_itself between k c inside))))
+
+-- a name has one such Put
+one_number : (commands : List Command) (d e : Document) → IsDocument commands d → IsDocument commands e → d.name ≡ e.name → d.number ≡ e.number
+one_number commands d e one two same =
+    elim (cuts one.before (Put d.name one.first) one.since two.before (Put e.name two.first) two.since (sym one.put ∙ two.put)) [
+      | inl h ↦ (let size = ap length h.before_same in omega (arith, size, one.number, two.number))
+      | inr (inl later) ↦ absurd (clash later)
+      | inr (inr later) ↦ absurd (clash' later)
+    ]
+  where
+    clash : IsLaterCut one.before (Put d.name one.first) one.since two.before (Put e.name two.first) two.since → ⊥
+    clash later =
+        let kept = kept_between d.name later.between two.since (Put e.name two.first) one.since later.rest one.kept in
+        let at = put_stays d.name one.first one.before later.between kept in
+        two.fresh at.0 (subst (λ n. IsPutLast two.before n at.0) same (subst (λ xs. IsPutLast xs d.name at.0) (sym later.longer) at.1))
+
+    clash' : IsLaterCut two.before (Put e.name two.first) two.since one.before (Put d.name one.first) one.since → ⊥
+    clash' later =
+        let kept = kept_between e.name later.between one.since (Put d.name one.first) two.since later.rest two.kept in
+        let at = put_stays e.name two.first two.before later.between kept in
+        one.fresh at.0 (subst (λ n. IsPutLast one.before n at.0) (sym same) (subst (λ xs. IsPutLast xs e.name at.0) (sym later.longer) at.1))
+
+-- ---- one more command
+
+-- The documents are those of the commands: each is one, and the last Put of a name has one.
+record Follows (done : List Command) (ds : List Document) : Type 0 where
+  each : (d : Document) → Contains ds d → IsDocument done d
+  found : (name body : List ℕ) → IsPutLast done name body → (number : ℕ) × Contains ds (document number name body)
+
+follows-none : Follows [] []
+follows-none = record {
+  each = λ d h. absurd (omega (arith, h.1));
+  found = λ name body h. (let size = ap length h.put in absurd (omega (arith, size, length-append h.before (Put name body ∷ h.later))));
+}
+
+passed : (done : List Command) (c : Command) (d : Document) → IsDocument done d → bytes_eq (name_of c) d.name ≡ false → IsDocument (done ++ c ∷ []) d
+passed done c d h other =
+    stays done c d d.body h
+    (λ is. false≢true (sym other ∙ (ap (λ x. bytes_eq (name_of x) d.name) is ∙ bytes_eq-refl d.name)))
+    (still_last done c d.name d.body h.last other)
+
+follows-new : (done : List Command) (ds : List Document) (name body : List ℕ) → Follows done ds → is_taken name ds ≡ false
+    → Follows (done ++ Put name body ∷ []) (ds ++ document (suc (length done)) name body ∷ [])
+follows-new done ds name body h free = record {
+  each = λ d at. each d (Contains-append_cases ds (new ∷ []) d at);
+  found = λ n b last. found n b (was_last done (Put name body) n b last);
+}
+  where
+    new : Document
+    new = document (suc (length done)) name body
+
+    is_new : IsDocument (done ++ Put name body ∷ []) new
+    is_new =
+        starts done name body (λ b last.
+        (let at = h.found name b last in
+        false≢true (sym (Contains-untaken name ds free (document at.0 name b) at.1) ∙ bytes_eq-refl name)))
+
+    each : (d : Document) → Contains ds d ⊎ Contains (new ∷ []) d → IsDocument (done ++ Put name body ∷ []) d
+    each d (inl there) = passed done (Put name body) d (h.each d there) (bytes_eq-sym name d.name ∙ Contains-untaken name ds free d there)
+    each d (inr here) =
+        elim (Contains-cons new [] d here) [
+          | inl is ↦ subst (λ x. IsDocument (done ++ Put name body ∷ []) x) is is_new
+          | inr none ↦ absurd (omega (arith, none.1))
+        ]
+
+    found : (n b : List ℕ) → (Put name body ≡ Put n b) ⊎ (IsPutLast done n b × (bytes_eq name n ≡ false))
+        → (number : ℕ) × Contains (ds ++ new ∷ []) (document number n b)
+    found n b (inl is) =
+        let named : name ≡ n = cc in
+        let text : body ≡ b = cc in (
+          suc (length done),
+          subst (λ x. Contains (ds ++ new ∷ []) (document (suc (length done)) n x)) text
+              (subst (λ x. Contains (ds ++ new ∷ []) (document (suc (length done)) x body)) named
+              (Contains-append_right ds (new ∷ []) new (Contains-head new []))),
+        )
+    found n b (inr was) =
+        let at = h.found n b was.0 in
+        (at.0, Contains-append_left ds (new ∷ []) (document at.0 n b) at.1)
+
+follows-replaced : (done : List Command) (ds : List Document) (name body : List ℕ) → Follows done ds → is_taken name ds ≡ true
+    → Follows (done ++ Put name body ∷ []) (map (with_body name body) ds)
+follows-replaced done ds name body h taken = record {
+  each = λ d at. (let old = map-Contains (with_body name body) ds d at in
+      subst (λ x. IsDocument (done ++ Put name body ∷ []) x) old.2 (each old.0 (h.each old.0 old.1) (bytes_eq old.0.name name) refl));
+  found = λ n b last. found n b (was_last done (Put name body) n b last);
+}
+  where
+    each : (d : Document) → IsDocument done d → (t : Bool) → bytes_eq d.name name ≡ t
+        → IsDocument (done ++ Put name body ∷ []) (cond t (document d.number d.name body) d)
+    each d was true e =
+        stays done (Put name body) d body was (λ is. cc)
+        (subst (λ n. IsPutLast (done ++ Put name body ∷ []) n body) (sym (same_name d.name name e)) (now_last done name body))
+    each d was false e = passed done (Put name body) d was (bytes_eq-sym name d.name ∙ e)
+
+    moved : (d e : Document) → Contains ds d → with_body name body d ≡ e → Contains (map (with_body name body) ds) e
+    moved d e at is = subst (λ x. Contains (map (with_body name body) ds) x) is (Contains-map (with_body name body) ds d at)
+
+    found : (n b : List ℕ) → (Put name body ≡ Put n b) ⊎ (IsPutLast done n b × (bytes_eq name n ≡ false))
+        → (number : ℕ) × Contains (map (with_body name body) ds) (document number n b)
+    found n b (inl is) =
+        let named : name ≡ n = cc in
+        let text : body ≡ b = cc in
+        let at = taken-Contains name ds taken in (
+          at.0,
+          moved (document at.0 name at.1) (document at.0 n b) at.2
+              (ap (λ t. cond t (document at.0 name body) (document at.0 name at.1)) (bytes_eq-refl name)
+              ∙ (ap (λ x. document at.0 x body) named ∙ ap (λ x. document at.0 n x) text)),
+        )
+    found n b (inr was) =
+        let at = h.found n b was.0 in (
+          at.0,
+          moved (document at.0 n b) (document at.0 n b) at.1
+              (ap (λ t. cond t (document at.0 n body) (document at.0 n b)) (bytes_eq-sym n name ∙ was.1)),
+        )
+
+follows-removed : (done : List Command) (ds : List Document) (name : List ℕ) → Follows done ds → Follows (done ++ Remove name ∷ []) (without name ds)
+follows-removed done ds name h = record {
+  each = λ d at. (let was = filter-Contains (λ x. not (bytes_eq x.name name)) ds d at in
+      passed done (Remove name) d (h.each d was.0) (bytes_eq-sym name d.name ∙ other (bytes_eq d.name name) was.1));
+  found = λ n b last. found n b (was_last done (Remove name) n b last);
+}
+  where
+    other : (t : Bool) → not t ≡ true → t ≡ false
+    other true e = absurd (false≢true e)
+    other false e = refl
+
+    found : (n b : List ℕ) → (Remove name ≡ Put n b) ⊎ (IsPutLast done n b × (bytes_eq name n ≡ false))
+        → (number : ℕ) × Contains (without name ds) (document number n b)
+    found n b (inl is) = cc
+    found n b (inr was) =
+        let at = h.found n b was.0 in (
+          at.0,
+          Contains-filter (λ x. not (bytes_eq x.name name)) ds (document at.0 n b) at.1 (ap not (bytes_eq-sym n name ∙ was.1)),
+        )
+
+follows-after : (done : List Command) (c : Command) (ds : List Document) → Follows done ds
+    → Follows (done ++ c ∷ []) (documents_after (suc (length done)) c ds)
+follows-after done (Remove name) ds h = follows-removed done ds name h
+follows-after done (Put name body) ds h = go (is_taken name ds) refl
+  where
+    go : (t : Bool) → is_taken name ds ≡ t
+        → Follows (done ++ Put name body ∷ [])
+        (cond t (map (with_body name body) ds) (ds ++ document (suc (length done)) name body ∷ []))
+    go true e = follows-replaced done ds name body h e
+    go false e = follows-new done ds name body h e
+
+follows : (done later : List Command) (ds : List Document) → Follows done ds → Follows (done ++ later) (documents_from (suc (length done)) later ds)
+unfolding documents_from
+follows done [] ds h = subst (λ c. Follows c ds) (sym (append-nil done)) h
+follows done (c ∷ later) ds h =
+    let place : suc (length (done ++ c ∷ [])) ≡ suc (suc (length done)) = omega (arith, length-append done (c ∷ [])) in
+    let next = documents_after (suc (length done)) c ds in
+    subst (λ xs. Follows xs (documents_from (suc (suc (length done))) later next)) (append_assoc done (c ∷ []) later)
+    (subst (λ n. Follows ((done ++ c ∷ []) ++ later) (documents_from n later next)) place
+    (follows (done ++ c ∷ []) later next (follows-after done c ds h)))
 
 -- ---- the law
 
-cut_at : (c : List Command) (i : ℕ) (command : Command) → slice_get c i ≡ Some command → c ≡ take i c ++ command ∷ drop (suc i) c
-cut_at [] i command e = cc
-cut_at (first ∷ later) zero command e = let same : first ≡ command = cc in ap (λ x. x ∷ later) same
-cut_at (first ∷ later) (suc i) command e = ap (λ x. first ∷ x) (cut_at later i command e)
-
-slice_get-middle : (before later : List Command) (command : Command) → slice_get (before ++ command ∷ later) (length before) ≡ Some command
-slice_get-middle [] later command = refl
-slice_get-middle (first ∷ before) later command = slice_get-middle before later command
-
-drop-middle : (before later : List Command) (command : Command) → drop (suc (length before)) (before ++ command ∷ later) ≡ later
-drop-middle [] later command = refl
-drop-middle (first ∷ before) later command = drop-middle before later command
-
 pub IsDocument-Contains : (c : List Command) (d : Document) → Contains (documents_of c) d → IsDocument c d
-IsDocument-Contains c d h =
-    let put = put_at 1 c d h in
-    let inside : put.i < length c = slice_get_within c put.i (Put d.name d.body) put.put in
-    record {
-      before = take put.i c;
-      later = drop (suc put.i) c;
-      put = cut_at c put.i (Put d.name d.body) put.put;
-      place = omega (arith, put.number, length-take put.i c);
-      unnamed = put.unnamed;
-    }
+IsDocument-Contains c d h = (follows [] c [] follows-none).each d h
+
+-- a last Put that no later command names has a document
+pub Contains-IsPutLast : (c : List Command) (name body : List ℕ) → IsPutLast c name body
+    → (number : ℕ) × Contains (documents_of c) (document number name body)
+Contains-IsPutLast c name body h = (follows [] c [] follows-none).found name body h
 
 pub Contains-IsDocument : (c : List Command) (d : Document) → IsDocument c d → Contains (documents_of c) d
 Contains-IsDocument c d h =
-    let put : slice_get c (length h.before) ≡ Some (Put d.name d.body) =
-    ap (λ x. slice_get x (length h.before)) h.put ∙ slice_get-middle h.before h.later (Put d.name d.body) in
-    let later : drop (suc (length h.before)) c ≡ h.later = ap (λ x. drop (suc (length h.before)) x) h.put ∙ drop-middle h.before h.later (Put d.name d.body) in
-    let number : 1 + length h.before ≡ d.number = omega (arith, h.place) in
-    subst (λ n. Contains (documents_of c) (document n d.name d.body)) number
-    (Contains-put 1 c (length h.before) d.name d.body put (ap (λ x. names x d.name) later ∙ h.unnamed))
+    let at = Contains-IsPutLast c d.name d.body h.last in
+    let same = document at.0 d.name d.body in
+    let number = one_number c same d (IsDocument-Contains c same at.1) h refl in
+    subst (λ n. Contains (documents_of c) (document n d.name d.body)) number at.1
 
 -- ---- each number once
 
-numbers_above : (low place : ℕ) (c : List Command) → low < place → AllByRecursion (λ n. nat_cmp low n ≡ Less) (map (λ d. d.number) (documents_from place c))
-unfolding documents_from
-numbers_above low place [] h = tt
-numbers_above low place (Remove name ∷ later) h = numbers_above low (suc place) later (omega arith)
-numbers_above low place (Put name body ∷ later) h = go (names later name) (numbers_above low (suc place) later (omega arith))
-  where
-    go : (t : Bool) → AllByRecursion (λ n. nat_cmp low n ≡ Less) (map (λ d. d.number) (documents_from (suc place) later))
-        → AllByRecursion (λ n. nat_cmp low n ≡ Less)
-        (map (λ d. d.number) (cond t (documents_from (suc place) later) (document place name body ∷ documents_from (suc place) later)))
-    go true deeper = deeper
-    go false deeper = (grind (arith, nat_tests), deeper)
+-- The numbers rise, and all are below the number.
+record RiseBelow (number : ℕ) (ds : List Document) : Type 0 where
+  rise : IsStrictlyIncreasing (map (λ d. d.number) ds)
+  below : All (λ d. d.number < number) ds
 
-pub numbers_rise : (place : ℕ) (c : List Command) → IsStrictlySortedBy nat_cmp (map (λ d. d.number) (documents_from place c))
-unfolding documents_from IsStrictlySortedBy
-numbers_rise place [] = tt
-numbers_rise place (Remove name ∷ later) = numbers_rise (suc place) later
-numbers_rise place (Put name body ∷ later) = go (names later name) (numbers_rise (suc place) later)
+rises-after : (place : ℕ) (c : Command) (ds : List Document) → RiseBelow place ds → RiseBelow (suc place) (documents_after place c ds)
+rises-after place (Remove name) ds h = record {
+  rise = rise-filter (λ d. d.number) (λ d. not (bytes_eq d.name name)) ds h.rise;
+  below = All-filter (λ d. not (bytes_eq d.name name)) (λ d. d.number < suc place) ds
+      (All-weaker (λ d. d.number < place) (λ d. d.number < suc place) (λ d low. omega arith) ds h.below);
+}
+rises-after place (Put name body) ds h = go (is_taken name ds)
   where
-    go : (t : Bool) → IsStrictlySortedBy nat_cmp (map (λ d. d.number) (documents_from (suc place) later))
-        → IsStrictlySortedBy nat_cmp
-        (map (λ d. d.number) (cond t (documents_from (suc place) later) (document place name body ∷ documents_from (suc place) later)))
-    go true deeper = deeper
-    go false deeper = (numbers_above place (suc place) later (omega arith), deeper)
+    low : All (λ d. d.number < suc place) ds
+    low = All-weaker (λ d. d.number < place) (λ d. d.number < suc place) (λ d low. omega arith) ds h.below
+
+    go : (t : Bool) → RiseBelow (suc place) (cond t (map (with_body name body) ds) (ds ++ document place name body ∷ []))
+    go true = record {
+      rise = subst IsStrictlyIncreasing (sym (numbers-replaced (λ d. bytes_eq d.name name) body ds)) h.rise;
+      below = All-replaced (λ d. bytes_eq d.name name) body (λ d. d.number < suc place) ds (λ d under. under) low;
+    }
+    go false = record {
+      rise =
+          rw (map-append (λ d. d.number) ds (document place name body ∷ []))
+          (rising-push (map (λ d. d.number) ds) place h.rise (All-map (λ n. n < place) (λ d. d.number) ds h.below));
+      below = All-push (λ d. d.number < suc place) ds (document place name body) low (omega arith);
+    }
+
+rises-from : (place : ℕ) (c : List Command) (ds : List Document) → RiseBelow place ds → IsStrictlyIncreasing (map (λ d. d.number) (documents_from place c ds))
+unfolding documents_from
+rises-from place [] ds h = h.rise
+rises-from place (first ∷ later) ds h = rises-from (suc place) later (documents_after place first ds) (rises-after place first ds h)
 
 pub numbers_increase : (c : List Command) → IsStrictlyIncreasing (map (λ d. d.number) (documents_of c))
-numbers_increase c = IsStrictlyIncreasing-from_sorted (map (λ d. d.number) (documents_of c)) (numbers_rise 1 c)
+numbers_increase c =
+    rises-from 1 c []
+    (record { rise = λ k inside. absurd (omega arith); below = All-nil (λ d. d.number < 1) })

@@ -1,5 +1,5 @@
 -- The slots, and the documents in them.
-use Rattle.std.proofs.Common.{◌≡◌, ◌≢◌, ℕ, zero, suc, ◌<◌, ◌≤◌, ◌==◌, nat_lt, Bool, true, false, cond, List, [], ◌∷◌, ◌++◌, length, get_or}
+use Rattle.std.proofs.Common.{◌≡◌, ◌≢◌, ℕ, zero, suc, ◌<◌, ◌≤◌, ◌==◌, nat_lt, Bool, true, false, cond, List, [], ◌∷◌, ◌++◌, map, length, get_or}
 use Rattle.std.proofs.Common.{set, Option, Some, None, refl, sym, ◌∙◌, ap, subst, arith, ⊎_elim, is_some, append_assoc}
 use Rattle.std.specs.Prelude.{All, filter, slice_get, option_map}
 use Rattle.std.specs.List.Sorted.{IsNonDecreasingBy, IsPartitionedBy, IsPartitionPoint}
@@ -9,12 +9,13 @@ use Rattle.std.proofs.lemmas.List.{map-append, append-nil, get_or_default}
 use Rattle.std.proofs.lemmas.List.Elements.{All-head, All-tail, All-nil, All-cons, All-push}
 use Rattle.std.proofs.lemmas.Option.{slice_get_within, get_or_from_slice_get}
 use Rattle.std.proofs.lemmas.List.Sorted.{IsPartitionedBy-ltb}
+use Rattle.std.proofs.lemmas.List.Sums.{length-filter, count_by-le-length}
 use Rattle.posting.proofs.Rising.{rising-push}
 use Rattle.index.proofs.RisingLemmas.{below_later, rise-filter}
 use Rattle.index.specs.declared.slots.Slot.{Slot}
 use Rattle.index.specs.declared.slots.Occupant.{Occupant}
 use Rattle.index.specs.Documents.{Document, document, document_at}
-use Rattle.index.specs.Private.Slots.{documents_of_slot, documents_in, numbers_in, RiseTo, texts_of, without_number}
+use Rattle.index.specs.Private.Slots.{documents_of_slot, documents_in, numbers_in, RiseTo, texts_of, without_number, with_body_at}
 
 -- ---- the numbers rise
 
@@ -160,6 +161,47 @@ documents_in-emptied number (s ∷ slots) (suc place) slot rises at same =
     ap (λ ds. documents_of_slot s.number s.occupant ++ ds) (documents_in-emptied number slots place slot rises.1 at same)
     ∙ sym (without-skip number s.number s.occupant (documents_in slots) (λ e. omega arith))
 
+-- ---- another body in the slot with the number
+
+-- no document has the number
+pub with_body_at-absent : (number : ℕ) (body : List ℕ) (ds : List Document) → document_at number ds ≡ None → map (with_body_at number body) ds ≡ ds
+unfolding document_at
+with_body_at-absent number body [] none = refl
+with_body_at-absent number body (d ∷ ds) none = go (d.number == number) none (with_body_at-absent number body ds)
+  where
+    go : (t : Bool) → cond t (Some (d.name, d.body)) (document_at number ds) ≡ None
+        → (document_at number ds ≡ None → map (with_body_at number body) ds ≡ ds)
+        → cond t (document d.number d.name body) d ∷ map (with_body_at number body) ds ≡ d ∷ ds
+    go true h deeper = cc
+    go false h deeper = ap (λ xs. d ∷ xs) (deeper h)
+
+with_body_at-skip : (number : ℕ) (body : List ℕ) (other : ℕ) (occupant : Option Occupant) (ds : List Document) → other ≢ number
+    → map (with_body_at number body) (documents_of_slot other occupant ++ ds) ≡ documents_of_slot other occupant ++ map (with_body_at number body) ds
+with_body_at-skip number body other None ds apart = refl
+with_body_at-skip number body other (Some occupant) ds apart =
+    let no : (other == number) ≡ false = grind (arith, nat_tests) in
+    rw no refl
+
+pub documents_in-exchanged : (number : ℕ) (body : List ℕ) (slots : List Slot) (place : ℕ) (slot : Slot) (occupant : Occupant) → Rising slots
+    → slice_get slots place ≡ Some slot → slot.number ≡ number → slot.occupant ≡ Some occupant
+    → documents_in (set slots place (record { number = slot.number; occupant = Some (record { name = occupant.name; held = body }) }))
+    ≡ map (with_body_at number body) (documents_in slots)
+unfolding documents_in Rising
+documents_in-exchanged number body [] place slot occupant rises at same full = cc
+documents_in-exchanged number body (s ∷ slots) zero slot occupant rises at same full =
+    let is : s ≡ slot = cc in
+    let e : s.number ≡ number = ap (λ t. t.number) is ∙ same in
+    let others = document_at-absent number slots (above_are_others number slots s e rises.0) in
+    let yes : (s.number == number) ≡ true = grind (arith, nat_tests) in
+    let here : s.occupant ≡ Some occupant = ap (λ t. t.occupant) is ∙ full in
+    let number_is : slot.number ≡ s.number = ap (λ t. t.number) (sym is) in
+    rw (here, yes) (ap (λ n. document n occupant.name body ∷ documents_in slots) number_is
+    ∙ ap (λ xs. document s.number occupant.name body ∷ xs) (sym (with_body_at-absent number body (documents_in slots) others)))
+documents_in-exchanged number body (s ∷ slots) (suc place) slot occupant rises at same full =
+    let below = place_above s slots place slot rises.0 at in
+    ap (λ ds. documents_of_slot s.number s.occupant ++ ds) (documents_in-exchanged number body slots place slot occupant rises.1 at same full)
+    ∙ sym (with_body_at-skip number body s.number s.occupant (documents_in slots) (λ e. omega arith))
+
 -- ---- empty slots dropped
 
 abbrev pub is_full : Slot → Bool
@@ -222,3 +264,7 @@ RiseTo-push last slots slot rises above = record {
       (All-push (λ n. n ≤ slot.number) (numbers_in slots) slot.number (λ k d inside. (let low = rises.below k d inside in omega arith))
       (omega arith));
 }
+
+-- no more documents than slots
+pub length-documents_in : (slots : List Slot) → length (documents_in slots) ≤ length slots
+length-documents_in slots = omega (arith, length-full slots, length-filter is_full slots, count_by-le-length is_full slots)

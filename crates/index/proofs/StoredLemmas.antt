@@ -1,28 +1,33 @@
 -- Documents whose numbers rise, and their sets.
 use Rattle.std.proofs.Common.{◌≡◌, ◌≢◌, ℕ, suc, ◌+◌, ◌<◌, ◌≤◌, ◌==◌, ◌||◌, ◌&&◌, Bool, true, false, not, cond, List, [], ◌∷◌, ◌++◌, map}
 use Rattle.std.proofs.Common.{length, get_or, Option, Some, None, Contains, refl, sym, ◌∙◌, ap, subst, arith}
-use Rattle.std.specs.Prelude.{All}
+use Rattle.std.specs.Prelude.{All, IsSome, filter, option_map}
 use Rattle.std.specs.List.Sorted.{IsStrictlyIncreasing}
 use Rattle.std.proofs.lemmas.Bool.{false≢true}
 use Rattle.std.proofs.lemmas.Bool.Decides.{nat_tests}
 use Rattle.std.proofs.lemmas.List.{length-map, get_or-map, get_or_default, map-append}
 use Rattle.std.proofs.lemmas.List.Elements.{All-head, All-tail, All-nil, All-cons, All-append, All-contains_itself, All-map}
-use Rattle.std.proofs.lemmas.List.Kept.{AllPairs-from_increasing}
+use Rattle.std.proofs.lemmas.List.Kept.{AllPairs-from_increasing, IsStrictlyIncreasing-filter}
 use Rattle.std.proofs.lemmas.Option.{some_pair_parts}
 use Rattle.std.proofs.lemmas.List.Sums.{sum-map, sum_by-cons}
 use Rattle.query.specs.Trigrams.{ListsTrigrams, trigrams_of_body}
 use Rattle.posting.specs.ListValue.{has, without}
-use Rattle.posting.specs.Postings.{holds}
+use Rattle.posting.specs.Postings.{holds, IsPrepared, AllDiffer}
 use Rattle.posting.proofs.Members.{has_at, All-has}
+use Rattle.posting.proofs.SetLemmas.{has-filter}
 use Rattle.index.specs.declared.slots.Slot.{Slot}
 use Rattle.index.specs.declared.slots.Occupant.{Occupant}
 use Rattle.index.specs.declared.sets.Sets.{Sets}
+use Rattle.index.specs.declared.sets.Change.{Change}
+use Rattle.index.specs.declared.store.Store.{Store}
 use Rattle.index.specs.Documents.{Document, document, document_at}
 use Rattle.index.specs.State.{body_bytes}
-use Rattle.index.specs.Private.Slots.{documents_of_slot, documents_in, numbers_in, RiseTo, without_number}
-use Rattle.index.specs.Private.Sets.{IsNew, trigrams_shown, AreSetsOf}
+use Rattle.index.specs.Private.Slots.{documents_of_slot, documents_in, numbers_in, RiseTo, without_number, with_body_at}
+use Rattle.index.specs.Private.Sets.{IsNew, IsChange, trigrams_shown, trigrams_at, AreSetsOf}
+use Rattle.index.specs.Private.Store.{stored, IsReadyFor}
+use Rattle.index.proofs.DocumentLemmas.{numbers-replaced}
 use Rattle.index.proofs.RisingLemmas.{below_later}
-use Rattle.index.proofs.SlotLemmas.{Rising, rising}
+use Rattle.index.proofs.SlotLemmas.{Rising, rising, with_body_at-absent}
 
 not_true : (b : Bool) → (b ≡ true → ⊥) → b ≡ false
 not_true true h = absurd (h refl)
@@ -142,7 +147,7 @@ document_at-kept gone number (d ∷ ds) = go (d.number == gone) refl (d.number =
 
 -- ---- trigrams
 
-listed : (body trigrams : List ℕ) → ListsTrigrams body trigrams → (t : ℕ) → has trigrams t ≡ trigrams_of_body body t
+pub listed : (body trigrams : List ℕ) → ListsTrigrams body trigrams → (t : ℕ) → has trigrams t ≡ trigrams_of_body body t
 listed body trigrams h t = same_bool (has trigrams t) (trigrams_of_body body t) forth back
   where
     forth : has trigrams t ≡ true → trigrams_of_body body t ≡ true
@@ -183,6 +188,9 @@ numbers-kept gone (d ∷ ds) = go (not (d.number == gone)) (numbers-kept gone ds
         ≡ cond t (d.number ∷ without gone (map (λ x. x.number) ds)) (without gone (map (λ x. x.number) ds))
     go true e = ap (λ xs. d.number ∷ xs) e
     go false e = e
+
+pub all_differ : (xs : List ℕ) → IsStrictlyIncreasing xs → AllDiffer xs
+all_differ xs rise = λ i j d before inside. (let less = AllPairs-from_increasing xs rise i j d before inside in λ e. omega arith)
 
 -- the sets after a document is taken out
 pub AreSetsOf-take : (ds : List Document) (gone : ℕ) (name body trigrams : List ℕ) (old new : Sets) → AreSetsOf ds old
@@ -236,19 +244,6 @@ AreSetsOf-put ds number name body trigrams old new kept fresh lists live sets = 
         cc
     come_in trigram n (Some d) false e new_here = rw e (rw (and_false (has trigrams trigram)) (or_none (trigrams_of_body d.1 trigram)))
 
-pub document_at-found_in : (number : ℕ) (ds : List Document) (d : List ℕ × List ℕ) → document_at number ds ≡ Some d
-    → (x : Document) × Contains ds x × (x.number ≡ number)
-unfolding document_at
-document_at-found_in number [] d e = cc
-document_at-found_in number (first ∷ others) d e = go (first.number == number) refl (document_at-found_in number others d) e
-  where
-    go : (t : Bool) → (first.number == number) ≡ t
-        → (document_at number others ≡ Some d → (x : Document) × Contains others x × (x.number ≡ number))
-        → cond t (Some (first.name, first.body)) (document_at number others) ≡ Some d
-        → (x : Document) × Contains (first ∷ others) x × (x.number ≡ number)
-    go true same deeper h = (first, (0, omega arith, refl), grind (arith, nat_tests))
-    go false same deeper h = let rest = deeper h in (rest.0, (suc rest.1.0, omega (arith, rest.1.1), rest.1.2), rest.2)
-
 -- a number above all others is new to the sets
 pub IsNew-above : (ds : List Document) (last number : ℕ) (body trigrams : List ℕ) (sets : Sets) → AreSetsOf ds sets
     → All (λ d. d.number ≤ last) ds → last < number → ListsTrigrams body trigrams → IsNew sets number trigrams
@@ -256,17 +251,114 @@ IsNew-above ds last number body trigrams sets kept low above lists = record {
   live =
       subst (λ xs. All (λ m. m < number) xs) (sym kept.live)
       (All-map (λ m. m < number) (λ d. d.number) ds (λ k d inside. (let under = low k d inside in omega arith)));
-  postings = λ trigram n there. below trigram n (document_at n ds) refl (sym (kept.postings trigram n) ∙ there);
-  once = λ i j d before inside. (let less = AllPairs-from_increasing trigrams lists.rising i j d before inside in λ e. omega arith);
+  postings =
+      λ trigram there. kept.postings trigram number ∙ ap (λ found. trigrams_shown found trigram) (document_at-above number last ds low above);
+  once = all_differ trigrams lists.rising;
+}
+
+-- ---- another body
+
+document_at-replaced : (number : ℕ) (body : List ℕ) (ds : List Document) (n : ℕ)
+    → document_at n (map (with_body_at number body) ds) ≡ cond (n == number) (option_map (λ d. (d.0, body)) (document_at n ds)) (document_at n ds)
+unfolding document_at
+document_at-replaced number body [] n = none (n == number)
+  where
+    nothing : Option (List ℕ × List ℕ)
+    nothing = None
+
+    none : (t : Bool) → nothing ≡ cond t None None
+    none true = refl
+    none false = refl
+document_at-replaced number body (d ∷ ds) n = go (d.number == number) refl (d.number == n) refl (document_at-replaced number body ds n)
+  where
+    go : (t : Bool) → (d.number == number) ≡ t → (u : Bool) → (d.number == n) ≡ u
+        → document_at n (map (with_body_at number body) ds) ≡ cond (n == number) (option_map (λ e. (e.0, body)) (document_at n ds)) (document_at n ds)
+        → document_at n (cond (d.number == number) (document d.number d.name body) d ∷ map (with_body_at number body) ds)
+        ≡ cond (n == number) (option_map (λ e. (e.0, body)) (cond (d.number == n) (Some (d.name, d.body)) (document_at n ds)))
+        (cond (d.number == n) (Some (d.name, d.body)) (document_at n ds))
+    go true e true same deeper =
+        let here : (n == number) ≡ true = grind (arith, nat_tests) in
+        rw (e, same, here) refl
+    go false e true same deeper =
+        let here : (n == number) ≡ false = grind (arith, nat_tests) in
+        rw (e, same, here) refl
+    go true e false same deeper = rw (e, same) deeper
+    go false e false same deeper = rw (e, same) deeper
+
+-- the change from the trigrams that a document has to those of another body
+pub IsReadyFor-change : (store : Store) (number : ℕ) (name old body old_trigrams new_trigrams : List ℕ) (change : Change)
+    → document_at number (stored store) ≡ Some (name, old) → ListsTrigrams old old_trigrams → ListsTrigrams body new_trigrams
+    → IsChange old_trigrams new_trigrams change → IsPrepared store.sets.postings number change.fresh → IsReadyFor store number body change
+IsReadyFor-change store number name old body old_trigrams new_trigrams change at was is h room = record {
+  there = subst IsSome (sym at) refl;
+  fresh =
+      λ t.
+      ap (λ xs. has xs t) h.fresh
+      ∙ (has-filter (λ n. not (has old_trigrams n)) new_trigrams t
+      ∙ (ap (λ b. b && not (has old_trigrams t)) (listed body new_trigrams is t) ∙ ap (λ b. trigrams_of_body body t && not b) (old_at t)));
+  gone =
+      λ t.
+      ap (λ xs. has xs t) h.gone
+      ∙ (has-filter (λ n. not (has new_trigrams n)) old_trigrams t
+      ∙ (ap (λ b. b && not (has new_trigrams t)) (old_at t)
+      ∙ ap (λ b. trigrams_at (stored store) number t && not b) (listed body new_trigrams is t)));
+  once =
+      subst AllDiffer (sym h.fresh)
+      (all_differ (filter (λ n. not (has old_trigrams n)) new_trigrams)
+      (IsStrictlyIncreasing-filter (λ n. not (has old_trigrams n)) new_trigrams is.rising));
+  room = room;
 }
   where
-    below : (trigram n : ℕ) (found : Option (List ℕ × List ℕ)) → document_at n ds ≡ found → trigrams_shown found trigram ≡ true → n < number
-    below trigram n None at h = absurd (false≢true h)
-    below trigram n (Some d) at h =
-        let x = document_at-found_in n ds d at in
-        let under = low x.1.0 x.0 x.1.1 in
-        let is : (get_or ds x.1.0 x.0).number ≡ x.0.number = ap (λ y. y.number) x.1.2 in
-        omega (arith, under, is, x.2)
+    old_at : (t : ℕ) → has old_trigrams t ≡ trigrams_at (stored store) number t
+    old_at t = listed old old_trigrams was t ∙ ap (λ found. trigrams_shown found t) (sym at)
+
+-- the sets after the body of a document is replaced
+pub AreSetsOf-replace : (ds : List Document) (number : ℕ) (name old_body body fresh gone : List ℕ) (old new : Sets) → AreSetsOf ds old
+    → document_at number ds ≡ Some (name, old_body)
+    → ((t : ℕ) → has fresh t ≡ (trigrams_of_body body t && not (trigrams_at ds number t)))
+    → ((t : ℕ) → has gone t ≡ (trigrams_at ds number t && not (trigrams_of_body body t)))
+    → new.live.members ≡ old.live.members
+    → ((trigram n : ℕ) → holds new.postings trigram n
+    ≡ ((holds old.postings trigram n || (has fresh trigram && number == n)) && not (has gone trigram && n == number)))
+    → AreSetsOf (map (with_body_at number body) ds) new
+AreSetsOf-replace ds number name old_body body fresh gone old new kept at fresh_is gone_is live sets = record {
+  live = live ∙ (kept.live ∙ sym (numbers-replaced (λ d. d.number == number) body ds));
+  postings =
+      λ trigram n.
+      sets trigram n
+      ∙ (moved trigram n (n == number) refl
+      ∙ ap (λ found. trigrams_shown found trigram) (sym (document_at-replaced number body ds n)));
+}
+  where
+    exchanged : (was is : Bool) → ((was || ((is && not was) && true)) && not ((was && not is) && true)) ≡ is
+    exchanged true true = refl
+    exchanged true false = refl
+    exchanged false true = refl
+    exchanged false false = refl
+
+    same_as : (was f g : Bool) → ((was || (f && false)) && not (g && false)) ≡ was
+    same_as true true true = refl
+    same_as true true false = refl
+    same_as true false true = refl
+    same_as true false false = refl
+    same_as false true true = refl
+    same_as false true false = refl
+    same_as false false true = refl
+    same_as false false false = refl
+
+    moved : (trigram n : ℕ) (t : Bool) → (n == number) ≡ t
+        → ((holds old.postings trigram n || (has fresh trigram && number == n)) && not (has gone trigram && n == number))
+        ≡ trigrams_shown (cond (n == number) (option_map (λ d. (d.0, body)) (document_at n ds)) (document_at n ds)) trigram
+    moved trigram n true e =
+        let same : n ≡ number = grind (arith, nat_tests) in
+        let back : (number == n) ≡ true = grind (arith, nat_tests) in
+        let was : holds old.postings trigram n ≡ trigrams_at ds number trigram =
+        kept.postings trigram n ∙ ap (λ m. trigrams_shown (document_at m ds) trigram) same in
+        let there : document_at n ds ≡ Some (name, old_body) = ap (λ m. document_at m ds) same ∙ at in
+        rw (e, back, was, fresh_is trigram, gone_is trigram, there) (exchanged (trigrams_at ds number trigram) (trigrams_of_body body trigram))
+    moved trigram n false e =
+        let back : (number == n) ≡ false = grind (arith, nat_tests) in
+        rw (e, back) (same_as (holds old.postings trigram n) (has fresh trigram) (has gone trigram) ∙ kept.postings trigram n)
 
 -- ---- the bytes of the bodies
 
@@ -285,6 +377,23 @@ without-all_others gone (d ∷ ds) others =
     let differs = All-head (λ e. e.number ≢ gone) d ds others in
     let no : (d.number == gone) ≡ false = grind (arith, nat_tests) in
     rw no (ap (λ xs. d ∷ xs) (without-all_others gone ds (All-tail (λ e. e.number ≢ gone) d ds others)))
+
+pub length-without : (gone : ℕ) (ds : List Document) (name body : List ℕ) → Numbered ds → document_at gone ds ≡ Some (name, body)
+    → length (without_number gone ds) + 1 ≡ length ds
+unfolding document_at
+length-without gone [] name body numbered at = cc
+length-without gone (d ∷ ds) name body numbered at = go (d.number == gone) refl at (length-without gone ds name body numbered.1)
+  where
+    go : (t : Bool) → (d.number == gone) ≡ t → cond t (Some (d.name, d.body)) (document_at gone ds) ≡ Some (name, body)
+        → (document_at gone ds ≡ Some (name, body) → length (without_number gone ds) + 1 ≡ length ds)
+        → length (cond (not (d.number == gone)) (d ∷ without_number gone ds) (without_number gone ds)) + 1 ≡ length (d ∷ ds)
+    go true e found deeper =
+        let same : d.number ≡ gone = grind (arith, nat_tests) in
+        let rest : without_number gone ds ≡ ds = without-all_others gone ds (λ k x inside. (let above = numbered.0 k x inside in λ n. omega arith)) in
+        rw (e, rest) (omega arith)
+    go false e found deeper =
+        let rest = deeper found in
+        rw e (omega (arith, rest))
 
 pub body_bytes-without : (gone : ℕ) (ds : List Document) (name body : List ℕ) → Numbered ds → document_at gone ds ≡ Some (name, body)
     → body_bytes (without_number gone ds) + length body ≡ body_bytes ds
@@ -306,6 +415,29 @@ body_bytes-without gone (d ∷ ds) name body numbered at =
     go false e found deeper =
         let rest = deeper found in
         rw e (omega (arith, rest, body_bytes-cons d (without_number gone ds)))
+
+pub body_bytes-replaced : (number : ℕ) (ds : List Document) (name old body : List ℕ) → Numbered ds → document_at number ds ≡ Some (name, old)
+    → body_bytes (map (with_body_at number body) ds) + length old ≡ body_bytes ds + length body
+unfolding document_at
+body_bytes-replaced number [] name old body numbered at = cc
+body_bytes-replaced number (d ∷ ds) name old body numbered at =
+    go (d.number == number) refl at (body_bytes-replaced number ds name old body numbered.1)
+  where
+    go : (t : Bool) → (d.number == number) ≡ t → cond t (Some (d.name, d.body)) (document_at number ds) ≡ Some (name, old)
+        → (document_at number ds ≡ Some (name, old)
+        → body_bytes (map (with_body_at number body) ds) + length old ≡ body_bytes ds + length body)
+        → body_bytes (cond (d.number == number) (document d.number d.name body) d ∷ map (with_body_at number body) ds) + length old
+        ≡ body_bytes (d ∷ ds) + length body
+    go true e found deeper =
+        let same : d.number ≡ number = grind (arith, nat_tests) in
+        let is : d.body ≡ old = (some_pair_parts d.name name d.body old found).1 in
+        let size : length d.body ≡ length old = ap length is in
+        let none = document_at-none number ds (λ k x inside. (let above = numbered.0 k x inside in λ n. omega arith)) in
+        let rest : map (with_body_at number body) ds ≡ ds = with_body_at-absent number body ds none in
+        rw (e, rest) (omega (arith, size, body_bytes-cons d ds, body_bytes-cons (document d.number d.name body) ds))
+    go false e found deeper =
+        let rest = deeper found in
+        rw e (omega (arith, rest, body_bytes-cons d ds, body_bytes-cons d (map (with_body_at number body) ds)))
 
 -- ---- a number that no document has
 

@@ -1,6 +1,6 @@
 -- Which documents a list of commands leaves (this program's choice).
-use Rattle.std.specs.Prelude.{◌≡◌, ℕ, suc, ◌+◌, ◌==◌, ◌||◌, Bool, false, if◌then◌else◌, List, [], ◌∷◌, ◌++◌, map, length, Option, Some}
-use Rattle.std.specs.Prelude.{None, bytes_eq, Contains, ◌↔◌}
+use Rattle.std.specs.Prelude.{◌≡◌, ◌≢◌, ℕ, suc, ◌+◌, ◌==◌, ◌||◌, not, Bool, false, if◌then◌else◌, List, [], ◌∷◌, ◌++◌, map, filter, length}
+use Rattle.std.specs.Prelude.{All, Option, Some, None, is_some, bytes_eq, Contains, ◌↔◌}
 use Rattle.std.specs.Ordering.{nat_cmp}
 use Rattle.std.specs.Cmp.Lexicographic.{slice_cmp}
 use Rattle.std.specs.List.Sorted.{IsStrictlySortedBy}
@@ -9,7 +9,7 @@ use Rattle.query.specs.Query.{Formula, is_met}
 use Rattle.index.specs.declared.command.Command.{Command}
 use Rattle.index.specs.declared.command.Command.TheVariants.{Put, Remove}
 
--- A document: its number is the place of its Put among the commands, counted from 1.
+-- A document: its number is the place, among all commands and counted from 1, of the Put that made it.
 pub record Document : Type 0 where
   pub number : ℕ
   pub name : List ℕ
@@ -28,17 +28,6 @@ unfoldable pub names : List Command → List ℕ → Bool
 names [] name = false
 names (command ∷ later) name = bytes_eq (name_of command) name || names later name
 
--- A Put is a document if no later command names its name. The first command has the given number.
-unfoldable pub documents_from : ℕ → List Command → List Document
-documents_from number [] = []
-documents_from number (Put name body ∷ later) =
-    if names later name then documents_from (suc number) later
-    else document number name body ∷ documents_from (suc number) later
-documents_from number (Remove name ∷ later) = documents_from (suc number) later
-
-abbrev pub documents_of : List Command → List Document
-documents_of commands = documents_from 1 commands
-
 -- the name and the body of the document with this number
 unfoldable pub document_at : ℕ → List Document → Option (List ℕ × List ℕ)
 document_at number [] = None
@@ -49,6 +38,33 @@ document_at number (first ∷ others) =
 unfoldable pub number_of : List ℕ → List Document → Option ℕ
 number_of name [] = None
 number_of name (first ∷ others) = if bytes_eq first.name name then Some first.number else number_of name others
+
+-- whether a document has the name
+abbrev pub is_taken : List ℕ → List Document → Bool
+is_taken name documents = is_some (number_of name documents)
+
+-- the document, with this body if it has the name
+abbrev pub with_body : List ℕ → List ℕ → Document → Document
+with_body name body d = if bytes_eq d.name name then document d.number d.name body else d
+
+-- the documents with other names
+abbrev pub without : List ℕ → List Document → List Document
+without name documents = filter (λ d. not (bytes_eq d.name name)) documents
+
+-- The documents after one more command, which has this place among all commands, counted from 1. A Put of a name that a
+-- document has replaces its body and keeps its number.
+abbrev pub documents_after : ℕ → Command → List Document → List Document
+documents_after place (Put name body) documents =
+    if is_taken name documents then map (with_body name body) documents else documents ++ document place name body ∷ []
+documents_after place (Remove name) documents = without name documents
+
+-- the documents after each of these commands in turn, the first of which has this place
+unfoldable pub documents_from : ℕ → List Command → List Document → List Document
+documents_from place [] documents = documents
+documents_from place (command ∷ later) documents = documents_from (suc place) later (documents_after place command documents)
+
+abbrev pub documents_of : List Command → List Document
+documents_of commands = documents_from 1 commands []
 
 -- whether the trigrams of the document's body meet the formula
 abbrev pub meets : Formula → Document → Bool
@@ -63,10 +79,22 @@ pub record IsInNameOrder (documents ordered : List Document) : Type 0 where
   pub rises : RisesByName ordered
   pub same : (d : Document) → Contains ordered d ↔ Contains documents d
 
--- In other words, the document is a Put whose name no later command names.
-pub record IsDocument (commands : List Command) (d : Document) : Type 0 where
+-- The last of the commands that names the name is a Put with this body.
+pub record IsPutLast (commands : List Command) (name body : List ℕ) : Type 0 where
   pub before : List Command
   pub later : List Command
-  pub put : commands ≡ before ++ Put d.name d.body ∷ later
-  pub place : d.number ≡ length before + 1
-  pub unnamed : names later d.name ≡ false
+  pub put : commands ≡ before ++ Put name body ∷ later
+  pub unnamed : names later name ≡ false
+
+-- In other words, a document has the body of the last Put of its name, which no later command names, and the place of the first
+-- Put of its name since the last Remove of it: none of the commands since that Put removes the name, and of the
+-- commands before it, none names the name, or the last that does is a Remove.
+pub record IsDocument (commands : List Command) (d : Document) : Type 0 where
+  pub last : IsPutLast commands d.name d.body
+  pub before : List Command
+  pub first : List ℕ
+  pub since : List Command
+  pub put : commands ≡ before ++ Put d.name first ∷ since
+  pub number : d.number ≡ length before + 1
+  pub kept : All (λ command. command ≢ Remove d.name) since
+  pub fresh : (body : List ℕ) → IsPutLast before d.name body → ⊥

@@ -1,9 +1,8 @@
 -- What an index holds: how many commands were applied to it, and the documents that they leave.
-use Rattle.std.specs.Prelude.{ℕ, ◌+◌, ◌<◌, ◌≤◌, ◌≢◌, not, List, [], ◌∷◌, ◌++◌, All, AllPairs, map, filter, length, bytes_eq, sum}
+use Rattle.std.specs.Prelude.{ℕ, ◌+◌, ◌<◌, ◌≤◌, ◌≢◌, List, All, AllPairs, map, length, sum}
 use Rattle.std.specs.List.Sorted.{IsStrictlyIncreasing}
 use Rattle.index.specs.declared.command.Command.{Command}
-use Rattle.index.specs.declared.command.Command.TheVariants.{Put, Remove}
-use Rattle.index.specs.Documents.{Document, document, documents_of}
+use Rattle.index.specs.Documents.{Document, documents_after, documents_of}
 use Rattle.index.specs.Text.{IsName, IsBody}
 
 -- version: the number of commands
@@ -17,15 +16,6 @@ state version documents = record { version = version; documents = documents }
 -- the state that a list of commands leaves
 abbrev pub state_of : List Command → State
 state_of commands = state (length commands) (documents_of commands)
-
--- the documents with other names
-abbrev pub without : List ℕ → List Document → List Document
-without name documents = filter (λ d. not (bytes_eq d.name name)) documents
-
--- the documents after one more command, which has this place among all commands, counted from 1
-abbrev pub documents_after : ℕ → Command → List Document → List Document
-documents_after place (Put name body) documents = without name documents ++ document place name body ∷ []
-documents_after place (Remove name) documents = without name documents
 
 -- The state after one more command. It depends only on the state and the command.
 abbrev pub applied : Command → State → State

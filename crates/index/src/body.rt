@@ -5,7 +5,7 @@ ghost use Rattle.index.specs.Text.{IsBody, IsBodyFault, has_byte_0, has_long_lin
 
 use crate::error::{BodyError, BodyErrorKind};
 use lines::MAX_LINE;
-use memchr::memchr;
+use memchr::{memchr, memrchr};
 use std::alloc::Global;
 use std::marker::Model;
 
@@ -86,15 +86,17 @@ fn has_byte_0(bytes: &[u8]) -> bool
 }
 
 /// Whether some line has over MAX_LINE bytes.
+///
+/// Of MAX_LINE + 1 bytes only the last line feed is looked for: the lines that end before it are short enough.
 fn has_long_line(bytes: &[u8]) -> bool
     ensures { result ≡ has_long_line bytes.now }
 {
     let mut rest = bytes;
-    while let Some(end) = memchr(b'\n', rest) {
-        if end > MAX_LINE {
+    while rest.len() > MAX_LINE {
+        let Some(end) = memrchr(b'\n', &rest[..MAX_LINE + 1]) else {
             return true;
-        }
+        };
         rest = &rest[end + 1..];
     }
-    rest.len() > MAX_LINE
+    false
 }

@@ -6,7 +6,8 @@ use crate::name::Name;
 /// A command on the documents.
 #[derive(Debug, Drop)]
 pub enum Command {
-    /// Puts in a document with this name and body. It replaces the one that already has the name, if there is one.
+    /// Puts in a document with this name and body. If a document has the name already, its body is replaced, and its
+    /// number stays.
     Put(Name, Body),
     /// Removes the document with this name. If there is none, no document changes.
     Remove(Name),

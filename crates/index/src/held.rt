@@ -57,8 +57,10 @@ impl Held {
     pub(crate) fn with(body: Body, trigrams: Trigrams) -> Result<Held, HeldError>
         requires { ListsTrigrams body trigrams }
         ensures held { IfOk result (λ held. held ≡ body) }
+        ensures body { IsBody body }
         ensures returned { IfErr result (λ e. e.body ≡ body) }
     {
+        let _bytes = body.as_bytes();
         match Arc::new(body.allocator(), Analysed { body, trigrams }) {
             Ok(shared) => Ok(Held { shared }),
             Err(refused) => Err(HeldError {

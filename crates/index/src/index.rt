@@ -1,19 +1,22 @@
 //! The index: the documents that commands leave, and the sets by which they are found.
 
 ghost use Rattle.std.specs.Prelude.{◌≡◌, ℕ, List, ◌+◌, ◌^◌, ◌<◌, [], ◌∷◌, ◌++◌, map, length, OnOk};
-ghost use Rattle.std.specs.Prelude.{OnErr, IfErr, IfOk, IsSome, IsOk, Option, option_map, filter, bytes_eq, if◌then◌else◌, Some};
+ghost use Rattle.std.specs.Prelude.{OnErr, IfErr, IfOk, IsSome, IsOk, option_map, filter, bytes_eq, if◌then◌else◌, Some, None};
 ghost use Rattle.std.specs.Ordering.{nat_cmp};
 ghost use Rattle.std.specs.Cmp.Lexicographic.{slice_cmp};
 ghost use Rattle.std.specs.BTreeMap.{IsUnchanged, get};
 ghost use Rattle.std.specs.List.Sorted.{IsStrictlyIncreasing};
 ghost use Rattle.index.specs.declared.command.Command.TheVariants.{Put as put_command, Remove as remove_command};
 ghost use Rattle.query.specs.Query.{formula_of};
+ghost use Rattle.query.specs.Trigrams.{ListsTrigrams};
 ghost use Rattle.posting.specs.ListValue.{has};
 ghost use Rattle.index.specs.Text.{IsName};
 ghost use Rattle.index.specs.Documents.{document_at, number_of, meets, IsInNameOrder};
-ghost use Rattle.index.specs.State.{applied, state_of, body_bytes, IsState};
+ghost use Rattle.index.specs.State.{state as state_with, applied, state_of, body_bytes, IsState};
 ghost use Rattle.index.specs.Shared.{documents_shared};
 ghost use Rattle.index.specs.Private.Chosen.{document_numbered, documents_numbered};
+ghost use Rattle.index.specs.Private.Slots.{with_body_at};
+ghost use Rattle.index.specs.Private.Store.{stored, IsStore, HasPlaceFor};
 
 use crate::body::Body;
 use crate::command::Command;
@@ -23,6 +26,7 @@ use crate::held::{Held, trigrams_in};
 use crate::name::Name;
 use crate::slots::{Occupant, occupant_at};
 use crate::store::Store;
+use posting::Trigrams;
 use query::Query;
 use std::alloc::{AllocError, Global};
 use std::collections::BTreeMap;
@@ -34,9 +38,9 @@ const FEW: usize = 8;
 
 /// The documents that commands leave.
 ///
-/// Each document comes from a `Put` whose name no later command names. Its number is the place of that `Put` among
-/// the commands, counted from 1. Contracts see an index as its state: how many commands were applied, and the
-/// documents.
+/// A document has the body of the last `Put` of its name. Its number is the place, among all commands and counted from 1,
+/// of the first `Put` of its name since the last `Remove` of it. Contracts see an index as its state: how many
+/// commands were applied, and the documents.
 #[derive(Drop)]
 pub struct Index {
     // the number of commands
@@ -96,32 +100,67 @@ impl Index {
         ensures err { OnErr result (self.new ≡ self.old) }
         ensures returned { IfErr result (λ e. e.command ≡ put_command name body) }
     {
-        let number = self.version + 1;
-        let trigrams = match trigrams_in(&body) {
-            Ok(trigrams) => trigrams,
-            Err(error) => return Err(refused(name, body, error)),
+        let _ = &self.version;
+        let done = match trigrams_in(&body) {
+            Ok(trigrams) => match self.number(&name) {
+                Some(number) => self.replace(number, body, trigrams),
+                None => self.put_new(&name, body, trigrams),
+            },
+            Err(error) => Err(HeldError { body, error }),
         };
-        let own = match shared_name(&self.numbers, &name) {
-            Ok(own) => own,
-            Err(error) => return Err(refused(name, body, error)),
-        };
-        if let Err(error) = self.store.make_room(number, &trigrams) {
-            return Err(refused(name, body, error));
+        match done {
+            Ok(()) => Ok(()),
+            Err(HeldError { body, error }) => Err(ApplyError {
+                command: Command::Put(name, body),
+                error,
+            }),
         }
-        let gone = match enter(&mut self.numbers, &own, number) {
-            Ok(gone) => gone,
-            Err(error) => return Err(refused(name, body, error)),
+    }
+
+    /// Applies the `Put` of this body, which has these trigrams, under the name of the document with this number.
+    /// An `Err` hands the body back.
+    fn replace(&mut self, number: u32, body: Body, trigrams: Trigrams) -> Result<(), HeldError>
+        requires limit { self.old.version + 1 < 2 ^ 32 }
+        requires there { IsSome (document_at number self.old.documents) }
+        requires trigrams { ListsTrigrams body trigrams }
+        ensures ok { OnOk result (self.new ≡ state_with (self.old.version + 1) (map (with_body_at number body) self.old.documents)) }
+        ensures err { OnErr result (self.new ≡ self.old) }
+        ensures returned { IfErr result (λ e. e.body ≡ body) }
+    {
+        let change = match self.store.prepare(number, &trigrams) {
+            Ok(change) => change,
+            Err(error) => return Err(HeldError { body, error }),
+        };
+        let held = Held::with(body, trigrams)?;
+        self.store.replace(number, &change, held);
+        self.version += 1;
+        Ok(())
+    }
+
+    /// Applies the `Put` of this body, which has these trigrams, under a name that no document has. An `Err` hands the
+    /// body back.
+    fn put_new(&mut self, name: &Name, body: Body, trigrams: Trigrams) -> Result<(), HeldError>
+        requires limit { self.old.version + 1 < 2 ^ 32 }
+        requires free { number_of name.now self.old.documents ≡ None }
+        requires trigrams { ListsTrigrams body trigrams }
+        ensures ok { OnOk result (self.new ≡ applied (put_command name.now body) self.old) }
+        ensures err { OnErr result (self.new ≡ self.old) }
+        ensures returned { IfErr result (λ e. e.body ≡ body) }
+    {
+        let number = self.version + 1;
+        let own = match enter(&mut self.numbers, &mut self.store, name, number, &trigrams) {
+            Ok(own) => own,
+            Err(error) => return Err(HeldError { body, error }),
         };
         match Held::with(body, trigrams) {
             Ok(held) => {
-                self.store
-                    .replace(gone, number, Occupant { name: own, held });
+                self.store.put_in(number, Occupant { name: own, held });
                 self.version = number;
                 Ok(())
             }
-            Err(HeldError { body, error }) => {
-                leave(&mut self.numbers, &own, gone);
-                Err(refused(name, body, error))
+            Err(refused) => {
+                self.numbers.remove(name);
+                Err(refused)
             }
         }
     }
@@ -134,14 +173,22 @@ impl Index {
         ensures ok { OnOk result (self.new ≡ applied (put_command name.now held.now) self.old) }
         ensures err { OnErr result (self.new ≡ self.old) }
     {
+        let held = held.share()?;
+        if let Some(number) = self.number(name) {
+            let change = self.store.prepare(number, held.trigrams())?;
+            self.store.replace(number, &change, held);
+            self.version += 1;
+            return Ok(());
+        }
         let number = self.version + 1;
-        let occupant = Occupant {
-            name: shared_name(&self.numbers, name)?,
-            held: held.share()?,
-        };
-        self.store.make_room(number, occupant.held.trigrams())?;
-        let gone = enter(&mut self.numbers, &occupant.name, number)?;
-        self.store.replace(gone, number, occupant);
+        let own = enter(
+            &mut self.numbers,
+            &mut self.store,
+            name,
+            number,
+            held.trigrams(),
+        )?;
+        self.store.put_in(number, Occupant { name: own, held });
         self.version = number;
         Ok(())
     }
@@ -173,7 +220,7 @@ impl Index {
     pub fn documents(&self) -> u32
         ensures { result ≡ length self.now.documents }
     {
-        self.store.sets.live.len() as u32
+        self.store.count as u32
     }
 
     /// The total length of the documents' bodies, in bytes. The index holds no other bodies.
@@ -293,57 +340,26 @@ impl Index {
     }
 }
 
-/// The refusal of the `Put` of this name and body.
-fn refused(name: Name, body: Body, error: AllocError) -> ApplyError
-    ensures { result.command ≡ put_command name body }
-{
-    ApplyError {
-        command: Command::Put(name, body),
-        error,
-    }
-}
-
-/// Another handle to the name. If `numbers` has an equal name, the handle is to that one, so its memory is shared.
-fn shared_name(numbers: &BTreeMap<Name, u32>, name: &Name) -> Result<Name, AllocError>
-    ensures { IfOk result (λ shared. shared ≡ name.now) }
-{
-    match numbers.get_key_value(name) {
-        Some((kept, _)) => kept.share(),
-        None => name.share(),
-    }
-}
-
-/// Enters the number of a name. Returns the number that the name had before, if any.
+/// Makes room for a new document, and enters its number under its name. Returns another handle to the name. After an `Err`
+/// nothing was entered.
 fn enter(
     numbers: &mut BTreeMap<Name, u32>,
+    store: &mut Store,
     name: &Name,
     number: u32,
-) -> Result<Option<u32>, AllocError>
-    ensures name { IsName name.now }
-    ensures gone { IfOk result (λ gone. gone ≡ get (slice_cmp nat_cmp) numbers.old name.now) }
-    ensures ok { OnOk result ((q : List ℕ) → get (slice_cmp nat_cmp) numbers.new q
+    trigrams: &Trigrams,
+) -> Result<Name, AllocError>
+    ensures documents { stored store.new ≡ stored store.old }
+    ensures store { (last : ℕ) → IsStore last store.old → IsStore last store.new }
+    ensures name { IfOk result (λ own. (own ≡ name.now) × IsName own) }
+    ensures numbers { OnOk result ((q : List ℕ) → get (slice_cmp nat_cmp) numbers.new q
         ≡ (if bytes_eq name.now q then Some number else get (slice_cmp nat_cmp) numbers.old q)) }
     ensures err { OnErr result (IsUnchanged numbers.old numbers.new) }
+    ensures room { OnOk result ((body : List ℕ) → ListsTrigrams body trigrams.now → HasPlaceFor store.new number body) }
 {
+    store.make_room(number, trigrams)?;
     let _bytes = name.as_bytes();
-    let key = name.share()?;
-    Ok(numbers.insert(key, number)?)
-}
-
-/// Undoes an `enter` that returned `gone`.
-fn leave(numbers: &mut BTreeMap<Name, u32>, name: &Name, gone: Option<u32>)
-    requires { IsSome (get (slice_cmp nat_cmp) numbers.old name.now) }
-    ensures { (q : List ℕ) → get (slice_cmp nat_cmp) numbers.new q
-        ≡ (if bytes_eq name.now q then gone else get (slice_cmp nat_cmp) numbers.old q) }
-{
-    match gone {
-        None => {
-            numbers.remove(name);
-        }
-        Some(number) => {
-            if let Some(place) = numbers.get_mut(name) {
-                *place = number;
-            }
-        }
-    }
+    let own = name.share()?;
+    numbers.insert(name.share()?, number)?;
+    Ok(own)
 }

@@ -6,7 +6,7 @@ ghost use Rattle.index.specs.declared.command.Command.{Command as CommandValue};
 ghost use Rattle.index.specs.Documents.{Document, documents_of, IsDocument};
 ghost use Rattle.index.specs.State.{State, state_of, applied, IsState};
 
-/// The documents are exactly the `Put`s that no later command names, each once.
+/// The documents are exactly what the last and the first `Put`s of each name say, each once: see `IsDocument`.
 pub fn documents_are_puts()
     ensures which { (commands : List CommandValue) (d : Document) →
         Contains (documents_of commands) d ↔ IsDocument commands d }

@@ -1,12 +1,21 @@
 //! The sets by which an index finds its documents.
 
-ghost use Rattle.std.specs.Prelude.{◌≡◌, ℕ, false, not, ◌==◌, ◌||◌, ◌&&◌, [], ◌∷◌, ◌++◌, filter, OnOk};
+ghost use Rattle.std.specs.Prelude.{◌≡◌, ℕ, false, not, ◌==◌, ◌||◌, ◌&&◌, [], ◌∷◌, ◌++◌, filter, OnOk, IfOk};
 ghost use Rattle.posting.specs.ListValue.{has, without};
-ghost use Rattle.posting.specs.Postings.{holds, SameSets};
-ghost use Rattle.index.specs.Private.Sets.{HasRoomFor, IsNew};
+ghost use Rattle.posting.specs.Postings.{holds, SameSets, IsPrepared, IsAbsent, AllDiffer};
+ghost use Rattle.index.specs.Private.Sets.{HasRoomFor, IsNew, IsChange};
 
 use posting::{List, Postings, Trigrams};
 use std::alloc::{AllocError, Global};
+
+/// What a new body changes of the trigrams of a document.
+#[derive(Drop)]
+pub(crate) struct Change {
+    /// The trigrams of the new body that the old one has not.
+    fresh: Trigrams,
+    /// The trigrams of the old body that the new one has not.
+    gone: Trigrams,
+}
 
 /// The numbers of the documents, and for each trigram those of the documents whose body has it.
 #[derive(Drop)]
@@ -34,10 +43,44 @@ impl Sets {
     pub(crate) fn make_room(&mut self, number: u32, trigrams: &Trigrams) -> Result<(), AllocError>
         ensures live { self.new.live.members ≡ self.old.live.members }
         ensures postings { SameSets self.old.postings self.new.postings }
-        ensures ok { OnOk result (HasRoomFor self.new trigrams.now) }
+        ensures ok { OnOk result (HasRoomFor self.new number trigrams.now) }
     {
         self.live.room_for(number)?;
-        self.postings.prepare_kept(number, trigrams)
+        self.postings.prepare(number, trigrams)
+    }
+
+    /// Makes room for a document with this number to have the trigrams `new` in place of `old`, so that `replace` takes
+    /// no memory. An `Err` means that memory ran out. The numbers in the sets stay the same in either case.
+    pub(crate) fn prepare(
+        &mut self,
+        number: u32,
+        old: &Trigrams,
+        new: &Trigrams,
+    ) -> Result<Change, AllocError>
+        ensures live { self.new.live.members ≡ self.old.live.members }
+        ensures postings { SameSets self.old.postings self.new.postings }
+        ensures ok { IfOk result (λ change. IsChange old.now new.now change
+            × IsPrepared self.new.postings number change.fresh) }
+    {
+        let fresh = new.difference(old)?;
+        let gone = old.difference(new)?;
+        self.postings.prepare(number, &fresh)?;
+        Ok(Change { fresh, gone })
+    }
+
+    /// Changes the trigrams of the document with this number. There is room for that.
+    pub(crate) fn replace(&mut self, number: u32, change: &Change)
+        requires room { IsPrepared self.old.postings number change.now.fresh }
+        requires absent { IsAbsent self.old.postings change.now.fresh number }
+        requires once { AllDiffer change.now.fresh }
+        ensures live { self.new.live.members ≡ self.old.live.members }
+        ensures postings { (trigram n : ℕ) → holds self.new.postings trigram n
+            ≡ ((holds self.old.postings trigram n || (has change.now.fresh trigram && number == n))
+            && not (has change.now.gone trigram && n == number)) }
+    {
+        // withdrawing comes last, since it can give up the room that was made
+        self.postings.add(number, &change.fresh);
+        self.postings.withdraw(number, &change.gone);
     }
 
     /// Takes out the document with this number and these trigrams.
@@ -48,18 +91,18 @@ impl Sets {
     {
         self.live.remove(number);
         self.live.give_back();
-        self.postings.withdraw_kept(number, trigrams);
+        self.postings.withdraw(number, trigrams);
     }
 
     /// Puts in a document with these trigrams, for which there is room. The number is above all others.
     pub(crate) fn put_in(&mut self, number: u32, trigrams: &Trigrams)
-        requires room { HasRoomFor self.old trigrams.now }
+        requires room { HasRoomFor self.old number trigrams.now }
         requires above { IsNew self.old number trigrams.now }
         ensures live { self.new.live.members ≡ self.old.live.members ++ number ∷ [] }
         ensures postings { (trigram n : ℕ) → holds self.new.postings trigram n
             ≡ (holds self.old.postings trigram n || (has trigrams.now trigram && number == n)) }
     {
         self.live.push(number);
-        self.postings.add_kept(number, trigrams);
+        self.postings.add(number, trigrams);
     }
 }

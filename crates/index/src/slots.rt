@@ -1,13 +1,14 @@
 //! The slots that hold the documents of an index, rising by their numbers.
 
-ghost use Rattle.std.specs.Prelude.{◌≡◌, ◌≢◌, ℕ, ◌<◌, ◌≤◌, length, option_map, All, IfSome, IfNone, slice_index_or};
+ghost use Rattle.std.specs.Prelude.{◌≡◌, ◌≢◌, ℕ, ◌<◌, ◌≤◌, length, map, option_map, All, IfSome, IfNone, slice_index_or};
 ghost use Rattle.std.specs.Vec.{vec_len, vec_capacity};
 ghost use Rattle.index.specs.declared.slots.Slot.{Slot as SlotValue};
 ghost use Rattle.index.specs.Documents.{document_at};
-ghost use Rattle.index.specs.Private.Slots.{documents_in, numbers_in, RiseTo, FewAreEmpty, texts_of, without_number};
+ghost use Rattle.index.specs.Private.Slots.{documents_in, numbers_in, RiseTo, FewAreEmpty, texts_of, without_number, with_body_at};
 
 use crate::held::Held;
 use crate::name::Name;
+use std::mem::replace;
 
 /// The name and the body of a document.
 #[derive(Drop)]
@@ -52,6 +53,22 @@ pub(crate) fn take(slots: &mut Vec<Slot>, number: u32) -> Option<Occupant>
             let slot = &mut slots[place];
             slot.occupant.take()
         }
+        None => None,
+    }
+}
+
+/// Replaces the body of the document with this number, if there is one. Returns the body that it had.
+pub(crate) fn exchange(slots: &mut [Slot], number: u32, held: Held) -> Option<Held>
+    requires { (last : ℕ) × RiseTo last slots.old }
+    ensures held { result ≡ option_map (λ d. d.1) (document_at number (documents_in slots.old)) }
+    ensures documents { documents_in slots.new ≡ map (with_body_at number held) (documents_in slots.old) }
+    ensures numbers { numbers_in slots.new ≡ numbers_in slots.old }
+{
+    match place_of(slots, number) {
+        Some(place) => match &mut slots[place].occupant {
+            Some(occupant) => Some(replace(&mut occupant.held, held)),
+            None => None,
+        },
         None => None,
     }
 }

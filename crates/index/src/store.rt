@@ -1,14 +1,15 @@
 //! What an index keeps of its documents: names and bodies by number, and the sets by which they are found.
 
-ghost use Rattle.std.specs.Prelude.{◌≡◌, ℕ, ◌+◌, ◌<◌, ◌^◌, List, [], ◌∷◌, ◌++◌, length, OnOk, Option, IfSome};
+ghost use Rattle.std.specs.Prelude.{◌≡◌, ℕ, ◌+◌, ◌<◌, ◌^◌, List, [], ◌∷◌, ◌++◌, length, map, OnOk, IfOk, IsSome};
 ghost use Rattle.query.specs.Trigrams.{ListsTrigrams};
-ghost use Rattle.index.specs.Documents.{document};
+ghost use Rattle.index.specs.Documents.{document, document_at};
 ghost use Rattle.index.specs.State.{body_bytes};
-ghost use Rattle.index.specs.Private.Slots.{without_number};
-ghost use Rattle.index.specs.Private.Store.{stored, IsStore, HasPlaceFor, left_after};
+ghost use Rattle.index.specs.Private.Slots.{without_number, with_body_at};
+ghost use Rattle.index.specs.Private.Store.{stored, IsStore, HasPlaceFor, IsReadyFor};
 
-use crate::sets::Sets;
-use crate::slots::{Occupant, Slot, compact, give_back, take};
+use crate::held::Held;
+use crate::sets::{Change, Sets};
+use crate::slots::{Occupant, Slot, compact, exchange, give_back, occupant_at, take};
 use posting::Trigrams;
 use std::alloc::{AllocError, Global};
 
@@ -19,6 +20,8 @@ pub(crate) struct Store {
     pub(crate) slots: Vec<Slot>,
     /// The sets by which they are found.
     pub(crate) sets: Sets,
+    /// How many documents there are.
+    pub(crate) count: usize,
     /// The total length of all bodies, in bytes.
     pub(crate) held_bytes: u64,
 }
@@ -32,6 +35,7 @@ impl Store {
         Store {
             slots: Vec::new(alloc),
             sets: Sets::new(alloc),
+            count: 0,
             held_bytes: 0,
         }
     }
@@ -41,7 +45,7 @@ impl Store {
     pub(crate) fn make_room(&mut self, number: u32, trigrams: &Trigrams) -> Result<(), AllocError>
         ensures documents { stored self.new ≡ stored self.old }
         ensures store { (last : ℕ) → IsStore last self.old → IsStore last self.new }
-        ensures ok { OnOk result ((body : List ℕ) → ListsTrigrams body trigrams.now → HasPlaceFor self.new body) }
+        ensures ok { OnOk result ((body : List ℕ) → ListsTrigrams body trigrams.now → HasPlaceFor self.new number body) }
     {
         self.slots.reserve(1)?;
         self.sets.make_room(number, trigrams)
@@ -57,7 +61,8 @@ impl Store {
         if let Some(occupant) = take(&mut self.slots, number) {
             self.sets.take_out(number, occupant.held.trigrams());
             self.held_bytes -= occupant.held.body().as_bytes().len() as u64;
-            compact(&mut self.slots, self.sets.live.len());
+            self.count -= 1;
+            compact(&mut self.slots, self.count);
             give_back(&mut self.slots);
         }
     }
@@ -65,35 +70,49 @@ impl Store {
     /// Puts in a document with this number, for which there is room.
     pub(crate) fn put_in(&mut self, number: u32, occupant: Occupant)
         requires store { (last : ℕ) × IsStore last self.old × (last < number) }
-        requires room { HasPlaceFor self.old occupant.held }
+        requires room { HasPlaceFor self.old number occupant.held }
         requires bytes { body_bytes (stored self.old) + length occupant.held < 2 ^ 64 }
         ensures documents { stored self.new ≡ stored self.old ++ document number occupant.name occupant.held ∷ [] }
         ensures store { IsStore number self.new }
     {
         self.sets.put_in(number, occupant.held.trigrams());
         self.held_bytes += occupant.held.body().as_bytes().len() as u64;
+        self.count += 1;
         self.slots.push_reserved(Slot {
             number,
             occupant: Some(occupant),
         });
     }
 
-    /// Puts in a document with this number, for which there is room, and takes out the one that it replaces, `gone`.
-    pub(crate) fn replace(&mut self, gone: Option<u32>, number: u32, occupant: Occupant)
-        requires store { (last : ℕ) × IsStore last self.old × (last < number) }
-        requires room { HasPlaceFor self.old occupant.held }
-        requires bytes { body_bytes (stored self.old) + length occupant.held < 2 ^ 64 }
-        ensures documents { stored self.new
-            ≡ left_after gone (stored self.old) ++ document number occupant.name occupant.held ∷ [] }
-        ensures store { IsStore number self.new }
+    /// Makes room for the document with this number to have a body with these trigrams in place of its own. An `Err`
+    /// means that memory ran out. The documents stay as they are in either case.
+    pub(crate) fn prepare(&mut self, number: u32, trigrams: &Trigrams) -> Result<Change, AllocError>
+        requires store { (last : ℕ) × IsStore last self.old }
+        requires there { IsSome (document_at number (stored self.old)) }
+        ensures documents { stored self.new ≡ stored self.old }
+        ensures store { (last : ℕ) → IsStore last self.old → IsStore last self.new }
+        ensures ok { IfOk result (λ change. (body : List ℕ) → ListsTrigrams body trigrams.now → IsReadyFor self.new number body change) }
     {
-        // the new document goes in first, since taking the old one out can give up the room that was made
-        self.put_in(number, occupant);
-        if let Some(old) = gone {
-            // always so: no document that was there has the new number
-            if old != number {
-                self.take_out(old);
-            }
+        match occupant_at(&self.slots, number) {
+            Some(occupant) => self
+                .sets
+                .prepare(number, occupant.held.trigrams(), trigrams),
+            None => unreachable!(),
+        }
+    }
+
+    /// Replaces the body of the document with this number, for which there is room.
+    pub(crate) fn replace(&mut self, number: u32, change: &Change, held: Held)
+        requires store { (last : ℕ) × IsStore last self.old }
+        requires room { IsReadyFor self.old number held change.now }
+        requires bytes { body_bytes (stored self.old) + length held < 2 ^ 64 }
+        ensures documents { stored self.new ≡ map (with_body_at number held) (stored self.old) }
+        ensures store { (last : ℕ) → IsStore last self.old → IsStore last self.new }
+    {
+        self.sets.replace(number, change);
+        self.held_bytes += held.body().as_bytes().len() as u64;
+        if let Some(old) = exchange(&mut self.slots, number, held) {
+            self.held_bytes -= old.body().as_bytes().len() as u64;
         }
     }
 }

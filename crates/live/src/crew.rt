@@ -191,14 +191,12 @@ fn start_reader<
     thread::spawn(rt, move || work(own, alloc, reader, tasks, events, gate)).is_ok()
 }
 
-fn work<J: service::Naming, M: From<Done<J>> + Drop, R: Wait + Clock + Drop, G: Gate + Drop>(
-    rt: R,
-    alloc: Global,
-    reader: Reader<J>,
-    tasks: Receiver<Task>,
-    events: Sender<M>,
-    gate: G,
-) {
+fn work<
+    J: service::Naming,
+    M: From<Done<J>> + Drop,
+    R: Threads + Wait + Clock + Sync + Drop,
+    G: Gate + Drop,
+>(rt: R, alloc: Global, reader: Reader<J>, tasks: Receiver<Task>, events: Sender<M>, gate: G) {
     reader.work(&rt, alloc, tasks, events, &gate)
 }
 

@@ -19,7 +19,7 @@ use stream::OwnedItem;
 use transcript::Entry;
 
 /// How many searches are open at most. No further item is taken until one of them is answered.
-const MAX_OPEN: usize = 256;
+const MAX_OPEN: usize = 1024;
 
 /// Takes the next item, or waits for the next event. Returns whether the session goes on. If it does not, the reading has
 /// ended, all items are taken, and no search is open.

@@ -46,7 +46,7 @@ pub struct LiveOptions {
 /// Without readers, or if no thread can be started, the calling thread reads, and answers each search at once. A reader
 /// calls the gate at each point of a search.
 ///
-/// Each text is written whole and flushed. At most 16 items are read ahead and 256 searches are open, so a reader of the
+/// Each text is written whole and flushed. At most 16 items are read ahead and 1,024 searches are open, so a reader of the
 /// output that stops also stops the input. Neither the script nor the entries are kept.
 ///
 /// What is written is the text of the entries of legal steps that take exactly the items of the bytes that were read

@@ -122,6 +122,39 @@ fn hardest(alloc: Global) -> Result<Vec<u8>, AllocError> {
 /// Or. What comes up in the words, in their fronts and in their backs counts once.
 const MOST_OF_A_JOIN: usize = 256 * 109 + 1;
 
+/// Patterns, and the sizes of their queries: an And and its trigrams, or a trigram alone.
+const SAME_AGAIN: [(&[u8], usize); 9] = [
+    // abc, bcd
+    (b"abcd.", 3),
+    (b"(abcd.){1}", 3),
+    (b"((abcd.){1,1}){1}", 3),
+    (b"(abcd.){255}", 3),
+    (b"(abcd.){2,}", 3),
+    (b"((abc.){20}){12}", 1),
+    // cda and dab, across the border of two copies
+    (b"(ab.*cd){3}", 3),
+    // 68 trigrams, and then all of them again, or one
+    (
+        b"abcdefghijklmnopqrstuvwxyzABCDEFGHIJKLMNOPQRSTUVWXYZ0123456789_=~%!@&#.(abcdefghijklmnopqrstuvwxyzABCDEFGHIJKLMNOPQRSTUVWXYZ0123456789_=~%!@&#.)",
+        69,
+    ),
+    (
+        b"abcdefghijklmnopqrstuvwxyzABCDEFGHIJKLMNOPQRSTUVWXYZ0123456789_=~%!@&#.abc",
+        69,
+    ),
+];
+
+#[test]
+fn conditions_that_are_there_already(rt: HostRuntime) -> Result<(), Fail> {
+    for (pattern, size) in SAME_AGAIN {
+        assert!(rt;
+            size_asked(&rt, rt.alloc(), pattern)? == size,
+            "of {pattern:?}"
+        );
+    }
+    Ok(())
+}
+
 /// Patterns, and the greatest sizes of their queries.
 const SIZES: [(&[u8], usize); 3] = [
     (b"(a{255}){16}", 10),

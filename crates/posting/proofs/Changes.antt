@@ -1,5 +1,5 @@
 -- Tables of sets, as a number goes into or out of one set after another.
-use Rattle.std.proofs.Common.{◌≡◌, ◌≢◌, ℕ, ◌<◌, Bool, true, false, not, ◌&&◌, ◌||◌, ◌==◌, List, [], ◌∷◌, ◌++◌, length, append_assoc}
+use Rattle.std.proofs.Common.{◌≡◌, ◌≢◌, ℕ, ◌<◌, ◌≤◌, Bool, true, false, not, ◌&&◌, ◌||◌, ◌==◌, List, [], ◌∷◌, ◌++◌, length, append_assoc}
 use Rattle.std.proofs.Common.{length-append, get_or, refl, sym, ap, ◌∙◌, arith}
 use Rattle.std.specs.Prelude.{All}
 use Rattle.std.proofs.lemmas.Bool.{false≢true}
@@ -7,9 +7,9 @@ use Rattle.std.proofs.lemmas.Bool.Decides.{nat_tests}
 use Rattle.std.proofs.lemmas.List.{append-nil, get_or_append_left}
 use Rattle.std.proofs.Math.Seq.{get_or-append_seam}
 use Rattle.std.proofs.lemmas.List.Elements.{All-from_get_or, All-push, All-weaker}
-use Rattle.posting.specs.ListValue.{ListValue, has, without, HasRoom}
-use Rattle.posting.specs.Postings.{set_of, holds, IsPrepared, IsAbove, AllDiffer, SameSets, KeepsRoom, WithdrawsNumber, GivesBack, no_numbers}
-use Rattle.posting.proofs.SetLemmas.{has-append, has-push, has-filter}
+use Rattle.posting.specs.ListValue.{has, without}
+use Rattle.posting.specs.Postings.{NumberSet, slot_limit, set_of, holds, IsPrepared, IsAbsent, AllDiffer, SameSets, KeepsRoom, WithdrawsNumber, GivesBack}
+use Rattle.posting.proofs.SetLemmas.{has-push, has-filter}
 use Rattle.posting.proofs.Members.{has_at, All-has, lacks_from_all}
 
 or_true : (a : Bool) → (a || true) ≡ true
@@ -47,31 +47,31 @@ next_is_there : (past : List ℕ) (m : ℕ) (left : List ℕ) → has (past ++ m
 next_is_there past m left = has_at (past ++ m ∷ left) (length past) m (omega (arith, length-append past (m ∷ left))) (get_or-append_seam past m left 0)
 
 -- The number was put into the sets of some trigrams, and the other sets are as they were.
-pub record Added (old new : List ListValue) (trigrams : List ℕ) (number : ℕ) : Type 0 where
-  pub done : (t : ℕ) → has trigrams t ≡ true → (set_of new t).members ≡ (set_of old t).members ++ number ∷ []
+pub record Added (old new : List NumberSet) (trigrams : List ℕ) (number : ℕ) : Type 0 where
+  pub done : (t n : ℕ) → has trigrams t ≡ true → holds new t n ≡ (holds old t n || number == n)
   pub left : (t : ℕ) → has trigrams t ≡ false → set_of new t ≡ set_of old t
 
-pub added_none : (table : List ListValue) (number : ℕ) → Added table table [] number
-added_none table number = record { done = λ t there. absurd (false≢true there); left = λ t _. refl }
+pub added_none : (table : List NumberSet) (number : ℕ) → Added table table [] number
+added_none table number = record { done = λ t n there. absurd (false≢true there); left = λ t _. refl }
 
-pub added_more : (old now new : List ListValue) (past : List ℕ) (m number : ℕ) → Added old now past number → has past m ≡ false
-    → (set_of new m).members ≡ (set_of now m).members ++ number ∷ [] → ((t : ℕ) → t ≢ m → set_of new t ≡ set_of now t)
+pub added_more : (old now new : List NumberSet) (past : List ℕ) (m number : ℕ) → Added old now past number → has past m ≡ false
+    → ((n : ℕ) → holds new m n ≡ (holds now m n || number == n)) → ((t : ℕ) → t ≢ m → set_of new t ≡ set_of now t)
     → Added old new (past ++ m ∷ []) number
 added_more old now new past m number h fresh at others = record {
-  done = λ t there. came t (rw (has-push past m t) at there) (m == t) refl;
+  done = λ t n there. came t n (rw (has-push past m t) at there) (m == t) refl;
   left = λ t absent. stayed t (rw (has-push past m t) at absent) (m == t) refl;
 }
   where
     same_at : set_of now m ≡ set_of old m
     same_at = h.left m fresh
 
-    came : (t : ℕ) → (has past t || m == t) ≡ true → (same : Bool) → (m == t) ≡ same → (set_of new t).members ≡ (set_of old t).members ++ number ∷ []
-    came t there true e =
+    came : (t n : ℕ) → (has past t || m == t) ≡ true → (same : Bool) → (m == t) ≡ same → holds new t n ≡ (holds old t n || number == n)
+    came t n there true e =
         let is : m ≡ t = grind (arith, nat_tests) in
-        rw (← is) (at ∙ ap (λ s. s.members ++ number ∷ []) same_at)
-    came t there false e =
+        rw (← is) (at n ∙ ap (λ s. has s.members n || number == n) same_at)
+    came t n there false e =
         let ne : t ≢ m = grind (arith, nat_tests) in
-        ap (λ s. s.members) (others t ne) ∙ h.done t (sym (or_false (has past t)) ∙ rw e at there)
+        ap (λ s. has s.members n) (others t ne) ∙ h.done t n (sym (or_false (has past t)) ∙ rw e at there)
 
     stayed : (t : ℕ) → (has past t || m == t) ≡ false → (same : Bool) → (m == t) ≡ same → set_of new t ≡ set_of old t
     stayed t absent true e = absurd (false≢true (sym (rw (e, or_true (has past t)) at absent)))
@@ -79,27 +79,24 @@ added_more old now new past m number h fresh at others = record {
         let ne : t ≢ m = grind (arith, nat_tests) in
         others t ne ∙ h.left t (sym (or_false (has past t)) ∙ rw e at absent)
 
--- the next set has room, and the number is above all numbers in it
-pub next_has_room : (old now : List ListValue) (past : List ℕ) (m : ℕ) (left : List ℕ) (number : ℕ) → Added old now past number
-    → AllDiffer (past ++ m ∷ left) → IsPrepared old (past ++ m ∷ left) → HasRoom (set_of now m)
+-- the next set has room for the number, and does not have it
+pub next_has_room : (old now : List NumberSet) (past : List ℕ) (m : ℕ) (left : List ℕ) (number : ℕ) → Added old now past number
+    → AllDiffer (past ++ m ∷ left) → IsPrepared old number (past ++ m ∷ left) → number < (set_of now m).limit
 next_has_room old now past m left number h differ prepared =
-    rw (h.left m (next_is_new past m left differ)) (All-has (λ t. HasRoom (set_of old t)) (past ++ m ∷ left) m prepared (next_is_there past m left))
-
-pub next_is_above : (old now : List ListValue) (past : List ℕ) (m : ℕ) (left : List ℕ) (number : ℕ) → Added old now past number
-    → AllDiffer (past ++ m ∷ left) → IsAbove old (past ++ m ∷ left) number → All (λ n. n < number) (set_of now m).members
-next_is_above old now past m left number h differ above =
     rw (h.left m (next_is_new past m left differ))
-    (All-from_has (λ n. n < number) (set_of old m).members (λ n there. above m n (next_is_there past m left) there))
+    (All-has (λ t. number < (set_of old t).limit) (past ++ m ∷ left) m prepared (next_is_there past m left))
 
-pub holds-added : (old new : List ListValue) (trigrams : List ℕ) (number : ℕ) → Added old new trigrams number → (t n : ℕ)
+pub next_lacks : (old now : List NumberSet) (past : List ℕ) (m : ℕ) (left : List ℕ) (number : ℕ) → Added old now past number
+    → AllDiffer (past ++ m ∷ left) → IsAbsent old (past ++ m ∷ left) number → has (set_of now m).members number ≡ false
+next_lacks old now past m left number h differ absent =
+    rw (h.left m (next_is_new past m left differ)) (absent m (next_is_there past m left))
+
+pub holds-added : (old new : List NumberSet) (trigrams : List ℕ) (number : ℕ) → Added old new trigrams number → (t n : ℕ)
     → holds new t n ≡ (holds old t n || (has trigrams t && number == n))
 holds-added old new trigrams number h t n = cases (has trigrams t) refl
   where
     cases : (named : Bool) → has trigrams t ≡ named → holds new t n ≡ (holds old t n || (has trigrams t && number == n))
-    cases true e =
-        rw e
-        (ap (λ ms. has ms n) (h.done t e) ∙ has-append (set_of old t).members (number ∷ []) n
-        ∙ ap (λ b. holds old t n || b) (or_false (number == n)))
+    cases true e = rw e (h.done t n e)
     cases false e = rw e (ap (λ s. has s.members n) (h.left t e) ∙ sym (or_false (holds old t n)))
 
 and_true : (a : Bool) → a ≡ (a && true)
@@ -117,17 +114,17 @@ once : (held named is : Bool) → (held && not (named && is)) ≡ (held && not (
 once held true is = refl
 once held false is = refl
 
--- The number was taken out of the sets of some trigrams, and those that are empty have no room.
-pub record Withdrawn (old new : List ListValue) (trigrams : List ℕ) (number : ℕ) : Type 0 where
+-- The number was taken out of the sets of some trigrams, and those that are empty have no memory but their slots.
+pub record Withdrawn (old new : List NumberSet) (trigrams : List ℕ) (number : ℕ) : Type 0 where
   pub sets : WithdrawsNumber old new trigrams number
   pub empty : GivesBack new trigrams
 
-pub withdrawn_none : (table : List ListValue) (number : ℕ) → Withdrawn table table [] number
+pub withdrawn_none : (table : List NumberSet) (number : ℕ) → Withdrawn table table [] number
 withdrawn_none table number = record { sets = λ t n. and_true (holds table t n); empty = λ t there none. absurd (false≢true there) }
 
-pub withdrawn_more : (old now new : List ListValue) (past : List ℕ) (m number : ℕ) → Withdrawn old now past number
+pub withdrawn_more : (old now new : List NumberSet) (past : List ℕ) (m number : ℕ) → Withdrawn old now past number
     → (set_of new m).members ≡ without number (set_of now m).members → ((t : ℕ) → t ≢ m → set_of new t ≡ set_of now t)
-    → ((set_of new m).members ≡ [] → set_of new m ≡ no_numbers) → Withdrawn old new (past ++ m ∷ []) number
+    → ((set_of new m).members ≡ [] → (set_of new m).limit ≤ slot_limit) → Withdrawn old new (past ++ m ∷ []) number
 withdrawn_more old now new past m number h at others empty = record {
   sets = λ t n. rw (has-push past m t) (sets t n (m == t) refl);
   empty = λ t there none. gone t (rw (has-push past m t) at there) none (m == t) refl;
@@ -143,33 +140,45 @@ withdrawn_more old now new past m number h at others empty = record {
         let ne : t ≢ m = grind (arith, nat_tests) in
         rw e (ap (λ s. has s.members n) (others t ne) ∙ h.sets t n ∙ once (holds old t n) (has past t) (n == number))
 
-    gone : (t : ℕ) → (has past t || m == t) ≡ true → (set_of new t).members ≡ [] → (same : Bool) → (m == t) ≡ same → set_of new t ≡ no_numbers
+    gone : (t : ℕ) → (has past t || m == t) ≡ true → (set_of new t).members ≡ [] → (same : Bool) → (m == t) ≡ same → (set_of new t).limit ≤ slot_limit
     gone t there none true e =
         let is : m ≡ t = grind (arith, nat_tests) in
         rw (← is) (empty (rw (← is) at none))
     gone t there none false e =
         let ne : t ≢ m = grind (arith, nat_tests) in
         let same = others t ne in
-        same ∙ h.empty t (sym (or_false (has past t)) ∙ rw e at there) (ap (λ s. s.members) (sym same) ∙ none)
+        rw same (h.empty t (sym (or_false (has past t)) ∙ rw e at there) (ap (λ s. s.members) (sym same) ∙ none))
 
--- Some trigrams' sets were given room, and no set changed.
-pub record Prepared (old new : List ListValue) (trigrams : List ℕ) : Type 0 where
-  pub sets : (t : ℕ) → (set_of new t).members ≡ (set_of old t).members
-  pub room : KeepsRoom old new
-  pub prepared : IsPrepared new trigrams
-
-pub prepared_none : (table : List ListValue) → Prepared table table []
-prepared_none table = record { sets = λ t. refl; room = λ t some. some; prepared = λ k d inside. absurd (omega arith) }
-
-pub prepared_more : (old now new : List ListValue) (past : List ℕ) (m : ℕ) → Prepared old now past
-    → ((t : ℕ) → (set_of new t).members ≡ (set_of now t).members) → KeepsRoom now new → HasRoom (set_of new m)
-    → Prepared old new (past ++ m ∷ [])
-prepared_more old now new past m h sets room at = record {
-  sets = λ t. sets t ∙ h.sets t;
-  room = λ t some. room t (h.room t some);
-  prepared = All-push (λ t. HasRoom (set_of new t)) past m (All-weaker (λ t. HasRoom (set_of now t)) (λ t. HasRoom (set_of new t)) room past h.prepared) at;
+-- where memory is given back afterwards
+pub withdrawn_ends : (old now new : List NumberSet) (trigrams : List ℕ) (number : ℕ) → Withdrawn old now trigrams number
+    → ((t : ℕ) → (set_of new t).members ≡ (set_of now t).members) → ((t : ℕ) → (set_of now t).limit ≤ slot_limit → (set_of new t).limit ≤ slot_limit)
+    → Withdrawn old new trigrams number
+withdrawn_ends old now new trigrams number h members limits = record {
+  sets = λ t n. ap (λ ms. has ms n) (members t) ∙ h.sets t n;
+  empty = λ t there none. limits t (h.empty t there (sym (members t) ∙ none));
 }
 
-pub same_sets : (old now new : List ListValue) → ((t : ℕ) → (set_of now t).members ≡ (set_of old t).members)
+-- Some trigrams' sets were given room for the number, and no set changed.
+pub record Prepared (old new : List NumberSet) (number : ℕ) (trigrams : List ℕ) : Type 0 where
+  pub sets : (t : ℕ) → (set_of new t).members ≡ (set_of old t).members
+  pub room : KeepsRoom old new
+  pub prepared : IsPrepared new number trigrams
+
+pub prepared_none : (table : List NumberSet) (number : ℕ) → Prepared table table number []
+prepared_none table number =
+    record { sets = λ t. refl; room = λ t. omega arith; prepared = λ k d inside. absurd (omega arith) }
+
+pub prepared_more : (old now new : List NumberSet) (number : ℕ) (past : List ℕ) (m : ℕ) → Prepared old now number past
+    → ((t : ℕ) → (set_of new t).members ≡ (set_of now t).members) → KeepsRoom now new → number < (set_of new m).limit
+    → Prepared old new number (past ++ m ∷ [])
+prepared_more old now new number past m h sets room at = record {
+  sets = λ t. sets t ∙ h.sets t;
+  room = λ t. omega (arith, room t, h.room t);
+  prepared =
+      All-push (λ t. number < (set_of new t).limit) past m
+      (All-weaker (λ t. number < (set_of now t).limit) (λ t. number < (set_of new t).limit) (λ t some. omega (arith, room t)) past h.prepared) at;
+}
+
+pub same_sets : (old now new : List NumberSet) → ((t : ℕ) → (set_of now t).members ≡ (set_of old t).members)
     → ((t : ℕ) → (set_of new t).members ≡ (set_of now t).members) → SameSets old new
 same_sets old now new first then t n = ap (λ ms. has ms n) (then t ∙ first t)

@@ -20,7 +20,7 @@ use Rattle.posting.proofs.Walks.{some_numbers}
 
 -- ---- where the groups of a number end
 
-groups-inner : (more g k : ℕ) → k + 1 < length (groups more g) → 128 ≤ get_or (groups more g) k 0
+pub groups-inner : (more g k : ℕ) → k + 1 < length (groups more g) → 128 ≤ get_or (groups more g) k 0
 groups-inner zero g k inside = absurd (omega (arith, inside, ap length (groups-one g)))
 groups-inner (suc more) g k inside = cases (nat_lt g 128) refl k inside (groups-inner more (g / 128))
   where
@@ -93,14 +93,14 @@ rising-front xs ys h = λ k inside. (
     let both = h k (omega (arith, inside, length-append xs ys)) in
     omega (arith, both, get_or_append_left xs ys 0 k (omega (arith, inside)), get_or_append_left xs ys 0 (k + 1) inside))
 
-rise-front : (before : ℕ) (xs ys : List ℕ) → Rise before (xs ++ ys) → Rise before xs
+pub rise-front : (before : ℕ) (xs ys : List ℕ) → Rise before (xs ++ ys) → Rise before xs
 rise-front before xs ys h = record {
   rising = rising-front xs ys h.rising;
   from = All-left (λ n. before ≤ n) xs ys h.from;
   bound = All-left (λ n. n < 2 ^ 32) xs ys h.bound;
 }
 
-rise-later : (before : ℕ) (xs ys : List ℕ) → Rise before (xs ++ ys) → Rise (last_of before xs) ys
+pub rise-later : (before : ℕ) (xs ys : List ℕ) → Rise before (xs ++ ys) → Rise (last_of before xs) ys
 rise-later before [] ys h = rw (last_of-nil before) h
 rise-later before (x ∷ xs) ys h = rw (last_of-cons before x xs) (rise-later x xs ys (rise-tail before x (xs ++ ys) h))
 

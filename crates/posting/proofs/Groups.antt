@@ -1,10 +1,12 @@
 -- Numbers in groups of seven bits, written and read back.
-use Rattle.std.proofs.Common.{◌≡◌, ℕ, zero, suc, ◌+◌, ◌-◌, ◌*◌, ◌/◌, ◌%◌, ◌^◌, ◌<◌, ◌≤◌, Bool, true, false, nat_lt, List, [], ◌∷◌, ◌++◌}
+use Rattle.std.proofs.Common.{◌≡◌, ℕ, zero, suc, ◌+◌, ◌-◌, ◌*◌, ◌/◌, ◌%◌, ◌^◌, ◌<◌, ◌≤◌, Bool, true, false, cond, nat_lt, List, [], ◌∷◌, ◌++◌}
 use Rattle.std.proofs.Common.{length, refl, sym, ap, ◌∙◌, arith, append_assoc, length-append}
 use Rattle.std.proofs.Common.{get_or, set, take, drop, length-set, length-drop}
 use Rattle.std.specs.Prelude.{All}
+use Rattle.std.specs.List.{count_by}
 use Rattle.std.specs.List.Sorted.{IsStrictlyIncreasing}
 use Rattle.std.proofs.lemmas.Bool.Decides.{nat_tests}
+use Rattle.std.proofs.lemmas.List.Sums.{sum_by-cons}
 use Rattle.std.proofs.lemmas.List.{drop_more, length-take-le, take-append-drop, take_all}
 use lib.Seq.{paste}
 use Rattle.std.proofs.lemmas.List.Edits.{take-paste}
@@ -33,6 +35,10 @@ numbers-low f b bytes low = let e : nat_lt b 128 ≡ true = grind (arith, nat_te
 numbers-high : (f : ℕ → ℕ) (b : ℕ) (bytes : List ℕ) → 128 ≤ b → numbers_in f (b ∷ bytes) ≡ numbers_in (λ high. f (b - 128 + 128 * high)) bytes
 unfolding numbers_in
 numbers-high f b bytes high = let e : nat_lt b 128 ≡ false = grind (arith, nat_tests) in rw e refl
+
+numbers-none : (f : ℕ → ℕ) → length (numbers_in f []) ≡ 0
+unfolding numbers_in
+numbers-none f = refl
 
 pub limit-more : (more : ℕ) → limit (suc more) ≡ 128 * limit more
 unfolding limit
@@ -169,6 +175,53 @@ length-groups (suc more) g = cases (nat_lt g 128) refl
     cases : (b : Bool) → nat_lt g 128 ≡ b → 0 < length (groups (suc more) g)
     cases true e = let low : g < 128 = grind (arith, nat_tests) in rw (groups-low (suc more) g low) (omega arith)
     cases false e = let high : 128 ≤ g = grind (arith, nat_tests) in rw (groups-high more g high) (omega arith)
+
+-- each number takes one byte that is below 128
+pub length-numbers : (f : ℕ → ℕ) (bytes : List ℕ) → length (numbers_in f bytes) ≡ count_by (λ b. nat_lt b 128) bytes
+length-numbers f [] = numbers-none f
+length-numbers f (b ∷ bytes) =
+    cases (nat_lt b 128) refl (length-numbers (λ gap. f b + gap) bytes) (length-numbers (λ high. f (b - 128 + 128 * high)) bytes)
+  where
+    cases : (t : Bool) → nat_lt b 128 ≡ t → length (numbers_in (λ gap. f b + gap) bytes) ≡ count_by (λ c. nat_lt c 128) bytes
+        → length (numbers_in (λ high. f (b - 128 + 128 * high)) bytes) ≡ count_by (λ c. nat_lt c 128) bytes
+        → length (numbers_in f (b ∷ bytes)) ≡ count_by (λ c. nat_lt c 128) (b ∷ bytes)
+    cases true e one more =
+        let low : b < 128 = grind (arith, nat_tests) in
+        let both : count_by (λ c. nat_lt c 128) (b ∷ bytes) ≡ 1 + count_by (λ c. nat_lt c 128) bytes =
+        sum_by-cons (λ c. cond (nat_lt c 128) 1 0) b bytes ∙ ap (λ t. cond t 1 0 + count_by (λ c. nat_lt c 128) bytes) e in
+        omega (arith, ap length (numbers-low f b bytes low), one, both)
+    cases false e one more =
+        let high : 128 ≤ b = grind (arith, nat_tests) in
+        let both : count_by (λ c. nat_lt c 128) (b ∷ bytes) ≡ 0 + count_by (λ c. nat_lt c 128) bytes =
+        sum_by-cons (λ c. cond (nat_lt c 128) 1 0) b bytes ∙ ap (λ t. cond t 1 0 + count_by (λ c. nat_lt c 128) bytes) e in
+        omega (arith, ap length (numbers-high f b bytes high), more, both)
+
+-- A lower number takes no more bytes, and 32 bits take five at most.
+pub groups-lower : (more a b : ℕ) → a ≤ b → length (groups more a) ≤ length (groups more b)
+groups-lower zero a b le = rw (groups-one a, groups-one b) (omega arith)
+groups-lower (suc more) a b le = cases (nat_lt a 128) (nat_lt b 128) refl refl (groups-lower more (a / 128) (b / 128))
+  where
+    cases : (p q : Bool) → nat_lt a 128 ≡ p → nat_lt b 128 ≡ q → (a / 128 ≤ b / 128 → length (groups more (a / 128)) ≤ length (groups more (b / 128)))
+        → length (groups (suc more) a) ≤ length (groups (suc more) b)
+    cases true q e f later =
+        let low : a < 128 = grind (arith, nat_tests) in
+        rw (groups-low (suc more) a low) (omega (arith, length-groups (suc more) b))
+    cases false true e f later =
+        let high : 128 ≤ a = grind (arith, nat_tests) in
+        let low : b < 128 = grind (arith, nat_tests) in
+        absurd (omega arith)
+    cases false false e f later =
+        let high : 128 ≤ a = grind (arith, nat_tests) in
+        let high' : 128 ≤ b = grind (arith, nat_tests) in
+        rw (groups-high more a high, groups-high more b high') (omega (arith, later (omega arith)))
+
+pub groups-most : (more g : ℕ) → length (groups more g) ≤ more + 1
+groups-most zero g = rw (groups-one g) (omega arith)
+groups-most (suc more) g = cases (nat_lt g 128) refl (groups-most more (g / 128))
+  where
+    cases : (b : Bool) → nat_lt g 128 ≡ b → length (groups more (g / 128)) ≤ more + 1 → length (groups (suc more) g) ≤ suc more + 1
+    cases true e later = let low : g < 128 = grind (arith, nat_tests) in rw (groups-low (suc more) g low) (omega arith)
+    cases false e later = let high : 128 ≤ g = grind (arith, nat_tests) in rw (groups-high more g high) (omega (arith, later))
 
 -- The sum of two numbers takes no more bytes than the two.
 pub groups-joined : (more a b carry : ℕ) → carry ≤ 1 → length (groups more (a + b + carry)) ≤ length (groups more a) + length (groups more b)

@@ -4,11 +4,14 @@ pub mod Groups
 pub mod Members
 pub mod Walks
 pub mod Cuts
+pub mod Inserts
+pub mod Starts
 pub mod Meeting
+pub mod Leavings
 pub mod Merging
-pub mod Slots
 pub mod Tables
+pub mod PageLemmas
 pub mod Places
+pub mod Widening
 pub mod Changes
-pub mod Slices
 pub mod Selection

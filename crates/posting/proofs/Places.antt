@@ -1,34 +1,25 @@
--- How lists are made and dropped, with their slots.
-use Rattle.std.proofs.Common.{◌≡◌, ◌≢◌, ℕ, zero, suc, ◌+◌, ◌-◌, ◌<◌, ◌≤◌, false, true, cond, ◌==◌, eqb, List, [], ◌∷◌, ◌++◌, ◌⊎◌, inl, inr}
+-- How lists are added and dropped, with the slots that lead to them.
+use Rattle.std.proofs.Common.{◌≡◌, ◌≢◌, ℕ, ◌+◌, ◌-◌, ◌<◌, ◌≤◌, false, true, cond, ◌==◌, eqb, List, [], ◌∷◌, ◌++◌, ◌⊎◌, inl, inr}
 use Rattle.std.proofs.Common.{length, get_or, map, refl, sym, ap, ◌∙◌, subst, arith}
 use Rattle.std.specs.List.{list_any}
-use Rattle.std.specs.declared.alloc.Global.{Global}
-use Rattle.std.specs.declared.vec.Vec.{Vec}
 use Rattle.std.proofs.lemmas.Bool.{cases_lt, cases_eq, eq-eqb}
 use Rattle.std.proofs.lemmas.Bool.Decides.{nat_tests}
 use Rattle.std.proofs.lemmas.List.{get_or_append_left, get_or_push, length_push, length-map, get_or-map}
 use Rattle.std.proofs.lemmas.List.Folds.{Any-from_list_any}
 use Rattle.std.proofs.lemmas.Map.Keys.{IsDistinct-from_apart}
 use Rattle.std.proofs.lemmas.Map.Steps.{length-le_from_distinct_below}
-use Rattle.posting.specs.ListValue.{HasRoom}
-use Rattle.posting.specs.declared.pages.Owned.{Owned}
-use Rattle.posting.specs.Private.Pages.{trigram_count, slot_of, HasSlot, no_list, set_in_slot, owner_at, IsSound}
-use Rattle.posting.proofs.Slots.{HasSlot-from_slot}
-use Rattle.posting.proofs.Tables.{set_in_slot-place}
+use Rattle.posting.specs.declared.pages.Slot.{Slot}
+use Rattle.posting.specs.declared.pages.Slot.TheVariants.{Free, One, Listed}
+use Rattle.posting.specs.declared.owned.Owned.{Owned}
+use Rattle.posting.specs.Private.Pages.{trigram_count, slot_of, free_limit, no_list, owner_at, set_in_slot, set_of_list, set_at, IsUnlisted, IsSound}
+use Rattle.posting.specs.Private.PageTable.{PageTable}
 
--- pages with the same slots
-pub IsSound-same : (pages pages' : List (Vec ℕ Global)) (lists : List Owned) → ((t : ℕ) → slot_of pages' t ≡ slot_of pages t)
-    → IsSound pages lists → IsSound pages' lists
-IsSound-same pages pages' lists same h = record {
-  within = λ t. rw (same t) (h.within t);
-  owner = λ t place e. h.owner t place (sym (same t) ∙ e);
-  slot = λ place inside. same (owner_at lists place) ∙ h.slot place inside;
-  bound = h.bound;
-}
+pub same_place : (j k : ℕ) → Listed j ≡ Listed k → j ≡ k
+same_place j k e = cc
 
 -- no two lists have one owner, so there are at most as many as trigrams
-pub length-lists : (pages : List (Vec ℕ Global)) (lists : List Owned) → IsSound pages lists → length lists ≤ trigram_count
-length-lists pages lists h =
+pub length-lists : (slots : ℕ → Slot) (lists : List Owned) → IsSound slots lists → length lists ≤ trigram_count
+length-lists slots lists h =
     let most = length-le_from_distinct_below (map (λ o. o.trigram) lists) trigram_count (IsDistinct-from_apart eqb (map (λ o. o.trigram) lists) apart) below in
     omega (arith, most, length-map lists (λ o. o.trigram))
   where
@@ -41,7 +32,7 @@ length-lists pages lists h =
         let long = length-map lists (λ o. o.trigram) in
         let here = h.slot i (omega arith) in
         let there = h.slot j (omega arith) in
-        let differ : owner_at lists i ≢ owner_at lists j = λ e. (let same = ap (slot_of pages) e in omega arith) in
+        let differ : owner_at lists i ≢ owner_at lists j = λ e. (let same = same_place i j (sym here ∙ ap slots e ∙ there) in omega arith) in
         rw (owner i d (omega arith), owner j d inside) (grind (arith, nat_tests))
 
     below : (t : ℕ) → list_any (eqb t) (map (λ o. o.trigram) lists) ≡ true → t < trigram_count
@@ -52,87 +43,98 @@ length-lists pages lists h =
         let low = h.bound found.0 (omega (arith, found.2)) in
         omega (arith, is, low, owner found.0 found.1 found.2, found.3)
 
-pub trigram_count-lt : trigram_count < 4294967295
-unfolding trigram_count
-trigram_count-lt = omega arith
+-- the slots after one of them was written
+abbrev pub IsWritten : (ℕ → Slot) → (ℕ → Slot) → ℕ → Slot → Type 0
+IsWritten old new trigram slot = (t : ℕ) → new t ≡ cond (t == trigram) slot (old t)
+
+pub written_here : (old new : ℕ → Slot) (trigram : ℕ) (slot : Slot) → IsWritten old new trigram slot → new trigram ≡ slot
+written_here old new trigram slot h = h trigram ∙ rw (eq-eqb trigram trigram refl) refl
+
+pub written_other : (old new : ℕ → Slot) (trigram : ℕ) (slot : Slot) → IsWritten old new trigram slot → (t : ℕ) → t ≢ trigram → new t ≡ old t
+written_other old new trigram slot h t ne = let e : (t == trigram) ≡ false = grind (arith, nat_tests) in h t ∙ rw e refl
+
+-- slots that are the same
+pub IsSound-same : (slots slots' : ℕ → Slot) (lists : List Owned) → ((t : ℕ) → slots' t ≡ slots t) → IsSound slots lists → IsSound slots' lists
+IsSound-same slots slots' lists same h = record {
+  within = λ t place e. h.within t place (sym (same t) ∙ e);
+  owner = λ t place e. h.owner t place (sym (same t) ∙ e);
+  slot = λ place inside. same (owner_at lists place) ∙ h.slot place inside;
+  bound = h.bound;
+}
+
+-- the set of a slot is the same if the list to which it leads is
+pub set_in-kept : (lists lists' : List Owned) (limit : ℕ) (slot : Slot)
+    → ((place : ℕ) → slot ≡ Listed place → get_or lists' place no_list ≡ get_or lists place no_list)
+    → set_in_slot lists' limit slot ≡ set_in_slot lists limit slot
+set_in-kept lists lists' limit Free same = refl
+set_in-kept lists lists' limit (One number) same = refl
+set_in-kept lists lists' limit (Listed place) same = ap (λ o. set_of_list o.list) (same place refl)
+
+pub set_at-is : (pages : PageTable) (lists : List Owned) (t : ℕ) → set_at pages lists t ≡ set_in_slot lists (free_limit pages t) (slot_of pages t)
+unfolding set_at
+set_at-is pages lists t = refl
+
+-- where limits are the same
+pub set_at-kept : (pages pages' : PageTable) (lists lists' : List Owned) (t : ℕ) → free_limit pages' t ≡ free_limit pages t
+    → ((limit : ℕ) → set_in_slot lists' limit (slot_of pages' t) ≡ set_in_slot lists limit (slot_of pages t))
+    → set_at pages' lists' t ≡ set_at pages lists t
+set_at-kept pages pages' lists lists' t limits same =
+    set_at-is pages' lists' t ∙ same (free_limit pages' t) ∙ ap (λ limit. set_in_slot lists limit (slot_of pages t)) limits ∙ sym (set_at-is pages lists t)
 
 -- ---- a new list for a trigram that had none
 
-pub record Listed (pages pages' : List (Vec ℕ Global)) (trigram place : ℕ) : Type 0 where
-  pub below : trigram < trigram_count
-  pub had_none : slot_of pages trigram ≡ 0
-  pub slots : (t : ℕ) → slot_of pages' t ≡ cond (t == trigram) (place + 1) (slot_of pages t)
+module _ (slots slots' : ℕ → Slot) (lists : List Owned) (trigram : ℕ) (x : Owned) (sound : IsSound slots lists) (below : trigram < trigram_count)
+    (own : x.trigram ≡ trigram) (unlisted : IsUnlisted (slots trigram)) (written : IsWritten slots slots' trigram (Listed (length lists))) where
+  here : slots' trigram ≡ Listed (length lists)
+  here = written_here slots slots' trigram (Listed (length lists)) written
 
-slot-new : {pages pages' : List (Vec ℕ Global)} {trigram place : ℕ} → Listed pages pages' trigram place → slot_of pages' trigram ≡ place + 1
-slot-new {pages} {pages'} {trigram} {place} h = h.slots trigram ∙ rw (eq-eqb trigram trigram refl) refl
+  elsewhere : (t : ℕ) → t ≢ trigram → slots' t ≡ slots t
+  elsewhere = written_other slots slots' trigram (Listed (length lists)) written
 
-slot-old : {pages pages' : List (Vec ℕ Global)} {trigram place : ℕ} → Listed pages pages' trigram place → (t : ℕ) → t ≢ trigram
-    → slot_of pages' t ≡ slot_of pages t
-slot-old {pages} {pages'} {trigram} {place} h t ne = let e : (t == trigram) ≡ false = grind (arith, nat_tests) in h.slots t ∙ rw e refl
+  owner-before : (k : ℕ) → k < length lists → owner_at (lists ++ x ∷ []) k ≡ owner_at lists k
+  owner-before k inside = ap (λ o. o.trigram) (get_or_append_left lists (x ∷ []) no_list k inside)
 
-owner_at-before : (lists : List Owned) (x : Owned) (k : ℕ) → k < length lists → owner_at (lists ++ x ∷ []) k ≡ owner_at lists k
-owner_at-before lists x k inside = ap (λ o. o.trigram) (get_or_append_left lists (x ∷ []) no_list k inside)
+  owner-push : (k : ℕ) → length lists ≡ k → owner_at (lists ++ x ∷ []) k ≡ trigram
+  owner-push k end = ap (λ o. o.trigram) (get_or_push lists x no_list k end) ∙ own
 
-owner_at-push : (lists : List Owned) (x : Owned) (k : ℕ) → length lists ≡ k → owner_at (lists ++ x ∷ []) k ≡ x.trigram
-owner_at-push lists x k end = ap (λ o. o.trigram) (get_or_push lists x no_list k end)
-
-module _ (pages pages' : List (Vec ℕ Global)) (lists : List Owned) (trigram : ℕ) (x : Owned) (sound : IsSound pages lists)
-    (own : x.trigram ≡ trigram) (listed : Listed pages pages' trigram (length lists)) where
-  pub IsSound-listed : IsSound pages' (lists ++ x ∷ [])
+  pub IsSound-listed : IsSound slots' (lists ++ x ∷ [])
   IsSound-listed = record {
-    within = λ t. rw (length_push lists x) (within t (cases_eq t trigram));
+    within = λ t k e. rw (length_push lists x) (within t k e (cases_eq t trigram));
     owner = λ t k e. owner t k e (cases_eq t trigram);
     slot = λ k inside. slot k (rw (length_push lists x) at inside) (cases_lt k (length lists));
     bound = λ k inside. bound k (rw (length_push lists x) at inside) (cases_lt k (length lists));
   }
     where
-      within : (t : ℕ) → (t ≡ trigram) ⊎ (t ≢ trigram) → slot_of pages' t ≤ length lists + 1
-      within t (inl e) = rw e (rw (slot-new listed) (omega arith))
-      within t (inr ne) = rw (slot-old listed t ne) (omega (arith, sound.within t))
+      within : (t k : ℕ) → slots' t ≡ Listed k → (t ≡ trigram) ⊎ (t ≢ trigram) → k < length lists + 1
+      within t k e (inl is) = let same = same_place k (length lists) (sym e ∙ ap slots' is ∙ here) in omega arith
+      within t k e (inr ne) = omega (arith, sound.within t k (sym (elsewhere t ne) ∙ e))
 
-      owner : (t k : ℕ) → slot_of pages' t ≡ k + 1 → (t ≡ trigram) ⊎ (t ≢ trigram) → owner_at (lists ++ x ∷ []) k ≡ t
-      owner t k e (inl is) = owner_at-push lists x k (omega (arith, slot-new listed, rw is at e)) ∙ own ∙ sym is
+      owner : (t k : ℕ) → slots' t ≡ Listed k → (t ≡ trigram) ⊎ (t ≢ trigram) → owner_at (lists ++ x ∷ []) k ≡ t
+      owner t k e (inl is) = owner-push k (sym (same_place k (length lists) (sym e ∙ ap slots' is ∙ here))) ∙ sym is
       owner t k e (inr ne) =
-          let was : slot_of pages t ≡ k + 1 = sym (slot-old listed t ne) ∙ e in
-          owner_at-before lists x k (omega (arith, sound.within t)) ∙ sound.owner t k was
+          let was : slots t ≡ Listed k = sym (elsewhere t ne) ∙ e in
+          owner-before k (sound.within t k was) ∙ sound.owner t k was
 
-      slot : (k : ℕ) → k < length lists + 1 → (k < length lists) ⊎ (length lists ≤ k) → slot_of pages' (owner_at (lists ++ x ∷ []) k) ≡ k + 1
+      slot : (k : ℕ) → k < length lists + 1 → (k < length lists) ⊎ (length lists ≤ k) → slots' (owner_at (lists ++ x ∷ []) k) ≡ Listed k
       slot k inside (inl before) =
           let was = sound.slot k before in
-          let other : owner_at lists k ≢ trigram = λ e. (let none = ap (slot_of pages) e ∙ listed.had_none in omega arith) in
-          ap (slot_of pages') (owner_at-before lists x k before) ∙ slot-old listed (owner_at lists k) other ∙ was
+          let other : owner_at lists k ≢ trigram = λ e. unlisted k (sym (ap slots e) ∙ was) in
+          ap slots' (owner-before k before) ∙ elsewhere (owner_at lists k) other ∙ was
       slot k inside (inr past) =
           let end : length lists ≡ k = omega arith in
-          ap (slot_of pages') (owner_at-push lists x k end ∙ own) ∙ slot-new listed ∙ ap (λ n. n + 1) end
+          ap slots' (owner-push k end) ∙ here ∙ ap Listed end
 
       bound : (k : ℕ) → k < length lists + 1 → (k < length lists) ⊎ (length lists ≤ k) → owner_at (lists ++ x ∷ []) k < trigram_count
-      bound k inside (inl before) = subst (λ t. t < trigram_count) (sym (owner_at-before lists x k before)) (sound.bound k before)
-      bound k inside (inr past) = subst (λ t. t < trigram_count) (sym (owner_at-push lists x k (omega arith) ∙ own)) listed.below
+      bound k inside (inl before) = subst (λ t. t < trigram_count) (sym (owner-before k before)) (sound.bound k before)
+      bound k inside (inr past) = subst (λ t. t < trigram_count) (sym (owner-push k (omega arith))) below
 
-  after-kept : (t : ℕ) → t ≢ trigram → set_in_slot (lists ++ x ∷ []) (slot_of pages' t) ≡ set_in_slot lists (slot_of pages t)
-  after-kept t ne = rw (slot-old listed t ne) (kept (slot_of pages t) (sound.within t))
-    where
-      kept : (slot : ℕ) → slot ≤ length lists → set_in_slot (lists ++ x ∷ []) slot ≡ set_in_slot lists slot
-      kept zero within = refl
-      kept (suc k) within = ap (λ o. o.list) (get_or_append_left lists (x ∷ []) no_list k (omega arith))
+  pub set-listed : (limit : ℕ) → set_in_slot (lists ++ x ∷ []) limit (slots' trigram) ≡ set_of_list x.list
+  set-listed limit = rw here (ap (λ o. set_of_list o.list) (get_or_push lists x no_list (length lists) refl))
 
-  after-new : set_in_slot (lists ++ x ∷ []) (slot_of pages' trigram) ≡ x.list
-  after-new = rw (slot-new listed) (set_in_slot-place (lists ++ x ∷ []) (length lists) ∙ ap (λ o. o.list) (get_or_push lists x no_list (length lists) refl))
-
-  pub members-listed : x.list.members ≡ [] → (t : ℕ)
-      → (set_in_slot (lists ++ x ∷ []) (slot_of pages' t)).members ≡ (set_in_slot lists (slot_of pages t)).members
-  members-listed empty t = cases (cases_eq t trigram)
-    where
-      cases : (t ≡ trigram) ⊎ (t ≢ trigram) → (set_in_slot (lists ++ x ∷ []) (slot_of pages' t)).members ≡ (set_in_slot lists (slot_of pages t)).members
-      cases (inl e) = rw e (rw listed.had_none (ap (λ s. s.members) after-new ∙ empty))
-      cases (inr ne) = ap (λ s. s.members) (after-kept t ne)
-
-  pub room-listed : (t : ℕ) → HasRoom (set_in_slot lists (slot_of pages t)) → HasRoom (set_in_slot (lists ++ x ∷ []) (slot_of pages' t))
-  room-listed t had = cases (cases_eq t trigram)
-    where
-      cases : (t ≡ trigram) ⊎ (t ≢ trigram) → HasRoom (set_in_slot (lists ++ x ∷ []) (slot_of pages' t))
-      cases (inl e) = absurd (omega (arith, rw listed.had_none at (rw e at had)))
-      cases (inr ne) = rw (after-kept t ne) had
+  pub sets-listed : (limit t : ℕ) → t ≢ trigram → set_in_slot (lists ++ x ∷ []) limit (slots' t) ≡ set_in_slot lists limit (slots t)
+  sets-listed limit t ne =
+      rw (elsewhere t ne)
+      (set_in-kept lists (lists ++ x ∷ []) limit (slots t) (λ place e. get_or_append_left lists (x ∷ []) no_list place (sound.within t place e)))
 
 -- ---- a list that is dropped, as the last one moves to its place
 
@@ -151,66 +153,62 @@ swapped_out lists lists' place old new is is' one by_index = record {
   stayed = λ k other inside. by_index.1 k no_list other (omega arith);
 }
 
-pub record Dropped (pages pages' : List (Vec ℕ Global)) (lists lists' : List Owned) (trigram place : ℕ) : Type 0 where
-  pub slot : slot_of pages trigram ≡ place + 1
+pub record Dropped (slots slots' : ℕ → Slot) (lists lists' : List Owned) (trigram place : ℕ) (slot : Slot) : Type 0 where
+  pub listed : slots trigram ≡ Listed place
   pub swapped : SwappedOut lists lists' place
-  pub gone : slot_of pages' trigram ≡ 0
-  pub slot_moved : place < length lists' → slot_of pages' (owner_at lists (length lists')) ≡ place + 1
-  pub slots : (t : ℕ) → t ≢ trigram → t ≢ owner_at lists (length lists') → slot_of pages' t ≡ slot_of pages t
+  pub gone : slots' trigram ≡ slot
+  pub unlisted : IsUnlisted slot
+  pub slot_moved : place < length lists' → slots' (owner_at lists (length lists')) ≡ Listed place
+  pub others : (t : ℕ) → t ≢ trigram → t ≢ owner_at lists (length lists') → slots' t ≡ slots t
 
--- the pages after a trigram's slot is set
-abbrev pub IsSlotSet : List (Vec ℕ Global) → List (Vec ℕ Global) → ℕ → ℕ → Type 0
-IsSlotSet old new trigram slot = (t : ℕ) → slot_of new t ≡ cond (t == trigram) slot (slot_of old t)
+module _ (slots emptied : ℕ → Slot) (lists lists' : List Owned) (trigram place : ℕ) (slot : Slot) (sound : IsSound slots lists)
+    (listed : slots trigram ≡ Listed place) (swapped : SwappedOut lists lists' place) (unlisted : IsUnlisted slot)
+    (gone : IsWritten slots emptied trigram slot) where
+  empty_here : emptied trigram ≡ slot
+  empty_here = written_here slots emptied trigram slot gone
 
-slot-set : (old new : List (Vec ℕ Global)) (trigram slot : ℕ) → IsSlotSet old new trigram slot → slot_of new trigram ≡ slot
-slot-set old new trigram slot h = h trigram ∙ rw (eq-eqb trigram trigram refl) refl
+  empty_other : (t : ℕ) → t ≢ trigram → emptied t ≡ slots t
+  empty_other = written_other slots emptied trigram slot gone
 
-slot-unset : (old new : List (Vec ℕ Global)) (trigram slot : ℕ) → IsSlotSet old new trigram slot → (t : ℕ) → t ≢ trigram → slot_of new t ≡ slot_of old t
-slot-unset old new trigram slot h t ne = let e : (t == trigram) ≡ false = grind (arith, nat_tests) in h t ∙ rw e refl
-
-module _ (pages emptied : List (Vec ℕ Global)) (lists lists' : List Owned) (trigram place : ℕ) (sound : IsSound pages lists)
-    (slot : slot_of pages trigram ≡ place + 1) (swapped : SwappedOut lists lists' place) (gone : IsSlotSet pages emptied trigram 0) where
   -- the list that was dropped was the last one
-  pub dropped_last : length lists' ≤ place → Dropped pages emptied lists lists' trigram place
+  pub dropped_last : length lists' ≤ place → Dropped slots emptied lists lists' trigram place slot
   dropped_last end = record {
-    slot = slot;
+    listed = listed;
     swapped = swapped;
-    gone = slot-set pages emptied trigram 0 gone;
+    gone = empty_here;
+    unlisted = unlisted;
     slot_moved = λ before. absurd (omega arith);
-    slots = λ t other _. slot-unset pages emptied trigram 0 gone t other;
+    others = λ t other _. empty_other t other;
   }
 
   -- the last list moved to the place of the dropped one
   moved_owner : place < length lists' → owner_at lists' place ≡ owner_at lists (length lists')
   moved_owner before = ap (λ o. o.trigram) (swapped.moved before)
 
-  moved_slot_was : place < length lists' → slot_of pages (owner_at lists' place) ≡ length lists' + 1
-  moved_slot_was before = ap (slot_of pages) (moved_owner before) ∙ sound.slot (length lists') (omega (arith, swapped.len))
+  moved_slot_was : place < length lists' → slots (owner_at lists' place) ≡ Listed (length lists')
+  moved_slot_was before = ap slots (moved_owner before) ∙ sound.slot (length lists') (omega (arith, swapped.len))
 
   moved_other : place < length lists' → owner_at lists' place ≢ trigram
-  moved_other before e = let same = ap (slot_of pages) e in absurd (omega (arith, same, moved_slot_was before, slot))
+  moved_other before e =
+      let same = same_place place (length lists') (sym listed ∙ sym (ap slots e) ∙ moved_slot_was before) in
+      absurd (omega arith)
 
-  pub moved_has_slot : place < length lists' → HasSlot emptied (owner_at lists' place)
-  moved_has_slot before =
-      let was = moved_slot_was before in
-      let is = slot-unset pages emptied trigram 0 gone (owner_at lists' place) (moved_other before) in
-      HasSlot-from_slot emptied (owner_at lists' place) (omega arith)
-
-  pub dropped_moved : (pages' : List (Vec ℕ Global)) (owner number : ℕ) → place < length lists' → owner ≡ owner_at lists' place
-      → number ≡ place + 1 → IsSlotSet emptied pages' owner number → Dropped pages pages' lists lists' trigram place
-  dropped_moved pages' owner number before owns is named = record {
-    slot = slot;
+  pub dropped_moved : (slots' : ℕ → Slot) (owner : ℕ) → place < length lists' → owner ≡ owner_at lists' place
+      → IsWritten emptied slots' owner (Listed place) → Dropped slots slots' lists lists' trigram place slot
+  dropped_moved slots' owner before owns named = record {
+    listed = listed;
     swapped = swapped;
-    gone = slot-unset emptied pages' owner number named trigram (λ e. moved_other before (sym (e ∙ owns))) ∙ slot-set pages emptied trigram 0 gone;
-    slot_moved = λ _. ap (slot_of pages') (sym (owns ∙ moved_owner before)) ∙ slot-set emptied pages' owner number named ∙ is;
-    slots =
-        λ t other differs.
-        slot-unset emptied pages' owner number named t (λ e. differs (e ∙ owns ∙ moved_owner before))
-        ∙ slot-unset pages emptied trigram 0 gone t other;
+    gone = kept trigram (λ same. moved_other before (sym (same ∙ owns))) ∙ empty_here;
+    unlisted = unlisted;
+    slot_moved = λ _. ap slots' (sym (owns ∙ moved_owner before)) ∙ written_here emptied slots' owner (Listed place) named;
+    others = λ t other differs. kept t (λ e. differs (e ∙ owns ∙ moved_owner before)) ∙ empty_other t other;
   }
+    where
+      kept : (t : ℕ) → t ≢ owner → slots' t ≡ emptied t
+      kept = written_other emptied slots' owner (Listed place) named
 
-module _ (pages pages' : List (Vec ℕ Global)) (lists lists' : List Owned) (trigram place : ℕ) (sound : IsSound pages lists)
-    (h : Dropped pages pages' lists lists' trigram place) where
+module _ (slots slots' : ℕ → Slot) (lists lists' : List Owned) (trigram place : ℕ) (put : Slot) (sound : IsSound slots lists)
+    (h : Dropped slots slots' lists lists' trigram place put) where
   -- a trigram is the one of the dropped list, the one of the list that moved, or another one
   record Moves (t : ℕ) : Type 0 where
     other : t ≢ trigram
@@ -219,7 +217,7 @@ module _ (pages pages' : List (Vec ℕ Global)) (lists lists' : List Owned) (tri
 
   record Stays (t : ℕ) : Type 0 where
     other : t ≢ trigram
-    slot : slot_of pages' t ≡ slot_of pages t
+    slot : slots' t ≡ slots t
     not_last : owner_at lists (length lists') ≢ t
 
   kinds : (t : ℕ) → (t ≡ trigram) ⊎ (Moves t ⊎ Stays t)
@@ -233,56 +231,57 @@ module _ (pages pages' : List (Vec ℕ Global)) (lists lists' : List Owned) (tri
               → (place < length lists') ⊎ (length lists' ≤ place) → Moves t ⊎ Stays t
           then (inl e) (inl before) = inl (record { other = other; owns = sym e; before = before })
           then (inl e) (inr end) =
-              let is : place ≡ length lists' = omega (arith, sound.within trigram, h.slot, h.swapped.len) in
-              absurd (other (e ∙ sym (ap (owner_at lists) is) ∙ sound.owner trigram place h.slot))
-          then (inr differs) _ = inr (record { other = other; slot = h.slots t other differs; not_last = λ e. differs (sym e) })
+              let is : place ≡ length lists' = omega (arith, sound.within trigram place h.listed, h.swapped.len) in
+              absurd (other (e ∙ sym (ap (owner_at lists) is) ∙ sound.owner trigram place h.listed))
+          then (inr differs) _ = inr (record { other = other; slot = h.others t other differs; not_last = λ e. differs (sym e) })
 
-  moved_slot : (t : ℕ) → Moves t → slot_of pages' t ≡ place + 1
-  moved_slot t m = sym (ap (slot_of pages') m.owns) ∙ h.slot_moved m.before
+  moved_slot : (t : ℕ) → Moves t → slots' t ≡ Listed place
+  moved_slot t m = sym (ap slots' m.owns) ∙ h.slot_moved m.before
 
-  -- where the slot of another trigram leads
-  stays_within : (t : ℕ) → Stays t → slot_of pages t ≤ length lists'
-  stays_within t s = cases (cases_eq (slot_of pages t) (length lists' + 1))
+  -- a list that stays is neither the last one nor the dropped one
+  stays_apart : (t k : ℕ) → Stays t → slots t ≡ Listed k → k ≢ place
+  stays_apart t k s e is = s.other (sym (sound.owner t k e) ∙ ap (owner_at lists) is ∙ sound.owner trigram place h.listed)
+
+  stays_within : (t k : ℕ) → Stays t → slots t ≡ Listed k → k < length lists'
+  stays_within t k s e = cases (cases_eq k (length lists'))
     where
-      cases : (slot_of pages t ≡ length lists' + 1) ⊎ (slot_of pages t ≢ length lists' + 1) → slot_of pages t ≤ length lists'
-      cases (inl e) = absurd (s.not_last (sound.owner t (length lists') e))
-      cases (inr ne) = omega (arith, sound.within t, h.swapped.len)
+      cases : (k ≡ length lists') ⊎ (k ≢ length lists') → k < length lists'
+      cases (inl is) = absurd (s.not_last (sym (ap (owner_at lists) is) ∙ sound.owner t k e))
+      cases (inr ne) = omega (arith, sound.within t k e, h.swapped.len)
 
-  stays_apart : (t k : ℕ) → Stays t → slot_of pages t ≡ k + 1 → k ≢ place
-  stays_apart t k s e is = s.other (sym (sound.owner t k e) ∙ ap (owner_at lists) is ∙ sound.owner trigram place h.slot)
-
-  pub IsSound-dropped : IsSound pages' lists'
+  pub IsSound-dropped : IsSound slots' lists'
   IsSound-dropped = record {
-    within = λ t. within t (kinds t);
+    within = λ t k e. within t k e (kinds t);
     owner = λ t k e. owner t k e (kinds t);
-    slot = λ k inside. slot k inside (cases_eq k place);
+    slot = λ k inside. leads k inside (cases_eq k place);
     bound = λ k inside. bound k inside (cases_eq k place);
   }
     where
-      within : (t : ℕ) → (t ≡ trigram) ⊎ (Moves t ⊎ Stays t) → slot_of pages' t ≤ length lists'
-      within t (inl e) = omega (arith, ap (slot_of pages') e, h.gone)
-      within t (inr (inl m)) = omega (arith, moved_slot t m, m.before)
-      within t (inr (inr s)) = omega (arith, s.slot, stays_within t s)
+      within : (t k : ℕ) → slots' t ≡ Listed k → (t ≡ trigram) ⊎ (Moves t ⊎ Stays t) → k < length lists'
+      within t k e (inl is) = absurd (h.unlisted k (sym (ap slots' is ∙ h.gone) ∙ e))
+      within t k e (inr (inl m)) = let same = same_place k place (sym e ∙ moved_slot t m) in omega (arith, m.before)
+      within t k e (inr (inr s)) = stays_within t k s (sym s.slot ∙ e)
 
-      owner : (t k : ℕ) → slot_of pages' t ≡ k + 1 → (t ≡ trigram) ⊎ (Moves t ⊎ Stays t) → owner_at lists' k ≡ t
-      owner t k e (inl is) = absurd (omega (arith, ap (slot_of pages') is, h.gone))
+      owner : (t k : ℕ) → slots' t ≡ Listed k → (t ≡ trigram) ⊎ (Moves t ⊎ Stays t) → owner_at lists' k ≡ t
+      owner t k e (inl is) = absurd (h.unlisted k (sym (ap slots' is ∙ h.gone) ∙ e))
       owner t k e (inr (inl m)) =
-          let is : k ≡ place = omega (arith, moved_slot t m) in
+          let is = same_place k place (sym e ∙ moved_slot t m) in
           ap (owner_at lists') is ∙ ap (λ o. o.trigram) (h.swapped.moved m.before) ∙ m.owns
       owner t k e (inr (inr s)) =
-          let was : slot_of pages t ≡ k + 1 = sym s.slot ∙ e in
-          ap (λ o. o.trigram) (h.swapped.stayed k (stays_apart t k s was) (omega (arith, stays_within t s))) ∙ sound.owner t k was
+          let was : slots t ≡ Listed k = sym s.slot ∙ e in
+          ap (λ o. o.trigram) (h.swapped.stayed k (stays_apart t k s was) (stays_within t k s was)) ∙ sound.owner t k was
 
-      slot : (k : ℕ) → k < length lists' → (k ≡ place) ⊎ (k ≢ place) → slot_of pages' (owner_at lists' k) ≡ k + 1
-      slot k inside (inl is) =
+      leads : (k : ℕ) → k < length lists' → (k ≡ place) ⊎ (k ≢ place) → slots' (owner_at lists' k) ≡ Listed k
+      leads k inside (inl is) =
           let before : place < length lists' = omega arith in
-          ap (slot_of pages') (ap (owner_at lists') is ∙ ap (λ o. o.trigram) (h.swapped.moved before)) ∙ h.slot_moved before ∙ sym (ap (λ n. n + 1) is)
-      slot k inside (inr other) =
+          ap slots' (ap (owner_at lists') is ∙ ap (λ o. o.trigram) (h.swapped.moved before)) ∙ h.slot_moved before ∙ sym (ap Listed is)
+      leads k inside (inr other) =
           let was = sound.slot k (omega (arith, h.swapped.len)) in
           let end = sound.slot (length lists') (omega (arith, h.swapped.len)) in
-          let not_it : owner_at lists k ≢ trigram = λ e. (let same = ap (slot_of pages) e ∙ h.slot in omega arith) in
-          let not_last : owner_at lists k ≢ owner_at lists (length lists') = λ e. (let same = ap (slot_of pages) e in omega arith) in
-          ap (slot_of pages') (ap (λ o. o.trigram) (h.swapped.stayed k other inside)) ∙ h.slots (owner_at lists k) not_it not_last ∙ was
+          let not_it : owner_at lists k ≢ trigram = λ e. other (same_place k place (sym was ∙ ap slots e ∙ h.listed)) in
+          let not_last : owner_at lists k ≢ owner_at lists (length lists') =
+          λ e. (let same = same_place k (length lists') (sym was ∙ ap slots e ∙ end) in omega arith) in
+          ap slots' (ap (λ o. o.trigram) (h.swapped.stayed k other inside)) ∙ h.others (owner_at lists k) not_it not_last ∙ was
 
       bound : (k : ℕ) → k < length lists' → (k ≡ place) ⊎ (k ≢ place) → owner_at lists' k < trigram_count
       bound k inside (inl is) =
@@ -292,17 +291,15 @@ module _ (pages pages' : List (Vec ℕ Global)) (lists lists' : List Owned) (tri
           subst (λ t. t < trigram_count) (sym (ap (λ o. o.trigram) (h.swapped.stayed k other inside)))
           (sound.bound k (omega (arith, h.swapped.len)))
 
-  pub sets-dropped : (t : ℕ) → t ≢ trigram → set_in_slot lists' (slot_of pages' t) ≡ set_in_slot lists (slot_of pages t)
-  sets-dropped t other = cases (kinds t)
+  pub sets-dropped : (limit t : ℕ) → t ≢ trigram → set_in_slot lists' limit (slots' t) ≡ set_in_slot lists limit (slots t)
+  sets-dropped limit t other = cases (kinds t)
     where
-      stayed : (slot : ℕ) → Stays t → slot_of pages t ≡ slot → slot ≤ length lists' → set_in_slot lists' slot ≡ set_in_slot lists slot
-      stayed zero s e within = refl
-      stayed (suc k) s e within = ap (λ o. o.list) (h.swapped.stayed k (stays_apart t k s (omega arith)) (omega arith))
-
-      cases : (t ≡ trigram) ⊎ (Moves t ⊎ Stays t) → set_in_slot lists' (slot_of pages' t) ≡ set_in_slot lists (slot_of pages t)
+      cases : (t ≡ trigram) ⊎ (Moves t ⊎ Stays t) → set_in_slot lists' limit (slots' t) ≡ set_in_slot lists limit (slots t)
       cases (inl e) = absurd (other e)
       cases (inr (inl m)) =
-          let was : slot_of pages t ≡ length lists' + 1 = sym (ap (slot_of pages) m.owns) ∙ sound.slot (length lists') (omega (arith, h.swapped.len)) in
-          ap (set_in_slot lists') (moved_slot t m) ∙ set_in_slot-place lists' place ∙ ap (λ o. o.list) (h.swapped.moved m.before)
-          ∙ sym (ap (set_in_slot lists) was ∙ set_in_slot-place lists (length lists'))
-      cases (inr (inr s)) = ap (set_in_slot lists') s.slot ∙ stayed (slot_of pages t) s refl (stays_within t s)
+          let was : slots t ≡ Listed (length lists') = sym (ap slots m.owns) ∙ sound.slot (length lists') (omega (arith, h.swapped.len)) in
+          ap (set_in_slot lists' limit) (moved_slot t m) ∙ ap (λ o. set_of_list o.list) (h.swapped.moved m.before)
+          ∙ sym (ap (set_in_slot lists limit) was)
+      cases (inr (inr s)) =
+          ap (set_in_slot lists' limit) s.slot
+          ∙ set_in-kept lists lists' limit (slots t) (λ k e. h.swapped.stayed k (stays_apart t k s e) (stays_within t k s e))

@@ -3,9 +3,9 @@ use Rattle.std.proofs.Common.{◌≡◌, ℕ, zero, suc, ◌+◌, ◌<◌, ◌�
 use Rattle.std.proofs.lemmas.Bool.{cases_lt}
 use Rattle.std.specs.Prelude.{All, AllPairs}
 use Rattle.std.specs.List.Sorted.{IsStrictlyIncreasing}
-use Rattle.std.proofs.lemmas.List.Kept.{AllPairs-from_increasing}
+use Rattle.std.proofs.lemmas.List.Kept.{AllPairs-from_increasing, AllPairs-cons}
 use Rattle.std.proofs.lemmas.List.{get_or-take, length-take-le}
-use Rattle.std.proofs.lemmas.List.Elements.{All-nil, All-cons, All-head, All-tail, All-from_get_or}
+use Rattle.std.proofs.lemmas.List.Elements.{All-nil, All-cons, All-head, All-tail, All-weaker, All-append, All-from_get_or}
 use Rattle.std.proofs.lemmas.List.Quantifiers.{all_pairs_push}
 
 -- each number is below every later one
@@ -54,3 +54,19 @@ rising_below xs i h inside =
     (λ k before.
     let lt : k < i = omega (arith, before, length-take-le i xs (omega (arith, inside))) in
     omega (arith, get_or-take i xs k 0 lt, rising_far xs h k i lt inside))
+
+rising-cons : (x : ℕ) (xs : List ℕ) → All (λ y. x < y) xs → IsStrictlyIncreasing xs → IsStrictlyIncreasing (x ∷ xs)
+rising-cons x xs below h = rising_from_pairs (x ∷ xs) (AllPairs-cons (λ y z. y < z) x xs below (AllPairs-from_increasing xs h))
+
+-- a number between two others
+pub rising-insert : (xs : List ℕ) (n y : ℕ) (ys : List ℕ) → IsStrictlyIncreasing (xs ++ y ∷ ys) → All (λ x. x < n) xs → n < y
+    → IsStrictlyIncreasing (xs ++ n ∷ y ∷ ys)
+rising-insert [] n y ys h below lt =
+    rising-cons n (y ∷ ys) (All-cons (λ z. n < z) y ys lt (All-weaker (λ z. y < z) (λ z. n < z) (λ z le. omega (arith, le, lt)) ys (rising-head y ys h))) h
+rising-insert (x ∷ xs) n y ys h below lt =
+    let above = rising-head x (xs ++ y ∷ ys) h in
+    let first = All-head (λ z. z < n) x xs below in
+    rising-cons x (xs ++ n ∷ y ∷ ys)
+    (All-append (λ z. x < z) xs (n ∷ y ∷ ys) (All-left (λ z. x < z) xs (y ∷ ys) above)
+    (All-cons (λ z. x < z) n (y ∷ ys) first (All-right (λ z. x < z) xs (y ∷ ys) above)))
+    (rising-insert xs n y ys (rising-tail x (xs ++ y ∷ ys) h) (All-tail (λ z. z < n) x xs below) lt)

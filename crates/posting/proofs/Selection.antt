@@ -16,13 +16,13 @@ use Rattle.query.specs.declared.query.Query.TheVariants as query
 use Rattle.query.specs.Query.{Formula, all_of, one_of, formula_of, formulas_of, is_met, are_all_met, is_one_met}
 use Rattle.query.proofs.Forms.{formula_of-Any, formula_of-None, formula_of-Has, formula_of-And, formula_of-Or}
 use Rattle.posting.specs.ListValue.{ListValue, has}
-use Rattle.posting.specs.Postings.{set_of, trigrams_with, selected}
+use Rattle.posting.specs.Postings.{NumberSet, set_of, trigrams_with, selected}
 use Rattle.posting.specs.Private.Selection.{Finds}
 use Rattle.posting.proofs.SetLemmas.{has-filter, or-false}
 use Rattle.posting.proofs.Members.{filter_all, filter_none}
 
 -- the numbers of a list for which the set of their trigrams passes a test
-abbrev pub chosen_by : (TrigramSet → Bool) → List ListValue → List ℕ → List ℕ
+abbrev pub chosen_by : (TrigramSet → Bool) → List NumberSet → List ℕ → List ℕ
 chosen_by test table numbers = filter (λ n. test (trigrams_with table n)) numbers
 
 pub met-Any : (set : TrigramSet) → is_met (formula_of query.Any) set ≡ true
@@ -38,17 +38,17 @@ unfolding is_met
 met-Has t set = rw (formula_of-Has t) refl
 
 -- the numbers that `Any` and `Has` choose
-pub chosen-Any : (table : List ListValue) (xs : List ℕ) → filter (λ n. is_met (formula_of query.Any) (trigrams_with table n)) xs ≡ xs
+pub chosen-Any : (table : List NumberSet) (xs : List ℕ) → filter (λ n. is_met (formula_of query.Any) (trigrams_with table n)) xs ≡ xs
 chosen-Any table xs = filter_all (λ n. is_met (formula_of query.Any) (trigrams_with table n)) xs (λ k d inside. met-Any (trigrams_with table (get_or xs k d)))
 
-pub chosen-Has : (table : List ListValue) (t : ℕ) (xs : List ℕ)
+pub chosen-Has : (table : List NumberSet) (t : ℕ) (xs : List ℕ)
     → filter (λ n. is_met (formula_of (query.Has t)) (trigrams_with table n)) xs ≡ filter (has (set_of table t).members) xs
 chosen-Has table t xs =
     filter_agree (λ n. is_met (formula_of (query.Has t)) (trigrams_with table n)) (has (set_of table t).members)
     (λ n. met-Has t (trigrams_with table n)) xs
 
 -- a trigram whose set is empty
-pub chosen-Has_empty : (table : List ListValue) (t : ℕ) (xs : List ℕ) → (set_of table t).members ≡ []
+pub chosen-Has_empty : (table : List NumberSet) (t : ℕ) (xs : List ℕ) → (set_of table t).members ≡ []
     → filter (λ n. is_met (formula_of (query.Has t)) (trigrams_with table n)) xs ≡ []
 chosen-Has_empty table t xs empty = chosen-Has table t xs ∙ filter_none (has (set_of table t).members) xs (λ k d inside. rw empty refl)
 
@@ -85,28 +85,28 @@ filter_agree_in p q (x ∷ xs) agree = cases (p x) (q x) refl refl (filter_agree
     cases false true e f later = absurd (false≢true (sym e ∙ agree x here ∙ f))
 
 -- the numbers of a list that are among those found for a formula
-pub narrowed_by_found : (table : List ListValue) (formula : Formula) (numbers found : List ℕ) → Finds table formula numbers found
+pub narrowed_by_found : (table : List NumberSet) (formula : Formula) (numbers found : List ℕ) → Finds table formula numbers found
     → filter (has found) numbers ≡ selected table formula numbers
 narrowed_by_found table formula numbers found h = filter_agree_in (has found) (λ n. is_met formula (trigrams_with table n)) numbers h
 
 -- ---- what is found for each query
 
-pub found-Any : (table : List ListValue) (given found : List ℕ) → found ≡ given → Finds table (formula_of query.Any) given found
+pub found-Any : (table : List NumberSet) (given found : List ℕ) → found ≡ given → Finds table (formula_of query.Any) given found
 found-Any table given found same n there = ap (λ ns. has ns n) same ∙ there ∙ sym (met-Any (trigrams_with table n))
 
-pub found-None : (table : List ListValue) (given found : List ℕ) → found ≡ [] → Finds table (formula_of query.None) given found
+pub found-None : (table : List NumberSet) (given found : List ℕ) → found ≡ [] → Finds table (formula_of query.None) given found
 found-None table given found none n there = ap (λ ns. has ns n) none ∙ sym (met-None (trigrams_with table n))
 
-pub found-Has : (table : List ListValue) (t : ℕ) (given found : List ℕ)
+pub found-Has : (table : List NumberSet) (t : ℕ) (given found : List ℕ)
     → ((n : ℕ) → has given n ≡ true → has found n ≡ has (set_of table t).members n) → Finds table (formula_of (query.Has t)) given found
 found-Has table t given found same n there = same n there ∙ sym (met-Has t (trigrams_with table n))
 
-pub found-And : (table : List ListValue) (members : Vec Query Global) (given found : List ℕ)
+pub found-And : (table : List NumberSet) (members : Vec Query Global) (given found : List ℕ)
     → Finds table (all_of (formulas_of (map formula_of members.items))) given found
     → Finds table (formula_of (query.And members)) given found
 found-And table members given found h = rw (formula_of-And members) h
 
-pub found-Or : (table : List ListValue) (members : Vec Query Global) (given found : List ℕ)
+pub found-Or : (table : List NumberSet) (members : Vec Query Global) (given found : List ℕ)
     → Finds table (one_of (formulas_of (map formula_of members.items))) given found
     → Finds table (formula_of (query.Or members)) given found
 found-Or table members given found h = rw (formula_of-Or members) h
@@ -123,7 +123,7 @@ abbrev pub some_meet : TrigramSet → List Query → ℕ → ℕ → Bool
 some_meet set members first i = first_meets set (slice_get members first) && list_all (meets set) (take i members)
 
 -- Of the given numbers, exactly those that meet the first member and the members before place i were found.
-abbrev pub Narrowed : List ListValue → List Query → ℕ → ℕ → List ℕ → List ℕ → Type 0
+abbrev pub Narrowed : List NumberSet → List Query → ℕ → ℕ → List ℕ → List ℕ → Type 0
 Narrowed table members first i given found = (n : ℕ) → has given n ≡ true → has found n ≡ some_meet (trigrams_with table n) members first i
 
 and_true : (a : Bool) → a ≡ (a && true)
@@ -134,20 +134,20 @@ and_assoc : (a b c : Bool) → ((a && b) && c) ≡ (a && (b && c))
 and_assoc true b c = refl
 and_assoc false b c = refl
 
-pub narrowed_from_first : (table : List ListValue) (members : List Query) (first : ℕ) (member : Query) (given found : List ℕ)
+pub narrowed_from_first : (table : List NumberSet) (members : List Query) (first : ℕ) (member : Query) (given found : List ℕ)
     → first < length members → member ≡ get_or members first member → Finds table (formula_of member) given found
     → Narrowed table members first 0 given found
 narrowed_from_first table members first member given found inside is h n there =
     h n there ∙ ap (first_meets (trigrams_with table n)) (sym (slice_get_read members (length members) first member refl inside is))
     ∙ and_true (first_meets (trigrams_with table n) (slice_get members first))
 
-pub narrowed_from_all : (table : List ListValue) (members : List Query) (first : ℕ) (given found : List ℕ) → length members ≤ first
+pub narrowed_from_all : (table : List NumberSet) (members : List Query) (first : ℕ) (given found : List ℕ) → length members ≤ first
     → found ≡ given → Narrowed table members first 0 given found
 narrowed_from_all table members first given found past same n there =
     ap (λ ns. has ns n) same ∙ there ∙ ap (first_meets (trigrams_with table n)) (sym (slice_get_past members first past))
     ∙ and_true (first_meets (trigrams_with table n) (slice_get members first))
 
-pub narrowed_more : (table : List ListValue) (members : List Query) (first i : ℕ) (member : Query) (given found fewer : List ℕ)
+pub narrowed_more : (table : List NumberSet) (members : List Query) (first i : ℕ) (member : Query) (given found fewer : List ℕ)
     → i < length members → member ≡ get_or members i member → Narrowed table members first i given found
     → fewer ≡ selected table (formula_of member) found → Narrowed table members first (i + 1) given fewer
 narrowed_more table members first i member given found fewer inside is h less n there =
@@ -171,7 +171,7 @@ some_meet-first set members i member inside =
     let there : slice_get members i ≡ Some (get_or members i member) = slice_get-get_or members i member inside in
     rw (there, list_all_more (meets set) members i member inside) (absorbed (meets set (get_or members i member)) (list_all (meets set) (take i members)))
 
-pub narrowed_passed : (table : List ListValue) (members : List Query) (first i : ℕ) (member : Query) (given found : List ℕ) → i ≡ first
+pub narrowed_passed : (table : List NumberSet) (members : List Query) (first i : ℕ) (member : Query) (given found : List ℕ) → i ≡ first
     → i < length members → Narrowed table members first i given found → Narrowed table members first (i + 1) given found
 narrowed_passed table members first i member given found is inside h n there =
     h n there ∙ rw (← is) (some_meet-first (trigrams_with table n) members i member inside)
@@ -202,7 +202,7 @@ some_of_all (q ∷ members) (suc i) set fails = cases (meets set q) refl (some_o
     cases true e later = rw e (later (rw e at fails))
     cases false e later = rw e refl
 
-pub narrowed_ends : (table : List ListValue) (members : List Query) (first i : ℕ) (given found : List ℕ) → length members ≤ i
+pub narrowed_ends : (table : List NumberSet) (members : List Query) (first i : ℕ) (given found : List ℕ) → length members ≤ i
     → Narrowed table members first i given found → Finds table (all_of (formulas_of (map formula_of members))) given found
 narrowed_ends table members first i given found end h n there =
     h n there
@@ -212,7 +212,7 @@ narrowed_ends table members first i given found end h n there =
     ∙ sym (all_met-list members (trigrams_with table n))
 
 -- once no numbers are left, the other members can take none away
-pub narrowed_to_none : (table : List ListValue) (members : List Query) (first i : ℕ) (given found : List ℕ) → found ≡ []
+pub narrowed_to_none : (table : List NumberSet) (members : List Query) (first i : ℕ) (given found : List ℕ) → found ≡ []
     → Narrowed table members first i given found → Finds table (all_of (formulas_of (map formula_of members))) given found
 narrowed_to_none table members first i given found none h n there =
     let fails : some_meet (trigrams_with table n) members first i ≡ false = sym (h n there) ∙ ap (λ ns. has ns n) none in
@@ -229,11 +229,11 @@ narrowed_to_none table members first i given found none h n there =
 -- ---- one member
 
 -- Of the given numbers, exactly those that meet a member before place i are in a list.
-abbrev pub Joined : List ListValue → List Query → ℕ → List ℕ → List ListValue → Type 0
+abbrev pub Joined : List NumberSet → List Query → ℕ → List ℕ → List ListValue → Type 0
 Joined table members i given lists =
     (n : ℕ) → has given n ≡ true → list_any (λ list. has list.members n) lists ≡ list_any (meets (trigrams_with table n)) (take i members)
 
-pub joined_more : (table : List ListValue) (members : List Query) (i : ℕ) (member : Query) (given : List ℕ) (lists : List ListValue)
+pub joined_more : (table : List NumberSet) (members : List Query) (i : ℕ) (member : Query) (given : List ℕ) (lists : List ListValue)
     (next : ListValue) → i < length members → member ≡ get_or members i member → Joined table members i given lists
     → Finds table (formula_of member) given next.members → Joined table members (i + 1) given (lists ++ next ∷ [])
 joined_more table members i member given lists next inside is h found n there =
@@ -243,7 +243,7 @@ joined_more table members i member given lists next inside is h found n there =
     ∙ ap (λ b. list_any (meets (trigrams_with table n)) (take i members) || b) (found n there ∙ ap (meets (trigrams_with table n)) is)
     ∙ sym (list_any_more (meets (trigrams_with table n)) members i member inside)
 
-pub joined_ends : (table : List ListValue) (members : List Query) (i : ℕ) (given found : List ℕ) (lists : List ListValue)
+pub joined_ends : (table : List NumberSet) (members : List Query) (i : ℕ) (given found : List ℕ) (lists : List ListValue)
     → length members ≤ i → Joined table members i given lists → ((n : ℕ) → has found n ≡ list_any (λ list. has list.members n) lists)
     → Finds table (one_of (formulas_of (map formula_of members))) given found
 joined_ends table members i given found lists end h union n there =

@@ -18,7 +18,7 @@ use Rattle.posting.specs.ListValue.{has, without}
 use Rattle.posting.specs.Stored.{groups, bytes_of, bytes_after}
 use Rattle.posting.specs.Private.Gaps.{limit, numbers_after, last_of, IsSpelled, IsStored, IsFirstNumber, IsPassed, IsBlock, IsLeast, not_below}
 use Rattle.posting.proofs.SetLemmas.{has-append}
-use Rattle.posting.proofs.Rising.{rising-head, rising-tail, rising-push}
+use Rattle.posting.proofs.Rising.{rising-head, rising-push}
 use Rattle.posting.proofs.Members.{All-has, filter_all, filter_none, lacks_above, lacks_from_all, without_absent, without-lacking}
 use Rattle.posting.proofs.Groups.{first_low, below_limit, Rise, rise-tail, rise_spelled, spelled_bytes, spelled_numbers, bytes_after-cons}
 use Rattle.posting.proofs.Groups.{bytes_after-nil, last_of-cons, last_of-nil, numbers_after-nil, length-groups, groups-joined}
@@ -204,18 +204,6 @@ module _ (bytes : List ℕ) (number at : ℕ) (rest after : List ℕ) (stored : 
     bound = All-filter (λ m. not (m == number)) (λ n. n < 2 ^ 32) (numbers_after 0 bytes) stored.bound;
   })
 
-  counted_left : (others others' : ℕ) → others ≡ length (numbers_after 0 bytes) - 1 → others' ≡ others - 1
-      → others' ≡ length (h.passed ++ numbers_after number after) - 1
-  counted_left others others' is is' =
-      omega (
-        arith,
-        is,
-        is',
-        ap length numbers_are,
-        length-append h.passed (number ∷ numbers_after number after),
-        length-append h.passed (numbers_after number after),
-      )
-
   -- `from` is the length of the bytes before the number
   pub from_is : (from : ℕ) → from ≡ length bytes - length rest → from ≡ length (bytes_after 0 h.passed)
   from_is from is = omega (arith, is, ap length h.stored, length-append (bytes_after 0 h.passed) rest)
@@ -231,15 +219,13 @@ module _ (bytes : List ℕ) (number at : ℕ) (rest after : List ℕ) (stored : 
       front_is from is ∙ ap (bytes_after 0) (sym (append-nil h.passed))
       ∙ ap (λ xs. bytes_after 0 (h.passed ++ xs)) (sym (ap (numbers_after number) none ∙ numbers_after-nil number))
 
-  pub last_cut : (others others' from : ℕ) (left : List ℕ) → others ≡ length (numbers_after 0 bytes) - 1 → others' ≡ others - 1
-      → from ≡ length bytes - length rest → after ≡ [] → left ≡ take from bytes → IsStored left others' at
-  last_cut others others' from left counted counted' is none left_is =
+  pub last_cut : (from : ℕ) (left : List ℕ) → from ≡ length bytes - length rest → after ≡ [] → left ≡ take from bytes → IsStored left at
+  last_cut from left is none left_is =
       let same : left ≡ bytes_after 0 (h.passed ++ numbers_after number after) = left_is ∙ last_bytes from is none in
       let back = spelled_numbers 0 left (h.passed ++ numbers_after number after) same rise_left in
       let nothing : numbers_after number after ≡ [] = ap (numbers_after number) none ∙ numbers_after-nil number in
       record {
         spelled = spelled_bytes 0 left (h.passed ++ numbers_after number after) same rise_left;
-        counted = counted_left others others' counted counted' ∙ ap (λ ns. length ns - 1) (sym back);
         ends = h.ends ∙ ap (last_of 0) (sym (append-nil h.passed)) ∙ ap (λ xs. last_of 0 (h.passed ++ xs)) (sym nothing) ∙ ap (last_of 0) (sym back);
       }
 
@@ -301,44 +287,27 @@ module _ (bytes : List ℕ) (number at : ℕ) (rest after : List ℕ) (stored : 
         ∙ sym (last_of-cons (last_of 0 h.passed) next (numbers_after next left))
         ∙ ap (last_of (last_of 0 h.passed)) (sym second.numbers) ∙ sym (last_of-append 0 h.passed (numbers_after number after))
 
-    pub joined_stored : (others others' last from to : ℕ) (new : List ℕ) → others ≡ length (numbers_after 0 bytes) - 1
-        → others' ≡ others - 1 → last ≡ last_of 0 (numbers_after 0 bytes) → from ≡ length bytes - length rest
-        → to ≡ length bytes - length left → new ≡ take from bytes ++ (bytes_of (next - at) ++ drop to bytes) → IsStored new others' last
-    joined_stored others others' last from to new counted counted' ends is is' new_is =
+    pub joined_stored : (last from to : ℕ) (new : List ℕ) → last ≡ last_of 0 (numbers_after 0 bytes) → from ≡ length bytes - length rest
+        → to ≡ length bytes - length left → new ≡ take from bytes ++ (bytes_of (next - at) ++ drop to bytes) → IsStored new last
+    joined_stored last from to new ends is is' new_is =
         let same = joined_bytes from to new is is' new_is in
         let back = spelled_numbers 0 new (h.passed ++ numbers_after number after) same rise_left in
         record {
           spelled = spelled_bytes 0 new (h.passed ++ numbers_after number after) same rise_left;
-          counted = counted_left others others' counted counted' ∙ ap (λ ns. length ns - 1) (sym back);
           ends = ends ∙ ap (last_of 0) numbers_are ∙ last_same ∙ ap (last_of 0) (sym back);
         }
 
 -- a number comes after all others
-last_fits : (before number : ℕ) (numbers : List ℕ) → before ≤ number → All (λ n. n < number) numbers → last_of before numbers ≤ number
+pub last_fits : (before number : ℕ) (numbers : List ℕ) → before ≤ number → All (λ n. n < number) numbers → last_of before numbers ≤ number
 last_fits before number [] low h = rw (last_of-nil before) low
 last_fits before number (n ∷ numbers) low h =
     let first = All-head (λ m. m < number) n numbers h in
     rw (last_of-cons before n numbers) (last_fits n number numbers (omega (arith, first)) (All-tail (λ m. m < number) n numbers h))
 
-count_between : (from to : ℕ) (numbers : List ℕ) → IsStrictlyIncreasing numbers → All (λ n. from ≤ n) numbers → All (λ n. n < to) numbers
-    → from ≤ to → length numbers + from ≤ to
-count_between from to [] rising low high fits = omega (arith, fits)
-count_between from to (n ∷ numbers) rising low high fits =
-    let first = All-head (λ m. from ≤ m) n numbers low in
-    let last = All-head (λ m. m < to) n numbers high in
-    let later =
-    count_between (n + 1) to numbers (rising-tail n numbers rising)
-    (All-weaker (λ m. n < m) (λ m. n + 1 ≤ m) (λ m lt. omega arith) numbers (rising-head n numbers rising))
-    (All-tail (λ m. m < to) n numbers high) (omega arith) in
-    omega (arith, first, later)
+pub last_below : (bytes : List ℕ) (last number : ℕ) → IsStored bytes last → All (λ n. n < number) (numbers_after 0 bytes) → last ≤ number
+last_below bytes last number h below = rw h.ends (last_fits 0 number (numbers_after 0 bytes) (omega arith) below)
 
-pub count_fits : (bytes : List ℕ) (number : ℕ) → IsSpelled 0 bytes → All (λ n. n < number) (numbers_after 0 bytes) → length (numbers_after 0 bytes) ≤ number
-count_fits bytes number h below = omega (arith, count_between 0 number (numbers_after 0 bytes) h.rising h.from below (omega arith))
-
-pub last_below : (bytes : List ℕ) (others last number : ℕ) → IsStored bytes others last → All (λ n. n < number) (numbers_after 0 bytes) → last ≤ number
-last_below bytes others last number h below = rw h.ends (last_fits 0 number (numbers_after 0 bytes) (omega arith) below)
-
-module _ (bytes : List ℕ) (others last number : ℕ) (h : IsStored bytes others last) (below : All (λ n. n < number) (numbers_after 0 bytes))
+module _ (bytes : List ℕ) (last number : ℕ) (h : IsStored bytes last) (below : All (λ n. n < number) (numbers_after 0 bytes))
     (small : number < 2 ^ 32) where
   pushed_bytes : bytes ++ bytes_of (number - last) ≡ bytes_after 0 (numbers_after 0 bytes ++ number ∷ [])
   pushed_bytes =
@@ -361,13 +330,11 @@ module _ (bytes : List ℕ) (others last number : ℕ) (h : IsStored bytes other
   pub pushed_numbers : (new : List ℕ) → new ≡ bytes ++ bytes_of (number - last) → numbers_after 0 new ≡ numbers_after 0 bytes ++ number ∷ []
   pushed_numbers new is = spelled_numbers 0 new (numbers_after 0 bytes ++ number ∷ []) (is ∙ pushed_bytes) pushed_rise
 
-  pub pushed_stored : (new : List ℕ) (others' : ℕ) → new ≡ bytes ++ bytes_of (number - last) → others' ≡ length (numbers_after 0 bytes)
-      → IsStored new others' number
-  pushed_stored new others' is counted =
+  pub pushed_stored : (new : List ℕ) → new ≡ bytes ++ bytes_of (number - last) → IsStored new number
+  pushed_stored new is =
       let back = pushed_numbers new is in
       record {
         spelled = spelled_bytes 0 new (numbers_after 0 bytes ++ number ∷ []) (is ∙ pushed_bytes) pushed_rise;
-        counted = rw back (omega (arith, counted, length-append (numbers_after 0 bytes) (number ∷ [])));
         ends =
             sym (ap (last_of 0) back ∙ last_of-append 0 (numbers_after 0 bytes) (number ∷ [])
             ∙ last_of-cons (last_of 0 (numbers_after 0 bytes)) number [] ∙ last_of-nil number);
@@ -381,17 +348,22 @@ some_numbers bytes h some = by (numbers_after 0 bytes) refl
     by [] e = absurd (omega (arith, some, ap length (h.spelled ∙ ap (bytes_after 0) e ∙ bytes_after-nil 0)))
     by (n ∷ numbers) e = rw e (omega arith)
 
-pub no_numbers_in : (bytes : List ℕ) → length bytes ≡ 0 → numbers_after 0 bytes ≡ []
-no_numbers_in [] none = numbers_after-nil 0
-no_numbers_in (b ∷ bytes) none = absurd (omega (arith, none))
-
-pub stored-nil : IsStored [] 0 0
+pub stored-nil : IsStored [] 0
 stored-nil =
     record {
       spelled = spelled-nil 0;
-      counted = sym (ap (λ ns. length ns - 1) (numbers_after-nil 0) ∙ omega arith);
       ends = sym (ap (last_of 0) (numbers_after-nil 0) ∙ last_of-nil 0);
     }
+
+-- one number alone
+pub one_stored : (number : ℕ) (new : List ℕ) → number < 2 ^ 32 → new ≡ bytes_of number → IsStored new number × (numbers_after 0 new ≡ number ∷ [])
+one_stored number new small is =
+    let whole : number ≡ number - 0 = omega arith in
+    let from : new ≡ [] ++ bytes_of (number - 0) = is ∙ ap bytes_of whole in
+    let none : All (λ n. n < number) (numbers_after 0 []) = rw (numbers_after-nil 0) (All-nil (λ n. n < number)) in (
+      pushed_stored [] 0 number stored-nil none small new from,
+      pushed_numbers [] 0 number stored-nil none small new from ∙ ap (λ ns. ns ++ number ∷ []) (numbers_after-nil 0),
+    )
 
 pub nothing_left : (before : ℕ) (rest : List ℕ) → length rest ≡ 0 → numbers_after before rest ≡ []
 nothing_left before [] none = numbers_after-nil before

@@ -1,58 +1,68 @@
 -- One set of numbers for each trigram (the posting lists of Russ Cox's "Regular Expression Matching with a
 -- Trigram Index", 2012), as a table by the trigrams' numbers.
-use Rattle.std.specs.Prelude.{◌≡◌, ◌≢◌, ℕ, ◌<◌, Bool, not, ◌&&◌, ◌||◌, ◌==◌, IsTrue, List, [], All, AllPairs, filter, slice_index_or}
+use Rattle.std.specs.Prelude.{◌≡◌, ◌≢◌, ℕ, ◌<◌, ◌≤◌, Bool, false, not, ◌&&◌, ◌||◌, ◌==◌, IsTrue, List, [], All, AllPairs, filter, slice_index_or}
 use Rattle.query.specs.Trigrams.{TrigramSet}
 use Rattle.query.specs.Query.{Formula, is_met}
-use Rattle.posting.specs.ListValue.{ListValue, has, HasRoom}
+use Rattle.posting.specs.ListValue.{has}
 
--- a set with no number and no room
-abbrev pub no_numbers : ListValue
-no_numbers = record { members = []; room = 0 }
+-- a set of numbers: its numbers, rising, and a limit: each number below it can be added without memory
+pub record NumberSet : Type 0 where
+  pub members : List ℕ
+  pub limit : ℕ
+
+-- a set with no number, to which none can be added without memory
+abbrev pub no_numbers : NumberSet
+no_numbers = record { members = []; limit = 0 }
+
+-- A set of one number below this needs no memory but its slot.
+abbrev pub slot_limit : ℕ
+slot_limit = 2147483648
 
 -- the set of the trigram
-abbrev pub set_of : List ListValue → ℕ → ListValue
+abbrev pub set_of : List NumberSet → ℕ → NumberSet
 set_of table trigram = slice_index_or table trigram no_numbers
 
 -- whether the set of the trigram has the number
-abbrev pub holds : List ListValue → ℕ → ℕ → Bool
+abbrev pub holds : List NumberSet → ℕ → ℕ → Bool
 holds table trigram number = has (set_of table trigram).members number
 
 -- the trigrams whose sets have the number
-abbrev pub trigrams_with : List ListValue → ℕ → TrigramSet
+abbrev pub trigrams_with : List NumberSet → ℕ → TrigramSet
 trigrams_with table number = λ trigram. holds table trigram number
 
--- Each of these trigrams' sets has room for one more number.
-abbrev pub IsPrepared : List ListValue → List ℕ → Type 0
-IsPrepared table trigrams = All (λ trigram. HasRoom (set_of table trigram)) trigrams
+-- The number can be added to the set of each of these trigrams without memory.
+abbrev pub IsPrepared : List NumberSet → ℕ → List ℕ → Type 0
+IsPrepared table number trigrams = All (λ trigram. number < (set_of table trigram).limit) trigrams
 
--- The number is above all numbers in the sets of these trigrams.
-abbrev pub IsAbove : List ListValue → List ℕ → ℕ → Type 0
-IsAbove table trigrams number = (trigram n : ℕ) → IsTrue (has trigrams trigram) → IsTrue (holds table trigram n) → n < number
+-- None of the sets of these trigrams has the number.
+abbrev pub IsAbsent : List NumberSet → List ℕ → ℕ → Type 0
+IsAbsent table trigrams number = (trigram : ℕ) → IsTrue (has trigrams trigram) → holds table trigram number ≡ false
 
 -- no two are the same
 abbrev pub AllDiffer : List ℕ → Type 0
 AllDiffer = AllPairs (λ s t. s ≢ t)
 
 -- The sets have the numbers that they had.
-abbrev pub SameSets : List ListValue → List ListValue → Type 0
+abbrev pub SameSets : List NumberSet → List NumberSet → Type 0
 SameSets old new = (trigram n : ℕ) → holds new trigram n ≡ holds old trigram n
 
--- Each set that had room for one more number still has it.
-abbrev pub KeepsRoom : List ListValue → List ListValue → Type 0
-KeepsRoom old new = (trigram : ℕ) → HasRoom (set_of old trigram) → HasRoom (set_of new trigram)
+-- Each number that could be added without memory still can.
+abbrev pub KeepsRoom : List NumberSet → List NumberSet → Type 0
+KeepsRoom old new = (trigram : ℕ) → (set_of old trigram).limit ≤ (set_of new trigram).limit
 
 -- The number was added to the sets of these trigrams, and nothing else changed.
-abbrev pub AddsNumber : List ListValue → List ListValue → List ℕ → ℕ → Type 0
+abbrev pub AddsNumber : List NumberSet → List NumberSet → List ℕ → ℕ → Type 0
 AddsNumber old new trigrams number = (trigram n : ℕ) → holds new trigram n ≡ (holds old trigram n || (has trigrams trigram && number == n))
 
 -- The number was taken out of the sets of these trigrams, and nothing else changed.
-abbrev pub WithdrawsNumber : List ListValue → List ListValue → List ℕ → ℕ → Type 0
+abbrev pub WithdrawsNumber : List NumberSet → List NumberSet → List ℕ → ℕ → Type 0
 WithdrawsNumber old new trigrams number = (trigram n : ℕ) → holds new trigram n ≡ (holds old trigram n && not (has trigrams trigram && n == number))
 
--- If the set of one of these trigrams has no number, it has no room either.
-abbrev pub GivesBack : List ListValue → List ℕ → Type 0
-GivesBack table trigrams = (trigram : ℕ) → IsTrue (has trigrams trigram) → (set_of table trigram).members ≡ [] → set_of table trigram ≡ no_numbers
+-- If the set of one of these trigrams has no number, it has no memory but its slot.
+abbrev pub GivesBack : List NumberSet → List ℕ → Type 0
+GivesBack table trigrams =
+    (trigram : ℕ) → IsTrue (has trigrams trigram) → (set_of table trigram).members ≡ [] → (set_of table trigram).limit ≤ slot_limit
 
 -- the numbers of a list whose trigrams meet the formula
-abbrev pub selected : List ListValue → Formula → List ℕ → List ℕ
+abbrev pub selected : List NumberSet → Formula → List ℕ → List ℕ
 selected table formula numbers = filter (λ n. is_met formula (trigrams_with table n)) numbers

@@ -1,4 +1,6 @@
 -- What only the contracts of private functions cite. A clause can cite only `pub` modules.
 pub mod Gaps
+pub mod PageTable
 pub mod Pages
 pub mod Selection
+pub mod Sets

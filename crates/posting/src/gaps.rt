@@ -1,9 +1,9 @@
 //! Numbers as they are stored: each as its distance from the one before it, in groups of seven bits.
 
-ghost use Rattle.std.specs.Prelude.{◌≡◌, ℕ, List, ◌+◌, ◌^◌, ◌<◌, ◌≤◌, ◌++◌, All, IfSome, IfNone, length, take, drop};
+ghost use Rattle.std.specs.Prelude.{◌≡◌, ℕ, List, ◌+◌, ◌^◌, ◌<◌, ◌≤◌, ◌++◌, All, IfSome, IfNone, IsTrue, length, take, drop};
 ghost use Rattle.smallvec.specs.SmallVec.{HasRoomFor};
 ghost use Rattle.posting.specs.Stored.{groups, bytes_of};
-ghost use Rattle.posting.specs.Private.Gaps.{IsSpelled, IsFirstNumber, IsPassed, IsBlock, IsLastPlace, IsCut, numbers_after, last_of, limit};
+ghost use Rattle.posting.specs.Private.Gaps.{IsSpelled, IsFirstNumber, IsPassed, IsBlock, IsLastPlace, IsCut, AreSameBytes, IsSeam, IsSameStart, numbers_after, last_of, limit};
 
 use smallvec::SmallVec;
 
@@ -226,6 +226,109 @@ fn last_place(bytes: &[u8]) -> usize
     0
 }
 
+/// Passes numbers with which both lists of bytes begin, each following the number `before`: how many bytes these
+/// numbers take, and the last of them, or `before`.
+pub(crate) fn pass_same(left: &[u8], right: &[u8], before: u32) -> (usize, u32)
+    requires left { IsSpelled before left.now }
+    requires right { IsSpelled before right.now }
+    ensures { IsSameStart before left.now right.now result.0 result.1 }
+{
+    let same = same_bytes(left, right, same_blocks(left, right));
+    let place = whole_numbers(left, same);
+    (place, last_number(&left[..place], before))
+}
+
+/// How many bytes at the start are found to be the same, block by block.
+fn same_blocks(left: &[u8], right: &[u8]) -> usize
+    ensures { AreSameBytes left.now right.now result }
+{
+    let mut place = 0;
+    while is_same_block(left, right, place) {
+        place += BLOCK;
+    }
+    place
+}
+
+/// Whether both have a block at this place, and it is the same.
+fn is_same_block(left: &[u8], right: &[u8], place: usize) -> bool
+    requires { AreSameBytes left.now right.now place }
+    ensures { IsTrue result → AreSameBytes left.now right.now (place + 32) }
+{
+    if left.len() - place < BLOCK || right.len() - place < BLOCK {
+        return false;
+    }
+    let mut most = 0u8;
+    for i in place..place + BLOCK {
+        most = most.max(left[i].abs_diff(right[i]));
+    }
+    most == 0
+}
+
+/// How many bytes at the start are the same, if at least `from` are.
+fn same_bytes(left: &[u8], right: &[u8], from: usize) -> usize
+    requires { AreSameBytes left.now right.now from }
+    ensures { AreSameBytes left.now right.now result }
+{
+    let end = left.len().min(right.len());
+    let mut place = from;
+    while place < end {
+        if left[place] != right[place] {
+            return place;
+        }
+        place += 1;
+    }
+    place
+}
+
+/// The last place up to `end` where a number ends, or 0.
+fn whole_numbers(bytes: &[u8], end: usize) -> usize
+    requires { end ≤ length bytes.now }
+    ensures seam { IsSeam bytes.now result }
+    ensures within { result ≤ end }
+{
+    let mut place = end;
+    while place > 0 {
+        if bytes[place - 1] < 128 {
+            return place;
+        }
+        place -= 1;
+    }
+    0
+}
+
+/// The last number in bytes that follow the number `before`, or `before` if there are none.
+fn last_number(bytes: &[u8], before: u32) -> u32
+    requires { IsSpelled before bytes.now }
+    ensures { result ≡ last_of before (numbers_after before bytes.now) }
+{
+    let mut at = before;
+    // what a byte's lower seven bits count
+    let mut unit = 1;
+    for byte in bytes {
+        let byte = *byte as u32;
+        at += unit * (byte % 128);
+        if byte < 128 {
+            unit = 1;
+        } else {
+            unit *= 128;
+        }
+    }
+    at
+}
+
+/// How many bytes end a number.
+pub(crate) fn count(bytes: &[u8]) -> usize
+    ensures { result ≡ length (numbers_after 0 bytes.now) }
+{
+    let mut count = 0;
+    for byte in bytes {
+        if *byte < 128 {
+            count += 1;
+        }
+    }
+    count
+}
+
 /// The sum of the bytes of the first block, if each of them ends a number.
 fn sum_of_block(bytes: &[u8]) -> Option<u32>
     ensures { IfSome result (λ total. IsBlock bytes.now total) }
@@ -255,6 +358,25 @@ pub(crate) fn push_gap(bytes: &mut SmallVec<u8, 16>, gap: u32)
         rest /= 128;
     }
     bytes.push_reserved(rest as u8);
+}
+
+/// Writes a number's groups before the byte at this place. There is room for five.
+pub(crate) fn insert_gap(bytes: &mut SmallVec<u8, 16>, at: usize, gap: u32)
+    requires room { HasRoomFor bytes.old 5 }
+    requires within { at ≤ length bytes.old.items }
+    ensures items { bytes.new.items ≡ take at bytes.old.items ++ (bytes_of gap ++ drop at bytes.old.items) }
+    ensures capacity { bytes.new.capacity ≡ bytes.old.capacity }
+{
+    let later = bytes.len() - at;
+    let mut rest = gap;
+    // one at a time: each `insert` moves all later bytes together, and there are rarely more than two
+    while rest >= 128 {
+        let place = bytes.len() - later;
+        let _has_room = bytes.insert(place, (rest % 128 + 128) as u8);
+        rest /= 128;
+    }
+    let place = bytes.len() - later;
+    let _has_room = bytes.insert(place, rest as u8);
 }
 
 /// Writes a number's groups in place of the bytes from `from` up to `to`, which are at least as many.

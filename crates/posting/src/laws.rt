@@ -2,7 +2,7 @@
 
 ghost use Rattle.posting.specs.Laws.{PreparedSetsHaveRoom};
 
-/// Sets are prepared exactly if each of them has room for one more number.
+/// Sets are prepared for a number exactly if it is below the limit of each of them.
 pub fn prepared_sets_have_room()
     ensures { PreparedSetsHaveRoom }
 {}

@@ -5,6 +5,7 @@
 mod gaps;
 mod laws;
 mod list;
+mod owned;
 mod pages;
 mod postings;
 mod trigrams;

@@ -1,156 +1,261 @@
-//! Where the list of each trigram is.
+//! A slot for each trigram, on pages that are made as they are needed.
 
-ghost use Rattle.std.specs.Prelude.{◌≡◌, ◌≢◌, ℕ, ◌+◌, ◌<◌, if◌then◌else◌, ◌==◌, [], slice_index, IfOk, OnOk};
-ghost use Rattle.std.specs.Vec.{vec_capacity};
-ghost use Rattle.posting.specs.ListValue.{HasRoom};
-ghost use Rattle.posting.specs.Postings.{no_numbers};
-ghost use Rattle.posting.specs.Private.Pages.{IsSound, HasSlot, few_lists, set_in_slot, slot_of, trigram_count};
+ghost use Rattle.std.specs.Prelude.{◌≡◌, ℕ, ◌*◌, ◌<◌, ◌≤◌, if◌then◌else◌, ◌==◌, length, slice_index, IfOk, OnOk, OnErr};
+ghost use Rattle.std.specs.List.{list_all};
+ghost use Rattle.posting.specs.Private.PageTable.{page_size, page_count, SameDirectory};
+ghost use Rattle.posting.specs.Private.Pages.{trigram_count, slot_of_code, FitsSlot, place_of, code_of, slot_of, free_limit, HasPage, SamePages, AddsPage, CopiesPage};
 
-use crate::list::List;
 use query::Trigram;
-use std::alloc::AllocError;
+use std::alloc::{AllocError, Global};
+use std::marker::Model;
 
 /// How many trigrams have their slots on a page.
-const PAGE: usize = 1024;
+const PAGE: usize = 64;
 
-/// The room for this many lists is not given back.
+/// The pages of this many sets are not given back.
 const FEW: usize = 4096;
 
-/// A list of numbers, and the trigram whose list it is.
-#[derive(Drop)]
-pub(crate) struct Owned {
-    pub(crate) trigram: Trigram,
-    pub(crate) list: List,
+/// Numbers below this fit into a slot.
+pub(crate) const SLOT_LIMIT: u32 = 2147483648;
+
+/// What there is for a trigram.
+#[derive(Clone, Copy, Drop)]
+pub(crate) enum Slot {
+    /// No number.
+    Free,
+    /// One number.
+    One(u32),
+    /// The list at this place.
+    Listed(usize),
 }
 
-/// The slot of a trigram: 0, or one more than the place of its list.
-pub(crate) fn slot(pages: &[Vec<u32>], trigram: Trigram) -> usize
-    ensures value { result ≡ slot_of pages.now trigram }
-    ensures bound { trigram < trigram_count }
+/// What a number in a slot says: 0 that it is free, a number with the high bit that this number without it is in the set,
+/// and any other one more than the place of the list.
+fn decode(code: u32) -> Slot
+    ensures { result ≡ slot_of_code code }
 {
-    let number = trigram.number() as usize;
-    match pages.get(number / PAGE) {
-        Some(page) => match page.get(number % PAGE) {
-            Some(slot) => *slot as usize,
-            None => 0,
-        },
-        None => 0,
+    if code >= SLOT_LIMIT {
+        return Slot::One(code - SLOT_LIMIT);
+    }
+    if code == 0 {
+        return Slot::Free;
+    }
+    Slot::Listed((code - 1) as usize)
+}
+
+fn encode(slot: Slot) -> u32
+    requires { FitsSlot slot }
+    ensures { slot_of_code result ≡ slot }
+{
+    match slot {
+        Slot::Free => 0,
+        Slot::One(number) => number + SLOT_LIMIT,
+        Slot::Listed(place) => (place + 1) as u32,
     }
 }
 
-/// Makes the page of a trigram, if there is none, with no list for its trigrams.
-fn make_page(pages: &mut Vec<Vec<u32>>, trigram: Trigram) -> Result<(), AllocError>
-    ensures slots { (t : ℕ) → slot_of pages.new.items t ≡ slot_of pages.old.items t }
-    ensures ok { OnOk result (HasSlot pages.new.items trigram) }
+/// Whether all slots of a page are free.
+fn are_free(slots: &[u32]) -> bool
+    ensures { result ≡ list_all (λ code. code == 0) slots.now }
 {
-    let page = trigram.number() as usize / PAGE;
-    let alloc = *pages.allocator();
-    while pages.len() <= page {
-        pages.push(Vec::new(alloc))?;
+    slots.iter().all(|code| *code == 0)
+}
+
+/// How many slots are in use after one of them was written.
+fn used_after(used: usize, old: u32, new: u32) -> usize {
+    match (old, new) {
+        (0, 0) => used,
+        (0, _) => used.saturating_add(1),
+        (_, 0) => used.saturating_sub(1),
+        _ => used,
     }
-    let slots = &mut pages[page];
-    if slots.len() < PAGE {
-        slots.resize(PAGE, 0)?;
+}
+
+/// Makes a directory reach this place, with no page at the places that it gets.
+fn lengthen(directory: &mut Vec<u32>, at: usize) -> Result<(), AllocError>
+    requires { at < page_count }
+    ensures entries { SameDirectory directory.old.items directory.new.items }
+    ensures ok { OnOk result (at < length directory.new.items) }
+{
+    if directory.len() <= at {
+        directory.resize(at + 1, 0)?;
     }
     Ok(())
 }
 
-fn set_slot(pages: &mut Vec<Vec<u32>>, trigram: Trigram, slot: u32)
-    requires { HasSlot pages.old.items trigram }
-    ensures { (t : ℕ)
-        → slot_of pages.new.items t ≡ (if t == trigram then slot else slot_of pages.old.items t) }
+/// Makes room for so many more items. Where there is none, the vector grows by an eighth, so that little room stands idle,
+/// and by 8 items at least.
+pub(crate) fn reserve<T>(items: &mut Vec<T>, more: usize) -> Result<(), AllocError>
+    ensures { items.new.items ≡ items.old.items }
 {
-    let number = trigram.number() as usize;
-    let slots = &mut pages[number / PAGE];
-    slots[number % PAGE] = slot;
+    if items.capacity() - items.len() >= more {
+        return Ok(());
+    }
+    items.reserve_exact(more.max(items.len() / 8).max(8))
 }
 
-/// The place of the trigram's list, which is made if there is none. All sets stay as they are.
-///
-/// An `Err` means that memory ran out.
-pub(crate) fn make_list(
-    pages: &mut Vec<Vec<u32>>,
-    lists: &mut Vec<Owned>,
-    trigram: Trigram,
-) -> Result<usize, AllocError>
-    requires { IsSound pages.old.items lists.old.items }
-    ensures sound { IsSound pages.new.items lists.new.items }
-    ensures members { (t : ℕ) → (set_in_slot lists.new.items (slot_of pages.new.items t)).members
-        ≡ (set_in_slot lists.old.items (slot_of pages.old.items t)).members }
-    ensures room { (t : ℕ) → HasRoom (set_in_slot lists.old.items (slot_of pages.old.items t))
-        → HasRoom (set_in_slot lists.new.items (slot_of pages.new.items t)) }
-    ensures place { IfOk result (λ place. slot_of pages.new.items trigram ≡ place + 1) }
-    ensures bound { trigram < trigram_count }
-{
-    let slot = slot(pages, trigram);
-    if slot > 0 {
-        return Ok(slot - 1);
-    }
-    make_page(pages, trigram)?;
-    let place = lists.len();
-    let list = List::new(*lists.allocator());
-    lists.push(Owned { trigram, list })?;
-    set_slot(pages, trigram, (place + 1) as u32);
-    Ok(place)
+/// The slots of all trigrams. Those of 64 neighbours are on a page, which is made when the first of them is needed.
+#[derive(Drop)]
+pub(crate) struct Pages {
+    // for each 64 trigrams: 0, or one more than the place of their page
+    directory: Vec<u32>,
+    // page after page
+    slots: Vec<u32>,
+    // how many slots are not free, and the most that were not since pages were last given back
+    used: usize,
+    most: usize,
 }
 
-/// Drops the trigram's list. The last list moves to its place, and no other list moves.
-pub(crate) fn drop_list(pages: &mut Vec<Vec<u32>>, lists: &mut Vec<Owned>, trigram: Trigram)
-    requires sound { IsSound pages.old.items lists.old.items }
-    requires listed { 0 < slot_of pages.old.items trigram }
-    ensures sound { IsSound pages.new.items lists.new.items }
-    ensures at { set_in_slot lists.new.items (slot_of pages.new.items trigram) ≡ no_numbers }
-    ensures others { (t : ℕ) → t ≢ trigram → set_in_slot lists.new.items (slot_of pages.new.items t)
-        ≡ set_in_slot lists.old.items (slot_of pages.old.items t) }
-    ensures bound { trigram < trigram_count }
-{
-    let slot = slot(pages, trigram);
-    let place = slot - 1;
-    lists.swap_remove(place);
-    set_slot(pages, trigram, 0);
-    if let Some(moved) = lists.get(place) {
-        set_slot(pages, moved.trigram, slot as u32);
-    }
+impl Model for Pages {
+    ghost use Rattle.posting.specs.Private.PageTable.{PageTable, IsPaged};
+
+    ghost Value = { PageTable };
+
+    ghost view = { λ p. record { directory = p.directory.items; slots = p.slots.items } };
+
+    ghost invariant = { λ p. IsPaged (record { directory = p.directory.items; slots = p.slots.items }) };
 }
 
-/// Gives back memory once less than a quarter of the room for lists is used: the rest of this room, and the pages
-/// without a list. All sets stay as they are. While there is room for a few lists only, nothing is given back, so that
-/// what is put in and taken out in turn need not be made each time.
-///
-/// What cannot be given back, since memory for a smaller copy is refused, is kept.
-pub(crate) fn give_back(pages: &mut Vec<Vec<u32>>, lists: &mut Vec<Owned>)
-    requires { IsSound pages.old.items lists.old.items }
-    ensures slots { (t : ℕ) → slot_of pages.new.items t ≡ slot_of pages.old.items t }
-    ensures lists { lists.new.items ≡ lists.old.items }
-    ensures none { lists.old.items ≡ [] → few_lists < vec_capacity lists.old
-        → (vec_capacity pages.new ≡ 0) × (vec_capacity lists.new ≡ 0) }
-{
-    let room = lists.capacity();
-    if room <= FEW || lists.len() >= room / 4 {
-        return;
+impl Pages {
+    /// No pages. They take no memory.
+    pub(crate) fn new(alloc: Global) -> Pages
+        ensures { (t : ℕ) → place_of result t ≡ None }
+    {
+        Pages {
+            directory: Vec::new(alloc),
+            slots: Vec::new(alloc),
+            used: 0,
+            most: 0,
+        }
     }
-    lists.shrink_to_fit();
-    if lists.is_empty() {
-        *pages = Vec::new(*pages.allocator());
-    } else {
-        free_pages(pages);
-    }
-}
 
-/// Frees the pages without a list.
-fn free_pages(pages: &mut Vec<Vec<u32>>)
-    ensures { (t : ℕ) → slot_of pages.new.items t ≡ slot_of pages.old.items t }
-{
-    for page in 0..pages.len() {
-        free_page(&mut pages[page]);
+    /// The slot of a trigram. It is free if there is no page for it.
+    pub(crate) fn slot(&self, trigram: Trigram) -> Slot
+        ensures value { result ≡ slot_of self.now trigram }
+        ensures bound { trigram < trigram_count }
+    {
+        match self.place(trigram) {
+            Some(place) => decode(self.slots[place]),
+            None => Slot::Free,
+        }
     }
-}
 
-/// Frees the slots of a page, if none of them leads to a list.
-fn free_page(slots: &mut Vec<u32>)
-    ensures { (place : ℕ) → slice_index slots.new.items place ≡ slice_index slots.old.items place }
-{
-    if slots.iter().all(|slot| *slot == 0) {
-        *slots = Vec::new(*slots.allocator());
+    /// Where the slot of a trigram is, if there is a page for it.
+    fn place(&self, trigram: Trigram) -> Option<usize>
+        ensures place { result ≡ place_of self.now trigram }
+        ensures bound { trigram < trigram_count }
+    {
+        let number = trigram.number() as usize;
+        let page = self.page(number / PAGE);
+        if page == 0 {
+            return None;
+        }
+        Some((page - 1) * PAGE + number % PAGE)
+    }
+
+    /// 0 if there is no page for these 64 trigrams, else one more than the place of the page.
+    fn page(&self, at: usize) -> usize
+        ensures value { result ≡ slice_index self.now.directory at }
+        ensures bound { result ≤ page_count }
+    {
+        match self.directory.get(at) {
+            Some(page) => *page as usize,
+            None => 0,
+        }
+    }
+
+    /// Makes the page of a trigram if there is none. All slots stay as they are.
+    ///
+    /// An `Err` means that memory ran out.
+    pub(crate) fn make_page(&mut self, trigram: Trigram) -> Result<(), AllocError>
+        ensures slots { (t : ℕ) → slot_of self.new t ≡ slot_of self.old t }
+        ensures limits { (t : ℕ) → free_limit self.old t ≤ free_limit self.new t }
+        ensures ok { OnOk result (HasPage self.new trigram) }
+    {
+        match self.place(trigram) {
+            Some(_) => Ok(()),
+            None => self.add_page(trigram.number() as usize / PAGE, &[0; PAGE]),
+        }
+    }
+
+    /// Writes the slot of a trigram, for which there is a page.
+    pub(crate) fn set_slot(&mut self, trigram: Trigram, slot: Slot)
+        requires page { HasPage self.old trigram }
+        requires fits { FitsSlot slot }
+        ensures slots { (t : ℕ) → slot_of self.new t ≡ (if t == trigram then slot else slot_of self.old t) }
+        ensures limits { (t : ℕ) → free_limit self.new t ≡ free_limit self.old t }
+        ensures bound { trigram < trigram_count }
+    {
+        if let Some(place) = self.place(trigram) {
+            let code = encode(slot);
+            self.used = used_after(self.used, self.slots[place], code);
+            self.most = self.most.max(self.used);
+            self.slots[place] = code;
+        }
+    }
+
+    /// Adds a page with these slots.
+    ///
+    /// An `Err` means that memory ran out. All slots are then as they were.
+    fn add_page(&mut self, page: usize, slots: &[u32]) -> Result<(), AllocError>
+        requires bound { page < page_count }
+        requires absent { free_limit self.old (page * page_size) ≡ 0 }
+        requires whole { length slots.now ≡ page_size }
+        ensures ok { OnOk result (AddsPage self.old self.new page slots.now) }
+        ensures err { OnErr result (SamePages self.old self.new) }
+    {
+        lengthen(&mut self.directory, page)?;
+        reserve(&mut self.slots, PAGE)?;
+        self.slots.extend_from_slice(slots)?;
+        let end = self.slots.len() / PAGE;
+        self.directory[page] = end as u32;
+        Ok(())
+    }
+
+    /// Gives back the pages without a set once less than a quarter of the sets are left. While there were only a few,
+    /// nothing is given back, so that what is put in and taken out in turn need not be made each time.
+    ///
+    /// What cannot be given back, since memory for a smaller copy is refused, is kept.
+    pub(crate) fn give_back(&mut self)
+        ensures { (t : ℕ) → slot_of self.new t ≡ slot_of self.old t }
+    {
+        if self.most <= FEW || self.used >= self.most / 4 {
+            return;
+        }
+        if let Ok(fewer) = self.pages_in_use() {
+            *self = fewer;
+        }
+    }
+
+    /// A copy without the pages whose slots are all free.
+    fn pages_in_use(&self) -> Result<Pages, AllocError>
+        ensures { IfOk result (λ fewer. (t : ℕ) → slot_of fewer t ≡ slot_of self.now t) }
+    {
+        let mut fewer = Pages::new(*self.slots.allocator());
+        fewer.used = self.used;
+        fewer.most = self.used;
+        for page in 0..self.directory.len() {
+            fewer.copy_page(self, page)?;
+        }
+        Ok(fewer)
+    }
+
+    /// Adds the page of these 64 trigrams as it is in other pages, if it is there and one of its slots is not free.
+    ///
+    /// An `Err` means that memory ran out.
+    fn copy_page(&mut self, from: &Pages, at: usize) -> Result<(), AllocError>
+        requires bound { at < length from.now.directory }
+        requires absent { free_limit self.old (at * page_size) ≡ 0 }
+        ensures { OnOk result (CopiesPage from.now self.old self.new at) }
+    {
+        let end = from.page(at) * PAGE;
+        if end == 0 {
+            return Ok(());
+        }
+        let slots = &from.slots[end - PAGE..end];
+        if are_free(slots) {
+            return Ok(());
+        }
+        self.add_page(at, slots)
     }
 }

@@ -1,15 +1,17 @@
 //! The sets of all trigrams.
 
-ghost use Rattle.std.specs.Prelude.{◌≡◌, ◌≢◌, ℕ, ◌<◌, false, ◌∷◌, [], ◌++◌, All, map, IfOk, IfSome, IfNone, OnOk};
+ghost use Rattle.std.specs.Prelude.{◌≡◌, ◌≢◌, ℕ, ◌<◌, ◌≤◌, ◌||◌, ◌==◌, false, [], ◌∷◌, filter, map, IfOk, IfSome, IfNone, OnOk};
 ghost use Rattle.query.specs.Query.{formula_of, formulas_of, all_of, one_of};
-ghost use Rattle.posting.specs.ListValue.{without, HasRoom};
-ghost use Rattle.posting.specs.Postings.{no_numbers, set_of, holds, IsPrepared, IsAbove, AllDiffer};
+ghost use Rattle.posting.specs.ListValue.{has, without};
+ghost use Rattle.posting.specs.Postings.{slot_limit, set_of, holds, IsPrepared, IsAbsent, AllDiffer};
 ghost use Rattle.posting.specs.Postings.{SameSets, KeepsRoom, AddsNumber, WithdrawsNumber, GivesBack, selected};
+ghost use Rattle.posting.specs.Private.Pages.{StandsFor};
+ghost use Rattle.posting.specs.Private.Sets.{members_of};
 ghost use Rattle.posting.specs.Private.Selection.{Finds};
 
 use crate::list::{List, union_of};
-use crate::pages;
-use crate::pages::Owned;
+use crate::owned::{Owned, add_list, drop_list, give_back, make_first};
+use crate::pages::{Pages, SLOT_LIMIT, Slot};
 use crate::trigrams::Trigrams;
 use query::{Query, Trigram};
 use std::alloc::{AllocError, Global};
@@ -17,29 +19,38 @@ use std::marker::Model;
 
 /// A set of numbers for each trigram.
 ///
-/// A set takes memory only while it has a number or was prepared for one. A page for each 1,024 trigrams says
-/// where their sets are; all pages together take at most 64 MiB. `withdraw` gives memory back: that of a set that is
-/// empty afterwards, and room of which less than a quarter is used; with the room for sets, if it is for more than 4,096,
-/// also the pages that no set needs.
+/// A set of one number below 2^31 stands in a slot of 32 bits, and any other set that has numbers is a list. The slots of 64
+/// trigrams are on a page, which is made once one of these trigrams needs it. All pages and the directory that leads to them take at
+/// most 65 MiB. `withdraw` gives memory back: that of the list of a set that has at most one such number afterwards, and room
+/// of a list of which less than a quarter is used. Once less than a quarter of the room for lists is used, if it is for more
+/// than 4,096, the rest is given back, and once less than a quarter of the sets are left, if there were more than
+/// 4,096, the pages that no set needs.
 ///
-/// Contracts see it as a table of sets by the trigrams' numbers. A set has its numbers, and room for some more:
-/// `prepare` makes the room, and `add` uses it.
+/// Contracts see it as a table of sets by the trigrams' numbers. A set has its numbers, and a limit: `prepare` raises the limit
+/// above a number, and `add` puts the number in.
 #[derive(Drop)]
 pub struct Postings {
-    pages: Vec<Vec<u32>>,
+    pages: Pages,
     lists: Vec<Owned>,
+}
+
+/// The set of a trigram, where it stands.
+enum Set<'a> {
+    Empty,
+    One(u32),
+    List(&'a List),
 }
 
 impl Model for Postings {
     ghost use Rattle.std.specs.Prelude.{List};
-    ghost use Rattle.posting.specs.ListValue.{ListValue};
-    ghost use Rattle.posting.specs.Private.Pages.{IsSound, table_of};
+    ghost use Rattle.posting.specs.Postings.{NumberSet};
+    ghost use Rattle.posting.specs.Private.Pages.{IsSound, slot_of, table_of};
 
-    ghost Value = { List ListValue };
+    ghost Value = { List NumberSet };
 
-    ghost view = { λ p. table_of p.pages.items p.lists.items };
+    ghost view = { λ p. table_of p.pages p.lists.items };
 
-    ghost invariant = { λ p. IsSound p.pages.items p.lists.items };
+    ghost invariant = { λ p. IsSound (slot_of p.pages) p.lists.items };
 }
 
 impl Postings {
@@ -48,83 +59,48 @@ impl Postings {
         ensures { (trigram n : ℕ) → holds result trigram n ≡ false }
     {
         Postings {
-            pages: Vec::new(alloc),
+            pages: Pages::new(alloc),
             lists: Vec::new(alloc),
         }
     }
 
-    /// Makes room for one more number in the set of each of these trigrams, so that `add` needs no more memory. The
-    /// sets keep their numbers.
+    /// Makes room for a number in the set of each of these trigrams, so that `add` needs no more memory. The sets keep
+    /// their numbers.
     ///
     /// An `Err` means that memory ran out. Some sets may then have room already. A `withdraw` from these sets frees
     /// the room of those that are empty, and may free that of the others.
-    pub fn prepare(&mut self, number: u32, trigrams: &[Trigram]) -> Result<(), AllocError>
+    pub fn prepare(&mut self, number: u32, trigrams: &Trigrams) -> Result<(), AllocError>
         ensures sets { SameSets self.old self.new }
         ensures room { KeepsRoom self.old self.new }
-        ensures ok { OnOk result (IsPrepared self.new trigrams.now) }
+        ensures ok { OnOk result (IsPrepared self.new number trigrams.now) }
     {
-        for trigram in trigrams {
-            self.make_room(*trigram, number)?;
-        }
-        Ok(())
-    }
-
-    /// Puts the number into the sets of these trigrams, which were prepared for it. The number is above all numbers
-    /// of these sets, and the trigrams all differ. This needs no more memory.
-    pub fn add(&mut self, number: u32, trigrams: &[Trigram])
-        requires prepared { IsPrepared self.old trigrams.now }
-        requires above { IsAbove self.old trigrams.now number }
-        requires once { AllDiffer trigrams.now }
-        ensures { AddsNumber self.old self.new trigrams.now number }
-    {
-        for trigram in trigrams {
-            self.push(*trigram, number);
-        }
-    }
-
-    /// Takes the number out of the sets of these trigrams. A set that does not have it keeps its numbers. The memory
-    /// and the room of a set that is empty afterwards are freed, and these sets may lose room that was made for them.
-    /// This needs no more memory, and gives back what the other sets do not need.
-    pub fn withdraw(&mut self, number: u32, trigrams: &[Trigram])
-        ensures sets { WithdrawsNumber self.old self.new trigrams.now number }
-        ensures empty { GivesBack self.new trigrams.now }
-    {
-        for trigram in trigrams {
-            self.remove(*trigram, number);
-        }
-        self.give_back();
-    }
-
-    /// `prepare` for trigrams that are kept as gaps. An `Err` means the same.
-    pub fn prepare_kept(&mut self, number: u32, kept: &Trigrams) -> Result<(), AllocError>
-        ensures sets { SameSets self.old self.new }
-        ensures room { KeepsRoom self.old self.new }
-        ensures ok { OnOk result (IsPrepared self.new kept.now) }
-    {
-        for trigram in kept.iter() {
+        for trigram in trigrams.iter() {
             self.make_room(trigram, number)?;
         }
         Ok(())
     }
 
-    /// `add` for trigrams that are kept as gaps.
-    pub fn add_kept(&mut self, number: u32, kept: &Trigrams)
-        requires prepared { IsPrepared self.old kept.now }
-        requires above { IsAbove self.old kept.now number }
-        requires once { AllDiffer kept.now }
-        ensures { AddsNumber self.old self.new kept.now number }
+    /// Puts the number into the sets of these trigrams, which were prepared for it and do not have it. The trigrams all
+    /// differ. This needs no more memory.
+    pub fn add(&mut self, number: u32, trigrams: &Trigrams)
+        requires prepared { IsPrepared self.old number trigrams.now }
+        requires absent { IsAbsent self.old trigrams.now number }
+        requires once { AllDiffer trigrams.now }
+        ensures { AddsNumber self.old self.new trigrams.now number }
     {
-        for trigram in kept.iter() {
-            self.push(trigram, number);
+        for trigram in trigrams.iter() {
+            self.insert(trigram, number);
         }
     }
 
-    /// `withdraw` for trigrams that are kept as gaps.
-    pub fn withdraw_kept(&mut self, number: u32, kept: &Trigrams)
-        ensures sets { WithdrawsNumber self.old self.new kept.now number }
-        ensures empty { GivesBack self.new kept.now }
+    /// Takes the number out of the sets of these trigrams. A set that does not have it keeps its numbers. The list of a set
+    /// that is empty afterwards is freed, and these sets and other empty sets may lose room that was made for them. This needs
+    /// no more memory, and gives back what the other sets do not need.
+    pub fn withdraw(&mut self, number: u32, trigrams: &Trigrams)
+        ensures sets { WithdrawsNumber self.old self.new trigrams.now number }
+        ensures empty { GivesBack self.new trigrams.now }
     {
-        for trigram in kept.iter() {
+        for trigram in trigrams.iter() {
             self.remove(trigram, number);
         }
         self.give_back();
@@ -149,56 +125,76 @@ impl Postings {
     fn make_room(&mut self, trigram: Trigram, number: u32) -> Result<(), AllocError>
         ensures members { (t : ℕ) → (set_of self.new t).members ≡ (set_of self.old t).members }
         ensures room { KeepsRoom self.old self.new }
-        ensures ok { OnOk result (HasRoom (set_of self.new trigram)) }
+        ensures ok { OnOk result (number < (set_of self.new trigram).limit) }
     {
-        let place = pages::make_list(&mut self.pages, &mut self.lists, trigram)?;
-        let owned = &mut self.lists[place];
-        owned.list.room_for(number)
+        match self.pages.slot(trigram) {
+            Slot::Free => make_first(&mut self.pages, &mut self.lists, trigram, number),
+            Slot::One(held) => {
+                let list = List::one(*self.lists.allocator(), held);
+                add_list(&mut self.pages, &mut self.lists, trigram, list)
+            }
+            Slot::Listed(place) => {
+                let owned = &mut self.lists[place];
+                owned.list.room_for(number)
+            }
+        }
     }
 
-    fn push(&mut self, trigram: Trigram, number: u32)
-        requires room { HasRoom (set_of self.old trigram) }
-        requires above { All (λ m. m < number) (set_of self.old trigram).members }
-        ensures at { (set_of self.new trigram).members ≡ (set_of self.old trigram).members ++ number ∷ [] }
+    fn insert(&mut self, trigram: Trigram, number: u32)
+        requires room { number < (set_of self.old trigram).limit }
+        requires absent { has (set_of self.old trigram).members number ≡ false }
+        ensures at { (n : ℕ) → has (set_of self.new trigram).members n ≡ (has (set_of self.old trigram).members n || number == n) }
         ensures others { (t : ℕ) → t ≢ trigram → set_of self.new t ≡ set_of self.old t }
     {
-        let place = pages::slot(&self.pages, trigram) - 1;
-        let owned = &mut self.lists[place];
-        owned.list.push(number);
+        match self.pages.slot(trigram) {
+            Slot::Listed(place) => {
+                let owned = &mut self.lists[place];
+                owned.list.insert(number);
+            }
+            _ => self.pages.set_slot(trigram, Slot::One(number)),
+        }
     }
 
     fn remove(&mut self, trigram: Trigram, number: u32)
         ensures at { (set_of self.new trigram).members ≡ without number (set_of self.old trigram).members }
         ensures others { (t : ℕ) → t ≢ trigram → set_of self.new t ≡ set_of self.old t }
-        ensures empty { (set_of self.new trigram).members ≡ [] → set_of self.new trigram ≡ no_numbers }
+        ensures empty { (set_of self.new trigram).members ≡ [] → (set_of self.new trigram).limit ≤ slot_limit }
     {
-        let slot = pages::slot(&self.pages, trigram);
-        if slot > 0 {
-            let owned = &mut self.lists[slot - 1];
-            owned.list.remove(number);
-            if owned.list.is_empty() {
-                pages::drop_list(&mut self.pages, &mut self.lists, trigram);
-            } else {
-                owned.list.give_back();
+        match self.pages.slot(trigram) {
+            Slot::Free => {}
+            Slot::One(held) => {
+                if held == number {
+                    self.pages.set_slot(trigram, Slot::Free);
+                }
+            }
+            Slot::Listed(place) => {
+                let owned = &mut self.lists[place];
+                owned.list.remove(number);
+                match small(&owned.list) {
+                    Some(slot) => drop_list(&mut self.pages, &mut self.lists, place, trigram, slot),
+                    None => owned.list.give_back(),
+                }
             }
         }
     }
 
     /// Gives back memory that the sets do not need.
     fn give_back(&mut self)
-        ensures { self.new ≡ self.old }
+        ensures members { (t : ℕ) → (set_of self.new t).members ≡ (set_of self.old t).members }
+        ensures limits { (t : ℕ) → (set_of self.old t).limit ≤ slot_limit → (set_of self.new t).limit ≤ slot_limit }
     {
-        pages::give_back(&mut self.pages, &mut self.lists);
+        give_back(&mut self.lists);
+        self.pages.give_back();
     }
 
-    /// The list of a trigram, if it has one.
-    fn list(&self, trigram: Trigram) -> Option<&List>
-        ensures some { IfSome result (λ list. list.now ≡ set_of self.now trigram) }
-        ensures none { IfNone result ((set_of self.now trigram).members ≡ []) }
+    /// The set of a trigram.
+    fn set(&self, trigram: Trigram) -> Set<'_>
+        ensures { members_of result ≡ (set_of self.now trigram).members }
     {
-        match pages::slot(&self.pages, trigram) {
-            0 => None,
-            slot => Some(&self.lists[slot - 1].list),
+        match self.pages.slot(trigram) {
+            Slot::Free => Set::Empty,
+            Slot::One(number) => Set::One(number),
+            Slot::Listed(place) => Set::List(&self.lists[place].list),
         }
     }
 
@@ -210,9 +206,10 @@ impl Postings {
     {
         match query {
             Query::Any => within.copy(),
-            Query::Has(trigram) => match self.list(*trigram) {
-                Some(list) => within.intersect(list),
-                None => Ok(List::new(alloc)),
+            Query::Has(trigram) => match self.set(*trigram) {
+                Set::Empty => Ok(List::new(alloc)),
+                Set::One(number) => only(alloc, number, within),
+                Set::List(list) => within.intersect(list),
             },
             _ => within.intersect(&self.collect(alloc, query, within)?),
         }
@@ -227,9 +224,10 @@ impl Postings {
         match query {
             Query::Any => within.copy(),
             Query::None => Ok(List::new(alloc)),
-            Query::Has(trigram) => match self.list(*trigram) {
-                Some(list) => list.shortened(within),
-                None => Ok(List::new(alloc)),
+            Query::Has(trigram) => match self.set(*trigram) {
+                Set::Empty => Ok(List::new(alloc)),
+                Set::One(number) => Ok(List::one(alloc, number)),
+                Set::List(list) => list.shortened(within),
             },
             Query::And(members) => self.collect_all(alloc, members, within),
             Query::Or(members) => self.collect_any(alloc, members, within),
@@ -286,9 +284,10 @@ impl Postings {
         match query {
             Query::Any => usize::MAX,
             Query::None => 0,
-            Query::Has(trigram) => match self.list(*trigram) {
-                Some(list) => list.len(),
-                None => 0,
+            Query::Has(trigram) => match self.set(*trigram) {
+                Set::Empty => 0,
+                Set::One(_) => 1,
+                Set::List(list) => list.size(),
             },
             Query::And(members) => {
                 let (_, most) = self.fewest(members);
@@ -321,4 +320,29 @@ impl Postings {
         }
         sum
     }
+}
+
+/// The slot in which the set of a list can stand without the list, if there is one.
+fn small(list: &List) -> Option<Slot>
+    ensures some { IfSome result (λ slot. StandsFor slot list.now.members) }
+    ensures none { IfNone result (list.now.members ≢ []) }
+{
+    let mut numbers = list.numbers();
+    match numbers.next() {
+        None => Some(Slot::Free),
+        Some(number) => {
+            if number < SLOT_LIMIT && numbers.next().is_none() {
+                Some(Slot::One(number))
+            } else {
+                None
+            }
+        }
+    }
+}
+
+/// The set with this number if it is in another set, else the empty one.
+fn only(alloc: Global, number: u32, within: &List) -> Result<List, AllocError>
+    ensures { IfOk result (λ only. only.members ≡ filter (has (number ∷ [])) within.now.members) }
+{
+    within.intersect(&List::one(alloc, number))
 }

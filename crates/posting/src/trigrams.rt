@@ -1,6 +1,7 @@
 //! The trigrams of a text, in few bytes.
 
-ghost use Rattle.std.specs.Prelude.{◌≡◌, ◌<◌, IfOk};
+ghost use Rattle.std.specs.Prelude.{◌≡◌, ◌<◌, not, filter, IfOk};
+ghost use Rattle.posting.specs.ListValue.{has};
 ghost use Rattle.std.specs.List.Sorted.{IsStrictlyIncreasing};
 ghost use Rattle.std.specs.Iterator.{YieldsFirst, item_count};
 
@@ -37,13 +38,22 @@ impl Trigrams {
         ensures { IfOk result (λ trigrams. trigrams ≡ rising.now) }
     {
         let mut numbers = List::new(alloc);
+        numbers.room_for_all(rising.len())?;
         for trigram in rising {
-            let number = trigram.number();
-            numbers.room_for(number)?;
-            numbers.push(number);
+            numbers.append(trigram.number());
         }
-        // the list may have room to spare after the pushes; its copy has none
+        // the list mostly has room to spare; its copy has none
         let numbers = numbers.copy()?;
+        Ok(Trigrams { numbers })
+    }
+
+    /// The trigrams that the other has not.
+    ///
+    /// An `Err` means that memory ran out.
+    pub fn difference(&self, other: &Trigrams) -> Result<Trigrams, AllocError>
+        ensures { IfOk result (λ rest. rest ≡ filter (λ t. not (has other.now t)) self.now) }
+    {
+        let numbers = self.numbers.difference(&other.numbers)?;
         Ok(Trigrams { numbers })
     }
 

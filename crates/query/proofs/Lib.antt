@@ -1,3 +1,5 @@
 pub mod Forms
 pub mod BodyLemmas
+pub mod PlaceLemmas
+pub mod OrderLemmas
 pub mod QueryLemmas

@@ -1,3 +1,4 @@
 -- What only the contracts of private functions cite. A clause can cite only `pub` modules.
 pub mod Joining
-pub mod Met
+pub mod Feeds
+pub mod Digits

@@ -4,8 +4,9 @@
 
 mod body;
 mod number;
+mod order;
 mod query;
 
 pub use body::trigrams_of;
 pub use number::Trigram;
-pub use query::{Connective, Query, copied, join, simplify};
+pub use query::{Connective, Query, join, simplify};

@@ -10,8 +10,8 @@ use std::alloc::{AllocError, Global};
 /// A condition on a set of trigrams.
 ///
 /// A query can be of any height. To drop it, to clone it and to compare it, calls nest as deep as it is high. By
-/// measurement (`bench/levels.py`) each level takes 80 bytes of stack to drop or compare, and 240 to clone. `copied`
-/// takes 352, and `simplify` 528, so 2 MiB of stack bear 3,900 levels that are simplified.
+/// measurement (`bench/levels.py`) each level takes 80 bytes of stack to drop or compare, and 240 to clone.
+/// `simplify` takes 528, so 2 MiB of stack bear 3,900 levels that are simplified.
 #[derive(Clone, Debug, PartialEq, Eq, Drop)]
 pub enum Query {
     /// Every set meets it.
@@ -35,37 +35,8 @@ pub enum Connective {
     Or,
 }
 
-/// A new conjunct is compared with at most this many members: the last ones before it.
-const NEIGHBOURS: usize = 64;
-
-/// A copy of the query, equal to it. Calls nest as deep as the query is high (see `Query` for how much stack that
-/// takes).
-///
-/// An `Err` means that memory ran out.
-#[cycle(copied)]
-pub fn copied(alloc: Global, query: &Query) -> Result<Query, AllocError>
-    ensures { IfOk result (λ copy. formula_of copy ≡ formula_of query.now) }
-{
-    match query {
-        Query::Any => Ok(Query::Any),
-        Query::None => Ok(Query::None),
-        Query::Has(trigram) => Ok(Query::Has(*trigram)),
-        Query::And(members) => Ok(Query::And(all_copied(alloc, members.as_slice())?)),
-        Query::Or(members) => Ok(Query::Or(all_copied(alloc, members.as_slice())?)),
-    }
-}
-
-/// Copies of the queries, equal to them.
-#[cycle(copied)]
-fn all_copied(alloc: Global, members: &[Query]) -> Result<Vec<Query>, AllocError>
-    ensures { IfOk result (λ copies. map formula_of copies.items ≡ map formula_of members.now) }
-{
-    let mut copies = Vec::new(alloc);
-    for member in members {
-        copies.push(copied(alloc, member)?)?;
-    }
-    Ok(copies)
-}
+/// Fewer new conjuncts than these are compared with all old ones; more are looked up by their marks.
+const FEW: usize = 8;
 
 /// Whether two queries are built alike.
 #[cycle(same)]
@@ -143,7 +114,7 @@ fn all_simplified(
 
 /// Joins two plain queries (see `simplify`) into a plain one. A set of trigrams meets the result exactly if it meets
 /// both of them (`And`), or at least one of them (`Or`). With `And`, a member that comes from `right` is left out if
-/// it equals one of the 64 members before it.
+/// `left` has an equal one.
 ///
 /// An `Err` means that memory ran out; both queries are then dropped.
 pub fn join(
@@ -170,7 +141,7 @@ pub fn join(
     }
     let mut members = members_of(alloc, connective, left)?;
     let further = members_of(alloc, connective, right)?;
-    take_in(connective, &mut members, further)?;
+    take_in(alloc, connective, &mut members, further)?;
     Ok(compound(connective, members))
 }
 
@@ -238,6 +209,7 @@ fn members_of(alloc: Global, connective: Connective, query: Query) -> Result<Vec
 
 /// Adds further members.
 fn take_in(
+    alloc: Global,
     connective: Connective,
     members: &mut Vec<Query>,
     further: Vec<Query>,
@@ -246,40 +218,135 @@ fn take_in(
     requires further { AreReducedParts (is_of connective) (formulas_of (map formula_of further.items)) }
     ensures { OnOk result (HasTakenIn connective (map formula_of members.old.items) (map formula_of further.items) (map formula_of members.new.items)) }
 {
+    let marks = marks_for(alloc, connective, members.as_slice(), further.len())?;
     for member in further {
-        add(connective, members, member)?;
+        add(connective, marks.as_slice(), members, member)?;
     }
     Ok(())
 }
 
 /// Adds one member, unless it is repeated.
-fn add(connective: Connective, members: &mut Vec<Query>, member: Query) -> Result<(), AllocError>
+fn add(
+    connective: Connective,
+    marks: &[(u64, usize)],
+    members: &mut Vec<Query>,
+    member: Query,
+) -> Result<(), AllocError>
     requires old { AreReducedParts (is_of connective) (formulas_of (map formula_of members.old.items)) }
     requires further { AreReducedParts (is_of connective) (formulas_of (formula_of member ∷ [])) }
     ensures { OnOk result (HasTakenIn connective (map formula_of members.old.items) (formula_of member ∷ []) (map formula_of members.new.items)) }
 {
-    if is_repeated(connective, members.as_slice(), &member) {
+    if is_repeated(connective, marks, members.as_slice(), &member) {
         return Ok(());
     }
     members.push(member)?;
     Ok(())
 }
 
-/// Whether the member is left out of a conjunction, as it equals one of the last members.
-fn is_repeated(connective: Connective, members: &[Query], member: &Query) -> bool
+/// Whether the member is left out of a conjunction, as it equals one of the members. With no marks it is compared
+/// with all of them.
+fn is_repeated(
+    connective: Connective,
+    marks: &[(u64, usize)],
+    members: &[Query],
+    member: &Query,
+) -> bool
     ensures { IsTrue result → AddsNothing connective (map formula_of members.now) (formula_of member.now) }
 {
     match connective {
         Connective::Or => false,
         Connective::And => {
-            for i in members.len().saturating_sub(NEIGHBOURS)..members.len() {
-                if is_same(&members[i], member) {
-                    return true;
-                }
+            if marks.is_empty() {
+                has_same(members, member)
+            } else {
+                has_marked(marks, members, member)
             }
-            false
         }
     }
+}
+
+fn has_same(members: &[Query], member: &Query) -> bool
+    ensures { IsTrue result → AddsNothing Connective.And (map formula_of members.now) (formula_of member.now) }
+{
+    for place in 0..members.len() {
+        if stands_at(members, place, member) {
+            return true;
+        }
+    }
+    false
+}
+
+/// Whether there is such a place, and the query there equals this one.
+fn stands_at(members: &[Query], place: usize, query: &Query) -> bool
+    ensures { IsTrue result → AddsNothing Connective.And (map formula_of members.now) (formula_of query.now) }
+{
+    place < members.len() && is_same(&members[place], query)
+}
+
+/// Whether the member equals one that stands in the place of an equal mark.
+fn has_marked(marks: &[(u64, usize)], members: &[Query], member: &Query) -> bool
+    ensures { IsTrue result → AddsNothing Connective.And (map formula_of members.now) (formula_of member.now) }
+{
+    let wanted = mark_of(member);
+    let first = match marks.binary_search(&(wanted, 0)) {
+        Ok(place) => place,
+        Err(place) => place,
+    };
+    for (mark, place) in &marks[first..] {
+        if *mark != wanted {
+            return false;
+        }
+        if stands_at(members, *place, member) {
+            return true;
+        }
+    }
+    false
+}
+
+/// The marks of the members of a conjunction with their places, sorted, if that saves time: if there are few further
+/// members, or it is a disjunction, there are no marks.
+fn marks_for(
+    alloc: Global,
+    connective: Connective,
+    members: &[Query],
+    further: usize,
+) -> Result<Vec<(u64, usize)>, AllocError> {
+    let mut marks = Vec::new(alloc);
+    if further < FEW || !idle(connective) {
+        return Ok(marks);
+    }
+    for (place, member) in members.iter().enumerate() {
+        marks.push((mark_of(member), place))?;
+    }
+    marks.sort_unstable();
+    Ok(marks)
+}
+
+/// A number that is the same for queries that are built alike, and mostly differs for others.
+#[cycle(mark)]
+fn mark_of(query: &Query) -> u64 {
+    match query {
+        Query::Any => 1,
+        Query::None => 2,
+        Query::Has(trigram) => mixed(3, trigram.number() as u64),
+        Query::And(members) => mark_of_all(4, members.as_slice()),
+        Query::Or(members) => mark_of_all(5, members.as_slice()),
+    }
+}
+
+#[cycle(mark)]
+fn mark_of_all(start: u64, members: &[Query]) -> u64 {
+    let mut mark = start;
+    for member in members {
+        mark = mixed(mark, mark_of(member));
+    }
+    mark
+}
+
+/// A number that depends on all bits of both.
+fn mixed(mark: u64, next: u64) -> u64 {
+    let both = (mark.rotate_left(23) ^ next).wrapping_mul(0x9E37_79B9_7F4A_7C15);
+    both ^ (both >> 29)
 }
 
 /// The query of these members; a single one is the query itself.

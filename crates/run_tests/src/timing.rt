@@ -309,12 +309,12 @@ impl Course {
 /// An even version 2k, and two lines with the byte of k.
 fn is_whole(answer: &Answer) -> bool {
     let version = answer.version();
-    if version % 2 != 0 || version > 400 || answer.hits().len() != 2 {
+    if version % 2 != 0 || version > 400 || answer.hit_count() != 2 {
         return false;
     }
     let want = [byte_of((version / 2) as u8)];
     for hit in answer.hits() {
-        if hit.text.as_slice() != want.as_slice() {
+        if hit.text != want.as_slice() {
             return false;
         }
     }

@@ -2,11 +2,13 @@
 #![tactic(auto)]
 
 mod cuts;
+mod feeds;
 mod item;
 mod laws;
 mod line;
 mod reader;
 
+pub use feeds::line_feeds;
 pub use item::{Item, Numbered};
 pub use laws::{items_are_one, lines_say_one_thing, script_limit};
 pub use line::{Line, read_line};

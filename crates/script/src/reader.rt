@@ -9,6 +9,7 @@ ghost use Rattle.script.specs.Fields.{fields_of, IsPutHeader};
 ghost use Rattle.script.specs.Private.Taking.{TakesFrom, FollowsLine, HasHeader, LacksHeader};
 
 use crate::cuts::{CutLine, cut_at_last, cut_at_space, cut_line, search_number, size_of};
+use crate::feeds::line_feeds;
 use crate::item::{Item, Numbered};
 use ere::Case;
 use std::marker::Model;
@@ -366,5 +367,5 @@ fn line_feeds_of(body: &[u8]) -> u32
     requires { length body.now ≤ MAX_SCRIPT }
     ensures { result ≡ line_feeds body.now }
 {
-    body.iter().filter(|b| **b == b'\n').count() as u32
+    line_feeds(body) as u32
 }

@@ -2,6 +2,7 @@ pub mod SelectsLemmas
 pub mod ScanLemmas
 mod TakenLemmas
 pub mod TextLemmas
+mod LineEnds
 pub mod LineLemmas
 pub mod CandidateLemmas
 mod NameLemmas
@@ -9,3 +10,5 @@ mod SweepLemmas
 mod WayLemmas
 mod FewLemmas
 mod PieceLemmas
+mod PlaceLemmas
+mod AppendLemmas

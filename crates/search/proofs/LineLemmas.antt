@@ -1,15 +1,14 @@
 -- The next line of a body, by its first line feed.
-use Rattle.std.proofs.Common.{◌≡◌, ℕ, suc, ◌+◌, ◌-◌, ◌<◌, ◌≤◌, false, List, [], ◌∷◌, ◌++◌, length, take, drop, refl, sym, ◌∙◌, ap, subst, arith, inl, inr}
+use Rattle.std.proofs.Common.{◌≡◌, ℕ, suc, ◌+◌, ◌-◌, ◌<◌, ◌≤◌, false, List, [], ◌∷◌, ◌++◌, length, take, drop, refl, sym, ◌∙◌, ap, arith, inl, inr}
 use Rattle.std.proofs.lemmas.Bool.{false≢true, cases_lt}
 use Rattle.std.proofs.lemmas.Bool.Decides.{nat_tests}
-use Rattle.std.proofs.lemmas.List.{append-nil, length-take, length-drop}
+use Rattle.std.proofs.lemmas.List.{length-take, length-drop}
 use Rattle.lines.specs.Lines.{lines_of}
 use Rattle.memchr.specs.Find.{is_byte, Nowhere, NoneBefore, Passes}
 use Rattle.index.specs.Text.{has_long_line}
-use Rattle.index.proofs.LineLemmas.{lines_of-memchr, lines_of-none, long-first, long-last, rest-after}
-use Rattle.search.specs.Scan.{Hit}
-use Rattle.search.specs.Private.Selects.{found, numbered, Adds, Selects, done}
-use Rattle.search.proofs.SelectsLemmas.{Selects-after}
+use Rattle.index.proofs.LineLemmas.{rest-after}
+use Rattle.search.specs.Private.Selects.{found, numbered}
+use Rattle.search.proofs.LineEnds.{lines_of-memchr, lines_of-none, long-first, long-last}
 
 -- the first line feed is at this place
 abbrev pub EndsAt : List ℕ → ℕ → Type 0
@@ -63,30 +62,3 @@ pub room-rest : (line most : ℕ) (text : List ℕ) (place : ℕ) → EndsAt tex
 room-rest line most text place first room =
     let below : place < length text = first.0.high in
     omega (arith, length-take (length text - (place + 1)) (drop (place + 1) text), length-drop (place + 1) text)
-
-module _ (Has : Hit → Type 0) (name : List ℕ) (whole : List Hit) (line : ℕ) (text : List ℕ) (old now : List Hit)
-    (so_far : (more : List Hit) → Selects Has (numbered name line (lines_of text)) more
-    → Adds Has whole old (now ++ more)) where
-  -- one more line
-  pub step : (place : ℕ) (new : List Hit) → EndsAt text place → Adds Has (found name line (take place text) ∷ []) now new
-      → (more : List Hit)
-      → Selects Has (numbered name (line + 1) (lines_of (take (length text - (place + 1)) (drop (place + 1) text)))) more
-      → Adds Has whole old (new ++ more)
-  step place new first added =
-      Selects-after Has (found name line (take place text) ∷ [])
-      (numbered name (line + 1) (lines_of (take (length text - (place + 1)) (drop (place + 1) text)))) whole now
-      old new added (λ more s. so_far more (subst (λ all. Selects Has all more) (sym (numbered-first name line text place first)) s))
-
-  -- the last line, without a line feed
-  pub last : (new : List Hit) → 0 < length text → HasNoEnd text → Adds Has (found name line text ∷ []) now new → Adds Has whole old new
-  last new some none added =
-      let all =
-      Selects-after Has (found name line text ∷ []) [] whole now old new added
-      (λ more s. so_far more (subst (λ all. Selects Has all more) (sym (numbered-last name line text some none)) s)) [] done in
-      subst (λ xs. Adds Has whole old xs) (append-nil new) all
-
-  -- the end of the body
-  pub ended : length text ≡ 0 → Adds Has whole old now
-  ended empty =
-      subst (λ xs. Adds Has whole old xs) (append-nil now)
-      (so_far [] (subst (λ all. Selects Has all []) (sym (numbered-empty name line text empty)) done))

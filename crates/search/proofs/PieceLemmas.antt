@@ -10,10 +10,8 @@ use Rattle.index.specs.Text.{has_long_line}
 use Rattle.finder.specs.FirstLine.{IsWholeLines, HasNoFeed, IsLineStart}
 use Rattle.finder.proofs.LineLemmas.{lines-append}
 use Rattle.finder.proofs.CutLemmas.{lines_few}
-use Rattle.search.specs.Scan.{Hit}
 use Rattle.search.specs.Private.Pieces.{IsPiece, greatest_piece}
-use Rattle.search.specs.Private.Selects.{found, numbered, Adds, Selects}
-use Rattle.search.proofs.SelectsLemmas.{Selects-after}
+use Rattle.search.specs.Private.Selects.{found, numbered}
 
 -- what is after the first `end` bytes of a text
 abbrev pub rest_of : List ℕ → ℕ → List ℕ
@@ -22,7 +20,7 @@ rest_of text end = take (length text - end) (drop end text)
 rest_is : (text : List ℕ) (end : ℕ) → rest_of text end ≡ drop end text
 rest_is text end = take_all (length text - end) (drop end text) (omega (arith, length-drop end text))
 
-numbered-append : (name : List ℕ) (line : ℕ) (xs ys : List (List ℕ))
+pub numbered-append : (name : List ℕ) (line : ℕ) (xs ys : List (List ℕ))
     → numbered name line (xs ++ ys) ≡ numbered name line xs ++ numbered name (line + length xs) ys
 unfolding numbered
 numbered-append name line [] ys = let same : line ≡ line + 0 = omega arith in ap (λ n. numbered name n ys) same
@@ -111,21 +109,11 @@ module _ (text : List ℕ) (end line lines most : ℕ) (count : lines ≡ length
         length-drop end text,
       )
 
-module _ (Has : Hit → Type 0) (name : List ℕ) (whole : List Hit) (line : ℕ) (text : List ℕ) (old now : List Hit)
-    (so_far : (more : List Hit) → Selects Has (numbered name line (lines_of text)) more → Adds Has whole old (now ++ more)) where
-  -- one more piece
-  pub next_piece : (end : ℕ) → IsWholeLines (take end text) → (new : List Hit) → Adds Has (numbered name line (lines_of (take end text))) now new
-      → (lines : ℕ) → lines ≡ length (lines_of (take end text)) → (more : List Hit)
-      → Selects Has (numbered name (line + lines) (lines_of (rest_of text end))) more → Adds Has whole old (new ++ more)
-  next_piece end whole_lines new added lines count more s =
-      Selects-after Has (numbered name line (lines_of (take end text)))
-      (numbered name (line + length (lines_of (take end text))) (lines_of (rest_of text end))) whole now old new added
-      (λ more s. so_far more (subst (λ all. Selects Has all more) (sym joined) s)) more
-      (subst (λ n. Selects Has (numbered name (line + n) (lines_of (rest_of text end))) more) count s)
-    where
-      joined : numbered name line (lines_of text)
-          ≡ numbered name line (lines_of (take end text))
-          ++ numbered name (line + length (lines_of (take end text))) (lines_of (rest_of text end))
-      joined =
-          ap (λ ls. numbered name line ls) (lines_cut text end whole_lines)
-          ∙ numbered-append name line (lines_of (take end text)) (lines_of (rest_of text end))
+-- the lines of the first piece, and those of the rest
+pub numbered-pieces : (name : List ℕ) (line : ℕ) (text : List ℕ) (end : ℕ) → IsWholeLines (take end text) → (lines : ℕ)
+    → lines ≡ length (lines_of (take end text))
+    → numbered name line (lines_of text) ≡ numbered name line (lines_of (take end text)) ++ numbered name (line + lines) (lines_of (rest_of text end))
+numbered-pieces name line text end whole_lines lines count =
+    ap (λ ls. numbered name line ls) (lines_cut text end whole_lines)
+    ∙ (numbered-append name line (lines_of (take end text)) (lines_of (rest_of text end))
+    ∙ ap (λ n. numbered name line (lines_of (take end text)) ++ numbered name (line + n) (lines_of (rest_of text end))) (sym count))

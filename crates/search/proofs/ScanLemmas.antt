@@ -21,11 +21,11 @@ use Rattle.trigram.specs.Analysis.{condition}
 use Rattle.trigram.proofs.LawLemmas.{matching_line}
 use Rattle.index.specs.Documents.{Document, RisesByName}
 use Rattle.index.specs.State.{State}
-use Rattle.index.proofs.PutLemmas.{Contains-cons, Contains-head, Contains-tail}
+use Rattle.index.proofs.DocumentLemmas.{Contains-cons, Contains-head, Contains-tail}
 use Rattle.search.specs.Pattern.{Pattern}
 use Rattle.search.specs.Scan.{Hit, IsHit, hit_cmp, IsScanOf, candidates_of}
 use Rattle.search.specs.Private.Selects.{found, numbered, lines_of_document, Selects, done, Adds, HasMatch}
-use Rattle.index.proofs.OrderLemmas.{filter-Contains, Contains-filter}
+use Rattle.index.proofs.DocumentLemmas.{filter-Contains, Contains-filter}
 use Rattle.search.proofs.SelectsLemmas.{sorted-Selects, Contains-kept, kept-Contains, Selects-append, Selects-after, Adds-none}
 
 -- ---- the lines of one document

@@ -8,7 +8,7 @@ use Rattle.std.specs.declared.cmp.Ordering.{Ordering}
 use Rattle.std.specs.declared.cmp.Ordering.TheVariants.{Less}
 use Rattle.std.proofs.lemmas.List.{append-nil}
 use Rattle.index.specs.Documents.{Document, RisesByName}
-use Rattle.index.proofs.PutLemmas.{Contains-cons, Contains-head, Contains-tail}
+use Rattle.index.proofs.DocumentLemmas.{Contains-cons, Contains-head, Contains-tail}
 use Rattle.search.specs.Scan.{Hit}
 use Rattle.search.specs.Private.Selects.{Selects, done, keep, skip, Adds}
 
@@ -20,13 +20,6 @@ Selects-append (skip h r) s = skip h (Selects-append r s)
 -- nothing is added
 pub Adds-none : (Has : Hit → Type 0) (all old : List Hit) → Selects Has all [] → Adds Has all old old
 Adds-none Has all old s = record { added = []; appended = sym (append-nil old); selected = s }
-
--- a line that is no hit, and one that is
-pub Adds-skip : (Has : Hit → Type 0) (f : Hit) (old : List Hit) → (Has f → ⊥) → Adds Has (f ∷ []) old old
-Adds-skip Has f old h = Adds-none Has (f ∷ []) old (skip h done)
-
-pub Adds-keep : (Has : Hit → Type 0) (f : Hit) (old new : List Hit) → Has f → new ≡ old ++ f ∷ [] → Adds Has (f ∷ []) old new
-Adds-keep Has f old new h e = record { added = f ∷ []; appended = e; selected = keep h done }
 
 -- what is added first, followed by what is kept of the rest
 pub Selects-after : (Has : Hit → Type 0) (first rest whole now : List Hit) (old new : List Hit) → Adds Has first now new

@@ -3,6 +3,7 @@ pub mod Prepared
 pub mod Scan
 pub mod Commands
 pub mod Hits
+pub mod Places
 pub mod Text
 pub mod Queries
 pub mod Taken

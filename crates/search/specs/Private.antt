@@ -2,4 +2,6 @@
 pub mod Selects
 pub mod Ways
 pub mod Documents
+pub mod Added
 pub mod Pieces
+pub mod Moved

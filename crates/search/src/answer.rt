@@ -1,26 +1,16 @@
 //! Answers of searches, and their text.
 
 ghost use Rattle.std.specs.Prelude.{◌≡◌, ◌++◌, flat_map, OnOk, OnErr};
-ghost use Rattle.search.specs.Hits.{hit_of, hits_of};
+ghost use Rattle.search.specs.Hits.{hit_of};
 ghost use Rattle.search.specs.Text.{text_of_hit, Begins};
 
-use index::Name;
+use crate::places::{Hit, Hits, Places};
 use itoa::Buffer;
 use std::alloc::AllocError;
 use std::marker::Model;
 
-/// A line that a search found.
-#[derive(Debug, Drop)]
-pub struct Hit {
-    /// The name of the line's document.
-    pub name: Name,
-    /// The number of the line in its document, counted from 1.
-    pub line: u32,
-    /// The bytes of the line, without its line feed.
-    pub text: Vec<u8>,
-}
-
-/// The answer of a search.
+/// The answer of a search. It keeps the names and the bodies of the documents that it shows, and shares them with the
+/// index: they stay in memory until the answer is dropped.
 ///
 /// Contracts see it as its version, its hits, the number of documents, and the number of candidates.
 #[derive(Debug, Drop)]
@@ -35,7 +25,7 @@ pub(crate) struct Contents {
     /// The version that was searched.
     pub(crate) version: u32,
     /// The lines that contain a match, in order.
-    pub(crate) hits: Vec<Hit>,
+    pub(crate) hits: Places,
     /// The number of documents that the index had.
     pub(crate) documents: u32,
     /// The number of candidates among them.
@@ -53,8 +43,8 @@ impl Model for Answer {
 }
 
 impl Answer {
-    ghost use Rattle.std.specs.Prelude.{◌≡◌, ◌++◌, OnOk, OnErr};
-    ghost use Rattle.search.specs.Hits.{hits_of};
+    ghost use Rattle.std.specs.Prelude.{◌≡◌, ◌++◌, length, option_map, slice_get, OnOk, OnErr};
+    ghost use Rattle.search.specs.Hits.{hit_of};
     ghost use Rattle.search.specs.Text.{text_of_answer, text_of_head, text_of_stats, Begins};
 
     /// The version that was searched: the number of commands that were applied to the index.
@@ -65,10 +55,24 @@ impl Answer {
     }
 
     /// The lines that contain a match, rising by the bytes of their documents' names and then by line number.
-    pub fn hits(&self) -> &[Hit]
-        ensures { hits_of result.now ≡ self.now.hits }
+    pub fn hits(&self) -> Hits<'_>
+        ensures { result ≡ self.now.hits }
     {
-        self.contents.hits.as_slice()
+        self.contents.hits.iter()
+    }
+
+    /// How many lines contain a match.
+    pub fn hit_count(&self) -> usize
+        ensures { result ≡ length self.now.hits }
+    {
+        self.contents.hits.len()
+    }
+
+    /// The hit at this index in the order of `hits`, counted from 0. `None` if there are not so many.
+    pub fn hit(&self, at: usize) -> Option<Hit<'_>>
+        ensures { option_map hit_of result ≡ slice_get self.now.hits at }
+    {
+        self.contents.hits.get(at)
     }
 
     /// The number of documents that the index had.
@@ -109,6 +113,7 @@ impl Answer {
         ensures err { OnErr result (Begins out.old.items out.new.items) }
     {
         self.append_head(search, stats, out)?;
+        out.reserve(text_bound(self.hits()))?;
         append_hits(out, self.hits())
     }
 
@@ -128,7 +133,7 @@ impl Answer {
                 b" version ".as_slice(),
                 version.format(self.version()).as_bytes(),
                 b" lines ".as_slice(),
-                lines.format(self.hits().len()).as_bytes(),
+                lines.format(self.hit_count()).as_bytes(),
             ],
         )?;
         if stats {
@@ -156,19 +161,29 @@ impl Answer {
     }
 }
 
+/// A number of bytes that is enough for the lines of these hits. With room for all of them, none is copied again.
+fn text_bound(hits: Hits<'_>) -> usize {
+    let mut bytes = 0usize;
+    for hit in hits {
+        // Two colons, a line feed, and a number of at most ten digits.
+        bytes = bytes.saturating_add(hit.name.as_bytes().len() + hit.text.len() + 13);
+    }
+    bytes
+}
+
 /// Appends a line for each hit. An `Err` can leave some of them in `out`.
-fn append_hits(out: &mut Vec<u8>, hits: &[Hit]) -> Result<(), AllocError>
-    ensures ok { OnOk result (out.new.items ≡ out.old.items ++ flat_map text_of_hit (hits_of hits.now)) }
+fn append_hits(out: &mut Vec<u8>, hits: Hits<'_>) -> Result<(), AllocError>
+    ensures ok { OnOk result (out.new.items ≡ out.old.items ++ flat_map text_of_hit hits.entry) }
     ensures err { OnErr result (Begins out.old.items out.new.items) }
 {
     for hit in hits {
-        append_hit(out, hit)?;
+        append_hit(out, &hit)?;
     }
     Ok(())
 }
 
 /// Appends the line of a hit.
-fn append_hit(out: &mut Vec<u8>, hit: &Hit) -> Result<(), AllocError>
+fn append_hit(out: &mut Vec<u8>, hit: &Hit<'_>) -> Result<(), AllocError>
     ensures ok { OnOk result (out.new.items ≡ out.old.items ++ text_of_hit (hit_of hit.now)) }
     ensures err { OnErr result (out.new.items ≡ out.old.items) }
 {
@@ -180,7 +195,7 @@ fn append_hit(out: &mut Vec<u8>, hit: &Hit) -> Result<(), AllocError>
             b":".as_slice(),
             line.format(hit.line).as_bytes(),
             b":".as_slice(),
-            hit.text.as_slice(),
+            hit.text,
             b"\n".as_slice(),
         ],
     )

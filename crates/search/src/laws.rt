@@ -8,7 +8,7 @@ ghost use Rattle.search.specs.Scan.{Hit, Answer, IsAnswerOf};
 ghost use Rattle.search.specs.Commands.{IsHitOfPut};
 
 /// The answer for the state that commands leave follows from the commands: its version is their number, and its hits
-/// are exactly the lines that the pattern asks for in the `Put`s that no later command names.
+/// are exactly the lines that the pattern asks for in the last `Put` of each name, if no later command names it.
 pub fn answers_follow_commands()
     ensures version { (commands : List CommandValue) (pattern : Pattern) (answer : Answer) →
         IsAnswerOf (state_of commands) pattern answer → answer.version ≡ length commands }

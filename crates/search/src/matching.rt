@@ -1,24 +1,24 @@
 //! The lines of documents that contain a match.
 
-ghost use Rattle.std.specs.Prelude.{◌≡◌, ◌≤◌, ◌+◌, false, [], ◌∷◌, length, take, flat_map, IfOk, OnOk};
+ghost use Rattle.std.specs.Prelude.{◌≡◌, ◌≤◌, ◌+◌, ℕ, List, false, [], ◌∷◌, length, take, flat_map, IfOk, OnOk, All};
 ghost use Rattle.ere.specs.Tree.{Tree, form};
 ghost use Rattle.ere.specs.Limits.{IsWithinLimits};
-ghost use Rattle.lines.specs.Lines.{lines_of};
 ghost use Rattle.index.specs.Text.{greatest_body, has_long_line};
 ghost use Rattle.finder.specs.Patterns.{IsFinderOf};
-ghost use Rattle.search.specs.Hits.{hits_of};
-ghost use Rattle.search.specs.Private.Selects.{Adds, Selects, HasMatch, found, numbered, lines_of_document};
+ghost use Rattle.search.specs.Places.{hits_at, IsPlaced};
+ghost use Rattle.search.specs.Private.Selects.{Adds, Selects, HasMatch, found, lines_of_document};
+ghost use Rattle.search.specs.Private.Added.{HasTextAt, AddsPlaces, AddsLinesOf};
 ghost use Rattle.search.specs.Private.Documents.{lines_of_taken};
 ghost use Rattle.search.specs.Private.Ways.{Finds, AreFew};
 
-use crate::answer::Hit;
 use crate::piece::piece_end;
+use crate::places::{Place, Places, share};
 use crate::unanswered::Unanswered;
 use crate::watch::{Watch, ask};
 use crate::way::{Way, compile, nests_stars, way_by};
 use ere::Ere;
 use finder::{Finder, lines_before};
-use index::{Body, Name, SharedDocument};
+use index::{Body, SharedDocument};
 use lines::MAX_LINE;
 use matcher::matches;
 use memchr::memchr;
@@ -36,13 +36,13 @@ pub fn scan_documents<W: Watch>(
     tree: &Ere,
     documents: &[SharedDocument],
     watch: &mut W,
-) -> Result<Vec<Hit>, Unanswered>
+) -> Result<Places, Unanswered>
     requires { IsWithinLimits (form tree.now) }
-    ensures { IfOk result (λ hits. Selects (HasMatch (form tree.now)) (flat_map lines_of_taken documents.now) (hits_of hits.items)) }
+    ensures { IfOk result (λ hits. Selects (HasMatch (form tree.now)) (flat_map lines_of_taken documents.now) hits) }
 {
-    let mut hits = Vec::new(alloc);
+    let mut hits = Places::new(alloc);
     let few = scan_few(tree, documents, &mut hits, watch)?;
-    scan_compiled(tree, &documents[few..], &mut hits, watch)?;
+    scan_compiled(alloc, tree, &documents[few..], &mut hits, watch)?;
     Ok(hits)
 }
 
@@ -51,13 +51,13 @@ pub fn scan_documents<W: Watch>(
 fn scan_few<W: Watch>(
     tree: &Ere,
     documents: &[SharedDocument],
-    hits: &mut Vec<Hit>,
+    hits: &mut Places,
     watch: &mut W,
 ) -> Result<usize, Unanswered>
     requires { IsWithinLimits (form tree.now) }
     ensures few { IfOk result (AreFew (form tree.now) documents.now) }
     ensures hits { IfOk result (λ few. Adds (HasMatch (form tree.now)) (flat_map lines_of_taken (take few documents.now))
-        (hits_of hits.old.items) (hits_of hits.new.items)) }
+        hits.old hits.new) }
 {
     let few = few_documents(tree, documents);
     let mut way = Way::LineByLine;
@@ -85,7 +85,7 @@ fn few_documents(tree: &Ere, documents: &[SharedDocument]) -> usize
 }
 
 /// The length of the document's body, in bytes.
-fn body_size(document: &SharedDocument) -> usize
+pub(crate) fn body_size(document: &SharedDocument) -> usize
     ensures { result ≡ length document.now.held }
 {
     document.held.body().as_bytes().len()
@@ -94,19 +94,19 @@ fn body_size(document: &SharedDocument) -> usize
 /// Adds the lines with a match in these documents, by the compiled pattern if there is one. If there are no documents,
 /// the pattern is not compiled.
 fn scan_compiled<W: Watch>(
+    alloc: Global,
     tree: &Ere,
     documents: &[SharedDocument],
-    hits: &mut Vec<Hit>,
+    hits: &mut Places,
     watch: &mut W,
 ) -> Result<(), Unanswered>
     requires { IsWithinLimits (form tree.now) }
     ensures { OnOk result (Adds (HasMatch (form tree.now)) (flat_map lines_of_taken documents.now)
-        (hits_of hits.old.items) (hits_of hits.new.items)) }
+        hits.old hits.new) }
 {
     if documents.is_empty() {
         return Ok(());
     }
-    let alloc = *hits.allocator();
     let compiled = compile(alloc, tree)?;
     let mut way = way_by(alloc, tree, &compiled)?;
     scan_by(tree, &mut way, documents, hits, watch)
@@ -117,158 +117,229 @@ fn scan_by<W: Watch>(
     tree: &Ere,
     way: &mut Way<'_>,
     documents: &[SharedDocument],
-    hits: &mut Vec<Hit>,
+    hits: &mut Places,
     watch: &mut W,
 ) -> Result<(), Unanswered>
     requires limits { IsWithinLimits (form tree.now) }
     requires way { Finds (form tree.now) way.old }
     ensures { OnOk result (Adds (HasMatch (form tree.now)) (flat_map lines_of_taken documents.now)
-        (hits_of hits.old.items) (hits_of hits.new.items)) }
+        hits.old hits.new) }
 {
     for document in documents {
         ask(watch)?;
         watch.reads(document.number);
-        scan_body(tree, way, &document.name, document.held.body(), hits, watch)?;
+        scan_document(tree, way, document, hits, watch)?;
     }
     Ok(())
 }
 
-/// Adds the lines with a match of one body, piece after piece.
-fn scan_body<W: Watch>(
+/// Adds the lines with a match of one document. After an `Err` there are no hits.
+fn scan_document<W: Watch>(
     tree: &Ere,
     way: &mut Way<'_>,
-    name: &Name,
-    body: &Body,
-    hits: &mut Vec<Hit>,
+    document: &SharedDocument,
+    hits: &mut Places,
     watch: &mut W,
 ) -> Result<(), Unanswered>
     requires limits { IsWithinLimits (form tree.now) }
     requires way { Finds (form tree.now) way.old }
     ensures way { Finds (form tree.now) way.new }
-    ensures hits { OnOk result (Adds (HasMatch (form tree.now)) (lines_of_document name.now body.now)
-        (hits_of hits.old.items) (hits_of hits.new.items)) }
+    ensures hits { OnOk result (Adds (HasMatch (form tree.now)) (lines_of_taken document.now) hits.old hits.new) }
 {
-    let mut rest = body.as_bytes();
-    let mut line = 1;
-    let mut end = piece_end(rest);
-    while end < rest.len() {
-        scan_piece(tree, way, name, line, &rest[..end], hits)?;
-        ask(watch)?;
-        line += lines_before(rest, end) as u32;
-        rest = &rest[end..];
-        end = piece_end(rest);
+    match add_document(
+        tree,
+        way,
+        document,
+        &mut hits.documents,
+        &mut hits.places,
+        watch,
+    ) {
+        Ok(()) => Ok(()),
+        Err(error) => {
+            // Some places may be in no document that is there.
+            hits.places.clear();
+            Err(error)
+        }
     }
-    scan_piece(tree, way, name, line, rest, hits)?;
+}
+
+/// Adds the places of the lines with a match of one document, and a handle to the document if there are any. An `Err`
+/// can leave places without their document.
+fn add_document<W: Watch>(
+    tree: &Ere,
+    way: &mut Way<'_>,
+    document: &SharedDocument,
+    documents: &mut Vec<SharedDocument>,
+    places: &mut Vec<Place>,
+    watch: &mut W,
+) -> Result<(), Unanswered>
+    requires limits { IsWithinLimits (form tree.now) }
+    requires way { Finds (form tree.now) way.old }
+    requires placed { All (IsPlaced documents.old.items) places.old.items }
+    ensures way { Finds (form tree.now) way.new }
+    ensures placed { OnOk result (All (IsPlaced documents.new.items) places.new.items) }
+    ensures hits { OnOk result (Adds (HasMatch (form tree.now)) (lines_of_taken document.now)
+        (hits_at documents.old.items places.old.items) (hits_at documents.new.items places.new.items)) }
+{
+    let Ok(number) = u32::try_from(documents.len()) else {
+        return Err(Unanswered::OutOfMemory);
+    };
+    let before = places.len();
+    scan_body(tree, way, number, document.held.body(), places, watch)?;
+    if places.len() != before {
+        documents.push(share(document)?)?;
+    }
     Ok(())
 }
 
-/// Adds the lines with a match of a text of whole lines, of which the first has the number `from`.
+/// Adds the places of the lines with a match of one body, piece after piece. `document` says which of the documents
+/// with a hit it is.
+fn scan_body<W: Watch>(
+    tree: &Ere,
+    way: &mut Way<'_>,
+    document: u32,
+    body: &Body,
+    places: &mut Vec<Place>,
+    watch: &mut W,
+) -> Result<(), Unanswered>
+    requires limits { IsWithinLimits (form tree.now) }
+    requires way { Finds (form tree.now) way.old }
+    ensures way { Finds (form tree.now) way.new }
+    ensures places { OnOk result ((name : List ℕ) → AddsPlaces (form tree.now) document name body.now
+        (lines_of_document name body.now) places.old.items places.new.items) }
+{
+    let mut rest = body.as_bytes();
+    let mut offset = 0;
+    let mut line = 1;
+    let mut end = piece_end(rest);
+    while end < rest.len() {
+        scan_piece(tree, way, document, offset, line, &rest[..end], places)?;
+        ask(watch)?;
+        line += lines_before(rest, end) as u32;
+        offset += end as u32;
+        rest = &rest[end..];
+        end = piece_end(rest);
+    }
+    scan_piece(tree, way, document, offset, line, rest, places)?;
+    Ok(())
+}
+
+/// Adds the places of the lines with a match of a text of whole lines, of which the first has the number `from`. The
+/// text is at this offset of its body.
 fn scan_piece(
     tree: &Ere,
     way: &mut Way<'_>,
-    name: &Name,
+    document: u32,
+    offset: u32,
     from: u32,
     text: &[u8],
-    hits: &mut Vec<Hit>,
+    places: &mut Vec<Place>,
 ) -> Result<(), AllocError>
     requires limits { IsWithinLimits (form tree.now) }
     requires way { Finds (form tree.now) way.old }
     requires short { has_long_line text.now ≡ false }
+    requires inside { offset + length text.now ≤ greatest_body }
     requires room { from + length text.now ≤ 1 + greatest_body }
     ensures way { Finds (form tree.now) way.new }
-    ensures hits { OnOk result (Adds (HasMatch (form tree.now)) (numbered name.now from (lines_of text.now))
-        (hits_of hits.old.items) (hits_of hits.new.items)) }
+    ensures places { OnOk result ((body : List ℕ) → AddsLinesOf (form tree.now) document body offset from text.now
+        places.old.items places.new.items) }
 {
-    let alloc = *hits.allocator();
     match way {
-        Way::FromMatchToMatch(finder) => sweep_lines(alloc, finder, name, from, text, hits),
-        Way::LineByLine => scan_lines(alloc, tree, name, from, text, hits),
+        Way::FromMatchToMatch(finder) => sweep_lines(finder, document, offset, from, text, places),
+        Way::LineByLine => scan_lines(tree, document, offset, from, text, places),
     }
 }
 
-/// Adds the lines with a match, looking for each in what is left after the one before.
+/// Adds the places of the lines with a match, looking for each in what is left after the one before.
 fn sweep_lines(
-    alloc: Global,
     finder: &mut Finder<'_>,
-    name: &Name,
+    document: u32,
+    offset: u32,
     from: u32,
     text: &[u8],
-    hits: &mut Vec<Hit>,
+    places: &mut Vec<Place>,
 ) -> Result<(), AllocError>
-    requires { from + length text.now ≤ 1 + greatest_body }
+    requires inside { offset + length text.now ≤ greatest_body }
+    requires room { from + length text.now ≤ 1 + greatest_body }
     ensures same { (tree : Tree) → IsFinderOf tree finder.old → IsFinderOf tree finder.new }
-    ensures hits { OnOk result ((tree : Tree) → IsFinderOf tree finder.old → Adds (HasMatch tree) (numbered name.now from (lines_of text.now))
-        (hits_of hits.old.items) (hits_of hits.new.items)) }
+    ensures places { OnOk result ((tree : Tree) (body : List ℕ) → IsFinderOf tree finder.old
+        → AddsLinesOf tree document body offset from text.now places.old.items places.new.items) }
 {
     let mut rest = text;
+    let mut at = offset;
     let mut line = from;
     while let Some(first) = finder.first_line(rest) {
         line += first.before as u32;
-        let hit = Hit {
-            name: name.share()?,
+        places.push(Place {
+            document,
             line,
-            text: Vec::from_slice(alloc, &rest[first.start..first.end])?,
-        };
-        hits.push(hit)?;
+            start: at + first.start as u32,
+            end: at + first.end as u32,
+        })?;
         if first.end == rest.len() {
             return Ok(());
         }
+        at += first.end as u32 + 1;
         rest = &rest[first.end + 1..];
         line += 1;
     }
     Ok(())
 }
 
-/// Adds the lines with a match, looking at each line by itself.
+/// Adds the places of the lines with a match, looking at each line by itself.
 fn scan_lines(
-    alloc: Global,
     tree: &Ere,
-    name: &Name,
+    document: u32,
+    offset: u32,
     from: u32,
     text: &[u8],
-    hits: &mut Vec<Hit>,
+    places: &mut Vec<Place>,
 ) -> Result<(), AllocError>
     requires limits { IsWithinLimits (form tree.now) }
     requires short { has_long_line text.now ≡ false }
+    requires inside { offset + length text.now ≤ greatest_body }
     requires room { from + length text.now ≤ 1 + greatest_body }
-    ensures { OnOk result (Adds (HasMatch (form tree.now)) (numbered name.now from (lines_of text.now))
-        (hits_of hits.old.items) (hits_of hits.new.items)) }
+    ensures { OnOk result ((body : List ℕ) → AddsLinesOf (form tree.now) document body offset from text.now
+        places.old.items places.new.items) }
 {
     let mut rest = text;
+    let mut at = offset;
     let mut line = from;
     while let Some(end) = memchr(b'\n', rest) {
-        scan_line(alloc, tree, name, line, &rest[..end], hits)?;
+        scan_line(tree, document, at, line, &rest[..end], places)?;
+        at += end as u32 + 1;
         rest = &rest[end + 1..];
         line += 1;
     }
     if rest.is_empty() {
         return Ok(());
     }
-    scan_line(alloc, tree, name, line, rest, hits)
+    scan_line(tree, document, at, line, rest, places)
 }
 
-/// Adds a line if it contains a match.
+/// Adds the place of a line if it contains a match.
 fn scan_line(
-    alloc: Global,
     tree: &Ere,
-    name: &Name,
+    document: u32,
+    offset: u32,
     line: u32,
     text: &[u8],
-    hits: &mut Vec<Hit>,
+    places: &mut Vec<Place>,
 ) -> Result<(), AllocError>
     requires limits { IsWithinLimits (form tree.now) }
     requires short { length text.now ≤ MAX_LINE }
-    ensures { OnOk result (Adds (HasMatch (form tree.now)) (found name.now line text.now ∷ [])
-        (hits_of hits.old.items) (hits_of hits.new.items)) }
+    requires inside { offset + length text.now ≤ greatest_body }
+    ensures { OnOk result ((name body : List ℕ) → HasTextAt body offset text.now
+        → AddsPlaces (form tree.now) document name body (found name line text.now ∷ []) places.old.items places.new.items) }
 {
     if !matches(tree, text) {
         return Ok(());
     }
-    let hit = Hit {
-        name: name.share()?,
+    places.push(Place {
+        document,
         line,
-        text: Vec::from_slice(alloc, text)?,
-    };
-    hits.push(hit)?;
+        start: offset,
+        end: offset + text.len() as u32,
+    })?;
     Ok(())
 }

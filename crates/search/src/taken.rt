@@ -8,10 +8,12 @@ use crate::answer::{Answer, Contents};
 use crate::matching::scan_documents;
 use crate::names::named;
 use crate::pattern::Prepared;
+use crate::side_by_side::scan_side_by_side;
 use crate::unanswered::Unanswered;
 use crate::watch::{NoWatch, Watch};
 use index::{Index, SharedDocument};
 use std::alloc::{AllocError, Global};
+use std::thread::Threads;
 
 /// What a search has taken out of an index: the version, the counts, and all candidates. It does not borrow the
 /// index, which can change or be dropped while names and lines are matched. Names and bodies are shared, so it takes
@@ -83,6 +85,31 @@ impl Taken<'_> {
     {
         let kept = named(alloc, self.prepared, self.candidates, watch)?;
         let hits = scan_documents(alloc, &self.prepared.tree, kept.as_slice(), watch)?;
+        let contents = Contents {
+            version: self.version,
+            hits,
+            documents: self.documents,
+            candidates: self.count,
+        };
+        let contents = Box::new(alloc, contents)?;
+        Ok(Answer { contents })
+    }
+
+    /// The same as `answer_watched`, but where the documents whose lines are matched have some MiB together, they are cut
+    /// into up to `most` parts, which are matched side by side, each in a thread of its own where one can be started. Each
+    /// part has a copy of `watch`.
+    pub fn answer_by<R: Threads + Sync, W: Watch + Copy + Send>(
+        self,
+        rt: &R,
+        alloc: Global,
+        most: usize,
+        watch: W,
+    ) -> Result<Answer, Unanswered>
+        ensures { IfOk result (λ answer. (state : State) (pattern : Pattern) → IsTakenOf state pattern self.entry → IsAnswerOf state pattern answer) }
+    {
+        let mut own = watch;
+        let kept = named(alloc, self.prepared, self.candidates, &mut own)?;
+        let hits = scan_side_by_side(rt, alloc, &self.prepared.tree, kept.as_slice(), most, watch)?;
         let contents = Contents {
             version: self.version,
             hits,

@@ -48,7 +48,7 @@ fn two_documents(rt: HostRuntime) -> Result<(), Fail> {
     assert_eq!(rt; answer.version(), 2);
     assert_eq!(rt; answer.documents(), 2);
     assert_eq!(rt; answer.candidates(), 2);
-    assert_eq!(rt; answer.hits().len(), 2);
+    assert_eq!(rt; answer.hit_count(), 2);
     Ok(())
 }
 
@@ -125,7 +125,7 @@ fn watched(alloc: Global, index: &Index, pattern: &[u8]) -> Result<(Answer, Look
 fn a_watch_sees_the_candidates_alone(rt: HostRuntime) -> Result<(), Fail> {
     let index = index_of_300(&rt, rt.alloc())?;
     let (answer, looks) = watched(rt.alloc(), &index, b"Google.*Search")?;
-    assert_eq!(rt; (answer.candidates(), answer.hits().len()), (120, 60));
+    assert_eq!(rt; (answer.candidates(), answer.hit_count()), (120, 60));
     assert!(rt; looks.are_two_of_five());
     Ok(())
 }

@@ -141,13 +141,13 @@ fn index_of_body(rt: &impl Abort, alloc: Global, body: &[u8]) -> Result<Index, F
 
 /// Whether the hits are the lines of the body that contain the word, with their numbers and texts.
 fn are_hits(answer: &Answer, body: &[u8], word: &[u8]) -> bool {
-    let mut hits = answer.hits().iter();
+    let mut hits = answer.hits();
     let mut number = 0u32;
     for line in body.split(|b| *b == b'\n') {
         number = number.saturating_add(1);
         if line.windows(6).any(|part| part == word) {
             match hits.next() {
-                Some(hit) if hit.line == number && hit.text.as_slice() == line => {}
+                Some(hit) if hit.line == number && hit.text == line => {}
                 _ => return false,
             }
         }

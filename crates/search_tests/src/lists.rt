@@ -1,10 +1,7 @@
-//! Sets and selections, compared with results that are worked out by hand.
-
-ghost use Rattle.std.specs.Prelude.{◌≡◌};
+//! Sets, compared with results that are worked out by hand.
 
 use crate::fixtures::lists;
-use posting::{List, Postings};
-use query::{Query, Trigram};
+use posting::List;
 use std::alloc::{AllocError, Global};
 use std::test::Fail;
 
@@ -159,103 +156,5 @@ fn sets_join_and_meet(rt: HostRuntime) -> Result<(), Fail> {
         let agree = join_and_meet(rt.alloc(), &row.0, &row.1, row.2, row.3)?;
         assert!(rt; agree, "of {:?}", row.2);
     }
-    Ok(())
-}
-
-fn abc() -> Trigram
-    ensures { result ≡ 6382179 }
-{
-    Trigram::of([b'a', b'b', b'c'])
-}
-
-fn bcd() -> Trigram
-    ensures { result ≡ 6447972 }
-{
-    Trigram::of([b'b', b'c', b'd'])
-}
-
-/// Document 1 has the trigrams abc and bcd, document 2 has abc.
-fn two_documents(alloc: Global) -> Result<Postings, AllocError> {
-    let mut postings = Postings::new(alloc);
-    postings.prepare(1, &[abc(), bcd()])?;
-    postings.add(1, &[abc(), bcd()]);
-    postings.prepare(2, &[abc()])?;
-    postings.add(2, &[abc()]);
-    Ok(postings)
-}
-
-/// Whether the query selects these numbers among the live ones.
-fn selects(
-    alloc: Global,
-    postings: &Postings,
-    query: &Query,
-    live: &[u32],
-    numbers: &[u32],
-) -> Result<bool, AllocError> {
-    let live = set_of(alloc, &[live, &[], &[]])?;
-    let chosen = postings.select(alloc, query, &live)?;
-    lists(alloc, &chosen, numbers)
-}
-
-/// A query for each of these trigrams.
-fn members(alloc: Global, trigrams: &[Trigram]) -> Result<Vec<Query>, AllocError> {
-    let mut members = Vec::new(alloc);
-    for trigram in trigrams {
-        members.push(Query::Has(*trigram))?;
-    }
-    Ok(members)
-}
-
-/// The query that has this number in the table of selections.
-fn query_of(alloc: Global, which: u8) -> Result<Query, AllocError> {
-    Ok(match which {
-        0 => Query::Any,
-        1 => Query::None,
-        2 => Query::Has(bcd()),
-        3 => Query::And(Vec::new(alloc)),
-        4 => Query::Or(Vec::new(alloc)),
-        5 => Query::And(members(alloc, &[abc(), bcd()])?),
-        _ => Query::Or(members(alloc, &[abc(), bcd()])?),
-    })
-}
-
-/// Whether the query of this number selects these documents.
-fn picks(
-    alloc: Global,
-    postings: &Postings,
-    which: u8,
-    numbers: &[u32],
-) -> Result<bool, AllocError> {
-    let query = query_of(alloc, which)?;
-    selects(alloc, postings, &query, &[1, 2], numbers)
-}
-
-/// Numbers of queries, and the documents that they select.
-const SELECTIONS: &[(u8, &[u32])] = &[
-    (0, &[1, 2]),
-    (1, &[]),
-    (2, &[1]),
-    (3, &[1, 2]),
-    (4, &[]),
-    (5, &[1]),
-    (6, &[1, 2]),
-];
-
-#[test]
-fn queries_select_documents(rt: HostRuntime) -> Result<(), Fail> {
-    let postings = two_documents(rt.alloc())?;
-    for row in SELECTIONS {
-        assert!(rt; picks(rt.alloc(), &postings, row.0, row.1)?, "of {}", row.0);
-    }
-    Ok(())
-}
-
-#[test]
-fn withdrawn_documents_are_not_selected(rt: HostRuntime) -> Result<(), Fail> {
-    let alloc = rt.alloc();
-    let mut postings = two_documents(alloc)?;
-    postings.withdraw(1, &[abc(), bcd()]);
-    assert!(rt; selects(alloc, &postings, &Query::Has(abc()), &[2], &[2])?);
-    assert!(rt; selects(alloc, &postings, &Query::Has(bcd()), &[2], &[])?);
     Ok(())
 }

@@ -5,16 +5,18 @@ ghost use mathlib.Core.List.{IsPrefix};
 ghost use Rattle.index.specs.State.{state_of};
 ghost use Rattle.search.specs.Prepared.{pattern_of};
 ghost use Rattle.search.specs.Scan.{IsAnswerOf};
+ghost use Rattle.search.specs.Taken.{IsTakenOf};
 
 use crate::done::Done;
 use crate::gate::{Gate, Point};
 use crate::naming::Naming;
 use crate::request::{Request, Task};
 use crate::wish::Look;
-use search::{Answer, Prepared, Unanswered, Watch};
+use search::{Answer, Prepared, Taken, Unanswered, Watch};
 use shared::Reading;
 use std::alloc::Global;
 use std::marker::PhantomData;
+use std::thread::Threads;
 use std::time::Clock;
 
 /// What answers searches for a service. It can be in another thread.
@@ -27,10 +29,10 @@ pub struct Reader<J: Naming> {
 }
 
 impl<J: Naming> Reader<J> {
-    /// Searches what is published, and calls the gate at each point of the search. It never waits, except for the gate. The
-    /// search is given up once it was called off, or its time is over: before the next name or document, or the next 64 KiB
-    /// of one.
-    pub fn answer<R: Clock, G: Gate>(
+    /// Searches what is published, and calls the gate at each point of the search. It waits for nothing but the gate and the
+    /// threads that it starts: a large search may go on in several (see `Task`). The search is given up once it was called
+    /// off, or its time is over: before the next name or document, or the next 64 KiB of one.
+    pub fn answer<R: Clock + Threads + Sync, G: Gate>(
         &mut self,
         rt: &R,
         alloc: Global,
@@ -41,18 +43,21 @@ impl<J: Naming> Reader<J> {
             number,
             request,
             wish,
+            parts,
         } = task;
         gate.turn(number, Point::Begin);
-        let mut look = Look::at(rt, &wish);
-        let answer = search(
+        let answer = search_by(
+            rt,
             alloc,
             &mut self.reading,
             &request.prepared,
             gate,
             number,
-            &mut look,
+            parts,
+            Look::at(rt, &wish),
         );
         gate.turn(number, Point::Done);
+        let is_late = given_up(&answer) && !wish.is_called_off();
         let Request {
             question,
             prepared: _,
@@ -63,7 +68,7 @@ impl<J: Naming> Reader<J> {
             question,
             seen: self.reading.told(),
             answer: answer.ok(),
-            is_late: look.is_late(),
+            is_late,
             of: PhantomData,
         }
     }
@@ -74,6 +79,14 @@ pub(crate) struct NoGate;
 
 impl Gate for NoGate {
     fn turn(&self, _search: u32, _point: Point) {}
+}
+
+/// Whether the search was given up.
+fn given_up(answer: &Result<Answer, Unanswered>) -> bool {
+    match answer {
+        Err(Unanswered::CalledOff) => true,
+        _ => false,
+    }
 }
 
 /// Takes, calls the gate, and matches. While names and lines are matched, both copies of the index can change. `CalledOff`
@@ -90,6 +103,43 @@ pub(crate) fn search<G: Gate, W: Watch>(
     ensures seen { IsPrefix reading.old.commands reading.new.commands }
     ensures answer { IfOk result (IsAnswerOf (state_of reading.new.commands) (pattern_of prepared.now)) }
 {
+    let taken = take(alloc, reading, prepared, gate, number, watch)?;
+    taken.answer_watched(alloc, watch)
+}
+
+/// The same, but a large search may go on in so many threads.
+fn search_by<R: Threads + Sync, G: Gate, W: Watch + Copy + Send>(
+    rt: &R,
+    alloc: Global,
+    reading: &mut Reading,
+    prepared: &Prepared,
+    gate: &G,
+    number: u32,
+    parts: usize,
+    watch: W,
+) -> Result<Answer, Unanswered>
+    ensures opening { reading.new.opening ≡ reading.old.opening }
+    ensures seen { IsPrefix reading.old.commands reading.new.commands }
+    ensures answer { IfOk result (IsAnswerOf (state_of reading.new.commands) (pattern_of prepared.now)) }
+{
+    let mut own = watch;
+    let taken = take(alloc, reading, prepared, gate, number, &mut own)?;
+    taken.answer_by(rt, alloc, parts, watch)
+}
+
+/// Takes the candidates of a search that is still wanted, and calls the gate.
+fn take<'p, G: Gate, W: Watch>(
+    alloc: Global,
+    reading: &mut Reading,
+    prepared: &'p Prepared,
+    gate: &G,
+    number: u32,
+    watch: &mut W,
+) -> Result<Taken<'p>, Unanswered>
+    ensures opening { reading.new.opening ≡ reading.old.opening }
+    ensures seen { IsPrefix reading.old.commands reading.new.commands }
+    ensures taken { IfOk result (IsTakenOf (state_of reading.new.commands) (pattern_of prepared.now)) }
+{
     if !watch.wants() {
         return Err(Unanswered::CalledOff);
     }
@@ -97,6 +147,5 @@ pub(crate) fn search<G: Gate, W: Watch>(
         return Err(Unanswered::OutOfMemory);
     };
     gate.turn(number, Point::Matching);
-    let answer = taken.answer_watched(alloc, watch)?;
-    Ok(answer)
+    Ok(taken)
 }

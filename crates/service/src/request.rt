@@ -98,4 +98,7 @@ pub struct Task {
     pub(crate) number: u32,
     pub(crate) request: Request,
     pub(crate) wish: Wish,
+    /// In how many threads its lines may be matched: as many as there are readers if no other search was open when it was
+    /// asked, and otherwise one.
+    pub(crate) parts: usize,
 }

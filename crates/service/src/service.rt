@@ -248,8 +248,18 @@ impl<J: Naming> Service<J> {
                 number,
                 request,
                 wish,
+                parts: self.parts(),
             }),
             Err(_) => self.refuse(SearchReason::OutOfMemory),
+        }
+    }
+
+    /// In how many threads the lines of the search that was opened last may be matched.
+    fn parts(&self) -> usize {
+        if self.awaited.len() == 1 {
+            self.lasts.len()
+        } else {
+            1
         }
     }
 

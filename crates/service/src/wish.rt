@@ -40,6 +40,22 @@ impl Wish {
     pub(crate) fn call_off(&self) {
         self.called_off.store(true, Ordering::SeqCst);
     }
+
+    /// Whether the search was called off.
+    pub(crate) fn is_called_off(&self) -> bool {
+        self.called_off.load(Ordering::SeqCst)
+    }
+
+    /// Whether its time is over. Where the clock cannot be read, it is not.
+    fn is_late<R: Clock>(&self, rt: &R) -> bool {
+        let Some(until) = self.until else {
+            return false;
+        };
+        match Instant::now(rt) {
+            Ok(now) => now >= until,
+            Err(_) => false,
+        }
+    }
 }
 
 /// When so many milliseconds from now are over. `None` if there is no such limit, or the clock cannot be read.
@@ -49,26 +65,22 @@ fn end_of<R: Clock>(rt: &R, search_ms: Option<u32>) -> Option<Instant> {
 }
 
 /// What a thread that searches looks at: whether its search is still wanted.
-#[derive(Drop)]
 pub(crate) struct Look<'a, R> {
     rt: &'a R,
     wish: &'a Wish,
-    /// Whether the time of the search was over at the last look.
-    is_late: bool,
 }
+
+impl<'a, R> Clone for Look<'a, R> {
+    fn clone(&self) -> Result<Look<'a, R>, AllocError> {
+        Ok(*self)
+    }
+}
+
+impl<'a, R> Copy for Look<'a, R> {}
 
 impl<'a, R: Clock> Look<'a, R> {
     pub(crate) fn at(rt: &'a R, wish: &'a Wish) -> Look<'a, R> {
-        Look {
-            rt,
-            wish,
-            is_late: false,
-        }
-    }
-
-    /// Whether the search was given up since its time was over.
-    pub(crate) fn is_late(&self) -> bool {
-        self.is_late
+        Look { rt, wish }
     }
 }
 
@@ -76,20 +88,6 @@ impl<R: Clock> Watch for Look<'_, R> {
     fn reads(&mut self, _number: u32) {}
 
     fn wants(&mut self) -> bool {
-        if self.wish.called_off.load(Ordering::SeqCst) {
-            return false;
-        }
-        self.is_late = match self.wish.until {
-            Some(until) => is_over(self.rt, until),
-            None => false,
-        };
-        !self.is_late
-    }
-}
-
-fn is_over<R: Clock>(rt: &R, until: Instant) -> bool {
-    match Instant::now(rt) {
-        Ok(now) => now >= until,
-        Err(_) => false,
+        !self.wish.is_called_off() && !self.wish.is_late(self.rt)
     }
 }

@@ -8,11 +8,12 @@ use crate::request::Task;
 use crossbeam_channel::{Receiver, Sender};
 use std::alloc::Global;
 use std::sync::Wait;
+use std::thread::Threads;
 use std::time::Clock;
 
 impl<J: Naming> Reader<J> {
     /// Answers tasks as they come, and sends the answers as messages, until no more tasks can come or nobody takes the messages.
-    pub fn work<M: From<Done<J>> + Drop, R: Wait + Clock, G: Gate>(
+    pub fn work<M: From<Done<J>> + Drop, R: Wait + Clock + Threads + Sync, G: Gate>(
         self,
         rt: &R,
         alloc: Global,

@@ -11,6 +11,7 @@ use std::marker::Brand;
 use std::process::Abort;
 use std::sync::Wait;
 use std::test::Fail;
+use std::thread::Threads;
 use std::time::Clock;
 
 /// A service between two steps of a test, with the searches that wait for a reader, the answers that were not handed in
@@ -24,7 +25,7 @@ struct Played<J: Naming> {
 
 impl<J: Naming> Played<J> {
     /// Takes the next item.
-    fn take<R: Abort + Wait + Clock>(
+    fn take<R: Abort + Wait + Threads + Clock + Sync>(
         &mut self,
         rt: &R,
         alloc: Global,
@@ -43,14 +44,19 @@ impl<J: Naming> Played<J> {
     }
 
     /// Has the search that was asked first answered by this reader, and keeps the answer.
-    fn answer<R: Abort + Clock>(&mut self, rt: &R, alloc: Global, reader: &mut Reader<J>) {
+    fn answer<R: Abort + Threads + Clock + Sync>(
+        &mut self,
+        rt: &R,
+        alloc: Global,
+        reader: &mut Reader<J>,
+    ) {
         let task = self.tasks.pop_front().expect(rt, "a task");
         let done = reader.answer(rt, alloc, task, &Open);
         assert!(rt; self.answers.push_back(done).is_ok());
     }
 
     /// Hands in the answer that was made first.
-    fn hand_in<R: Abort + Wait + Clock>(
+    fn hand_in<R: Abort + Wait + Threads + Clock + Sync>(
         &mut self,
         rt: &R,
         alloc: Global,
@@ -62,7 +68,7 @@ impl<J: Naming> Played<J> {
     }
 
     /// Hands in the answer that was made first, whose search is not open any more.
-    fn hand_in_late<R: Abort + Wait + Clock>(
+    fn hand_in_late<R: Abort + Wait + Threads + Clock + Sync>(
         &mut self,
         rt: &R,
         alloc: Global,
@@ -73,7 +79,7 @@ impl<J: Naming> Played<J> {
     }
 
     /// Has the search that was asked first answered by the service. It is not open afterwards.
-    fn answer_here<R: Abort + Wait + Clock>(
+    fn answer_here<R: Abort + Wait + Threads + Clock + Sync>(
         &mut self,
         rt: &R,
         alloc: Global,
@@ -95,7 +101,7 @@ impl<J: Naming> Played<J> {
 
     /// The step that this letter names: `i` takes an item, `1` and `2` are readers that answer the first search, `r` puts
     /// it last, `h` answers it here, `d` hands in an answer, and `l` one whose search is not open any more.
-    fn step<R: Abort + Wait + Clock>(
+    fn step<R: Abort + Wait + Threads + Clock + Sync>(
         &mut self,
         rt: &R,
         alloc: Global,
@@ -120,7 +126,7 @@ impl<J: Naming> Played<J> {
 }
 
 /// The text of a script whose steps come in this order.
-fn text_of<J: Naming, R: Abort + Wait + Clock>(
+fn text_of<J: Naming, R: Abort + Wait + Threads + Clock + Sync>(
     rt: &R,
     alloc: Global,
     opened: Opened,
@@ -148,7 +154,7 @@ fn text_of<J: Naming, R: Abort + Wait + Clock>(
 }
 
 /// A script whose steps come in this order, with two readers, has this text.
-fn expect<R: Abort + Wait + Clock>(
+fn expect<R: Abort + Wait + Threads + Clock + Sync>(
     rt: &R,
     alloc: Global,
     script: &[u8],

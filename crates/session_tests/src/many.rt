@@ -11,6 +11,7 @@ use std::marker::Brand;
 use std::process::Abort;
 use std::sync::Wait;
 use std::test::Fail;
+use std::thread::Threads;
 use std::time::Clock;
 use transcript::Entry;
 
@@ -23,7 +24,7 @@ fn number_and_turn(entry: &Entry) -> Option<(u32, u32)> {
 }
 
 /// Takes all items without readers, and returns the number and the turn of the last answer.
-fn last_alone<J: Naming, R: Abort + Wait + Clock>(
+fn last_alone<J: Naming, R: Abort + Wait + Threads + Clock + Sync>(
     rt: &R,
     alloc: Global,
     opened: Opened,
@@ -62,7 +63,7 @@ fn more_than_65536_searches(rt: HostRuntime) -> Result<(), Fail> {
 }
 
 /// Takes all items, and returns the searches, which are open.
-fn open_all<J: Naming, R: Abort + Wait + Clock>(
+fn open_all<J: Naming, R: Abort + Wait + Threads + Clock + Sync>(
     rt: &R,
     alloc: Global,
     service: &mut Service<J>,
@@ -86,7 +87,7 @@ fn open_all<J: Naming, R: Abort + Wait + Clock>(
 
 /// Has each search answered, from the last to the first, and returns whether each answer has the number and the turn that it
 /// should have.
-fn answer_all<J: Naming, R: Abort + Wait + Clock>(
+fn answer_all<J: Naming, R: Abort + Wait + Threads + Clock + Sync>(
     rt: &R,
     alloc: Global,
     service: &mut Service<J>,
@@ -112,7 +113,7 @@ fn answer_all<J: Naming, R: Abort + Wait + Clock>(
 }
 
 /// Searches that are open at once are answered from the last to the first.
-fn from_last_to_first<J: Naming, R: Abort + Wait + Clock>(
+fn from_last_to_first<J: Naming, R: Abort + Wait + Threads + Clock + Sync>(
     rt: &R,
     alloc: Global,
     opened: Opened,

@@ -1,12 +1,11 @@
 -- Which names have a document after one more command.
-use Rattle.std.proofs.Common.{◌≡◌, ℕ, ◌+◌, Bool, true, false, not, ◌&&◌, ◌||◌, cond, List, [], ◌∷◌, ◌++◌, length, Option, Some, None, refl, sym, ap, ◌∙◌}
+use Rattle.std.proofs.Common.{◌≡◌, ℕ, ◌+◌, Bool, true, false, not, ◌&&◌, ◌||◌, cond, List, [], ◌∷◌, ◌++◌, map, length, Option, Some, None, refl, sym, ap, ◌∙◌}
 use Rattle.std.specs.Prelude.{bytes_eq, is_some}
 use Rattle.std.proofs.lemmas.Cmp.{nat_list_eq_equiv}
 use Rattle.index.specs.declared.command.Command.{Command}
 use Rattle.index.specs.declared.command.Command.TheVariants.{Put, Remove}
-use Rattle.index.specs.Documents.{Document, document, documents_from, documents_of, number_of}
-use Rattle.index.specs.State.{without}
-use Rattle.index.proofs.DocumentLemmas.{same_name}
+use Rattle.index.specs.Documents.{Document, document, documents_after, documents_from, documents_of, number_of, is_taken, with_body, without}
+use Rattle.index.proofs.DocumentLemmas.{same_name, number_of-replaced}
 use Rattle.index.proofs.StateLemmas.{state_of-push}
 use Rattle.shared.specs.Desk.{has_document}
 
@@ -53,18 +52,36 @@ found_push k n body name (d ∷ ds) = go (bytes_eq d.name name) (found_push k n 
     go true deeper = refl
     go false deeper = deeper
 
-either_way : (v x : Bool) → ((not v && x) || v) ≡ (v || x)
-either_way true x = refl
-either_way false true = refl
-either_way false false = refl
+either_order : (v x : Bool) → (x || v) ≡ (v || x)
+either_order true true = refl
+either_order true false = refl
+either_order false true = refl
+either_order false false = refl
+
+-- a name that has a document already
+named_already : (n name : List ℕ) (docs : List Document) → is_taken n docs ≡ true
+    → is_some (number_of name docs) ≡ (bytes_eq n name || is_some (number_of name docs))
+named_already n name docs taken = go (bytes_eq n name) refl
+  where
+    go : (t : Bool) → bytes_eq n name ≡ t → is_some (number_of name docs) ≡ (t || is_some (number_of name docs))
+    go true same = ap (λ q. is_taken q docs) (sym (same_name n name same)) ∙ taken
+    go false other = refl
+
+found_put : (k : ℕ) (n body name : List ℕ) (docs : List Document)
+    → is_some (number_of name (documents_after k (Put n body) docs)) ≡ (bytes_eq n name || is_some (number_of name docs))
+found_put k n body name docs = go (is_taken n docs) refl
+  where
+    go : (t : Bool) → is_taken n docs ≡ t
+        → is_some (number_of name (cond t (map (with_body n body) docs) (docs ++ document k n body ∷ [])))
+        ≡ (bytes_eq n name || is_some (number_of name docs))
+    go true taken = ap is_some (number_of-replaced (λ d. bytes_eq d.name n) body name docs) ∙ named_already n name docs taken
+    go false free = found_push k n body name docs ∙ either_order (bytes_eq n name) (is_some (number_of name docs))
 
 pub has_document-put : (commands : List Command) (n body name : List ℕ)
     → has_document (commands ++ Put n body ∷ []) name ≡ (bytes_eq n name || has_document commands name)
 has_document-put commands n body name =
-    let docs = documents_of commands in
     ap (λ s. is_some (number_of name s.documents)) (state_of-push commands (Put n body))
-    ∙ (found_push (length commands + 1) n body name (without n docs)
-    ∙ (ap (λ b. b || bytes_eq n name) (without_same n name docs) ∙ either_way (bytes_eq n name) (has_document commands name)))
+    ∙ found_put (length commands + 1) n body name (documents_of commands)
 
 pub has_document-remove : (commands : List Command) (n name : List ℕ)
     → has_document (commands ++ Remove n ∷ []) name ≡ (not (bytes_eq n name) && has_document commands name)

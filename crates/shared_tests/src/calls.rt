@@ -167,8 +167,8 @@ fn finds(alloc: Global, reading: &mut Reading, pattern: &Prepared, version: u32)
 }
 
 fn is_of_a(answer: &Answer) -> bool {
-    match answer.hits() {
-        [hit] => matches!(hit.name.as_bytes(), [b'a']),
-        _ => false,
+    match answer.hit(0) {
+        Some(hit) => answer.hit_count() == 1 && matches!(hit.name.as_bytes(), [b'a']),
+        None => false,
     }
 }

@@ -10,6 +10,8 @@ mod fixtures;
 #[cfg(test)]
 mod matching;
 #[cfg(test)]
+mod parts;
+#[cfg(test)]
 mod service;
 #[cfg(test)]
 mod torn;

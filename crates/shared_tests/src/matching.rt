@@ -61,7 +61,7 @@ fn expect_beside<R: Threads + Wait + Abort + Sync>(
     let answer = answer.expect(rt, "an answer");
     assert!(rt; is_beside);
     assert!(rt; answer.version() == SLOW_DOCUMENTS + 1);
-    assert!(rt; answer.hits().len() == 1);
+    assert!(rt; answer.hit_count() == 1);
 }
 
 /// Puts documents whose names and lines are a number and then the start of a match that never ends.

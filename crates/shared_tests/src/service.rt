@@ -101,7 +101,7 @@ fn a_put_beside_two_searches(rt: HostRuntime) {
     desk.close(&rt);
     let (one, two) = answers.expect(&rt, "both search");
     assert!(rt; one.version() == 1);
-    assert!(rt; one.hits().len() == 2);
+    assert!(rt; one.hit_count() == 2);
     assert!(rt; two.version() == 1);
-    assert!(rt; two.hits().len() == 2);
+    assert!(rt; two.hit_count() == 2);
 }

@@ -89,7 +89,7 @@ fn watch(alloc: Global, mut reading: Reading, pattern: &Prepared, done: &AtomicU
 fn is_whole(answer: &Answer) -> bool {
     let number = answer.version() / 2;
     let hits = if number == 0 { 0 } else { 2 };
-    answer.version() % 2 == 0 && answer.hits().len() == hits && are_lines_of(answer, number)
+    answer.version() % 2 == 0 && answer.hit_count() == hits && are_lines_of(answer, number)
 }
 
 fn are_lines_of(answer: &Answer, number: u32) -> bool {
@@ -97,7 +97,7 @@ fn are_lines_of(answer: &Answer, number: u32) -> bool {
     for hit in answer.hits() {
         if hit.name.as_bytes() != [name].as_slice()
             || hit.line != 1
-            || number_of(&hit.text) != number
+            || number_of(hit.text) != number
         {
             return false;
         }

@@ -7,6 +7,7 @@ ghost use Rattle.stream.specs.Private.Bytes.{Counts, Appends, Fills, PassesPiece
 use crate::item::StreamError;
 use crate::line::{append, interrupted};
 use index::MAX_BODY;
+use script::line_feeds;
 use std::alloc::Global;
 use std::io::BufRead;
 
@@ -48,7 +49,7 @@ fn count(bytes: &[u8]) -> Passed
 {
     Passed {
         count: bytes.len(),
-        line_feeds: bytes.iter().filter(|b| **b == b'\n').count(),
+        line_feeds: line_feeds(bytes),
     }
 }
 

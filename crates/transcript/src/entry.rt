@@ -112,7 +112,7 @@ pub fn has_hit(entry: &Entry) -> bool
     ensures { result ≡ has_hit entry.now }
 {
     match entry {
-        Entry::Found { answer, .. } => !answer.hits().is_empty(),
+        Entry::Found { answer, .. } => answer.hit_count() != 0,
         _ => false,
     }
 }

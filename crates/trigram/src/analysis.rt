@@ -1,20 +1,21 @@
 //! The analysis of a pattern into the condition that every document with a matching line meets.
 
-ghost use Rattle.std.specs.Prelude.{◌≡◌, IfOk, map, ◌∷◌, [], None, Some, if◌then◌else◌};
+ghost use Rattle.std.specs.Prelude.{◌≡◌, IfOk, IsTrue, map, ◌∷◌, [], None, Some, if◌then◌else◌};
 ghost use Rattle.ere.specs.Limits.{IsWithinLimits};
 ghost use Rattle.ere.specs.Tree.{form, trees_of};
 ghost use Rattle.ere.specs.Tree as tree;
 ghost use Rattle.query.specs.Query.{formula_of, is_met, IsPlain, IsPlainFor};
 ghost use Rattle.trigram.specs.Texts.{union};
-ghost use Rattle.trigram.specs.Private.Values.{texts_of, shown_analysis, ends_analysis, ArePlain, StandFor, EndsStandFor};
+ghost use Rattle.trigram.specs.Private.Values.{texts_of, shown_analysis, ends_analysis, without_condition, ArePlain, StandFor, EndsStandFor};
 ghost use Rattle.trigram.specs.Analysis.{just_empty, anything, settle_loose, settle_known, are_kept, loosen, either, both};
 ghost use Rattle.trigram.specs.Analysis.{copies_of, optional, repeated, bytes_in, one_byte, analysis_of, condition, known};
 
 use crate::texts::{
-    MOST_TEXTS, Side, copied_texts, has_text, joins, kept_ends, query_of_texts, union,
+    MOST_TEXTS, Side, are_same_texts, copied_texts, has_text, joins, kept_ends, query_of_texts,
+    union,
 };
 use ere::{ByteSet, Ere};
-use query::{Connective, Query, copied, join};
+use query::{Connective, Query, join};
 use std::alloc::{AllocError, Global};
 
 /// The length of the longest text that is kept whole, in bytes.
@@ -303,30 +304,51 @@ fn widened(
     Ok(own)
 }
 
-fn copied_analysis(alloc: Global, analysis: &Analysis) -> Result<Analysis, AllocError>
-    requires { ArePlain analysis.now }
-    ensures { IfOk result (StandFor (shown_analysis analysis.now)) }
+/// A copy, without the condition of loose ends.
+fn without_condition(alloc: Global, analysis: &Analysis) -> Result<Analysis, AllocError>
+    ensures { IfOk result (StandFor (without_condition (shown_analysis analysis.now))) }
 {
     match analysis {
-        Analysis::Known(texts) => Ok(Analysis::Known(copied_texts(alloc, texts.as_slice())?)),
+        Analysis::Known(texts) => Ok(Analysis::Known(copied_texts(alloc, texts)?)),
         Analysis::Loose(ends) => Ok(Analysis::Loose(Ends {
             nullable: ends.nullable,
-            prefixes: copied_texts(alloc, ends.prefixes.as_slice())?,
-            suffixes: copied_texts(alloc, ends.suffixes.as_slice())?,
-            condition: copied(alloc, &ends.condition)?,
+            prefixes: copied_texts(alloc, &ends.prefixes)?,
+            suffixes: copied_texts(alloc, &ends.suffixes)?,
+            condition: Query::Any,
         })),
     }
 }
 
-/// One copy, and `others` more, one after the other.
-fn copies_of(alloc: Global, one: &Analysis, others: u8) -> Result<Analysis, AllocError>
-    requires { ArePlain one.now }
-    ensures { IfOk result (StandFor (copies_of (shown_analysis one.now) others)) }
+/// Whether the same is known, apart from the conditions.
+fn is_alike(one: &Analysis, other: &Analysis) -> bool
+    ensures { IsTrue result → without_condition (shown_analysis one.now) ≡ without_condition (shown_analysis other.now) }
 {
-    let mut whole = copied_analysis(alloc, one)?;
+    match (one, other) {
+        (Analysis::Known(texts), Analysis::Known(others)) => are_same_texts(texts, others),
+        (Analysis::Loose(ends), Analysis::Loose(others)) => {
+            ends.nullable == others.nullable
+                && are_same_texts(&ends.prefixes, &others.prefixes)
+                && are_same_texts(&ends.suffixes, &others.suffixes)
+        }
+        _ => false,
+    }
+}
+
+/// One copy, and `others` more, one after the other. The condition of the first holds for the whole, so the others
+/// come without it. If a copy leaves the ends as they are, those after it change nothing and are not made.
+fn copies_of(alloc: Global, one: Analysis, others: u8) -> Result<Analysis, AllocError>
+    requires { ArePlain one }
+    ensures { IfOk result (StandFor (copies_of (shown_analysis one) others)) }
+{
+    let copy = without_condition(alloc, &one)?;
+    let mut whole = one;
     for _made in 0..others {
-        let next = copied_analysis(alloc, one)?;
+        let before = without_condition(alloc, &whole)?;
+        let next = without_condition(alloc, &copy)?;
         whole = both(alloc, whole, next)?;
+        if is_alike(&whole, &before) {
+            return Ok(whole);
+        }
     }
     Ok(whole)
 }
@@ -384,9 +406,14 @@ fn at_least(alloc: Global, one: Analysis, least: u8) -> Result<Analysis, AllocEr
     if least == 1 {
         return Ok(Analysis::Loose(loosen(alloc, one)?));
     }
-    let prefix = copies_of(alloc, &one, least - 2)?;
-    let suffix = Analysis::Loose(loosen(alloc, one)?);
-    both(alloc, prefix, suffix)
+    match one {
+        Analysis::Loose(ends) => copies_of(alloc, Analysis::Loose(ends), least - 1),
+        Analysis::Known(texts) => {
+            let first = Analysis::Known(copied_texts(alloc, texts.as_slice())?);
+            let prefix = copies_of(alloc, first, least - 2)?;
+            both(alloc, prefix, Analysis::Loose(loosen_known(alloc, texts)?))
+        }
+    }
 }
 
 fn between(alloc: Global, one: Analysis, least: u8, most: u8) -> Result<Analysis, AllocError>
@@ -396,11 +423,12 @@ fn between(alloc: Global, one: Analysis, least: u8, most: u8) -> Result<Analysis
     if least == 0 {
         return optional(alloc, one, most);
     }
-    let prefix = copies_of(alloc, &one, least - 1)?;
+    let copy = without_condition(alloc, &one)?;
+    let prefix = copies_of(alloc, one, least - 1)?;
     if least == most {
         return Ok(prefix);
     }
-    let suffix = optional(alloc, one, most.saturating_sub(least))?;
+    let suffix = optional(alloc, copy, most.saturating_sub(least))?;
     both(alloc, prefix, suffix)
 }
 

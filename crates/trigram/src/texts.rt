@@ -106,6 +106,20 @@ pub(crate) fn copied_texts(alloc: Global, texts: &[Vec<u8>]) -> Result<Vec<Vec<u
     Ok(copies)
 }
 
+/// Whether the sets have equal texts in the same order.
+#[cycle(are_same_texts)]
+pub(crate) fn are_same_texts(texts: &[Vec<u8>], others: &[Vec<u8>]) -> bool
+    ensures { IsTrue result → texts_of texts.now ≡ texts_of others.now }
+{
+    match (texts.split_first(), others.split_first()) {
+        (None, None) => true,
+        (Some((text, rest)), Some((other, rest_of_others))) => {
+            text == other && are_same_texts(rest, rest_of_others)
+        }
+        _ => false,
+    }
+}
+
 /// Every text of the first set, followed by every text of the second.
 #[tactic(auto, unfolding(crate::specs::Texts::with_texts))]
 pub(crate) fn joins(

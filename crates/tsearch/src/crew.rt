@@ -5,7 +5,7 @@ use crossbeam_channel::{Receiver, Sender, bounded, unbounded};
 use service::{Done, Gate, Naming, Reader, Task};
 use std::alloc::Global;
 use std::sync::Wait;
-use std::thread::Scope;
+use std::thread::{Scope, Threads};
 use std::time::Clock;
 
 /// How many answers can wait for the run. A reader that has one more waits.
@@ -27,7 +27,7 @@ pub(crate) struct Crew<J: Naming> {
 impl<J: Naming + Send + Sync> Crew<J> {
     /// Starts the readers, each in a thread of its own, which ends after the crew is dropped. Where there is no memory for
     /// that, or a thread cannot be started, there are fewer of them, or none.
-    pub(crate) fn start<'s, 'a: 's, E, R: Wait + Clock + Sync, G: Gate>(
+    pub(crate) fn start<'s, 'a: 's, E, R: Threads + Wait + Clock + Sync, G: Gate>(
         scope: &Scope<'s, E>,
         plan: &Plan<'a, J, R, G>,
         readers: Vec<Reader<J>>,
@@ -58,7 +58,7 @@ impl<J: Naming + Send + Sync> Crew<J> {
 }
 
 /// Starts a reader. `false` means that it could not be started.
-fn start<'s, 'a: 's, E, J: Naming + Send + Sync, R: Wait + Clock + Sync, G: Gate>(
+fn start<'s, 'a: 's, E, J: Naming + Send + Sync, R: Threads + Wait + Clock + Sync, G: Gate>(
     scope: &Scope<'s, E>,
     plan: &Plan<'a, J, R, G>,
     reader: Reader<J>,

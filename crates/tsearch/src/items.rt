@@ -19,7 +19,7 @@ use std::time::Clock;
 use transcript::{Entry, SearchReason};
 
 /// How many searches are open at most. Before one more item is taken, the run waits for an answer.
-const MAX_OPEN: usize = 256;
+const MAX_OPEN: usize = 1024;
 
 /// What a run is given, and what it lends to its readers.
 #[derive(Drop)]

@@ -1,21 +1,27 @@
 -- How the sets of an index follow its documents.
-use Rattle.std.specs.Prelude.{◌≡◌, ℕ, ◌<◌, false, IsTrue, List, All, Option, Some, None, map}
+use Rattle.std.specs.Prelude.{◌≡◌, ℕ, ◌<◌, not, false, List, All, Option, Some, None, map, filter}
 use Rattle.query.specs.Trigrams.{TrigramSet, trigrams_of_body}
-use Rattle.posting.specs.ListValue.{HasRoom}
-use Rattle.posting.specs.Postings.{holds, IsPrepared, AllDiffer}
+use Rattle.posting.specs.ListValue.{has, HasRoom}
+use Rattle.posting.specs.Postings.{holds, IsPrepared, IsAbsent, AllDiffer}
 use Rattle.index.specs.declared.sets.Sets.{Sets}
+use Rattle.index.specs.declared.sets.Change.{Change}
 use Rattle.index.specs.Documents.{Document, document_at}
 
--- There is room for a document with these trigrams in all sets that it goes into.
-pub record HasRoomFor (sets : Sets) (trigrams : List ℕ) : Type 0 where
+-- There is room for a document with this number and these trigrams in all sets that it goes into.
+pub record HasRoomFor (sets : Sets) (number : ℕ) (trigrams : List ℕ) : Type 0 where
   pub live : HasRoom sets.live
-  pub postings : IsPrepared sets.postings trigrams
+  pub postings : IsPrepared sets.postings number trigrams
 
--- The number is above all others, and the trigrams are all different.
+-- The number is above all others and in no set of these trigrams, which are all different.
 pub record IsNew (sets : Sets) (number : ℕ) (trigrams : List ℕ) : Type 0 where
   pub live : All (λ m. m < number) sets.live.members
-  pub postings : (trigram n : ℕ) → IsTrue (holds sets.postings trigram n) → n < number
+  pub postings : IsAbsent sets.postings trigrams number
   pub once : AllDiffer trigrams
+
+-- The change from the old trigrams to the new ones: those that only the new have, and those that only the old have.
+pub record IsChange (old new : List ℕ) (change : Change) : Type 0 where
+  pub fresh : change.fresh ≡ filter (λ t. not (has old t)) new
+  pub gone : change.gone ≡ filter (λ t. not (has new t)) old
 
 -- the trigrams of the document with a number; none if there is no such document
 abbrev pub trigrams_shown : Option (List ℕ × List ℕ) → TrigramSet

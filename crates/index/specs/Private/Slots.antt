@@ -1,5 +1,5 @@
 -- The slots that hold the documents of an index.
-use Rattle.std.specs.Prelude.{ℕ, ◌+◌, ◌*◌, ◌≤◌, length, not, ◌==◌, List, [], ◌∷◌, ◌++◌, All, map, filter, Option, Some, None}
+use Rattle.std.specs.Prelude.{ℕ, ◌+◌, ◌*◌, ◌≤◌, length, not, ◌==◌, if◌then◌else◌, List, [], ◌∷◌, ◌++◌, All, map, filter, Option, Some, None}
 use Rattle.std.specs.List.Sorted.{IsStrictlyIncreasing}
 use Rattle.index.specs.declared.slots.Slot.{Slot}
 use Rattle.index.specs.declared.slots.Occupant.{Occupant}
@@ -34,3 +34,7 @@ texts_of occupant = (occupant.name, occupant.held)
 -- the documents except the one with this number
 abbrev pub without_number : ℕ → List Document → List Document
 without_number number documents = filter (λ d. not (d.number == number)) documents
+
+-- the document, with this body if it has the number
+abbrev pub with_body_at : ℕ → List ℕ → Document → Document
+with_body_at number body d = if d.number == number then document d.number d.name body else d

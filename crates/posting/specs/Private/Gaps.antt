@@ -1,6 +1,6 @@
 -- Stored numbers, read back.
 use Rattle.std.specs.Prelude.{◌≡◌, ℕ, zero, suc, ◌+◌, ◌-◌, ◌*◌, ◌^◌, ◌<◌, ◌≤◌, if◌then◌else◌, nat_lt, nat_le, List, [], ◌∷◌, ◌++◌, All}
-use Rattle.std.specs.Prelude.{filter, length, true, ◌||◌, take, sum, slice_index}
+use Rattle.std.specs.Prelude.{filter, length, Bool, true, ◌||◌, take, drop, sum, slice_index}
 use Rattle.std.specs.List.Sorted.{IsStrictlyIncreasing}
 use Rattle.posting.specs.ListValue.{has, without}
 use Rattle.posting.specs.Stored.{bytes_of, bytes_after}
@@ -28,10 +28,9 @@ pub record IsSpelled (before : ℕ) (bytes : List ℕ) : Type 0 where
   pub from : All (λ n. before ≤ n) (numbers_after before bytes)
   pub bound : All (λ n. n < 2 ^ 32) (numbers_after before bytes)
 
--- what a list keeps: bytes, how many numbers there are after the first, and the last one
-pub record IsStored (bytes : List ℕ) (others last : ℕ) : Type 0 where
+-- what a list keeps: bytes, and the last number
+pub record IsStored (bytes : List ℕ) (last : ℕ) : Type 0 where
   pub spelled : IsSpelled 0 bytes
-  pub counted : others ≡ length (numbers_after 0 bytes) - 1
   pub ends : last ≡ last_of 0 (numbers_after 0 bytes)
 
 -- the first number, and the bytes after it
@@ -94,3 +93,34 @@ pub record IsCut (bytes : List ℕ) (number : ℕ) (front : List ℕ) (last : �
   pub ends : last ≡ last_of 0 (numbers_after 0 front)
   pub above : All (λ n. number ≤ n) left
   pub spelled : IsSpelled 0 front
+
+-- Both have this many bytes, and they are the same.
+pub record AreSameBytes (left right : List ℕ) (count : ℕ) : Type 0 where
+  pub in_left : count ≤ length left
+  pub in_right : count ≤ length right
+  pub same : (k : ℕ) → k < count → slice_index left k ≡ slice_index right k
+
+-- The byte before this place ends a number, or the place is 0.
+abbrev pub IsSeam : List ℕ → ℕ → Type 0
+IsSeam bytes place = 0 < place → slice_index bytes (place - 1) < 128
+
+-- Both begin with the same numbers, which take this many bytes, and `at` is the last of them, or `before`.
+pub record IsSameStart (before : ℕ) (left right : List ℕ) (place at : ℕ) : Type 0 where
+  pub same : List ℕ
+  pub in_left : place ≤ length left
+  pub in_right : place ≤ length right
+  pub numbers_left : numbers_after before left ≡ same ++ numbers_after at (drop place left)
+  pub numbers_right : numbers_after before right ≡ same ++ numbers_after at (drop place right)
+  pub spelled_left : IsSpelled at (drop place left)
+  pub spelled_right : IsSpelled at (drop place right)
+
+-- Some numbers were taken out that both lists began with.
+pub record AreLeftOut (left right left' right' : List ℕ) : Type 0 where
+  pub same : List ℕ
+  pub left_is : left ≡ same ++ left'
+  pub right_is : right ≡ same ++ right'
+
+-- The numbers on the right up to this one were taken out, and perhaps some that both lists then began with.
+pub record IsMet (left right : List ℕ) (number : ℕ) (there : Bool) (left' right' : List ℕ) : Type 0 where
+  pub there_is : there ≡ has right number
+  pub left_out : AreLeftOut left (without number (not_below number right)) left' right'

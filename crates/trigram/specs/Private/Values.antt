@@ -1,5 +1,5 @@
 -- What the values of the program's analysis mean: sets of texts, and what is known about words.
-use Rattle.std.specs.Prelude.{◌≡◌, ℕ, false, List, [], ◌∷◌, length, map, take}
+use Rattle.std.specs.Prelude.{◌≡◌, ℕ, false, true, List, [], ◌∷◌, length, map, take}
 use Rattle.std.specs.declared.alloc.Global.{Global}
 use Rattle.std.specs.declared.vec.Vec.{Vec}
 use Rattle.query.specs.Query.{formula_of, is_met, IsPlain}
@@ -37,6 +37,11 @@ shown_analysis (Loose ends) = ends_analysis ends
 abbrev pub ArePlain : program.Analysis → Type 0
 ArePlain (Known texts) = Unit {0}
 ArePlain (Loose ends) = IsPlain (formula_of ends.condition)
+
+-- what is known, apart from the condition of loose ends
+abbrev pub without_condition : Analysis → Analysis
+without_condition (known texts) = known texts
+without_condition (loose nullable prefixes suffixes condition) = loose nullable prefixes suffixes (λ _. true)
 
 -- The program's analysis is this one, and its condition is plain.
 pub record StandFor (analysis : Analysis) (found : program.Analysis) : Type 0 where

@@ -1,17 +1,23 @@
 use Rattle.std.proofs.Common.{◌∙◌, sym, arith, ap}
+use Rattle.std.proofs.lemmas.List.{length-take}
 use Rattle.index.specs.Text.{has_long_line}
-use Rattle.index.proofs.LineLemmas.{long-first, long-last, rest-after}
+use Rattle.index.proofs.LineLemmas.{long-short, long-feed, long-none, rest-after}
 use Rattle.index.proofs.body.has_long_line.Goals as goal
 
-pub returns-then-end-gt-MAX_LINE : goal.returns-then-end-gt-MAX_LINE
-returns-then-end-gt-MAX_LINE c =
-    sym (c.loop-end.invariant ∙ (long-first c.loop-end.rest.now c.in-Some.end c.in-Some.ensures).0 (omega arith))
+pub returns-in_default : goal.returns-in_default
+returns-in_default c = sym (c.loop-rest.invariant ∙ long-none c.loop-rest.rest.now (omega arith) c.in_default.ensures)
 
-pub loop-end-preserved : goal.loop-end-preserved
-loop-end-preserved c =
-    c.loop-end.invariant
-    ∙ ((long-first c.loop-end.rest.now c.in-Some.end c.in-Some.ensures).1 (omega arith)
-    ∙ ap has_long_line (sym (rest-after c.loop-end.rest.now c.in-Some.end)))
+pub slice_bounds-rest-count : goal.slice_bounds-rest-count
+slice_bounds-rest-count c = let h = c.in-Some.ensures.0.high in omega (arith, h, length-take 16385 c.loop-rest.rest.now)
+
+pub slice_bounds-rest-start : goal.slice_bounds-rest-start
+slice_bounds-rest-start c = let h = c.in-Some.ensures.0.high in omega (arith, h, length-take 16385 c.loop-rest.rest.now)
+
+pub loop-rest-preserved : goal.loop-rest-preserved
+loop-rest-preserved c =
+    c.loop-rest.invariant
+    ∙ (long-feed c.loop-rest.rest.now c.in-Some.end (omega arith) c.in-Some.ensures
+    ∙ ap has_long_line (sym (rest-after c.loop-rest.rest.now c.in-Some.end)))
 
 pub returns : goal.returns
-returns c = sym (c.loop-end.invariant ∙ long-last c.loop-end.rest.now c.in_default.ensures)
+returns c = sym (c.loop-rest.invariant ∙ long-short c.loop-rest.rest.now (omega arith))

@@ -1,7 +1,8 @@
-use Rattle.std.proofs.Common.{List}
+use Rattle.std.proofs.Common.{List, sym, subst, refl}
 use Rattle.index.specs.declared.command.Command.{Command}
+use Rattle.index.specs.Documents.{IsPutLast, document}
 use Rattle.index.specs.State.{state_of}
-use Rattle.index.proofs.PutLemmas.{IsDocument-Contains, Contains-IsDocument}
+use Rattle.index.proofs.PutLemmas.{IsDocument-Contains, Contains-IsPutLast}
 use Rattle.search.specs.Pattern.{Pattern}
 use Rattle.search.specs.Scan.{Hit, IsHit}
 use Rattle.search.specs.Commands.{IsHitOfPut}
@@ -9,9 +10,9 @@ use Rattle.search.proofs.laws.answers_follow_commands.Goals as goal
 
 to_put : (commands : List Command) (pattern : Pattern) (found : Hit) → IsHit (state_of commands) pattern found → IsHitOfPut commands pattern found
 to_put commands pattern found h = record {
-  document = h.document;
-  put = IsDocument-Contains commands h.document h.there;
-  named = h.named;
+  body = h.document.body;
+  put =
+      subst (λ name. IsPutLast commands name h.document.body) (sym h.named) (IsDocument-Contains commands h.document h.there).last;
   counted = h.counted;
   line = h.line;
   hit = h.hit;
@@ -19,15 +20,17 @@ to_put commands pattern found h = record {
 }
 
 from_put : (commands : List Command) (pattern : Pattern) (found : Hit) → IsHitOfPut commands pattern found → IsHit (state_of commands) pattern found
-from_put commands pattern found h = record {
-  document = h.document;
-  there = Contains-IsDocument commands h.document h.put;
-  named = h.named;
-  counted = h.counted;
-  line = h.line;
-  hit = h.hit;
-  name_hit = h.name_hit;
-}
+from_put commands pattern found h =
+    let at = Contains-IsPutLast commands found.name h.body h.put in
+    record {
+      document = document at.0 found.name h.body;
+      there = at.1;
+      named = refl;
+      counted = h.counted;
+      line = h.line;
+      hit = h.hit;
+      name_hit = h.name_hit;
+    }
 
 pub returns-clause-version : goal.returns-clause-version
 returns-clause-version c = λ commands pattern answer is. is.version

@@ -1,9 +1,11 @@
-use Rattle.std.proofs.Common.{◌+◌, arith}
+use Rattle.std.proofs.Common.{◌+◌, ◌-◌, length, take, drop, arith}
+use Rattle.std.proofs.lemmas.List.{length-take, length-drop}
 use Rattle.ere.specs.Tree.{form}
+use Rattle.lines.specs.Lines.{lines_of}
 use Rattle.index.specs.Text.{greatest_body}
-use Rattle.search.specs.Hits.{hits_of}
-use Rattle.search.specs.Private.Selects.{HasMatch, lines_of_document}
-use Rattle.search.proofs.PieceLemmas.{short_pieces, room_for_lines, room_after, next_piece}
+use Rattle.search.specs.Private.Selects.{numbered, lines_of_document}
+use Rattle.search.proofs.PieceLemmas.{rest_of, short_pieces, room_for_lines, room_after, numbered-pieces}
+use Rattle.search.proofs.PlaceLemmas.{first_is_there, rest_is_there, go_on, at_last}
 use Rattle.search.proofs.matching.scan_body.Goals as goal
 
 pub scan_piece-requires-clause-short : goal.scan_piece-requires-clause-short
@@ -30,16 +32,38 @@ overflow_add-line g c =
 pub loop-end-preserved : goal.loop-end-preserved
 loop-end-preserved g c =
     let at = c.loop-end in
+    let text = at.rest.now in
+    let body = c.args.body.now in
+    let lines = c.lines_before.result in
     let whole_lines = at.invariant.piece.whole_lines c.loop-end-test.true in
     record {
       so_far =
-          next_piece (HasMatch (form c.args.tree.now)) c.args.name.now (lines_of_document c.args.name.now c.args.body.now) at.line
-          at.rest.now (hits_of c.args.hits.now.items) (hits_of at.hits.items) at.invariant.so_far at.end whole_lines
-          (hits_of c.scan_piece.new.hits.items) c.in_ok-scan_piece.ensures.hits c.lines_before.result c.lines_before.ensures;
+          λ name.
+          go_on (form c.args.tree.now) c.args.document name body (numbered name at.line (lines_of (take at.end text)))
+          (numbered name (at.line + lines) (lines_of (rest_of text at.end))) (numbered name at.line (lines_of text))
+          (lines_of_document name body) c.args.places.now.items at.places.items c.scan_piece.new.places.items
+          (numbered-pieces name at.line text at.end whole_lines lines c.lines_before.ensures) (at.invariant.so_far name)
+          (c.in_ok-scan_piece.ensures.places body name
+          (first_is_there body at.offset text at.end at.invariant.piece.inside at.invariant.there));
       way = c.scan_piece.ensures.way;
-      short = (short_pieces at.rest.now at.end whole_lines at.invariant.short).1;
-      room =
-          room_after at.rest.now at.end at.line c.lines_before.result (1 + greatest_body) c.lines_before.ensures
-          at.invariant.piece.inside at.invariant.room;
+      short = (short_pieces text at.end whole_lines at.invariant.short).1;
+      there = rest_is_there body at.offset text at.end at.invariant.piece.inside at.invariant.there;
+      place =
+          omega (
+            arith,
+            at.invariant.place,
+            at.invariant.piece.inside,
+            length-take (length text - at.end) (drop at.end text),
+            length-drop at.end text,
+          );
+      room = room_after text at.end at.line lines (1 + greatest_body) c.lines_before.ensures at.invariant.piece.inside at.invariant.room;
       piece = c.piece_end-end-in-loop-end.ensures;
     }
+
+pub returns-clause-places : goal.returns-clause-places
+returns-clause-places g c = λ name.
+    let at = c.loop-end in
+    let body = c.args.body.now in
+    at_last (form c.args.tree.now) c.args.document name body (numbered name at.line (lines_of at.rest.now)) (lines_of_document name body)
+    c.args.places.now.items at.places.items c.scan_piece-2.new.places.items (at.invariant.so_far name)
+    (c.in_ok-scan_piece-2.ensures.places body name at.invariant.there)

@@ -1,7 +1,6 @@
-use Rattle.std.proofs.Common.{take, ap, subst}
+use Rattle.std.proofs.Common.{take, subst}
 use Rattle.std.specs.Prelude.{flat_map}
 use Rattle.ere.specs.Tree.{form}
-use Rattle.search.specs.Hits.{hits_of}
 use Rattle.search.specs.Private.Selects.{Adds, HasMatch}
 use Rattle.search.specs.Private.Documents.{lines_of_taken}
 use Rattle.search.proofs.ScanLemmas.{two-parts}
@@ -12,6 +11,6 @@ returns g c =
     let Has = HasMatch (form c.args.tree.now) in
     let documents = c.args.documents.now in
     let few = c.in_ok-few.few in
-    two-parts Has lines_of_taken documents few (hits_of c.scan_few.new.hits.items) (hits_of c.scan_compiled.new.hits.items)
-    (subst (λ old. Adds Has (flat_map lines_of_taken (take few documents)) old (hits_of c.scan_few.new.hits.items))
-    (ap hits_of c.new-hits.ensures.items) c.in_ok-few.ensures.hits) c.in_ok-scan_compiled.ensures
+    two-parts Has lines_of_taken documents few c.scan_few.new.hits c.scan_compiled.new.hits
+    (subst (λ old. Adds Has (flat_map lines_of_taken (take few documents)) old c.scan_few.new.hits)
+    c.new-hits.ensures c.in_ok-few.ensures.hits) c.in_ok-scan_compiled.ensures

@@ -1,39 +1,58 @@
-use Rattle.std.proofs.Common.{◌≡◌, ◌<◌, ◌+◌, length, arith}
+use Rattle.std.proofs.Common.{◌≡◌, ◌<◌, ◌+◌, ◌-◌, ◌∷◌, [], length, take, drop, sym, subst, arith}
 use Rattle.std.proofs.lemmas.Bool.Decides.{nat_tests}
+use Rattle.std.proofs.lemmas.List.{length-take, length-drop}
 use Rattle.std.proofs.lemmas.Result.{on_ok_weaker}
 use Rattle.ere.specs.Tree.{form}
 use Rattle.lines.specs.Lines.{lines_of}
-use Rattle.search.specs.Hits.{hits_of}
-use Rattle.search.specs.Private.Selects.{HasMatch, numbered}
-use Rattle.search.proofs.LineLemmas.{length-first, length-last, short-rest, room-rest, step, last, ended}
+use Rattle.search.specs.Private.Selects.{found, numbered}
+use Rattle.search.specs.Private.Added.{AddsPlaces}
+use Rattle.search.proofs.LineLemmas.{length-first, length-last, short-rest, room-rest, numbered-first, numbered-last, numbered-empty}
+use Rattle.search.proofs.PlaceLemmas.{first_is_there, rest_is_there, go_on, at_end, at_last}
 use Rattle.search.proofs.matching.scan_lines.Goals as goal
 
 pub scan_line-requires-clause-short : goal.scan_line-requires-clause-short
 scan_line-requires-clause-short c = length-first c.loop-end.rest.now c.in-Some.end c.loop-end.invariant.short c.in-Some.ensures
 
 pub loop-end-preserved : goal.loop-end-preserved
-loop-end-preserved c = record {
-  so_far =
-      step (HasMatch (form c.args.tree.now)) c.args.name.now (numbered c.args.name.now c.args.from (lines_of c.args.text.now)) c.loop-end.line c.loop-end.rest.now
-      (hits_of c.args.hits.now.items) (hits_of c.loop-end.hits.items) c.loop-end.invariant.so_far c.in-Some.end
-      (hits_of c.scan_line.new.hits.items) c.in-Some.ensures c.in_ok-scan_line.ensures;
-  short = short-rest c.loop-end.rest.now c.in-Some.end c.loop-end.invariant.short c.in-Some.ensures;
-  room = room-rest c.loop-end.line (c.args.from + length c.args.text.now) c.loop-end.rest.now c.in-Some.end c.in-Some.ensures c.loop-end.invariant.room;
-}
+loop-end-preserved c =
+    let at = c.loop-end in
+    let text = at.rest.now in
+    let end = c.in-Some.end in
+    let rest = take (length text - (end + 1)) (drop (end + 1) text) in
+    let low : end < length text = c.in-Some.ensures.0.high in
+    record {
+      so_far =
+          λ body name there.
+          go_on (form c.args.tree.now) c.args.document name body (found name at.line (take end text) ∷ [])
+          (numbered name (at.line + 1) (lines_of rest)) (numbered name at.line (lines_of text))
+          (numbered name c.args.from (lines_of c.args.text.now)) c.args.places.now.items at.places.items c.scan_line.new.places.items
+          (numbered-first name at.line text end c.in-Some.ensures) (at.invariant.so_far body name there)
+          (c.in_ok-scan_line.ensures name body (first_is_there body at.at text end (omega arith) (at.invariant.there body there)));
+      short = short-rest text end at.invariant.short c.in-Some.ensures;
+      there = λ body there. rest_is_there body at.at text (end + 1) (omega arith) (at.invariant.there body there);
+      place = omega (arith, at.invariant.place, length-take (length text - (end + 1)) (drop (end + 1) text), length-drop (end + 1) text);
+      room = room-rest at.line (c.args.from + length c.args.text.now) text end c.in-Some.ensures at.invariant.room;
+    }
 
 pub returns-then-is_empty : goal.returns-then-is_empty
-returns-then-is_empty c =
-    let empty : length c.loop-end.rest.now ≡ 0 = grind (arith, nat_tests) in
-    ended (HasMatch (form c.args.tree.now)) c.args.name.now (numbered c.args.name.now c.args.from (lines_of c.args.text.now)) c.loop-end.line c.loop-end.rest.now
-    (hits_of c.args.hits.now.items) (hits_of c.loop-end.hits.items) c.loop-end.invariant.so_far empty
+returns-then-is_empty c = λ body name there.
+    let at = c.loop-end in
+    let empty : length at.rest.now ≡ 0 = grind (arith, nat_tests) in
+    at_end (form c.args.tree.now) c.args.document name body (numbered name at.line (lines_of at.rest.now))
+    (numbered name c.args.from (lines_of c.args.text.now)) c.args.places.now.items at.places.items
+    (numbered-empty name at.line at.rest.now empty) (at.invariant.so_far body name there)
 
 pub scan_line-requires-2-clause-short : goal.scan_line-requires-2-clause-short
 scan_line-requires-2-clause-short c = length-last c.loop-end.rest.now c.loop-end.invariant.short c.in_default.ensures
 
 pub returns : goal.returns
 returns c =
-    let some : 0 < length c.loop-end.rest.now = grind (arith, nat_tests) in
-    on_ok_weaker c.scan_line-2.result (λ added.
-    last (HasMatch (form c.args.tree.now)) c.args.name.now (numbered c.args.name.now c.args.from (lines_of c.args.text.now)) c.loop-end.line c.loop-end.rest.now
-    (hits_of c.args.hits.now.items) (hits_of c.loop-end.hits.items) c.loop-end.invariant.so_far
-    (hits_of c.scan_line-2.new.hits.items) some c.in_default.ensures added) c.scan_line-2.ensures
+    let at = c.loop-end in
+    let text = at.rest.now in
+    let some : 0 < length text = grind (arith, nat_tests) in
+    on_ok_weaker c.scan_line-2.result (λ added. λ body name there.
+    at_last (form c.args.tree.now) c.args.document name body (numbered name at.line (lines_of text))
+    (numbered name c.args.from (lines_of c.args.text.now)) c.args.places.now.items at.places.items c.scan_line-2.new.places.items
+    (at.invariant.so_far body name there)
+    (subst (λ lines. AddsPlaces (form c.args.tree.now) c.args.document name body lines at.places.items c.scan_line-2.new.places.items)
+    (sym (numbered-last name at.line text some c.in_default.ensures)) (added name body (at.invariant.there body there)))) c.scan_line-2.ensures

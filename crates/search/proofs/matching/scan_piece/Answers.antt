@@ -3,12 +3,12 @@ use Rattle.ere.specs.Tree.{form}
 use Rattle.search.proofs.WayLemmas.{finder_of, finds_by}
 use Rattle.search.proofs.matching.scan_piece.Goals as goal
 
-pub returns-in-FromMatchToMatch-clause-hits : goal.returns-in-FromMatchToMatch-clause-hits
-returns-in-FromMatchToMatch-clause-hits c =
+pub returns-in-FromMatchToMatch-clause-places : goal.returns-in-FromMatchToMatch-clause-places
+returns-in-FromMatchToMatch-clause-places c =
     on_ok_weaker c.sweep_lines.result (λ added.
-    added (form c.args.tree.now)
+    λ body. added (form c.args.tree.now) body
     (finder_of (form c.args.tree.now) c.args.way.now c.in-FromMatchToMatch.finder c.in-FromMatchToMatch.is c.requires.way))
-    c.sweep_lines.ensures.hits
+    c.sweep_lines.ensures.places
 
 pub returns-in-FromMatchToMatch-clause-way : goal.returns-in-FromMatchToMatch-clause-way
 returns-in-FromMatchToMatch-clause-way c =

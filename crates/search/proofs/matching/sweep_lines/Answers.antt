@@ -1,52 +1,62 @@
-use Rattle.std.proofs.Common.{◌≡◌, ◌+◌, ◌-◌, ◌∷◌, [], ◌++◌, length, take, drop, ap, ◌∙◌}
-use Rattle.std.proofs.lemmas.List.{map-append}
+use Rattle.std.proofs.Common.{◌≤◌, ◌+◌, ◌-◌, length, take, drop, sym, subst, arith}
+use Rattle.std.proofs.lemmas.List.{length-take, length-drop}
 use Rattle.lines.specs.Lines.{lines_of}
-use Rattle.search.specs.Hits.{hit_of, hits_of}
-use Rattle.search.specs.Private.Selects.{found, numbered}
-use Rattle.search.proofs.SweepLemmas.{sweep_on, sweep_last, sweep_end, room_left}
+use Rattle.search.specs.Private.Selects.{numbered}
+use Rattle.search.specs.Private.Added.{AddsPlaces}
+use Rattle.search.proofs.PlaceLemmas.{rest_is_there, no_place, go_on, at_last}
+use Rattle.search.proofs.SweepLemmas.{none_numbered, lines_through, numbered-through, numbered-to_end, first_place, left_after, room_left}
 use Rattle.search.proofs.matching.sweep_lines.Goals as goal
 
-pub returns-then-first-rest-clause-hits : goal.returns-then-first-rest-clause-hits
-returns-then-first-rest-clause-hits c =
-    let old = c.loop-first.hits.items in
-    let name = c.args.name.now in
-    let line = c.loop-first.line + c.in-Some.first.before in
-    let text = take (c.in-Some.first.end - c.in-Some.first.start) (drop c.in-Some.first.start c.loop-first.rest.now) in
-    let is : found c.in_ok-share.field-0 line c.in_ok-from_slice.field-0.items ≡ found name line text =
-    ap (λ n. found n line c.in_ok-from_slice.field-0.items) c.in_ok-share.ensures
-    ∙ ap (λ t. found name line t) c.in_ok-from_slice.ensures.items in
-    let grown : hits_of c.push.new.self.items ≡ hits_of old ++ found name line text ∷ [] =
-    ap hits_of c.in_ok-push.ensures.items ∙ (map-append hit_of old _ ∙ ap (λ f. hits_of old ++ f ∷ []) is) in
-    λ tree stands.
-    sweep_last tree c.args.name.now (numbered c.args.name.now c.args.from (lines_of c.args.text.now)) c.loop-first.line c.loop-first.rest.now (hits_of c.args.hits.now.items)
-    (hits_of c.loop-first.hits.items) (c.loop-first.invariant.so_far tree stands) c.in-Some.first
-    (c.in-Some.ensures.some tree (c.loop-first.invariant.same tree stands)) (hits_of c.push.new.self.items) grown c.if-first-rest.true
+pub returns-then-first-rest-clause-places : goal.returns-then-first-rest-clause-places
+returns-then-first-rest-clause-places c = λ tree body stands name there.
+    let at = c.loop-first in
+    let text = at.rest.now in
+    let first = c.in-Some.first in
+    let is = c.in-Some.ensures.some tree (at.invariant.same tree stands) in
+    at_last tree c.args.document name body (numbered name at.line (lines_of text)) (numbered name c.args.from (lines_of c.args.text.now))
+    c.args.places.now.items at.places.items c.push.new.self.items (at.invariant.so_far tree body name stands there)
+    (subst (λ lines. AddsPlaces tree c.args.document name body lines at.places.items c.push.new.self.items)
+    (sym (numbered-to_end tree name at.line text first is c.if-first-rest.true))
+    (first_place tree c.args.document name body at.line at.at text first is c.in-Some.ensures.inside (at.invariant.there body there)
+    at.places.items c.push.new.self.items c.in_ok-push.ensures.items))
 
 pub loop-first-preserved : goal.loop-first-preserved
 loop-first-preserved c =
-    let old = c.loop-first.hits.items in
-    let name = c.args.name.now in
-    let line = c.loop-first.line + c.in-Some.first.before in
-    let text = take (c.in-Some.first.end - c.in-Some.first.start) (drop c.in-Some.first.start c.loop-first.rest.now) in
-    let is : found c.in_ok-share.field-0 line c.in_ok-from_slice.field-0.items ≡ found name line text =
-    ap (λ n. found n line c.in_ok-from_slice.field-0.items) c.in_ok-share.ensures
-    ∙ ap (λ t. found name line t) c.in_ok-from_slice.ensures.items in
-    let grown : hits_of c.push.new.self.items ≡ hits_of old ++ found name line text ∷ [] =
-    ap hits_of c.in_ok-push.ensures.items ∙ (map-append hit_of old _ ∙ ap (λ f. hits_of old ++ f ∷ []) is) in
+    let at = c.loop-first in
+    let text = at.rest.now in
+    let first = c.in-Some.first in
+    let rest = take (length text - (first.end + 1)) (drop (first.end + 1) text) in
+    let low : first.end + 1 ≤ length text = omega (arith, c.if-first-rest.false, c.in-Some.ensures.inside.inside) in
     record {
       so_far =
-          λ tree stands.
-          sweep_on tree c.args.name.now (numbered c.args.name.now c.args.from (lines_of c.args.text.now)) c.loop-first.line c.loop-first.rest.now (hits_of c.args.hits.now.items)
-          (hits_of c.loop-first.hits.items) (c.loop-first.invariant.so_far tree stands) c.in-Some.first
-          (c.in-Some.ensures.some tree (c.loop-first.invariant.same tree stands)) (hits_of c.push.new.self.items) grown;
-      same = λ tree stands. c.in-Some.ensures.same tree (c.loop-first.invariant.same tree stands);
+          λ tree body name stands there.
+          (let is = c.in-Some.ensures.some tree (at.invariant.same tree stands) in
+          go_on tree c.args.document name body (numbered name at.line (lines_through is))
+          (numbered name (at.line + first.before + 1) (lines_of rest)) (numbered name at.line (lines_of text))
+          (numbered name c.args.from (lines_of c.args.text.now)) c.args.places.now.items at.places.items c.push.new.self.items
+          (numbered-through tree name at.line text first is rest (left_after text first)) (at.invariant.so_far tree body name stands there)
+          (first_place tree c.args.document name body at.line at.at text first is c.in-Some.ensures.inside (at.invariant.there body there)
+          at.places.items c.push.new.self.items c.in_ok-push.ensures.items));
+      same = λ tree stands. c.in-Some.ensures.same tree (at.invariant.same tree stands);
+      there = λ body there. rest_is_there body at.at text (first.end + 1) low (at.invariant.there body there);
+      place =
+          omega (
+            arith,
+            low,
+            at.invariant.place,
+            length-take (length text - (first.end + 1)) (drop (first.end + 1) text),
+            length-drop (first.end + 1) text,
+          );
       room =
-          room_left c.loop-first.line (c.args.from + length c.args.text.now) c.loop-first.rest.now c.in-Some.first c.in-Some.ensures.inside
-          c.if-first-rest.false c.loop-first.invariant.room;
+          room_left at.line (c.args.from + length c.args.text.now) text first c.in-Some.ensures.inside c.if-first-rest.false
+          at.invariant.room;
     }
 
-pub returns-clause-hits : goal.returns-clause-hits
-returns-clause-hits c = λ tree stands.
-    sweep_end tree c.args.name.now (numbered c.args.name.now c.args.from (lines_of c.args.text.now)) c.loop-first.line c.loop-first.rest.now (hits_of c.args.hits.now.items)
-    (hits_of c.loop-first.hits.items) (c.loop-first.invariant.so_far tree stands)
-    (c.in_default.ensures.none tree (c.loop-first.invariant.same tree stands))
+pub returns-clause-places : goal.returns-clause-places
+returns-clause-places c = λ tree body stands name there.
+    let at = c.loop-first in
+    let text = at.rest.now in
+    at_last tree c.args.document name body (numbered name at.line (lines_of text)) (numbered name c.args.from (lines_of c.args.text.now))
+    c.args.places.now.items at.places.items at.places.items (at.invariant.so_far tree body name stands there)
+    (no_place tree c.args.document name body (numbered name at.line (lines_of text)) at.places.items
+    (none_numbered tree name at.line (lines_of text) (c.in_default.ensures.none tree (at.invariant.same tree stands))))

@@ -1,18 +1,20 @@
-use Rattle.std.proofs.Common.{◌+◌, ◌≤◌, ◌++◌, List, length}
+use Rattle.std.proofs.Common.{◌≡◌, ◌+◌, ◌≤◌, ℕ, List, length}
 use Rattle.lines.specs.Lines.{lines_of}
 use Rattle.ere.specs.Tree.{Tree}
 use Rattle.finder.specs.Patterns.{IsFinderOf}
-use Rattle.search.specs.Scan.{Hit}
-use Rattle.search.specs.Hits.{hits_of}
-use Rattle.search.specs.Private.Selects.{Adds, HasMatch, Selects, numbered}
+use Rattle.search.specs.Private.Selects.{numbered}
+use Rattle.search.specs.Private.Added.{HasTextAt}
+use Rattle.search.proofs.PlaceLemmas.{AddsSoFar}
 use Rattle.search.proofs.matching.sweep_lines.Given as goal
 
 abbrev pub invariant-loop-first : goal.invariant-loop-first
 invariant-loop-first l = record {
-  so_far : (tree : Tree) → IsFinderOf tree l.initial.finder → (more : List Hit)
-      → Selects (HasMatch tree) (numbered l.name l.line (lines_of l.rest)) more
-      → Adds (HasMatch tree) (numbered l.name l.from (lines_of l.text)) (hits_of l.initial.hits.items) (hits_of l.hits.items ++ more);
+  so_far : (tree : Tree) (body name : List ℕ) → IsFinderOf tree l.initial.finder → HasTextAt body l.offset l.text
+      → AddsSoFar tree l.document name body (numbered name l.line (lines_of l.rest)) (numbered name l.from (lines_of l.text))
+      l.initial.places.items l.places.items;
   same : (tree : Tree) → IsFinderOf tree l.initial.finder → IsFinderOf tree l.finder;
+  there : (body : List ℕ) → HasTextAt body l.offset l.text → HasTextAt body l.at l.rest;
+  place : l.at + length l.rest ≡ l.offset + length l.text;
   room : l.line + length l.rest ≤ l.from + length l.text;
 }
 

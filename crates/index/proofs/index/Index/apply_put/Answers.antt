@@ -1,57 +1,111 @@
-use Rattle.std.proofs.Common.{◌+◌, ◌<◌, ◌^◌, ◌∙◌, ap, arith}
+use Rattle.std.proofs.Common.{◌≡◌, ◌+◌, ◌<◌, ◌^◌, ◌++◌, ◌∷◌, [], Some, None, sym, ◌∙◌, ap, arith, subst, map}
 use Rattle.index.specs.declared.command.Command.TheVariants.{Put}
+use Rattle.index.specs.Text.{IsName}
+use Rattle.index.specs.Documents.{document, number_of}
 use Rattle.index.specs.State.{state, applied}
+use Rattle.index.specs.Private.Slots.{with_body_at}
 use Rattle.index.specs.Private.Store.{stored}
-use Rattle.index.proofs.IndexLemmas.{IsIndex-room, IsIndex-unchanged, IsIndex-put, put_documents, room_for_bytes}
+use Rattle.index.proofs.ApplyLemmas.{document_at-named}
+use Rattle.index.proofs.IndexLemmas.{numbered, IsIndex-room, IsIndex-unchanged, IsIndex-replace, IsIndex-new, replaced_is_applied, new_is_applied, room_for_bytes}
 use Rattle.index.proofs.index.Index.apply_put.Goals as goal
+
+pub prepare-requires-clause-there : goal.prepare-requires-clause-there
+prepare-requires-clause-there c =
+    let documents = stored c.self.inside.store in
+    document_at-named documents (numbered c.self.inside.version documents c.self.invariant.is_state) c.args.name.now c.in-Some.number
+    (ap (λ s. number_of c.args.name.now s.documents) c.self.view_is ∙ sym c.in-Some.ensures)
 
 pub invariant_of-self : goal.invariant_of-self
 invariant_of-self c =
-    IsIndex-room c.self.inside.version c.self.inside.numbers c.self.inside.store c.make_room.new.self c.self.invariant
-    c.make_room.ensures.documents (c.make_room.ensures.store c.self.inside.version c.self.invariant.kept)
-
-pub invariant_of-self-in_err-gone : goal.invariant_of-self-in_err-gone
-invariant_of-self-in_err-gone c =
-    let kept =
-    IsIndex-room c.self.inside.version c.self.inside.numbers c.self.inside.store c.make_room.new.self c.self.invariant
-    c.make_room.ensures.documents (c.make_room.ensures.store c.self.inside.version c.self.invariant.kept) in
-    IsIndex-unchanged c.self.inside.version c.self.inside.numbers c.enter.new.numbers c.make_room.new.self kept c.in_err-gone.ensures.err
+    IsIndex-room c.self.inside.version c.self.inside.numbers c.self.inside.store c.prepare.new.self c.self.invariant c.prepare.ensures.documents
+    (c.prepare.ensures.store c.self.inside.version c.self.invariant.kept)
 
 pub replace-requires-clause-store : goal.replace-requires-clause-store
-replace-requires-clause-store c = (c.self.inside.version, c.make_room.ensures.store c.self.inside.version c.self.invariant.kept, omega arith)
+replace-requires-clause-store c = (c.self.inside.version, c.prepare.ensures.store c.self.inside.version c.self.invariant.kept)
 
 pub replace-requires-clause-room : goal.replace-requires-clause-room
-replace-requires-clause-room c = c.in_ok-make_room.ensures.ok c.in_ok-share.field-0 c.trigrams.ensures.trigrams
+replace-requires-clause-room c = c.in_ok-change.ensures.ok c.in_ok-held.held c.trigrams.ensures.trigrams
 
 pub replace-requires-clause-bytes : goal.replace-requires-clause-bytes
 replace-requires-clause-bytes c =
+    let version = c.self.inside.version in
     let kept =
-    IsIndex-room c.self.inside.version c.self.inside.numbers c.self.inside.store c.make_room.new.self c.self.invariant
-    c.make_room.ensures.documents (c.make_room.ensures.store c.self.inside.version c.self.invariant.kept) in
-    room_for_bytes c.self.inside.version (stored c.make_room.new.self) c.in_ok-share.field-0 kept.is_state c.trigrams.ensures.body c.self.invariant.few
+    IsIndex-room version c.self.inside.numbers c.self.inside.store c.prepare.new.self c.self.invariant c.prepare.ensures.documents
+    (c.prepare.ensures.store version c.self.invariant.kept) in
+    room_for_bytes version (stored c.prepare.new.self) c.in_ok-held.held kept.is_state c.trigrams.ensures.body c.self.invariant.few
+
+pub invariant_of-self-in-Some : goal.invariant_of-self-in-Some
+invariant_of-self-in-Some c =
+    let version = c.self.inside.version in
+    let few : version + 1 < 2 ^ 32 = omega (arith, c.requires, ap (λ s. s.version) c.self.view_is) in
+    let store = c.prepare.ensures.store version c.self.invariant.kept in
+    let kept =
+    IsIndex-room version c.self.inside.numbers c.self.inside.store c.prepare.new.self c.self.invariant c.prepare.ensures.documents store in
+    IsIndex-replace version c.self.inside.numbers c.prepare.new.self c.replace.new.self c.in-Some.number c.in_ok-held.held kept
+    c.trigrams.ensures.body few c.replace.ensures.documents (c.replace.ensures.store version store)
+
+pub returns-in-Some-clause-ok : goal.returns-in-Some-clause-ok
+returns-in-Some-clause-ok c =
+    let version = c.self.inside.version in
+    let documents = stored c.self.inside.store in
+    let name = c.args.name.now in
+    let found : number_of name documents ≡ Some c.in-Some.number =
+    ap (λ s. number_of name s.documents) c.self.view_is ∙ sym c.in-Some.ensures in
+    ap (state (version + 1))
+    (c.replace.ensures.documents
+    ∙ (ap (map (with_body_at c.in-Some.number c.in_ok-held.held)) c.prepare.ensures.documents
+    ∙ ap (λ b. map (with_body_at c.in-Some.number b) documents) c.in_ok-held.ensures))
+    ∙ (replaced_is_applied (state version documents) c.self.invariant.is_state name c.args.held.now c.in-Some.number found
+    ∙ ap (applied (Put name c.args.held.now)) c.self.view_is)
+
+pub invariant_of-self-in_err-own : goal.invariant_of-self-in_err-own
+invariant_of-self-in_err-own c =
+    let version = c.self.inside.version in
+    let kept =
+    IsIndex-room version c.self.inside.numbers c.self.inside.store c.enter.new.store c.self.invariant c.enter.ensures.documents
+    (c.enter.ensures.store version c.self.invariant.kept) in
+    IsIndex-unchanged version c.self.inside.numbers c.enter.new.numbers c.enter.new.store kept c.in_err-own.ensures.err
+
+pub put_in-requires-clause-store : goal.put_in-requires-clause-store
+put_in-requires-clause-store c = (c.self.inside.version, c.enter.ensures.store c.self.inside.version c.self.invariant.kept, omega arith)
+
+pub put_in-requires-clause-room : goal.put_in-requires-clause-room
+put_in-requires-clause-room c = c.in_ok-own.ensures.room c.in_ok-held.held c.trigrams-2.ensures.trigrams
+
+pub put_in-requires-clause-bytes : goal.put_in-requires-clause-bytes
+put_in-requires-clause-bytes c =
+    let version = c.self.inside.version in
+    let kept =
+    IsIndex-room version c.self.inside.numbers c.self.inside.store c.enter.new.store c.self.invariant c.enter.ensures.documents
+    (c.enter.ensures.store version c.self.invariant.kept) in
+    room_for_bytes version (stored c.enter.new.store) c.in_ok-held.held kept.is_state c.trigrams-2.ensures.body c.self.invariant.few
 
 pub invariant_of-self-2 : goal.invariant_of-self-2
 invariant_of-self-2 c =
     let version = c.self.inside.version in
+    let before = c.enter.new.store in
+    let name = c.args.name.now in
+    let held = c.in_ok-held.held in
     let few : version + 1 < 2 ^ 32 = omega (arith, c.requires, ap (λ s. s.version) c.self.view_is) in
     let kept =
-    IsIndex-room version c.self.inside.numbers c.self.inside.store c.make_room.new.self c.self.invariant c.make_room.ensures.documents
-    (c.make_room.ensures.store version c.self.invariant.kept) in
-    IsIndex-put version c.self.inside.numbers c.enter.new.numbers c.make_room.new.self c.replace.new.self c.in_ok-shared_name.field-0
-    c.in_ok-share.field-0 c.in_ok-gone.gone kept c.in_ok-gone.ensures.name c.trigrams.ensures.body few c.in_ok-gone.ensures.gone
-    c.in_ok-gone.ensures.ok c.replace.ensures.documents c.replace.ensures.store
+    IsIndex-room version c.self.inside.numbers c.self.inside.store before c.self.invariant c.enter.ensures.documents
+    (c.enter.ensures.store version c.self.invariant.kept) in
+    let none : number_of name (stored before) ≡ None =
+    ap (number_of name) c.enter.ensures.documents ∙ (ap (λ s. number_of name s.documents) c.self.view_is ∙ sym c.number.ensures ∙ c.in_default.is) in
+    IsIndex-new version c.self.inside.numbers c.enter.new.numbers before c.put_in.new.self name held kept none
+    (subst IsName c.in_ok-own.ensures.name.0 c.in_ok-own.ensures.name.1) c.trigrams-2.ensures.body few c.in_ok-own.ensures.numbers
+    (c.put_in.ensures.documents ∙ ap (λ n. stored before ++ document (version + 1) n held ∷ []) c.in_ok-own.ensures.name.0) c.put_in.ensures.store
 
 pub returns-clause-ok : goal.returns-clause-ok
 returns-clause-ok c =
     let version = c.self.inside.version in
-    let name = c.in_ok-shared_name.field-0 in
-    let held = c.in_ok-share.field-0 in
-    let kept =
-    IsIndex-room version c.self.inside.numbers c.self.inside.store c.make_room.new.self c.self.invariant c.make_room.ensures.documents
-    (c.make_room.ensures.store version c.self.invariant.kept) in
-    put_documents version c.self.inside.numbers c.make_room.new.self c.replace.new.self name held c.in_ok-gone.gone kept
-    c.in_ok-gone.ensures.gone c.replace.ensures.documents
-    ∙ (ap (λ ds. applied (Put name held) (state version ds)) c.make_room.ensures.documents
-    ∙ (ap (applied (Put name held)) c.self.view_is
-    ∙ (ap (λ n. applied (Put n held) c.args.self.now) c.in_ok-shared_name.ensures
-    ∙ ap (λ h. applied (Put c.args.name.now h) c.args.self.now) c.in_ok-share.ensures)))
+    let documents = stored c.self.inside.store in
+    let name = c.args.name.now in
+    let none : number_of name documents ≡ None =
+    ap (λ s. number_of name s.documents) c.self.view_is ∙ sym c.number.ensures ∙ c.in_default.is in
+    ap (state (version + 1))
+    (c.put_in.ensures.documents
+    ∙ (ap (λ ds. ds ++ document (version + 1) c.in_ok-own.own c.in_ok-held.held ∷ []) c.enter.ensures.documents
+    ∙ (ap (λ n. documents ++ document (version + 1) n c.in_ok-held.held ∷ []) c.in_ok-own.ensures.name.0
+    ∙ ap (λ b. documents ++ document (version + 1) name b ∷ []) c.in_ok-held.ensures)))
+    ∙ (new_is_applied (state version documents) name c.args.held.now none ∙ ap (applied (Put name c.args.held.now)) c.self.view_is)

@@ -1,5 +1,4 @@
-use Rattle.std.proofs.Common.{ap, arith, length}
-use Rattle.std.proofs.lemmas.List.{length-map}
+use Rattle.std.proofs.Common.{arith}
 use Rattle.index.specs.Private.Store.{stored}
 use Rattle.index.proofs.ApplyLemmas.{length-documents}
 use Rattle.index.proofs.index.Index.documents.Goals as goal
@@ -8,4 +7,4 @@ pub overflow_cast-result : goal.overflow_cast-result
 overflow_cast-result c =
     let ds = stored c.self.inside.store in
     let is = c.self.invariant in
-    omega (arith, c.len.ensures, ap length is.kept.sets.live, length-map ds (λ d. d.number), length-documents c.self.inside.version ds is.is_state, is.few)
+    omega (arith, is.kept.counted, length-documents c.self.inside.version ds is.is_state, is.few)

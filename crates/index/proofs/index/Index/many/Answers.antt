@@ -6,8 +6,7 @@ use Rattle.index.specs.State.{IsState}
 use Rattle.index.specs.Shared.{documents_shared}
 use Rattle.index.specs.Private.Chosen.{documents_numbered}
 use Rattle.index.proofs.StoredLemmas.{Numbered-rise}
-use Rattle.index.proofs.ApplyLemmas.{Named-pairs}
-use Rattle.index.proofs.OrderLemmas.{many_in_order}
+use Rattle.index.proofs.OrderLemmas.{Named-pairs, many_in_order}
 use Rattle.index.proofs.ChosenLemmas.{numbered-more, numbered-end, filter-keep, filter-skip}
 use Rattle.index.proofs.index.Index.many.Goals as goal
 

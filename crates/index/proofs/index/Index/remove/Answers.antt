@@ -1,7 +1,7 @@
-use Rattle.std.proofs.Common.{◌+◌, ◌<◌, ◌^◌, refl, sym, ◌∙◌, ap, arith, Some, None}
+use Rattle.std.proofs.Common.{◌+◌, ◌<◌, ◌^◌, sym, ◌∙◌, ap, arith, None}
 use Rattle.index.specs.declared.command.Command.TheVariants.{Remove}
-use Rattle.index.specs.State.{applied}
-use Rattle.index.proofs.IndexLemmas.{IsIndex-remove, remove_documents, changed_at}
+use Rattle.index.specs.State.{state, applied}
+use Rattle.index.proofs.IndexLemmas.{IsIndex-remove, removed_is_without, absent_is_without, changed_at}
 use Rattle.index.proofs.index.Index.remove.Goals as goal
 use Rattle.index.proofs.index.Index.remove.Goals.{in-Some, in_default}
 
@@ -13,11 +13,17 @@ invariant_of-self c =
     elim c.match-remove.branch [
       | in-Some w ↦ rw w.self-inside-is
           (IsIndex-remove version c.self.inside.numbers c.remove.new.self c.self.inside.store w.take_out.new.self c.args.name.now
-          (Some w.in-Some.number) c.self.invariant few (sym w.in-Some.is ∙ c.remove.ensures.value) removed w.take_out.ensures.documents
+          c.self.invariant few removed
+          (w.take_out.ensures.documents
+          ∙ removed_is_without version c.self.inside.numbers c.self.inside.store c.args.name.now w.in-Some.number c.self.invariant
+          (sym c.remove.ensures.value ∙ w.in-Some.is))
           (w.take_out.ensures.store version c.self.invariant.kept))
       | in_default w ↦ rw w.self-inside-is
-          (IsIndex-remove version c.self.inside.numbers c.remove.new.self c.self.inside.store c.self.inside.store c.args.name.now None
-          c.self.invariant few (sym w.in_default.is ∙ c.remove.ensures.value) removed refl c.self.invariant.kept)
+          (IsIndex-remove version c.self.inside.numbers c.remove.new.self c.self.inside.store c.self.inside.store c.args.name.now
+          c.self.invariant few removed
+          (absent_is_without version c.self.inside.numbers c.self.inside.store c.args.name.now c.self.invariant
+          (sym c.remove.ensures.value ∙ w.in_default.is))
+          c.self.invariant.kept)
     ]
 
 pub returns-clause-ok : goal.returns-clause-ok
@@ -26,9 +32,14 @@ returns-clause-ok c =
     let shown = ap (applied (Remove c.args.name.now)) c.self.view_is in
     elim c.match-remove.branch [
       | in-Some w ↦ rw w.self-inside-is
-          (remove_documents version c.self.inside.numbers c.self.inside.store w.take_out.new.self c.args.name.now (Some w.in-Some.number)
-          c.self.invariant (sym w.in-Some.is ∙ c.remove.ensures.value) w.take_out.ensures.documents ∙ shown)
+          (ap (state (version + 1))
+          (w.take_out.ensures.documents
+          ∙ removed_is_without version c.self.inside.numbers c.self.inside.store c.args.name.now w.in-Some.number c.self.invariant
+          (sym c.remove.ensures.value ∙ w.in-Some.is))
+          ∙ shown)
       | in_default w ↦ rw w.self-inside-is
-          (remove_documents version c.self.inside.numbers c.self.inside.store c.self.inside.store c.args.name.now None c.self.invariant
-          (sym w.in_default.is ∙ c.remove.ensures.value) refl ∙ shown)
+          (ap (state (version + 1))
+          (absent_is_without version c.self.inside.numbers c.self.inside.store c.args.name.now c.self.invariant
+          (sym c.remove.ensures.value ∙ w.in_default.is))
+          ∙ shown)
     ]

@@ -1,4 +1,4 @@
-use Rattle.std.proofs.Common.{sym, ap, subst, arith}
+use Rattle.std.proofs.Common.{sym, ap, subst, arith, length}
 use Rattle.index.specs.Documents.{document_at}
 use Rattle.index.specs.State.{body_bytes}
 use Rattle.index.specs.Private.Slots.{documents_in, RiseTo, FewAreEmpty}
@@ -18,5 +18,6 @@ returns-clause-store c = record {
   sets =
       subst (λ xs. AreSetsOf (documents_in xs) c.new-2.result) (sym c.new.ensures.items)
       (record { live = c.new-2.ensures.live; postings = c.new-2.ensures.postings });
+  counted = ap (λ xs. length (documents_in xs)) (sym c.new.ensures.items);
   bytes = ap (λ xs. body_bytes (documents_in xs)) (sym c.new.ensures.items);
 }

@@ -5,7 +5,7 @@ use Rattle.index.specs.State.{body_bytes}
 use Rattle.index.specs.Private.Slots.{documents_in, RiseTo}
 use Rattle.index.specs.Private.Sets.{AreSetsOf}
 use Rattle.index.specs.Private.Store.{stored}
-use Rattle.index.proofs.SlotLemmas.{documents_in-push, RiseTo-push}
+use Rattle.index.proofs.SlotLemmas.{documents_in-push, RiseTo-push, length-documents_in}
 use Rattle.index.proofs.StoredLemmas.{numbers_at_most, document_at-above, AreSetsOf-put, IsNew-above, body_bytes-push}
 use Rattle.index.proofs.store.Store.put_in.Goals as goal
 
@@ -16,6 +16,11 @@ put_in-requires-clause-above c =
     let kept = c.requires.store.1 in
     IsNew-above (stored old) last c.args.number c.args.occupant.held c.trigrams.result.now old.sets kept.sets
     (numbers_at_most last old.slots.items kept.slots) c.requires.store.2 c.trigrams.ensures.trigrams
+
+pub overflow_add-self-2 : goal.overflow_add-self-2
+overflow_add-self-2 c =
+    let slots = c.args.self.now.slots in
+    omega (arith, c.requires.store.1.counted, length-documents_in slots.items, slots.ok.0, slots.ok.1, slots.small)
 
 pub returns-clause-documents : goal.returns-clause-documents
 returns-clause-documents c =
@@ -49,5 +54,6 @@ returns-clause-store c =
           subst (λ ds. AreSetsOf ds c.put_in.new.self) (sym documents)
           (AreSetsOf-put (stored old) c.args.number c.args.occupant.name c.args.occupant.held c.trigrams.result.now old.sets c.put_in.new.self
           kept.sets fresh c.trigrams.ensures.trigrams c.put_in.ensures.live c.put_in.ensures.postings);
+      counted = omega (arith, more_documents, kept.counted);
       bytes = omega (arith, size, bytes, kept.bytes);
     }

@@ -1,4 +1,4 @@
-use Rattle.std.proofs.Common.{◌≡◌, ℕ, true, ◌∙◌, filter, refl}
+use Rattle.std.proofs.Common.{◌≡◌, ℕ, true, ◌∙◌, filter, refl, sym, ap}
 use Rattle.std.proofs.lemmas.Result.{IfOk-weaker}
 use Rattle.query.specs.declared.query.Query.TheVariants as query
 use Rattle.query.specs.Query.{formula_of, formulas_of, all_of, one_of}
@@ -15,13 +15,17 @@ use Rattle.posting.proofs.postings.Postings.+narrow.Goals.{collect_all-then-i-fi
 pub narrow-returns-in-Any : goal.narrow-returns-in-Any
 narrow-returns-in-Any t c = rw (c.in-Any.is, chosen-Any c.args.self.now c.args.within.now.members) (assumption)
 
-pub narrow-returns-in-Some : goal.narrow-returns-in-Some
-narrow-returns-in-Some t c =
-    rw (c.in-Has.is, chosen-Has c.args.self.now c.in-Has.trigram c.args.within.now.members, ← c.in-Some.ensures.some) (assumption)
+pub narrow-returns-in-Empty : goal.narrow-returns-in-Empty
+narrow-returns-in-Empty t c =
+    rw (c.in-Has.is, chosen-Has_empty c.args.self.now c.in-Has.trigram c.args.within.now.members (sym c.in-Empty.ensures)) c.new.ensures
 
-pub narrow-returns-in-None : goal.narrow-returns-in-None
-narrow-returns-in-None t c =
-    rw (c.in-Has.is, chosen-Has_empty c.args.self.now c.in-Has.trigram c.args.within.now.members c.in-None.ensures.none) c.new.ensures
+pub narrow-returns-in-One : goal.narrow-returns-in-One
+narrow-returns-in-One t c =
+    rw (c.in-Has.is, chosen-Has c.args.self.now c.in-Has.trigram c.args.within.now.members, ← c.in-One.ensures) c.only.ensures
+
+pub narrow-returns-in-List : goal.narrow-returns-in-List
+narrow-returns-in-List t c =
+    rw (c.in-Has.is, chosen-Has c.args.self.now c.in-Has.trigram c.args.within.now.members, ← c.in-List.ensures) (assumption)
 
 pub narrow-returns-in_ok-collect-in_default : goal.narrow-returns-in_ok-collect-in_default
 narrow-returns-in_ok-collect-in_default t c =
@@ -43,19 +47,25 @@ collect-returns-in-Any t c =
 pub collect-returns-in-None : goal.collect-returns-in-None
 collect-returns-in-None t c = rw c.in-None.is (found-None c.args.self.now c.args.within.now.members c.new.result.members c.new.ensures)
 
-pub collect-returns-in-Some : goal.collect-returns-in-Some
-collect-returns-in-Some t c =
+pub collect-returns-in-Empty : goal.collect-returns-in-Empty
+collect-returns-in-Empty t c =
+    rw c.in-Has.is
+    (found-Has c.args.self.now c.in-Has.trigram c.args.within.now.members c.new-in-Empty.result.members
+    (λ n there. rw (c.new-in-Empty.ensures, ← c.in-Empty.ensures) refl))
+
+pub collect-returns-in-One : goal.collect-returns-in-One
+collect-returns-in-One t c =
+    rw c.in-Has.is
+    (found-Has c.args.self.now c.in-Has.trigram c.args.within.now.members c.one.result.members
+    (λ n there. ap (λ ns. has ns n) (c.one.ensures.members ∙ c.in-One.ensures)))
+
+pub collect-returns-in-List : goal.collect-returns-in-List
+collect-returns-in-List t c =
     let asked = c.args.within.now.members in
     rw c.in-Has.is
-    (IfOk-weaker c.shortened.result (λ set. (n : ℕ) → has asked n ≡ true → has set.members n ≡ has c.in-Some.list.now.members n)
+    (IfOk-weaker c.shortened.result (λ set. (n : ℕ) → has asked n ≡ true → has set.members n ≡ has c.in-List.list.now.members n)
     (λ set. Finds c.args.self.now (formula_of (query.Has c.in-Has.trigram)) asked set.members)
-    (λ v same. found-Has c.args.self.now c.in-Has.trigram asked v.members (rw c.in-Some.ensures.some at same)) c.shortened.ensures)
-
-pub collect-returns-in-None-list : goal.collect-returns-in-None-list
-collect-returns-in-None-list t c =
-    rw c.in-Has.is
-    (found-Has c.args.self.now c.in-Has.trigram c.args.within.now.members c.new-in-None-list.result.members
-    (λ n there. rw (c.new-in-None-list.ensures, c.in-None-list.ensures.none) refl))
+    (λ v same. found-Has c.args.self.now c.in-Has.trigram asked v.members (rw c.in-List.ensures at same)) c.shortened.ensures)
 
 pub collect-returns-in-And : goal.collect-returns-in-And
 collect-returns-in-And t c =

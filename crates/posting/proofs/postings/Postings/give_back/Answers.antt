@@ -1,10 +1,12 @@
-use Rattle.std.proofs.Common.{◌∙◌, ap}
-use Rattle.posting.specs.Private.Pages.{table_of}
-use Rattle.posting.proofs.Tables.{table_of-same}
+use Rattle.posting.proofs.Widening.{members-given_back, limits-given_back}
 use Rattle.posting.proofs.postings.Postings.give_back.Goals as goal
 
-pub returns : goal.returns
-returns c =
-    ap (table_of c.give_back.new.pages.items) c.give_back.ensures.lists
-    ∙ table_of-same c.self.inside.pages.items c.give_back.new.pages.items c.self.inside.lists.items c.give_back.ensures.slots
-    ∙ c.self.view_is
+pub returns-clause-members : goal.returns-clause-members
+returns-clause-members c =
+    rw (← c.self.view_is, c.give_back.ensures.lists)
+    (members-given_back c.self.inside.pages c.give_back-2.new.self c.self.inside.lists.items c.give_back-2.ensures)
+
+pub returns-clause-limits : goal.returns-clause-limits
+returns-clause-limits c =
+    rw (← c.self.view_is, c.give_back.ensures.lists)
+    (limits-given_back c.self.inside.pages c.give_back-2.new.self c.self.inside.lists.items c.give_back-2.ensures)

@@ -1,9 +1,8 @@
-use Rattle.posting.proofs.Tables.{IsSound-none, set_of-none}
-use Rattle.std.proofs.Common.{refl}
+use Rattle.posting.proofs.Widening.{IsSound-none, holds-none}
 use Rattle.posting.proofs.postings.Postings.new.Goals as goal
 
 pub invariant_of-result : goal.invariant_of-result
-invariant_of-result c = rw (c.new.ensures.items, c.new-2.ensures.items) IsSound-none
+invariant_of-result c = rw c.new-2.ensures.items (IsSound-none c.new.result c.new.ensures)
 
 pub returns : goal.returns
-returns c = λ t n. rw (c.new.ensures.items, c.new-2.ensures.items, set_of-none t) refl
+returns c = holds-none c.new.result c.new-2.result.items c.new.ensures

@@ -1,4 +1,4 @@
-use Rattle.std.proofs.Common.{◌≡◌, ◌<◌, take}
+use Rattle.std.proofs.Common.{◌≡◌, ◌+◌, ◌≤◌, ◌<◌, take, length}
 use Rattle.std.specs.Prelude.{All}
 use Rattle.posting.proofs.trigrams.Trigrams.new.Given as goal
 
@@ -6,4 +6,5 @@ abbrev pub invariant-loop-trigram : goal.invariant-loop-trigram
 invariant-loop-trigram l = record {
   members : l.numbers.members ≡ take l.trigram-index l.rising;
   bound : All (λ n. n < 16777216) l.numbers.members;
+  room : length l.rising ≤ l.numbers.room + l.trigram-index;
 }

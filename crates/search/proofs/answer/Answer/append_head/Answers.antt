@@ -3,7 +3,7 @@ use Rattle.std.specs.Prelude.{codes, decimal}
 use Rattle.std.proofs.lemmas.List.{append-nil}
 use Rattle.std.proofs.lemmas.Result.{on_ok_weaker}
 use Rattle.search.specs.Text.{text_of_head, text_of_stats, line_end}
-use Rattle.search.proofs.TextLemmas.{six, three, counted}
+use Rattle.search.proofs.TextLemmas.{six, three}
 use Rattle.search.proofs.answer.Answer.append_head.Goals as goal
 use Rattle.search.proofs.answer.Answer.append_head.Goals.{then-stats+in_ok-append_stats, else-stats}
 
@@ -16,9 +16,7 @@ returns-clause-ok c =
     let version : c.as_bytes-2.result.now ≡ decimal now.version =
     c.as_bytes-2.ensures.value ∙ (c.format-2.ensures.text ∙ ap decimal c.version.ensures) in
     let lines : c.as_bytes-3.result.now ≡ decimal (length now.hits) =
-    c.as_bytes-3.ensures.value
-    ∙ (c.format-3.ensures.text ∙ counted c.hits.result.now now.hits c.hits.ensures)
-    in
+    c.as_bytes-3.ensures.value ∙ (c.format-3.ensures.text ∙ ap decimal c.hit_count.ensures) in
     let a : c.as_slice.result.now ≡ codes "search " = c.as_slice.ensures in
     let b : c.as_slice-2.result.now ≡ codes " version " = c.as_slice-2.ensures in
     let d : c.as_slice-3.result.now ≡ codes " lines " = c.as_slice-3.ensures in

@@ -1,9 +1,0 @@
-use Rattle.std.proofs.Common.{◌≡◌, ◌++◌}
-use Rattle.posting.proofs.Changes.{Prepared}
-use Rattle.posting.proofs.postings.Postings.prepare_kept.Given as goal
-
-abbrev pub invariant-loop-trigram : goal.invariant-loop-trigram
-invariant-loop-trigram l = record {
-  passed : l.kept ≡ l.yielded ++ l.trigram-iterator;
-  changed : Prepared l.initial.self l.self l.yielded;
-}

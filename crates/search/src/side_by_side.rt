@@ -1,0 +1,100 @@
+//! The lines of documents that contain a match, found in several parts side by side.
+
+ghost use Rattle.std.specs.Prelude.{◌≡◌, ◌≤◌, length, flat_map, IfOk, OnOk, ◌++◌};
+ghost use denote.Param.Send.{IsSync, IsSend};
+ghost use Rattle.ere.specs.Tree.{form};
+ghost use Rattle.ere.specs.Limits.{IsWithinLimits};
+ghost use Rattle.search.specs.Private.Selects.{Selects, HasMatch};
+ghost use Rattle.search.specs.Private.Documents.{lines_of_taken};
+
+use crate::matching::{body_size, scan_documents};
+use crate::places::Places;
+use crate::unanswered::Unanswered;
+use crate::watch::Watch;
+use ere::Ere;
+use index::SharedDocument;
+use std::alloc::Global;
+use std::thread::{Threads, join};
+
+/// A part has at least so many bytes of bodies. To start a thread and to wait for it takes as long as to look through some
+/// twentieth of that.
+const PART: usize = 524_288;
+
+/// The lines with a match in these documents, document after document, found in up to `most` parts of about equal bytes, each
+/// in a thread of its own where one can be started. `watch` is copied for each part.
+pub(crate) fn scan_side_by_side<R: Threads + Sync, W: Watch + Copy + Send>(
+    rt: &R,
+    alloc: Global,
+    tree: &Ere,
+    documents: &[SharedDocument],
+    most: usize,
+    watch: W,
+) -> Result<Places, Unanswered>
+    requires { IsWithinLimits (form tree.now) }
+    ensures { IfOk result (λ hits. Selects (HasMatch (form tree.now)) (flat_map lines_of_taken documents.now) hits) }
+{
+    let parts = (bytes_of(documents) / PART).min(most);
+    scan_parts(rt, alloc, tree, documents, parts, watch)
+}
+
+/// The bytes of the documents' bodies together.
+fn bytes_of(documents: &[SharedDocument]) -> usize {
+    let mut bytes: usize = 0;
+    for document in documents {
+        bytes = bytes.saturating_add(body_size(document));
+    }
+    bytes
+}
+
+/// How many documents, from the first on, have so many bytes together. No answer depends on it.
+fn documents_with(documents: &[SharedDocument], bytes: usize) -> usize
+    ensures { result ≤ length documents.now }
+{
+    let mut left = bytes;
+    for at in 0..documents.len() {
+        let size = body_size(&documents[at]);
+        if size >= left {
+            return at + 1;
+        }
+        left -= size;
+    }
+    documents.len()
+}
+
+/// The lines with a match in these documents, found in so many parts. The documents are halved by their bytes at each step, and
+/// the front half goes to a new thread.
+#[cycle(scan_parts)]
+fn scan_parts<R: Threads + Sync, W: Watch + Copy + Send>(
+    rt: &R,
+    alloc: Global,
+    tree: &Ere,
+    documents: &[SharedDocument],
+    parts: usize,
+    watch: W,
+) -> Result<Places, Unanswered>
+    requires { IsWithinLimits (form tree.now) }
+    ensures { IfOk result (λ hits. Selects (HasMatch (form tree.now)) (flat_map lines_of_taken documents.now) hits) }
+{
+    if parts < 2 {
+        let mut watch = watch;
+        return scan_documents(alloc, tree, documents, &mut watch);
+    }
+    let low = parts / 2;
+    let high = parts - low;
+    let (first, others) = documents.split_at(documents_with(
+        documents,
+        bytes_of(documents) / parts * low,
+    ));
+    let front = move || -> Result<Places, Unanswered>
+        requires { IsSync R.row × IsSend W.row × IsWithinLimits (form tree.now) }
+        ensures { IfOk result (λ hits. Selects (HasMatch (form tree.entry.now)) (flat_map lines_of_taken first.entry.now) hits) }
+    { scan_parts(rt, alloc, tree, first, low, watch) };
+    let back = move || -> Result<Places, Unanswered>
+        requires { IsSync R.row × IsSend W.row × IsWithinLimits (form tree.now) }
+        ensures { IfOk result (λ hits. Selects (HasMatch (form tree.entry.now)) (flat_map lines_of_taken others.entry.now) hits) }
+    { scan_parts(rt, alloc, tree, others, high, watch) };
+    let (found, rest) = join(rt, front, back);
+    let mut hits = found?;
+    hits.append(rest?)?;
+    Ok(hits)
+}

@@ -1,0 +1,102 @@
+//! A large search finds in several parts what it finds in one.
+
+use crate::fixtures::{one_reading, prepared, put};
+use search::Watch;
+use shared::{Answer, Desk, Prepared, Reading};
+use std::alloc::Global;
+use std::process::Abort;
+use std::sync::Wait;
+use std::thread::Threads;
+
+/// How many documents there are, from `a` on, and how many lines each of them has. A body has 120 KB.
+const DOCUMENTS: u8 = 20;
+
+const LINES: u32 = 22_000;
+
+/// A watch to which every answer, or none, is wanted.
+#[derive(Clone, Copy)]
+struct Wanted {
+    is_wanted: bool,
+}
+
+impl Watch for Wanted {
+    fn reads(&mut self, _number: u32) {}
+
+    fn wants(&mut self) -> bool {
+        self.is_wanted
+    }
+}
+
+#[test]
+fn lines_of_all_parts_are_found_in_order(rt: HostRuntime) {
+    let (mut desk, mut reading) = one_reading(&rt, rt.alloc(), 100);
+    assert!(&rt; put_all(rt.alloc(), &mut desk).is_some() && desk.publish(&rt).is_ok());
+    let last = prepared(rt.alloc(), b"^22000$").expect(&rt, "a pattern");
+    for most in [1, 2, 3, 5, 16] {
+        assert!(&rt;
+            finds_last_lines(&rt, rt.alloc(), &mut reading, &last, most),
+            "of {most}"
+        );
+    }
+    assert!(&rt; is_called_off(&rt, rt.alloc(), &mut reading, &last));
+    desk.close(&rt);
+}
+
+/// Puts all documents, each with the numbers from 1 on, a line each.
+fn put_all(alloc: Global, desk: &mut Desk) -> Option<()> {
+    let mut text = Vec::new(alloc);
+    for line in 1..=LINES {
+        let number = format!(in alloc; "{line}\n").ok()?;
+        text.extend_from_slice(number.as_bytes()).ok()?;
+    }
+    for number in 0..DOCUMENTS {
+        put(alloc, desk, &[b'a' + number], &text)?;
+    }
+    Some(())
+}
+
+/// Whether the search in up to so many parts finds the last line of each document, in the order of names.
+fn finds_last_lines<R: Threads + Sync>(
+    rt: &R,
+    alloc: Global,
+    reading: &mut Reading,
+    prepared: &Prepared,
+    most: usize,
+) -> bool {
+    let Ok(taken) = reading.take(alloc, prepared) else {
+        return false;
+    };
+    match taken.answer_by(rt, alloc, most, Wanted { is_wanted: true }) {
+        Ok(answer) => has_last_lines(&answer),
+        Err(_) => false,
+    }
+}
+
+fn has_last_lines(answer: &Answer) -> bool {
+    let mut number = 0u8;
+    for hit in answer.hits() {
+        if number >= DOCUMENTS || hit.name.as_bytes() != [b'a' + number].as_slice() {
+            return false;
+        }
+        if hit.line != LINES || hit.text != b"22000".as_slice() {
+            return false;
+        }
+        number += 1;
+    }
+    number == DOCUMENTS
+}
+
+/// Whether the search is given up if no answer is wanted.
+fn is_called_off<R: Threads + Sync>(
+    rt: &R,
+    alloc: Global,
+    reading: &mut Reading,
+    prepared: &Prepared,
+) -> bool {
+    match reading.take(alloc, prepared) {
+        Ok(taken) => taken
+            .answer_by(rt, alloc, 4, Wanted { is_wanted: false })
+            .is_err(),
+        Err(_) => false,
+    }
+}
