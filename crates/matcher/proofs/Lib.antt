@@ -10,3 +10,4 @@ pub mod Rounds
 pub mod Longer
 pub mod MemberLemmas
 pub mod HeightLemmas
+pub mod StepLemmas

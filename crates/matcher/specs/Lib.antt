@@ -2,3 +2,4 @@ pub mod PositionSets
 pub mod Private
 pub mod Spans
 pub mod StarHeight
+pub mod Steps

@@ -27,8 +27,7 @@ use crate::walk::advance;
 use crate::words::BITS;
 use ere::Ere;
 use lines::MAX_LINE;
-pub use star_height::has_star_height;
-pub use steps::steps_of;
+pub use steps::is_quick;
 pub use words::{WORDS, step};
 
 /// The number of words in a set of positions of a line that is neither short nor long. Each set is filled with

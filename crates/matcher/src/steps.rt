@@ -1,87 +1,106 @@
 //! How many steps the matcher can take for a line.
 
-use crate::plain::is_plain;
-use crate::trees::{can_be_empty, is_set};
+ghost use Rattle.std.specs.Prelude.{◌≡◌, ◌*◌, ◌↔◌, IsTrue, map, min, if◌then◌else◌};
+ghost use Rattle.ere.specs.Tree.{form, trees_of};
+ghost use Rattle.matcher.specs.StarHeight.{is_set};
+ghost use Rattle.matcher.specs.Steps.{has_end, some_has_end, rounds_of, steps, steps_in, IsQuick};
+
+use crate::star_height::has_star_height;
+use crate::trees::is_set;
 use ere::Ere;
-use lines::MAX_LINE;
 
-/// How many rounds a star can take: one for each byte of the longest line.
-const ROUNDS: u64 = MAX_LINE as u64;
+/// The most steps that a tree may take for a line to be quick. By measurement, `matches` then takes at most a fifth of a
+/// second for each MiB of lines of the greatest length.
+const MOST_STEPS: u32 = 30_000;
 
-/// How many rounds a star with a plain body takes instead. The matcher goes through the line in windows of 64
-/// positions. For each it takes at most 64 rounds within the window, which look at a single word of the set, and then
-/// one round over the whole line. By measurement, all of that takes no longer than this many rounds over the line.
-const PLAIN_ROUNDS: u64 = 32;
+/// How many rounds a star can take whose body has a `$`: one for each byte of the longest line.
+const ROUNDS: u32 = 16_384;
 
-/// About the most steps that `matches` can take for a line. A step moves a set of positions over one set of bytes.
-///
-/// A star (here a repeat without a greatest count) takes the steps of its body in each of its rounds. It takes one
-/// round if it is at the front, with nothing before it there except parts that can be empty, and its least count is
-/// below 2.
-/// At the front of the whole tree it begins with all positions of the line, so there are no others to reach. At the
-/// front of another star's body it goes on only from what is new. Elsewhere a star takes few rounds if its body is
-/// plain, and otherwise a round for each byte. A star of a single set is one step anywhere. A repeat with a greatest
-/// count takes the steps of that many copies of its body. No answer depends on this number.
-pub fn steps_of(tree: &Ere) -> u64 {
-    steps_at(tree, true)
+/// How many rounds any other star takes. The matcher goes through the line in windows of 64 positions. For each it takes
+/// at most 64 rounds within the window, which look at a single word of the set, and then one round over the whole line. By
+/// measurement, all of that takes no longer than this many rounds over the line.
+const ROUNDS_BY_WINDOWS: u32 = 32;
+
+/// Whether a line costs `matches` few steps: no star (here a repeat without a greatest count) is inside another one, where a
+/// star of a single set does not count, and there are at most 30,000 steps. A step moves a set of positions over one set of
+/// bytes. The number of steps is a bound for a line of the greatest length; no answer depends on it.
+pub fn is_quick(tree: &Ere) -> bool
+    ensures { IsTrue result ↔ IsQuick (form tree.now) }
+{
+    !has_star_height(tree, 2) && capped_steps(tree) <= MOST_STEPS
 }
 
-/// The steps of a part. `leads` says whether it is at the front: of the whole tree, or of the body of the star around
-/// it.
+/// The steps of the tree, or 30,001 if there are more.
 #[cycle(steps)]
-fn steps_at(tree: &Ere, leads: bool) -> u64 {
+fn capped_steps(tree: &Ere) -> u32
+    ensures { result ≡ min (steps (form tree.now)) 30001 }
+{
     match tree {
         Ere::Empty => 1,
         Ere::Set(_) => 1,
         Ere::Start => 1,
         Ere::End => 1,
-        Ere::Cat(members) => steps_of_each(members.as_slice(), leads),
-        Ere::Alt(members) => steps_of_some(members.as_slice(), leads),
-        Ere::Repeat(body, least, greatest) => match greatest {
+        Ere::Cat(members) => capped_steps_in(members),
+        Ere::Alt(members) => capped_steps_in(members),
+        Ere::Repeat(body, _, greatest) => match greatest {
             None => {
                 if is_set(body) {
                     return 1;
                 }
-                steps_at(body, true).saturating_mul(rounds_of(body, leads && *least < 2))
+                (rounds_of(body) * capped_steps(body)).min(MOST_STEPS + 1)
             }
-            Some(most) => {
-                // Only the first copy is at the front, so only the body of a `?` counts as being there.
-                let leading = leads && *least == 0 && *most < 2;
-                steps_at(body, leading).saturating_mul(*most as u64)
-            }
+            Some(most) => (*most as u32 * capped_steps(body)).min(MOST_STEPS + 1),
         },
     }
 }
 
+/// The steps of all members, or 30,001 if there are more.
+#[cycle(steps)]
+fn capped_steps_in(members: &[Ere]) -> u32
+    ensures { result ≡ min (steps_in (trees_of (map form members.now))) 30001 }
+{
+    let mut sum = 0;
+    for i in (0..members.len()).rev() {
+        sum = (sum + capped_steps(&members[i])).min(MOST_STEPS + 1);
+    }
+    sum
+}
+
 /// How many rounds a star of this body takes.
-fn rounds_of(body: &Ere, leads: bool) -> u64 {
-    if leads {
-        1
-    } else if is_plain(body) {
-        PLAIN_ROUNDS
-    } else {
+fn rounds_of(body: &Ere) -> u32
+    ensures { result ≡ rounds_of (form body.now) }
+{
+    if has_end(body) {
         ROUNDS
+    } else {
+        ROUNDS_BY_WINDOWS
     }
 }
 
-/// The steps of all members, one after the other.
-#[cycle(steps)]
-fn steps_of_each(members: &[Ere], leads: bool) -> u64 {
-    let mut steps = 0u64;
-    let mut leading = leads;
-    for member in members {
-        steps = steps.saturating_add(steps_at(member, leading));
-        leading = leading && can_be_empty(member);
+/// Whether the tree has a `$`.
+#[cycle(ends)]
+fn has_end(tree: &Ere) -> bool
+    ensures { result ≡ has_end (form tree.now) }
+{
+    match tree {
+        Ere::Empty => false,
+        Ere::Set(_) => false,
+        Ere::Start => false,
+        Ere::End => true,
+        Ere::Cat(members) => some_has_end(members),
+        Ere::Alt(members) => some_has_end(members),
+        Ere::Repeat(body, _, _) => has_end(body),
     }
-    steps
 }
 
-/// The steps of all members, each from the same positions.
-#[cycle(steps)]
-fn steps_of_some(members: &[Ere], leads: bool) -> u64 {
-    let mut steps = 0u64;
-    for member in members {
-        steps = steps.saturating_add(steps_at(member, leads));
+/// Whether some member has a `$`.
+#[cycle(ends)]
+fn some_has_end(members: &[Ere]) -> bool
+    ensures { result ≡ some_has_end (trees_of (map form members.now)) }
+{
+    let mut found = false;
+    for i in (0..members.len()).rev() {
+        found = has_end(&members[i]) || found;
     }
-    steps
+    found
 }

@@ -9,18 +9,18 @@ ghost use Rattle.search.specs.Places.{hits_at, IsPlaced};
 ghost use Rattle.search.specs.Private.Selects.{Adds, Selects, HasMatch, found, lines_of_document};
 ghost use Rattle.search.specs.Private.Added.{HasTextAt, AddsPlaces, AddsLinesOf};
 ghost use Rattle.search.specs.Private.Documents.{lines_of_taken};
-ghost use Rattle.search.specs.Private.Ways.{Finds, AreFew};
+ghost use Rattle.search.specs.Private.Ways.{Finds, Looks, AreFew};
 
 use crate::piece::piece_end;
 use crate::places::{Place, Places, share};
 use crate::unanswered::Unanswered;
 use crate::watch::{Watch, ask};
-use crate::way::{Way, compile, nests_stars, way_by};
+use crate::way::{LineWay, Way, compile, has_match, way_by};
 use ere::Ere;
 use finder::{Finder, lines_before};
 use index::{Body, SharedDocument};
 use lines::MAX_LINE;
-use matcher::matches;
+use matcher::is_quick;
 use memchr::memchr;
 use std::alloc::{AllocError, Global};
 
@@ -60,17 +60,17 @@ fn scan_few<W: Watch>(
         hits.old hits.new) }
 {
     let few = few_documents(tree, documents);
-    let mut way = Way::LineByLine;
+    let mut way = Way::LineByLine(LineWay::Matcher);
     scan_by(tree, &mut way, &documents[..few], hits, watch)?;
     Ok(few)
 }
 
 /// How many documents, from the first on, are so small together that their lines are looked at one by one: 0 if the
-/// tree has stars inside stars. No answer depends on it.
+/// tree is not quick. No answer depends on it.
 fn few_documents(tree: &Ere, documents: &[SharedDocument]) -> usize
     ensures { AreFew (form tree.now) documents.now result }
 {
-    if nests_stars(tree) {
+    if !is_quick(tree) {
         return 0;
     }
     let mut left = FEW_BYTES;
@@ -107,7 +107,7 @@ fn scan_compiled<W: Watch>(
     if documents.is_empty() {
         return Ok(());
     }
-    let compiled = compile(alloc, tree)?;
+    let compiled = compile(alloc, tree);
     let mut way = way_by(alloc, tree, &compiled)?;
     scan_by(tree, &mut way, documents, hits, watch)
 }
@@ -246,7 +246,7 @@ fn scan_piece(
 {
     match way {
         Way::FromMatchToMatch(finder) => sweep_lines(finder, document, offset, from, text, places),
-        Way::LineByLine => scan_lines(tree, document, offset, from, text, places),
+        Way::LineByLine(way) => scan_lines(tree, way, document, offset, from, text, places),
     }
 }
 
@@ -289,6 +289,7 @@ fn sweep_lines(
 /// Adds the places of the lines with a match, looking at each line by itself.
 fn scan_lines(
     tree: &Ere,
+    way: &mut LineWay,
     document: u32,
     offset: u32,
     from: u32,
@@ -296,17 +297,19 @@ fn scan_lines(
     places: &mut Vec<Place>,
 ) -> Result<(), AllocError>
     requires limits { IsWithinLimits (form tree.now) }
+    requires way { Looks (form tree.now) way.old }
     requires short { has_long_line text.now ≡ false }
     requires inside { offset + length text.now ≤ greatest_body }
     requires room { from + length text.now ≤ 1 + greatest_body }
-    ensures { OnOk result ((body : List ℕ) → AddsLinesOf (form tree.now) document body offset from text.now
+    ensures way { Looks (form tree.now) way.new }
+    ensures places { OnOk result ((body : List ℕ) → AddsLinesOf (form tree.now) document body offset from text.now
         places.old.items places.new.items) }
 {
     let mut rest = text;
     let mut at = offset;
     let mut line = from;
     while let Some(end) = memchr(b'\n', rest) {
-        scan_line(tree, document, at, line, &rest[..end], places)?;
+        scan_line(tree, way, document, at, line, &rest[..end], places)?;
         at += end as u32 + 1;
         rest = &rest[end + 1..];
         line += 1;
@@ -314,12 +317,13 @@ fn scan_lines(
     if rest.is_empty() {
         return Ok(());
     }
-    scan_line(tree, document, at, line, rest, places)
+    scan_line(tree, way, document, at, line, rest, places)
 }
 
 /// Adds the place of a line if it contains a match.
 fn scan_line(
     tree: &Ere,
+    way: &mut LineWay,
     document: u32,
     offset: u32,
     line: u32,
@@ -327,12 +331,14 @@ fn scan_line(
     places: &mut Vec<Place>,
 ) -> Result<(), AllocError>
     requires limits { IsWithinLimits (form tree.now) }
+    requires way { Looks (form tree.now) way.old }
     requires short { length text.now ≤ MAX_LINE }
     requires inside { offset + length text.now ≤ greatest_body }
-    ensures { OnOk result ((name body : List ℕ) → HasTextAt body offset text.now
+    ensures way { Looks (form tree.now) way.new }
+    ensures places { OnOk result ((name body : List ℕ) → HasTextAt body offset text.now
         → AddsPlaces (form tree.now) document name body (found name line text.now ∷ []) places.old.items places.new.items) }
 {
-    if !matches(tree, text) {
+    if !has_match(tree, way, text) {
         return Ok(());
     }
     places.push(Place {

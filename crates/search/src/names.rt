@@ -11,10 +11,10 @@ ghost use Rattle.search.specs.Private.Ways.{Finds};
 use crate::pattern::Prepared;
 use crate::unanswered::Unanswered;
 use crate::watch::{Watch, ask};
-use crate::way::{Way, compile, nests_stars, way_by};
+use crate::way::{LineWay, Way, compile, has_match, way_by};
 use ere::Ere;
 use index::{Name, SharedDocument};
-use matcher::matches;
+use matcher::is_quick;
 use std::alloc::Global;
 
 /// Those of the documents whose names, each taken as a line, contain a match of the name pattern, in the same order.
@@ -44,12 +44,12 @@ fn with_names<W: Watch>(
     requires { IsWithinLimits (form tree.now) }
     ensures { IfOk result (λ kept. Selects (IsNamed (form tree.now)) documents.items kept.items) }
 {
-    if documents.is_empty() || !nests_stars(tree) {
+    if documents.is_empty() || is_quick(tree) {
         // Names are short, so compiling the pattern does not pay.
-        let mut way = Way::LineByLine;
+        let mut way = Way::LineByLine(LineWay::Matcher);
         return with_names_by(alloc, tree, &mut way, documents, watch);
     }
-    let compiled = compile(alloc, tree)?;
+    let compiled = compile(alloc, tree);
     let mut way = way_by(alloc, tree, &compiled)?;
     with_names_by(alloc, tree, &mut way, documents, watch)
 }
@@ -85,6 +85,6 @@ fn matches_name(tree: &Ere, way: &mut Way<'_>, name: &Name) -> bool
 {
     match way {
         Way::FromMatchToMatch(finder) => finder.matches(name.as_bytes()),
-        Way::LineByLine => matches(tree, name.as_bytes()),
+        Way::LineByLine(way) => has_match(tree, way, name.as_bytes()),
     }
 }

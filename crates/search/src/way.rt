@@ -1,72 +1,91 @@
-//! The two ways in which lines that contain a match are found.
+//! The ways in which lines that contain a match are found.
 
-ghost use Rattle.std.specs.Prelude.{◌≡◌, IfOk, IfSome, nat_le};
+ghost use Rattle.std.specs.Prelude.{◌≡◌, ◌≤◌, ◌↔◌, IfOk, IfSome, IsTrue, length};
 ghost use Rattle.ere.specs.Tree.{form};
+ghost use Rattle.ere.specs.Language.{ContainsMatch};
+ghost use Rattle.ere.specs.Limits.{IsWithinLimits};
 ghost use Rattle.finder.specs.Patterns.{IsCompiledFrom};
-ghost use Rattle.matcher.specs.StarHeight.{star_height};
-ghost use Rattle.search.specs.Private.Ways.{Finds, IsDecided};
+ghost use Rattle.search.specs.Private.Ways.{Finds, Looks, IsDecided, IsDecidedByLine};
 
 use ere::Ere;
 use finder::{Compiled, Finder};
-use matcher::has_star_height;
+use lines::MAX_LINE;
+use matcher::{is_quick, matches};
+use simulation::Simulation;
 use std::alloc::{AllocError, Global};
 
-/// How the lines that contain a match of a tree are found. Both ways find the same lines.
+/// How the lines that contain a match of a tree are found. All ways find the same lines.
 #[derive(Drop)]
 pub enum Way<'p> {
     /// By the engine, over a whole body at once.
     FromMatchToMatch(Finder<'p>),
-    /// By the matcher, which looks at each line.
-    LineByLine,
+    /// Looking at each line by itself.
+    LineByLine(LineWay),
 }
 
-/// Whether the tree has stars inside stars. Such a tree is compiled before the first byte is searched, since each
-/// nested star can multiply the matcher's time for a line by the line's length. It is searched for line by line only
-/// if its tables are large and the matcher takes few steps for it.
-pub fn nests_stars(tree: &Ere) -> bool
-    ensures { result ≡ nat_le 2 (star_height (form tree.now)) }
-{
-    has_star_height(tree, 2)
+/// How a line is looked at by itself.
+#[derive(Drop)]
+pub enum LineWay {
+    /// By the matcher, for a tree for which a line costs it few steps.
+    Matcher,
+    /// By the simulation, whose time for a byte is bounded for every tree.
+    Simulation(Simulation),
 }
 
-/// The pattern of the tree, compiled. `None` means that its tables would be too large, or that memory ran out; the
-/// tree is then searched for line by line. If memory runs out for a tree with stars inside stars, that is an `Err`
-/// instead. There is no other `Err`.
-pub fn compile(alloc: Global, tree: &Ere) -> Result<Option<Compiled>, AllocError>
-    ensures { IfOk result (λ o. IfSome o (IsCompiledFrom (form tree.now))) }
+/// The pattern of the tree, compiled. `None` means that its tables would be too large, or that memory ran out.
+pub fn compile(alloc: Global, tree: &Ere) -> Option<Compiled>
+    ensures { IfSome result (IsCompiledFrom (form tree.now)) }
 {
     match Compiled::new(alloc, tree) {
-        Ok(compiled) => Ok(compiled),
-        Err(error) => {
-            if nests_stars(tree) {
-                return Err(error);
-            }
-            Ok(None)
-        }
+        Ok(compiled) => compiled,
+        Err(_) => None,
     }
 }
 
-/// The way by the compiled pattern of the tree, or line by line if there is none or memory ran out. An `Err` is as
-/// for `compile`.
+/// The way for the tree: by the compiled pattern, if there is one and there is memory for it, and else line by line. An
+/// `Err` means that there is no memory for the simulation either.
 pub fn way_by<'p>(
     alloc: Global,
     tree: &Ere,
     compiled: &'p Option<Compiled>,
 ) -> Result<Way<'p>, AllocError>
-    requires { IfSome compiled.now (IsCompiledFrom (form tree.now)) }
+    requires limits { IsWithinLimits (form tree.now) }
+    requires compiled { IfSome compiled.now (IsCompiledFrom (form tree.now)) }
     ensures finds { IfOk result (Finds (form tree.now)) }
     ensures decided { IfOk result (IsDecided (form tree.now) compiled.now) }
 {
-    let Some(compiled) = compiled else {
-        return Ok(Way::LineByLine);
-    };
-    match Finder::new(alloc, compiled) {
-        Ok(finder) => Ok(Way::FromMatchToMatch(finder)),
-        Err(error) => {
-            if nests_stars(tree) {
-                return Err(error);
-            }
-            Ok(Way::LineByLine)
+    if let Some(compiled) = compiled {
+        if let Ok(finder) = Finder::new(alloc, compiled) {
+            return Ok(Way::FromMatchToMatch(finder));
         }
+    }
+    Ok(Way::LineByLine(line_way(alloc, tree)?))
+}
+
+/// How a line is looked at for the tree: by the matcher if the tree is quick, and else by the simulation. An `Err` means that
+/// memory ran out.
+fn line_way(alloc: Global, tree: &Ere) -> Result<LineWay, AllocError>
+    requires { IsWithinLimits (form tree.now) }
+    ensures looks { IfOk result (Looks (form tree.now)) }
+    ensures decided { IfOk result (IsDecidedByLine (form tree.now)) }
+{
+    if is_quick(tree) {
+        return Ok(LineWay::Matcher);
+    }
+    let simulation = Simulation::new(alloc, tree)?;
+    Ok(LineWay::Simulation(simulation))
+}
+
+/// Whether the line contains a match of the tree, by this way.
+pub fn has_match(tree: &Ere, way: &mut LineWay, line: &[u8]) -> bool
+    requires limits { IsWithinLimits (form tree.now) }
+    requires short { length line.now ≤ MAX_LINE }
+    requires way { Looks (form tree.now) way.old }
+    ensures way { Looks (form tree.now) way.new }
+    ensures found { IsTrue result ↔ ContainsMatch (form tree.now) line.now }
+{
+    match way {
+        LineWay::Matcher => matches(tree, line),
+        LineWay::Simulation(simulation) => simulation.matches(line),
     }
 }

@@ -2,22 +2,34 @@
 use Rattle.std.specs.Prelude.{◌≡◌, ℕ, ◌+◌, ◌<◌, ◌≤◌, List, Option, Some, None, length, map, sum, take}
 use Rattle.ere.specs.Tree.{Tree}
 use Rattle.finder.specs.Patterns.{IsFinderOf}
-use Rattle.matcher.specs.StarHeight.{star_height}
+use Rattle.matcher.specs.Steps.{IsQuick}
+use Rattle.simulation.specs.Simulations.{IsSimulationOf}
 use Rattle.finder.specs.declared.compiled.Compiled.{Compiled}
 use Rattle.index.specs.declared.document.SharedDocument.{SharedDocument}
+use Rattle.search.specs.declared.way.LineWay.{LineWay}
+use Rattle.search.specs.declared.way.LineWay.TheVariants.{Matcher, Simulation}
 use Rattle.search.specs.declared.way.Way.{Way}
 use Rattle.search.specs.declared.way.Way.TheVariants.{FromMatchToMatch, LineByLine}
 
+unfoldable pub Looks : Tree → LineWay → Type 0
+Looks tree Matcher = Unit {0}
+Looks tree (Simulation simulation) = IsSimulationOf tree simulation
+
 unfoldable pub Finds : Tree → Way → Type 0
 Finds tree (FromMatchToMatch finder) = IsFinderOf tree finder
-Finds tree LineByLine = Unit {0}
+Finds tree (LineByLine way) = Looks tree way
 
--- A compiled tree with stars inside stars is left to the engine. A tree that is not compiled goes line by line.
+-- A tree that goes line by line goes by the matcher exactly if it is quick.
+unfoldable pub IsDecidedByLine : Tree → LineWay → Type 0
+IsDecidedByLine tree Matcher = IsQuick tree
+IsDecidedByLine tree (Simulation simulation) = IsQuick tree → ⊥
+
+-- The engine takes only a tree whose pattern is compiled.
 unfoldable pub IsDecided : Tree → Option Compiled → Way → Type 0
 IsDecided tree (Some compiled) (FromMatchToMatch finder) = Unit {0}
-IsDecided tree (Some compiled) LineByLine = star_height tree < 2
 IsDecided tree None (FromMatchToMatch finder) = ⊥
-IsDecided tree None LineByLine = Unit {0}
+IsDecided tree (Some compiled) (LineByLine way) = IsDecidedByLine tree way
+IsDecided tree None (LineByLine way) = IsDecidedByLine tree way
 
 -- the most bytes of bodies that are looked at line by line before a pattern is compiled
 abbrev pub byte_limit : ℕ
@@ -27,10 +39,10 @@ byte_limit = 8192
 abbrev pub bytes_in : List SharedDocument → ℕ
 bytes_in documents = sum (map (λ d. length d.held) documents)
 
--- How many documents, from the first on, go line by line: none for a tree with stars inside stars, and for any other
--- tree as many as fit in the limit on bytes together.
+-- How many documents, from the first on, go line by line: none for a tree that is not quick, and for any other tree as many as
+-- fit in the limit on bytes together.
 pub record AreFew (tree : Tree) (documents : List SharedDocument) (few : ℕ) : Type 0 where
   pub some : few ≤ length documents
-  pub nested : 2 ≤ star_height tree → few ≡ 0
+  pub slow : (IsQuick tree → ⊥) → few ≡ 0
   pub within : bytes_in (take few documents) ≤ byte_limit
-  pub most : star_height tree < 2 → few < length documents → byte_limit < bytes_in (take (few + 1) documents)
+  pub most : IsQuick tree → few < length documents → byte_limit < bytes_in (take (few + 1) documents)

@@ -1,7 +1,6 @@
-use Rattle.std.proofs.Common.{◌≡◌, ◌<◌, length, take, refl, ap, arith}
-use Rattle.std.proofs.lemmas.Bool.Decides.{nat_tests}
+use Rattle.std.proofs.Common.{◌≡◌, length, take, refl, ap, arith}
 use Rattle.ere.specs.Tree.{form}
-use Rattle.matcher.specs.StarHeight.{star_height}
+use Rattle.matcher.specs.Steps.{IsQuick}
 use Rattle.search.specs.Private.Ways.{bytes_in}
 use Rattle.search.proofs.FewLemmas.{bytes_in-more}
 use Rattle.search.proofs.matching.few_documents.Goals as goal
@@ -19,24 +18,24 @@ loop-at-preserved c =
 
 pub returns-then-size-left : goal.returns-then-size-left
 returns-then-size-left c =
-    let low : star_height (form c.args.tree.now) < 2 = grind (arith, nat_tests, c.nests_stars.ensures, c.if-nests_stars.false) in
+    let quick = c.is_quick.ensures.0 (cc) in
     let more = bytes_in-more c.args.documents.now c.loop-at.at c.index-documents-at.result c.loop-at-test.true c.index-documents-at.is in
     record {
       some = c.loop-at.invariant.at;
-      nested = λ high. absurd (omega (arith, low, high));
+      slow = λ slow. absurd (slow quick);
       within = omega (arith, c.loop-at.invariant.left);
       most = λ flat inside. omega (arith, more, c.body_size-size.ensures, c.if-size-left.true, c.loop-at.invariant.left);
     }
 
 pub returns : goal.returns
 returns c =
-    let low : star_height (form c.args.tree.now) < 2 = grind (arith, nat_tests, c.nests_stars.ensures, c.if-nests_stars.false) in
+    let quick = c.is_quick.ensures.0 (cc) in
     let end : c.loop-at.at ≡ length c.args.documents.now = omega (arith, c.loop-at-test.false, c.loop-at.invariant.at) in
     let bytes : bytes_in (take c.loop-at.at c.args.documents.now) ≡ bytes_in (take (length c.args.documents.now) c.args.documents.now) =
     ap (λ n. bytes_in (take n c.args.documents.now)) end in
     record {
       some = omega arith;
-      nested = λ high. absurd (omega (arith, low, high));
+      slow = λ slow. absurd (slow quick);
       within = omega (arith, bytes, c.loop-at.invariant.left);
-      most = λ flat inside. absurd (omega (arith, inside));
+      most = λ quick inside. absurd (omega (arith, inside));
     }

@@ -27,15 +27,16 @@ loop-end-preserved c =
           (numbered name (at.line + 1) (lines_of rest)) (numbered name at.line (lines_of text))
           (numbered name c.args.from (lines_of c.args.text.now)) c.args.places.now.items at.places.items c.scan_line.new.places.items
           (numbered-first name at.line text end c.in-Some.ensures) (at.invariant.so_far body name there)
-          (c.in_ok-scan_line.ensures name body (first_is_there body at.at text end (omega arith) (at.invariant.there body there)));
+          (c.in_ok-scan_line.ensures.places name body (first_is_there body at.at text end (omega arith) (at.invariant.there body there)));
+      way = c.scan_line.ensures.way;
       short = short-rest text end at.invariant.short c.in-Some.ensures;
       there = λ body there. rest_is_there body at.at text (end + 1) (omega arith) (at.invariant.there body there);
       place = omega (arith, at.invariant.place, length-take (length text - (end + 1)) (drop (end + 1) text), length-drop (end + 1) text);
       room = room-rest at.line (c.args.from + length c.args.text.now) text end c.in-Some.ensures at.invariant.room;
     }
 
-pub returns-then-is_empty : goal.returns-then-is_empty
-returns-then-is_empty c = λ body name there.
+pub returns-then-is_empty-clause-places : goal.returns-then-is_empty-clause-places
+returns-then-is_empty-clause-places c = λ body name there.
     let at = c.loop-end in
     let empty : length at.rest.now ≡ 0 = grind (arith, nat_tests) in
     at_end (form c.args.tree.now) c.args.document name body (numbered name at.line (lines_of at.rest.now))
@@ -45,8 +46,8 @@ returns-then-is_empty c = λ body name there.
 pub scan_line-requires-2-clause-short : goal.scan_line-requires-2-clause-short
 scan_line-requires-2-clause-short c = length-last c.loop-end.rest.now c.loop-end.invariant.short c.in_default.ensures
 
-pub returns : goal.returns
-returns c =
+pub returns-clause-places : goal.returns-clause-places
+returns-clause-places c =
     let at = c.loop-end in
     let text = at.rest.now in
     let some : 0 < length text = grind (arith, nat_tests) in
@@ -55,4 +56,4 @@ returns c =
     (numbered name c.args.from (lines_of c.args.text.now)) c.args.places.now.items at.places.items c.scan_line-2.new.places.items
     (at.invariant.so_far body name there)
     (subst (λ lines. AddsPlaces (form c.args.tree.now) c.args.document name body lines at.places.items c.scan_line-2.new.places.items)
-    (sym (numbered-last name at.line text some c.in_default.ensures)) (added name body (at.invariant.there body there)))) c.scan_line-2.ensures
+    (sym (numbered-last name at.line text some c.in_default.ensures)) (added name body (at.invariant.there body there)))) c.scan_line-2.ensures.places

@@ -4,6 +4,7 @@ use Rattle.ere.specs.Tree.{form}
 use Rattle.index.specs.Text.{has_long_line}
 use Rattle.search.specs.Private.Selects.{numbered}
 use Rattle.search.specs.Private.Added.{HasTextAt}
+use Rattle.search.specs.Private.Ways.{Looks}
 use Rattle.search.proofs.PlaceLemmas.{AddsSoFar}
 use Rattle.search.proofs.matching.scan_lines.Given as goal
 
@@ -12,6 +13,7 @@ invariant-loop-end l = record {
   so_far : (body name : List ℕ) → HasTextAt body l.offset l.text
       → AddsSoFar (form l.tree) l.document name body (numbered name l.line (lines_of l.rest)) (numbered name l.from (lines_of l.text))
       l.initial.places.items l.places.items;
+  way : Looks (form l.tree) l.way;
   short : has_long_line l.rest ≡ false;
   there : (body : List ℕ) → HasTextAt body l.offset l.text → HasTextAt body l.at l.rest;
   place : l.at + length l.rest ≡ l.offset + length l.text;

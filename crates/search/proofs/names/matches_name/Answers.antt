@@ -1,7 +1,7 @@
 use Rattle.std.proofs.Common.{◌≢◌, ◌<◌, ℕ, length, slice_index, IsTrue, subst, sym}
 use Rattle.ere.specs.Tree.{form}
 use Rattle.ere.specs.Language.{ContainsMatch}
-use Rattle.search.proofs.WayLemmas.{finder_of, finds_by}
+use Rattle.search.proofs.WayLemmas.{finder_of, finds_by, looks_of, finds_by_line}
 use Rattle.search.proofs.NameLemmas.{no_feed_in_name}
 use Rattle.search.proofs.names.matches_name.Goals as goal
 
@@ -23,3 +23,9 @@ returns-in-FromMatchToMatch-clause-way c =
     finds_by (form c.args.tree.now) c.matches.new.self
     (c.matches.ensures.same (form c.args.tree.now)
     (finder_of (form c.args.tree.now) c.args.way.now c.in-FromMatchToMatch.finder c.in-FromMatchToMatch.is c.requires.way))
+
+pub has_match-requires-clause-way : goal.has_match-requires-clause-way
+has_match-requires-clause-way c = looks_of (form c.args.tree.now) c.args.way.now c.in-LineByLine.way c.in-LineByLine.is c.requires.way
+
+pub returns-in-LineByLine-clause-way : goal.returns-in-LineByLine-clause-way
+returns-in-LineByLine-clause-way c = finds_by_line (form c.args.tree.now) c.has_match.new.way c.has_match.ensures.way

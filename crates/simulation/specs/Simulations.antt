@@ -1,0 +1,6 @@
+-- A stand-in.
+use Rattle.ere.specs.Tree.{Tree}
+use Rattle.simulation.specs.declared.simulation.Simulation.{Simulation}
+
+unfoldable pub IsSimulationOf : Tree → Simulation → Type 0
+IsSimulationOf tree simulation = ⊥

@@ -1,0 +1,6 @@
+//! A stand-in.
+#![tactic(auto)]
+
+mod simulation;
+
+pub use simulation::Simulation;
