@@ -2,5 +2,5 @@
 use Rattle.ere.specs.Tree.{Tree}
 use Rattle.simulation.specs.declared.simulation.Simulation.{Simulation}
 
-unfoldable pub IsSimulationOf : Tree → Simulation → Type 0
+abbrev pub IsSimulationOf : Tree → Simulation → Type 0
 IsSimulationOf tree simulation = ⊥

@@ -1,0 +1,14 @@
+use Rattle.ere.specs.Tree.{form}
+use Rattle.search.proofs.WayLemmas.{simulation_of, looks_by_simulation}
+use Rattle.search.proofs.way.has_match.Goals as goal
+
+pub returns-in-Simulation-clause-way : goal.returns-in-Simulation-clause-way
+returns-in-Simulation-clause-way c =
+    looks_by_simulation (form c.args.tree.now) c.matches-in-Simulation.new.self
+    (c.matches-in-Simulation.ensures.same (form c.args.tree.now)
+    (simulation_of (form c.args.tree.now) c.args.way.now c.in-Simulation.simulation c.in-Simulation.is c.requires.way))
+
+pub returns-in-Simulation-clause-found : goal.returns-in-Simulation-clause-found
+returns-in-Simulation-clause-found c =
+    c.matches-in-Simulation.ensures.found (form c.args.tree.now)
+    (simulation_of (form c.args.tree.now) c.args.way.now c.in-Simulation.simulation c.in-Simulation.is c.requires.way)
