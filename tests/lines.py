@@ -1,8 +1,9 @@
 #!/usr/bin/env python3
 """The lines that patterns find in a body, by each way in which lines are found.
 
-Each row of tests/lines.rows is searched three times: as it is, so line by line; with stars inside stars that match nothing,
-so by the engine from the first byte on; and after a document with many copies of the body, so by the engine after many
+Each row of tests/lines.rows is searched four times: as it is, so by the matcher, line by line, if the pattern is quick; with
+stars inside stars that match nothing, so by the engine from the first byte on; with an alternative that matches nothing and is
+too large for the engine, so by the simulation; and after a document with many copies of the body, so by the engine after many
 lines were found one by one. The rows below, which are too long for a file, are searched as they are.
 
 Usage: tests/lines.py   The last line counts: N passed, M failed.
@@ -20,6 +21,9 @@ SECONDS = 60
 # Appended to a pattern, it leaves the matches as they are and adds stars inside stars, for which the engine searches from
 # the first byte on if the pattern is not too large for it.
 FOR_THE_ENGINE = b"(((zz)*y)*){0}"
+# Appended to a pattern, it leaves the matches as they are, since no byte is behind the end of a line. It has stars inside stars
+# and large tables, so the simulation searches.
+FOR_THE_SIMULATION = rb"|$.([ab]{255}){3}((c*d)*e)*"
 # More bytes of candidates than are looked at line by line.
 MANY_BYTES = 65_536
 MIB = 1_048_576
@@ -52,11 +56,12 @@ def copies_of(body):
 
 
 def ways_of(row):
-    """The three ways of a row: what it is called, the documents, and the search."""
+    """The ways of a row: what it is called, the documents, and the search."""
     body, pattern, _, *ignored = row
     search = (b"isearch %s\n" if ignored == [b"i"] else b"search %s\n") % pattern
     yield "line by line", [(b"f", body)], search
     yield "by the engine", [(b"f", body)], search[:-1] + FOR_THE_ENGINE + b"\n"
+    yield "by the simulation", [(b"f", body)], search[:-1] + FOR_THE_SIMULATION + b"\n"
     yield "after many lines", [(b"f", body), (b"a", copies_of(body))], search
 
 

@@ -1,12 +1,14 @@
 #!/usr/bin/env python3
-"""Compares the two ways in which the built program finds lines, on random patterns and lines.
+"""Compares the three ways in which the built program finds lines, on random patterns and lines.
 
-Each pattern is searched, with its case or with case ignored, in two documents with the same lines: a small one, which is
-matched line by line, and one that repeats them and is so large that the pattern is compiled and searched from match to
-match. (Patterns that are too large to compile, and those with stars inside stars, are searched in one way in both.)
-Both ways implement one contract, so any difference is a fault. As many runs go on at once as there are processors.
+Each pattern is searched, with its case or with case ignored, in two documents with the same lines: a small one, which the
+matcher goes through line by line, and one that repeats them and is so large that the pattern is compiled and searched from
+match to match. Then both are searched with an alternative that matches nothing, and with which the simulation goes through
+them. (A pattern that is not quick is searched in one way in both, and one that is too large with the alternative is not
+searched with it.) All ways implement one contract, so any difference is a fault. As many runs go on at once as there are
+processors.
 
-Usage: tests/compare/compare_two_ways.py [--patterns N] [--lines N] [--seed N]   The last line counts: N passed, M failed.
+Usage: tests/compare/compare_ways.py [--patterns N] [--lines N] [--seed N]   The last line counts: N passed, M failed.
 """
 
 import argparse
@@ -26,7 +28,9 @@ from counted import Counted  # noqa: E402
 
 # This many bytes of the first candidates are matched line by line.
 FEW_BYTES = 8192
-SEARCHES_OF_A_RUN = 500
+PATTERNS_OF_A_RUN = 500
+# It matches nothing, since no byte is behind the end of a line. It has stars inside stars, and its tables are large.
+FOR_THE_SIMULATION = rb"|$.([ab]{255}){3}((c*d)*e)*"
 
 
 def small_body(chance, count):
@@ -62,18 +66,25 @@ def differs(found, count, times):
 
 
 def compare(chance, patterns, lines):
-    """The patterns of a run whose two ways differ, and how many of them were searched."""
+    """The patterns of a run whose ways differ, and how many of them were searched."""
     texts = [line + b"\n" for line in small_body(chance, lines)]
     small = b"".join(texts)
     times = FEW_BYTES // len(small) + 1
     script = b"put a %d\n%s\nput b %d\n%s\npublish\n" % (len(small), small, len(small) * times, small * times)
     made = [pattern for pattern in patterns if b"\n" not in pattern and b"\0" not in pattern]
-    script += b"".join(chance.choice([b"search ", b"isearch "]) + pattern + b"\n" for pattern in made)
+    for pattern in made:
+        search = chance.choice([b"search ", b"isearch "]) + pattern
+        script += search + b"\n" + search + FOR_THE_SIMULATION + b"\n"
     run = subprocess.run([PROGRAM, "--readers", "0"], input=script, stdout=subprocess.PIPE, check=False)
     hits = hits_of(run.stdout)
-    assert len(hits) == len(made), "%d answers to %d searches" % (len(hits), len(made))
-    searched = [(pattern, found) for pattern, found in zip(made, hits) if found is not None]
-    return [pattern for pattern, found in searched if differs(found, len(texts), times)], len(searched)
+    assert len(hits) == 2 * len(made), "%d answers to %d searches" % (len(hits), 2 * len(made))
+    searched = [(pattern, *found) for pattern, *found in zip(made, hits[::2], hits[1::2]) if found[0] is not None]
+    different = [
+        pattern
+        for pattern, found, simulated in searched
+        if differs(found, len(texts), times) or simulated not in (None, found)
+    ]
+    return different, len(searched)
 
 
 def compare_some(seed, number, patterns, lines):
@@ -84,7 +95,7 @@ def compare_some(seed, number, patterns, lines):
 
 
 def main():
-    words = argparse.ArgumentParser(description="Compares the two ways of finding lines.")
+    words = argparse.ArgumentParser(description="Compares the ways of finding lines.")
     words.add_argument("--patterns", type=int, default=5000)
     words.add_argument("--lines", type=int, default=300)
     words.add_argument("--seed", type=int, default=1)
@@ -92,15 +103,15 @@ def main():
     need_program()
     counted, refused = Counted(), 0
     with concurrent.futures.ThreadPoolExecutor(os.cpu_count()) as pool:
-        starts = range(0, given.patterns, SEARCHES_OF_A_RUN)
-        counts = [min(SEARCHES_OF_A_RUN, given.patterns - start) for start in starts]
+        starts = range(0, given.patterns, PATTERNS_OF_A_RUN)
+        counts = [min(PATTERNS_OF_A_RUN, given.patterns - start) for start in starts]
         jobs = [pool.submit(compare_some, given.seed, number, count, given.lines) for number, count in enumerate(counts)]
         for count, job in zip(counts, jobs):
             different, searched = job.result()
             counted.passes(searched - len(different))
             refused += count - searched
             for pattern in different:
-                counted.fails("the two ways differ: %r" % pattern)
+                counted.fails("the ways differ: %r" % pattern)
     print("%d patterns, of which %d were not searched" % (given.patterns, refused))
     counted.end()
 

@@ -1,0 +1,182 @@
+"""How long hard patterns take: python3 bench/hostile.py [--tries N] [--seed N].
+
+A session without readers has texts that are hard for such patterns: lines of 16,000 bytes, of `x` and then `a` and `b` at
+random, of `a` alone, of the three at random, short lines, and a small document with one long line. First come patterns that are
+known to be hard, then `N` patterns (10,000 if not said) that are made at random and then changed step by step towards slower
+ones, of which the ten worst are shown. The figures are seconds for each MB, of the worst text. A search that takes over ten
+seconds is given up (`--search-ms`).
+"""
+import argparse
+import concurrent.futures
+import os
+import random
+import subprocess
+import time
+
+from timed import PROGRAM, need_program
+
+LIMIT_MS = 10_000
+BETWEEN_STARTS = 25
+
+KNOWN = [
+    rb"x((([ab]?){255}c?){15}d$|[ab])*e",
+    rb"x(([ab]{0,255}c?){15}d$|[ab])*e",
+    rb"x((a?b?){255}{8}d$|[ab])*e",
+    rb"x(" + rb"([ab]{0,20}c?){3}" * 50 + rb"d$|[ab])*e",
+    rb"x(([ab](([ab]{250}){14}c)?)*|d$)*e",
+    rb"x([ab]|(([ab]|[ab][ab]){250}){5}c)*e",
+    rb"x([ab]|a([ab]{250}){15}c|d$)*e",
+    rb"x([ab]|a([ab]{250}){15}c)*e",
+    rb"x(.|a" + rb"." * 950 + rb"c|d$)*e",
+    rb"x(a|([ab]?){255}{15}c|d$)*e",
+    rb"((([ab]{0,255}){15}c)*d)*e",
+    rb"(a(aa*)*)*b",
+    rb"(((a*b)*a)*c)*d",
+    rb"(.*a){100}@",
+    rb"(.{0,60}x){60}",
+    rb"(a{0,255}){16}b",
+    rb"[ab]{255}{15}c",
+    rb"(([ab]|[ab][ab]){250}){5}c",
+]
+
+
+def texts(chance):
+    """The texts by name, of some 64 KB each."""
+    def long_lines(letters, first=b""):
+        return b"".join(first + bytes(chance.choices(letters, k=16_000 - len(first))) + b"\n" for _ in range(4))
+
+    return {
+        b"x_ab": long_lines(b"ab", b"x"),
+        b"a": long_lines(b"a"),
+        b"abx": long_lines(b"abx"),
+        b"abcdx": long_lines(b"aaabbbcdx"),
+        b"short": b"".join(b"x" + bytes(chance.choices(b"ab", k=30)) + b"\n" for _ in range(2_000)),
+        b"small": b"x" + b"a" * 8_190 + b"\n",
+    }
+
+
+class Session:
+    def __init__(self, bodies):
+        words = [PROGRAM, "--live", "--readers", "0", "--search-ms", str(LIMIT_MS)]
+        self.process = subprocess.Popen(words, stdin=subprocess.PIPE, stdout=subprocess.PIPE)
+        self.sizes = {name: len(body) for name, body in bodies.items()}
+        for name, body in bodies.items():
+            self.process.stdin.write(b"put %s %d\n%s\n" % (name, len(body), body))
+        self.process.stdin.write(b"publish\n")
+
+    def seconds(self, name, pattern):
+        """The seconds of a search, or None if the pattern is refused for itself."""
+        start = time.perf_counter()
+        self.process.stdin.write(b"searchin ^%s$ %s\n" % (name, pattern))
+        self.process.stdin.flush()
+        head = self.process.stdout.readline()
+        if b" refused: " in head and b"too slow" not in head:
+            return None
+        if b" lines " in head:
+            for _ in range(int(head.split()[5])):
+                self.process.stdout.readline()
+        return time.perf_counter() - start
+
+    def worst(self, pattern):
+        """The most seconds for each MB, and the text for which it takes them."""
+        found = (0.0, b"refused")
+        for name, size in self.sizes.items():
+            seconds = self.seconds(name, pattern)
+            if seconds is None:
+                return found
+            found = max(found, (1e6 * seconds / size, name))
+        return found
+
+    def end(self):
+        self.process.stdin.close()
+        self.process.wait()
+
+
+class Maker:
+    """Makes patterns, and changes them."""
+
+    def __init__(self, chance):
+        self.chance = chance
+
+    def count(self):
+        high = self.chance.choice([1, 2, 3, 8, 15, 20, 60, 120, 250, 255])
+        return self.chance.choice([b"*", b"+", b"?", b"{%d}" % high, b"{0,%d}" % high, b"{%d,}" % self.chance.choice([2, 5, 50])])
+
+    def tree(self, depth):
+        kind = self.chance.randrange(9)
+        if depth == 0 or kind < 3:
+            return self.chance.choice([b"a", b"b", b"[ab]", b".", b"c", b"[abc]", b"^", b"$", b"x", b"d$"])
+        if kind < 5:
+            return b"(" + self.tree(depth - 1) + b")" + self.count()
+        if kind < 7:
+            return b"".join(self.tree(depth - 1) for _ in range(self.chance.randint(2, 4)))
+        return b"(" + b"|".join(self.tree(depth - 1) for _ in range(self.chance.randint(2, 3))) + b")"
+
+    def pattern(self):
+        return self.chance.choice([b"", b"x", b"x", b"a"]) + self.tree(5) + self.chance.choice([b"", b"e", b"c", b"[ef]"])
+
+    def changed(self, pattern):
+        at, to = sorted(self.chance.randrange(len(pattern) + 1) for _ in range(2))
+        kind = self.chance.randrange(5)
+        if kind == 0:
+            return pattern[:at] + self.tree(2) + pattern[at:]
+        if kind == 1:
+            return pattern[:at] + self.tree(2) + pattern[to:]
+        if kind == 2:
+            return pattern[:at] + b"(" + pattern[at:to] + b")" + self.count() + pattern[to:]
+        if kind == 3:
+            return pattern[:to] + pattern[at:to] + pattern[to:]
+        return pattern[:at] + self.count() + pattern[at:]
+
+
+def climb(seed, tries):
+    """The worst patterns of a search of so many tries, worst first."""
+    chance = random.Random(seed)
+    maker, session = Maker(chance), Session(texts(chance))
+    found, left = {}, tries
+    while left > 0:
+        best = maker.pattern()
+        cost = session.worst(best)
+        left -= 1
+        for _ in range(BETWEEN_STARTS):
+            other = maker.changed(best)
+            if len(other) > 1_000:
+                continue
+            left -= 1
+            next_cost = session.worst(other)
+            if next_cost > cost:
+                best, cost = other, next_cost
+        found[best] = cost
+    session.end()
+    return sorted(found.items(), key=lambda it: it[1], reverse=True)[:10]
+
+
+def show(title, rows):
+    print("\n%s\n\n| pattern | seconds for each MB | text |\n|---|---|---|" % title)
+    for pattern, (cost, name) in rows:
+        text = pattern.decode("latin-1").replace("|", "\\|")
+        shown = text if len(text) <= 100 else "%s... %d bytes" % (text[:80], len(text))
+        print("| `%s` | %.2f | %s |" % (shown, cost, name.decode()), flush=True)
+
+
+def main():
+    words = argparse.ArgumentParser(description="How long hard patterns take.")
+    words.add_argument("--tries", type=int, default=10_000)
+    words.add_argument("--seed", type=int, default=1)
+    given = words.parse_args()
+    need_program()
+    session = Session(texts(random.Random(given.seed)))
+    show("Patterns that are known to be hard", [(pattern, session.worst(pattern)) for pattern in KNOWN])
+    session.end()
+    lanes = os.cpu_count()
+    with concurrent.futures.ThreadPoolExecutor(lanes) as pool:
+        jobs = [pool.submit(climb, given.seed * 1_000 + lane, given.tries // lanes) for lane in range(lanes)]
+        rows = [row for job in jobs for row in job.result()]
+    again = Session(texts(random.Random(given.seed)))
+    rows = [(pattern, again.worst(pattern)) for pattern, _ in rows]
+    again.end()
+    show("The ten worst of %d patterns" % given.tries, sorted(rows, key=lambda it: it[1], reverse=True)[:10])
+
+
+if __name__ == "__main__":
+    main()
