@@ -2,6 +2,7 @@
 interrupted goes on where it was."""
 
 import os
+import re
 import shutil
 import time
 
@@ -11,20 +12,22 @@ from sources import CRATES, PROGRAM, crates_of_program
 # The file that rt makes of the crate `program`.
 MADE = CRATES / PROGRAM / "out" / PROGRAM
 MEMORY_OF_A_PROOF = 4 << 30
+# So many seconds at most pass between two lines of progress.
+QUIET = 60
+# The line that `rt all` writes before what it says of a crate that is done.
+DONE = re.compile(r"(?m)^== (\S+)$")
 
 
 def build(target, out):
     """Proves the crates, each after those that it uses, and several at once. The program goes to the file `target`."""
     began = time.monotonic()
-    waiting = crates_of_program()
+    crates = crates_of_program()
     at_once = proofs_at_once()
-    say(f"proving {len(waiting)} crates, up to {at_once} at once, and building the program; from scratch this takes half an hour or more")
-    proofs = Proofs(waiting, at_once, began)
-    try:
-        while proofs.go_on():
-            time.sleep(0.5)
-    finally:
-        proofs.end()
+    say(f"proving {len(crates)} crates, up to {at_once} at once, and building the program; from scratch this takes half an hour or less")
+    # One rt for all of them: of several, each would wait for the others wherever they use the same crates.
+    carry_out(["rt", "all", "check", "--jobs", str(at_once)], crates, began)
+    # The program is built by running it, which writes its help.
+    carry_out(["rt", "run", "--", "--help"], crates, began)
     keep(target, out)
     say(f"proved and built in {spent(began)}")
 
@@ -46,51 +49,38 @@ def proofs_at_once():
     return max(1, min(len(os.sched_getaffinity(0)), available // MEMORY_OF_A_PROOF))
 
 
-class Proofs:
-    """The crates that wait, are being proved, and are done."""
-
-    def __init__(self, waiting, at_once, began):
-        self.waiting = dict(waiting)
-        self.count = len(waiting)
-        self.at_once = at_once
-        self.began = began
-        self.running = {}
-        self.done = set()
-
-    def go_on(self):
-        """Takes note of what has ended, begins what can begin, and says whether there is more to do."""
-        for crate, process in list(self.running.items()):
-            status = process.poll()
-            if status is None:
-                continue
-            del self.running[crate]
-            if status != 0:
-                raise CannotBuild(reason_of_crate(crate, status))
-            self.done.add(crate)
-        for crate, used in list(self.waiting.items()):
-            if len(self.running) < self.at_once and self.done.issuperset(used):
-                say(f"{crate} ({spent(self.began)} so far, {len(self.done)} of {self.count} crates proved)")
-                del self.waiting[crate]
-                self.running[crate] = begin(crate)
-        return bool(self.running)
-
-    def end(self):
-        for process in self.running.values():
+def carry_out(words, crates, began):
+    """Runs rt for the program and the crates below it, and says which crates are proved, and each while what goes on."""
+    folder = CRATES / PROGRAM
+    (folder / "out").mkdir(exist_ok=True)
+    log = folder / "out" / "build.log"
+    process = start(words, log, cwd=folder)
+    told, last = 0, time.monotonic()
+    try:
+        ended = False
+        while not ended:
+            ended = process.poll() is not None
+            done = done_in(log, crates)
+            for number, crate in enumerate(done[told:], told + 1):
+                say(f"{crate} is done ({spent(began)} so far, {number} of {len(crates)} crates)")
+            if len(done) > told or time.monotonic() - last > QUIET:
+                last = time.monotonic()
+                if len(done) == told:
+                    say(f"still at work ({spent(began)} so far)")
+            told = len(done)
+            time.sleep(0 if ended else 0.5)
+    finally:
+        if process.poll() is None:
             end(process)
+    if process.returncode != 0:
+        raise CannotBuild(reason_of(process.returncode, log))
 
 
-def log_of(crate):
-    return CRATES / crate / "out" / "build.log"
+def done_in(log, crates):
+    """The crates of which rt says in its log that it is done with them."""
+    return [crate for crate in DONE.findall(log.read_text(errors="replace")) if crate in crates]
 
 
-def begin(crate):
-    """Begins to prove a crate. The program is built by running it, which writes its help."""
-    (CRATES / crate / "out").mkdir(exist_ok=True)
-    words = ["rt", "run", "--", "--help"] if crate == PROGRAM else ["rt", "lib"]
-    return start(words, log_of(crate), cwd=CRATES / crate)
-
-
-def reason_of_crate(crate, status):
-    log = log_of(crate)
+def reason_of(status, log):
     reason = reason_of_failure(status, log, CRATES)
-    return reason or f"the crate {crate} is not proved (all that rt wrote is in {log}):\n{last_lines(log)}"
+    return reason or f"the crates are not proved (all that rt wrote is in {log}):\n{last_lines(log)}"
