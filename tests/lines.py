@@ -23,7 +23,7 @@ SECONDS = 60
 FOR_THE_ENGINE = b"(((zz)*y)*){0}"
 # Appended to a pattern, it leaves the matches as they are, since no byte is behind the end of a line. It has stars inside stars
 # and large tables, so the simulation searches.
-FOR_THE_SIMULATION = rb"|$.([ab]{255}){3}((c*d)*e)*"
+FOR_THE_SIMULATION = rb"|$.[acegikmoqsuwyACEGIKMOQSUWY]{80}((c*d)*e)*"
 # More bytes of candidates than are looked at line by line.
 MANY_BYTES = 65_536
 MIB = 1_048_576
@@ -88,9 +88,43 @@ def many_stars():
 
 def large_counts_over_long_lines():
     """Large counts inside stars over a megabyte of long lines. By the engine they take over a minute, so the search ends only
-    if the pattern is found too large and the search goes line by line."""
+    if the pattern is found too large and the search goes by the simulation."""
     body = (b"a" * 16_000 + b"\n") * 62 + b"abcde\n"
     yield [(b"f", body)], b"((([ab]{0,255}){15}c)*d)*e", [b"f:63:abcde"]
+
+
+def large_counts_beside_stars():
+    """Patterns that are slow by the matcher and too large for the engine. Where a word of the star ends with the line, no byte
+    can follow it, so such a word is of no use before the last byte; what is left of the pattern is plain."""
+    lines = [b"xabe", b"xe", b"xbaabd", b"xabce", b"abe", b"xab", b"xxaae", b"xabde"]
+    plain = [0, 1, 6]
+    kinds = [
+        rb"x((([ab]?){255}c?){15}d$|[ab])*e",
+        rb"x(([ab]{0,255}c?){15}d$|[ab])*e",
+        rb"x((a?b?){255}{8}d$|[ab])*e",
+        rb"x(" + rb"([ab]{0,20}c?){3}" * 50 + rb"d$|[ab])*e",
+        rb"x([ab]|a([ab]{250}){15}c|d$)*e",
+    ]
+    for pattern in kinds:
+        yield documents_of_lines(lines), pattern, hits_of_lines(lines, plain)
+    # a word with its `c` has so many letters before it, and no fewer
+    for pattern, least in ((rb"x(([ab](([ab]{250}){14}c)?)*|d$)*e", 3_501), (rb"x([ab]|(([ab]|[ab][ab]){250}){5}c)*e", 1_250)):
+        counted = lines + [b"x" + b"a" * count + b"ce" for count in (least - 1, least, least + 1)]
+        yield documents_of_lines(counted), pattern, hits_of_lines(counted, [*plain, len(lines) + 1, len(lines) + 2])
+    anything = rb"x(.|a" + rb"." * 950 + rb"c|d$)*e"
+    yield documents_of_lines(lines), anything, hits_of_lines(lines, [0, 1, 3, 6, 7])
+    # a small document with one long line
+    long = [b"x" + b"a" * 8_189, b"x" + b"a" * 8_188 + b"e"]
+    for line, hits in zip(long, ([], [0])):
+        yield documents_of_lines([line]), rb"x(a|([ab]?){255}{15}c|d$)*e", hits_of_lines([line], hits)
+
+
+def documents_of_lines(lines):
+    return [(b"f", b"".join(line + b"\n" for line in lines))]
+
+
+def hits_of_lines(lines, hits):
+    return [b"f:%d:%s" % (at + 1, lines[at]) for at in hits]
 
 
 def patterns_about_the_greatest_size():
@@ -129,6 +163,7 @@ def a_megabyte_with_few_hits():
 LONG_ROWS = [
     many_stars,
     large_counts_over_long_lines,
+    large_counts_beside_stars,
     patterns_about_the_greatest_size,
     several_hits_in_each_of_many_documents,
     a_megabyte_of_line_feeds,

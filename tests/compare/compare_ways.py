@@ -30,7 +30,7 @@ from counted import Counted  # noqa: E402
 FEW_BYTES = 8192
 PATTERNS_OF_A_RUN = 500
 # It matches nothing, since no byte is behind the end of a line. It has stars inside stars, and its tables are large.
-FOR_THE_SIMULATION = rb"|$.([ab]{255}){3}((c*d)*e)*"
+FOR_THE_SIMULATION = rb"|$.[acegikmoqsuwyACEGIKMOQSUWY]{80}((c*d)*e)*"
 
 
 def small_body(chance, count):
