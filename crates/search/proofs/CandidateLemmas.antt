@@ -1,62 +1,59 @@
 -- The candidates of a pattern, and those of them that are wanted.
-use Rattle.std.proofs.Common.{◌≡◌, ℕ, ◌≤◌, Bool, true, false, cond, List, [], ◌∷◌, map, length, IfSome, ◌∙◌, ap, subst, arith}
-use Rattle.std.specs.Prelude.{filter}
+use Rattle.std.proofs.Common.{◌≡◌, ℕ, ◌≤◌, Bool, true, false, cond, List, [], ◌∷◌, map, length, ◌∙◌, ap, subst, arith}
+use Rattle.std.specs.Prelude.{filter, All}
 use Rattle.std.proofs.lemmas.List.{length-map}
 use Rattle.std.proofs.lemmas.List.Elements.{filter_agree}
-use Rattle.ere.specs.Tree.{Tree}
-use Rattle.ere.specs.Language.{ContainsMatch}
 use Rattle.query.specs.Trigrams.{TrigramSet, trigrams_of_body}
 use Rattle.query.specs.Query.{Formula, is_met}
-use Rattle.trigram.specs.Analysis.{condition}
 use Rattle.posting.specs.ListValue.{has}
 use Rattle.index.specs.declared.document.SharedDocument.{SharedDocument}
 use Rattle.index.specs.Documents.{Document, meets, IsInNameOrder}
 use Rattle.index.specs.Shared.{document_of, documents_shared}
 use Rattle.index.specs.State.{State}
-use Rattle.search.specs.Pattern.{Pattern}
-use Rattle.search.specs.Scan.{candidates_of}
-use Rattle.search.specs.Private.Selects.{Selects, IsNamedFor}
+use Rattle.search.specs.Pattern.{Test, Passes, Pattern}
+use Rattle.search.specs.Scan.{can_have, candidates_of}
+use Rattle.search.specs.Private.Selects.{Selects, IsNamedForAll}
 use Rattle.index.proofs.StoredLemmas.{Numbered}
 use Rattle.index.proofs.OrderLemmas.{chosen_are}
 use Rattle.search.proofs.SelectsLemmas.{Selects-map, rises-Selects, Contains-kept, kept-Contains}
 use Rattle.search.proofs.ScanLemmas.{AreWanted}
 
 -- the formula is met exactly where the condition is
-abbrev IsMetAs : Tree → Formula → Type 0
-IsMetAs tree formula = (set : TrigramSet) → is_met formula set ≡ condition tree set
+abbrev IsMetAs : Test → Formula → Type 0
+IsMetAs test formula = (set : TrigramSet) → is_met formula set ≡ can_have test set
 
-candidates_are : (s : State) (tree : Tree) (formula : Formula) → IsMetAs tree formula → filter (meets formula) s.documents ≡ candidates_of s tree
-candidates_are s tree formula same =
-    filter_agree (meets formula) (λ d. condition tree (trigrams_of_body d.body)) (λ d. same (trigrams_of_body d.body)) s.documents
+candidates_are : (s : State) (test : Test) (formula : Formula) → IsMetAs test formula → filter (meets formula) s.documents ≡ candidates_of s test
+candidates_are s test formula same =
+    filter_agree (meets formula) (λ d. can_have test (trigrams_of_body d.body)) (λ d. same (trigrams_of_body d.body)) s.documents
 
 -- the documents that have the numbers of the candidates are the candidates
-pub candidates_in_order : (s : State) (pattern : Pattern) (formula : Formula) → Numbered s.documents → IsMetAs pattern.tree formula
+pub candidates_in_order : (s : State) (pattern : Pattern) (formula : Formula) → Numbered s.documents → IsMetAs pattern.line formula
     → (members : List ℕ) → members ≡ map (λ d. d.number) (filter (meets formula) s.documents) → (ordered : List Document)
-    → IsInNameOrder (filter (λ d. has members d.number) s.documents) ordered → IsInNameOrder (candidates_of s pattern.tree) ordered
+    → IsInNameOrder (filter (λ d. has members d.number) s.documents) ordered → IsInNameOrder (candidates_of s pattern.line) ordered
 candidates_in_order s pattern formula rise same members are ordered order =
     subst (λ ds. IsInNameOrder ds ordered)
     (ap (λ ns. filter (λ d. has ns d.number) s.documents) are
-    ∙ (chosen_are s.documents rise (meets formula) ∙ candidates_are s pattern.tree formula same)) order
+    ∙ (chosen_are s.documents rise (meets formula) ∙ candidates_are s pattern.line formula same)) order
 
 -- The wanted documents are the candidates whose names match, in the order of their names.
 pub wanted_are : (s : State) (pattern : Pattern) (taken kept : List SharedDocument)
-    → IsInNameOrder (candidates_of s pattern.tree) (documents_shared taken) → Selects (IsNamedFor pattern) taken kept
+    → IsInNameOrder (candidates_of s pattern.line) (documents_shared taken) → Selects (IsNamedForAll pattern.names) taken kept
     → AreWanted s pattern (documents_shared kept)
 wanted_are s pattern taken kept order named =
-    let selected : Selects (λ d. IfSome pattern.name_tree (λ tree. ContainsMatch tree d.name)) (documents_shared taken) (documents_shared kept) =
-    Selects-map document_of (λ d. IfSome pattern.name_tree (λ tree. ContainsMatch tree d.name)) named in
+    let selected : Selects (λ d. All (λ test. Passes test d.name) pattern.names) (documents_shared taken) (documents_shared kept) =
+    Selects-map document_of (λ d. All (λ test. Passes test d.name) pattern.names) named in
     record {
       rises = rises-Selects selected order.rises;
       exact = λ d. (
-        λ h. (let at = Contains-kept d selected h in record { candidate = (order.same d).0 at.0; name_hit = at.1 }),
-        λ w. kept-Contains d selected ((order.same d).1 w.candidate) w.name_hit,
+        λ h. (let at = Contains-kept d selected h in record { candidate = (order.same d).0 at.0; name_hits = at.1 }),
+        λ w. kept-Contains d selected ((order.same d).1 w.candidate) w.name_hits,
       );
     }
 
-pub counted : (s : State) (pattern : Pattern) (formula : Formula) → IsMetAs pattern.tree formula → (members : List ℕ)
-    → members ≡ map (λ d. d.number) (filter (meets formula) s.documents) → length members ≡ length (candidates_of s pattern.tree)
+pub counted : (s : State) (pattern : Pattern) (formula : Formula) → IsMetAs pattern.line formula → (members : List ℕ)
+    → members ≡ map (λ d. d.number) (filter (meets formula) s.documents) → length members ≡ length (candidates_of s pattern.line)
 counted s pattern formula same members are =
-    ap length are ∙ (length-map (filter (meets formula) s.documents) (λ d. d.number) ∙ ap length (candidates_are s pattern.tree formula same))
+    ap length are ∙ (length-map (filter (meets formula) s.documents) (λ d. d.number) ∙ ap length (candidates_are s pattern.line formula same))
 
 length-filter : (p : Document → Bool) (ds : List Document) → length (filter p ds) ≤ length ds
 length-filter p [] = omega arith

@@ -7,6 +7,7 @@ pub mod LineLemmas
 pub mod CandidateLemmas
 mod NameLemmas
 mod SweepLemmas
+mod TestLemmas
 mod WayLemmas
 mod FewLemmas
 mod PieceLemmas

@@ -3,13 +3,12 @@ use Rattle.std.proofs.Common.{◌≡◌, ℕ, ◌+◌, ◌-◌, ◌<◌, ◌≤�
 use Rattle.std.specs.Prelude.{slice_range, All}
 use Rattle.std.proofs.lemmas.List.{append-nil, map-append, length-append, length-take, length-drop, drop-take, drop-drop, take-take, take_all, get_or_append_left, get_or_push, nil_from_length}
 use Rattle.std.proofs.lemmas.List.Elements.{All-nil, All-cons, All-head, All-tail, All-append, All-weaker}
-use Rattle.ere.specs.Tree.{Tree}
-use Rattle.ere.specs.Language.{ContainsMatch}
 use Rattle.index.specs.declared.document.SharedDocument.{SharedDocument}
 use Rattle.search.specs.declared.places.Place.{Place}
+use Rattle.search.specs.Pattern.{Test, Passes}
 use Rattle.search.specs.Scan.{Hit}
 use Rattle.search.specs.Places.{hit_in, home_of, hit_at, hits_at, IsPlaced}
-use Rattle.search.specs.Private.Selects.{Selects, done, keep, Adds, HasMatch, found, lines_of_document}
+use Rattle.search.specs.Private.Selects.{Selects, done, keep, Adds, IsAsked, found, lines_of_document}
 use Rattle.search.specs.Private.Documents.{lines_of_taken}
 use Rattle.search.specs.Private.Added.{HasTextAt, IsPlaceIn, AddsPlaces}
 use Rattle.search.proofs.SelectsLemmas.{Selects-append}
@@ -61,9 +60,9 @@ rest_is_there body offset text start inside there =
 
 -- ---- places that are added
 
-module _ (tree : Tree) (document : ℕ) (name body : List ℕ) where
+module _ (test : Test) (document : ℕ) (name body : List ℕ) where
   -- no place, for lines without a match
-  pub no_place : (lines : List Hit) (old : List Place) → Selects (HasMatch tree) lines [] → AddsPlaces tree document name body lines old old
+  pub no_place : (lines : List Hit) (old : List Place) → Selects (IsAsked test) lines [] → AddsPlaces test document name body lines old old
   no_place lines old none = record {
     added = [];
     appended = sym (append-nil old);
@@ -73,7 +72,7 @@ module _ (tree : Tree) (document : ℕ) (name body : List ℕ) where
 
   -- one place
   pub one_place : (lines : List Hit) (place : Place) (old new : List Place) → IsPlaceIn document body place
-      → Selects (HasMatch tree) lines (hit_in name body place ∷ []) → new ≡ old ++ place ∷ [] → AddsPlaces tree document name body lines old new
+      → Selects (IsAsked test) lines (hit_in name body place ∷ []) → new ≡ old ++ place ∷ [] → AddsPlaces test document name body lines old new
   one_place lines place old new inside selected grown = record {
     added = place ∷ [];
     appended = grown;
@@ -82,20 +81,20 @@ module _ (tree : Tree) (document : ℕ) (name body : List ℕ) where
   }
 
   -- the place of a line with a match
-  pub line_place : (line offset : ℕ) (text : List ℕ) → HasTextAt body offset text → ContainsMatch tree text → (old new : List Place)
+  pub line_place : (line offset : ℕ) (text : List ℕ) → HasTextAt body offset text → Passes test text → (old new : List Place)
       → new ≡ old ++ record { document = document; line = line; start = offset; end = offset + length text } ∷ []
-      → AddsPlaces tree document name body (found name line text ∷ []) old new
+      → AddsPlaces test document name body (found name line text ∷ []) old new
   line_place line offset text there hit old new grown =
       one_place (found name line text ∷ []) (record { document = document; line = line; start = offset; end = offset + length text }) old new
       (record { document = refl; ordered = omega arith; inside = there.inside })
-      (subst (λ t. Selects (HasMatch tree) (found name line text ∷ []) (found name line t ∷ [])) (sym there.same) (keep hit done)) grown
+      (subst (λ t. Selects (IsAsked test) (found name line text ∷ []) (found name line t ∷ [])) (sym there.same) (keep hit done)) grown
 
   -- what is added so far, followed by what is added for the rest, is what is added for the whole
   pub record AddsSoFar (rest whole : List Hit) (old now : List Place) : Type 0 where
     pub added : List Place
     pub appended : now ≡ old ++ added
     pub inside : All (IsPlaceIn document body) added
-    pub so_far : (more : List Hit) → Selects (HasMatch tree) rest more → Selects (HasMatch tree) whole (map (hit_in name body) added ++ more)
+    pub so_far : (more : List Hit) → Selects (IsAsked test) rest more → Selects (IsAsked test) whole (map (hit_in name body) added ++ more)
 
   pub begin : (whole : List Hit) (old : List Place) → AddsSoFar whole whole old old
   begin whole old = record {
@@ -106,7 +105,7 @@ module _ (tree : Tree) (document : ℕ) (name body : List ℕ) where
   }
 
   pub go_on : (first rest lines whole : List Hit) (old now new : List Place) → lines ≡ first ++ rest → AddsSoFar lines whole old now
-      → AddsPlaces tree document name body first now new → AddsSoFar rest whole old new
+      → AddsPlaces test document name body first now new → AddsSoFar rest whole old new
   go_on first rest lines whole old now new split before step = record {
     added = before.added ++ step.added;
     appended = step.appended ∙ (ap (λ ps. ps ++ step.added) before.appended ∙ append_assoc old before.added step.added);
@@ -115,27 +114,27 @@ module _ (tree : Tree) (document : ℕ) (name body : List ℕ) where
         λ more s.
         (let joined =
         before.so_far (map (hit_in name body) step.added ++ more)
-        (subst (λ all. Selects (HasMatch tree) all (map (hit_in name body) step.added ++ more)) (sym split) (Selects-append step.selected s)) in
+        (subst (λ all. Selects (IsAsked test) all (map (hit_in name body) step.added ++ more)) (sym split) (Selects-append step.selected s)) in
         let same : map (hit_in name body) before.added ++ (map (hit_in name body) step.added ++ more)
         ≡ map (hit_in name body) (before.added ++ step.added) ++ more =
         sym (append_assoc (map (hit_in name body) before.added) (map (hit_in name body) step.added) more)
         ∙ ap (λ hits. hits ++ more) (sym (map-append (hit_in name body) before.added step.added)) in
-        subst (λ hits. Selects (HasMatch tree) whole hits) same joined);
+        subst (λ hits. Selects (IsAsked test) whole hits) same joined);
   }
 
   pub at_end : (rest whole : List Hit) (old now : List Place) → rest ≡ [] → AddsSoFar rest whole old now
-      → AddsPlaces tree document name body whole old now
+      → AddsPlaces test document name body whole old now
   at_end rest whole old now none before = record {
     added = before.added;
     appended = before.appended;
     inside = before.inside;
     selected =
-        subst (λ hits. Selects (HasMatch tree) whole hits) (append-nil (map (hit_in name body) before.added))
-        (before.so_far [] (subst (λ all. Selects (HasMatch tree) all []) (sym none) done));
+        subst (λ hits. Selects (IsAsked test) whole hits) (append-nil (map (hit_in name body) before.added))
+        (before.so_far [] (subst (λ all. Selects (IsAsked test) all []) (sym none) done));
   }
 
   pub at_last : (rest whole : List Hit) (old now new : List Place) → AddsSoFar rest whole old now
-      → AddsPlaces tree document name body rest now new → AddsPlaces tree document name body whole old new
+      → AddsPlaces test document name body rest now new → AddsPlaces test document name body whole old new
   at_last rest whole old now new before step =
       at_end [] whole old new refl (go_on rest [] rest whole old now new (sym (append-nil rest)) before step)
 
@@ -183,16 +182,16 @@ hits-last documents last (place ∷ places) are =
     (hits-last documents last places (All-tail (IsPlaceIn (length documents) last.held) place places are))
 
 -- what is added for a body, with the number, the name and the body of its document
-pub adds_as : (tree : Tree) (number : ℕ) (documents : List SharedDocument) (last : SharedDocument) (body : List ℕ) (old new : List Place)
+pub adds_as : (test : Test) (number : ℕ) (documents : List SharedDocument) (last : SharedDocument) (body : List ℕ) (old new : List Place)
     → number ≡ length documents → body ≡ last.held
-    → ((name : List ℕ) → AddsPlaces tree number name body (lines_of_document name body) old new)
-    → AddsPlaces tree (length documents) last.name last.held (lines_of_taken last) old new
-adds_as tree number documents last body old new count same adds =
-    subst (λ n. AddsPlaces tree n last.name last.held (lines_of_taken last) old new) count
-    (subst (λ text. AddsPlaces tree number last.name text (lines_of_document last.name text) old new) same (adds last.name))
+    → ((name : List ℕ) → AddsPlaces test number name body (lines_of_document name body) old new)
+    → AddsPlaces test (length documents) last.name last.held (lines_of_taken last) old new
+adds_as test number documents last body old new count same adds =
+    subst (λ n. AddsPlaces test n last.name last.held (lines_of_taken last) old new) count
+    (subst (λ text. AddsPlaces test number last.name text (lines_of_document last.name text) old new) same (adds last.name))
 
-module _ (tree : Tree) (documents : List SharedDocument) (last : SharedDocument) (old new : List Place) (placed : All (IsPlaced documents) old)
-    (adds : AddsPlaces tree (length documents) last.name last.held (lines_of_taken last) old new) where
+module _ (test : Test) (documents : List SharedDocument) (last : SharedDocument) (old new : List Place) (placed : All (IsPlaced documents) old)
+    (adds : AddsPlaces test (length documents) last.name last.held (lines_of_taken last) old new) where
   pub placed_with : All (IsPlaced (documents ++ last ∷ [])) new
   placed_with =
       subst (λ places. All (IsPlaced (documents ++ last ∷ [])) places) (sym adds.appended)
@@ -201,7 +200,7 @@ module _ (tree : Tree) (documents : List SharedDocument) (last : SharedDocument)
       (All-weaker (IsPlaceIn (length documents) last.held) (IsPlaced (documents ++ last ∷ [])) (placed-last documents last) adds.added
       adds.inside))
 
-  pub adds_with : Adds (HasMatch tree) (lines_of_taken last) (hits_at documents old) (hits_at (documents ++ last ∷ []) new)
+  pub adds_with : Adds (IsAsked test) (lines_of_taken last) (hits_at documents old) (hits_at (documents ++ last ∷ []) new)
   adds_with = record {
     added = map (hit_in last.name last.held) adds.added;
     appended =

@@ -1,7 +1,7 @@
 -- The lines of documents, and the scan of all of them.
 use Rattle.std.proofs.Common.{◌≡◌, ℕ, zero, suc, ◌+◌, ◌-◌, ◌<◌, ◌≤◌, ◌⊎◌, inl, inr, List, [], ◌∷◌, ◌++◌, map, length, length-drop, drop}
-use Rattle.std.proofs.Common.{take, get_or, Some, Contains, IfSome, refl, sym, ◌∙◌, ap, subst, arith}
-use Rattle.std.specs.Prelude.{◌↔◌, slice_get, flat_map}
+use Rattle.std.proofs.Common.{take, get_or, Some, Contains, refl, sym, ◌∙◌, ap, subst, arith}
+use Rattle.std.specs.Prelude.{◌↔◌, slice_get, flat_map, All, true, false}
 use Rattle.std.proofs.Math.Seq.{drop-cons}
 use Rattle.std.proofs.Math.ListN.{drop_of_length-le}
 use Rattle.std.proofs.lemmas.List.{append-nil, take-append-drop, take_all}
@@ -14,17 +14,15 @@ use Rattle.std.specs.List.Sorted.{IsStrictlySortedBy}
 use Rattle.std.specs.declared.cmp.Ordering.TheVariants.{Less}
 use Rattle.std.proofs.lemmas.Bool.Decides.{nat_tests}
 use Rattle.std.proofs.lemmas.Option.{slice_get_within, get_or_from_slice_get}
-use Rattle.ere.specs.Language.{ContainsMatch}
 use Rattle.lines.specs.Lines.{lines_of}
 use Rattle.query.specs.Trigrams.{trigrams_of_body}
-use Rattle.trigram.specs.Analysis.{condition}
 use Rattle.trigram.proofs.LawLemmas.{matching_line}
 use Rattle.index.specs.Documents.{Document, RisesByName}
 use Rattle.index.specs.State.{State}
 use Rattle.index.proofs.DocumentLemmas.{Contains-cons, Contains-head, Contains-tail}
-use Rattle.search.specs.Pattern.{Pattern}
-use Rattle.search.specs.Scan.{Hit, IsHit, hit_cmp, IsScanOf, candidates_of}
-use Rattle.search.specs.Private.Selects.{found, numbered, lines_of_document, Selects, done, Adds, HasMatch}
+use Rattle.search.specs.Pattern.{Test, Passes, Pattern}
+use Rattle.search.specs.Scan.{Hit, IsHit, hit_cmp, IsScanOf, can_have, candidates_of}
+use Rattle.search.specs.Private.Selects.{found, numbered, lines_of_document, Selects, done, Adds, IsAsked}
 use Rattle.index.proofs.DocumentLemmas.{filter-Contains, Contains-filter}
 use Rattle.search.proofs.SelectsLemmas.{sorted-Selects, Contains-kept, kept-Contains, Selects-append, Selects-after, Adds-none}
 
@@ -225,11 +223,11 @@ no-lines Has lines (x ∷ xs) old e = absurd (omega arith)
 
 -- ---- the scan
 
--- The pattern asks to look at the lines of this document: it is a candidate, and its name, taken as a line, contains
--- a match of the name pattern, where there is one.
+-- The pattern asks to look at the lines of this document: it is a candidate, and its name, taken as a line, passes
+-- the tests of names.
 pub record IsWanted (state : State) (pattern : Pattern) (d : Document) : Type 0 where
-  pub candidate : Contains (candidates_of state pattern.tree) d
-  pub name_hit : IfSome pattern.name_tree (λ tree. ContainsMatch tree d.name)
+  pub candidate : Contains (candidates_of state pattern.line) d
+  pub name_hits : All (λ test. Passes test d.name) pattern.names
 
 -- those documents, each once, rising by name
 pub record AreWanted (state : State) (pattern : Pattern) (wanted : List Document) : Type 0 where
@@ -238,21 +236,26 @@ pub record AreWanted (state : State) (pattern : Pattern) (wanted : List Document
 
 -- a document with a hit is a candidate
 candidate : (s : State) (pattern : Pattern) (d : Document) (i : ℕ) (text : List ℕ) → Contains s.documents d
-    → slice_get (lines_of d.body) i ≡ Some text → ContainsMatch pattern.tree text → Contains (candidates_of s pattern.tree) d
+    → slice_get (lines_of d.body) i ≡ Some text → Passes pattern.line text → Contains (candidates_of s pattern.line) d
 candidate s pattern d i text there at hit =
-    Contains-filter (λ x. condition pattern.tree (trigrams_of_body x.body)) s.documents d there
-    (matching_line pattern.tree d.body text
-    (i, slice_get_within (lines_of d.body) i text at, get_or_from_slice_get (lines_of d.body) i text text at) hit)
+    Contains-filter (λ x. can_have pattern.line (trigrams_of_body x.body)) s.documents d there
+    (go pattern.line hit)
+  where
+    go : (test : Test) → Passes test text → can_have test (trigrams_of_body d.body) ≡ true
+    go (record { tree = tree; inverted = true }) none = refl
+    go (record { tree = tree; inverted = false }) some =
+        matching_line tree d.body text
+        (i, slice_get_within (lines_of d.body) i text at, get_or_from_slice_get (lines_of d.body) i text text at) some
 
 -- The scan is those lines of the wanted documents that contain a match.
 pub IsScanOf-wanted : (s : State) (pattern : Pattern) (wanted : List Document) (hits : List Hit) → AreWanted s pattern wanted
-    → Selects (HasMatch pattern.tree) (all_lines wanted) hits → IsScanOf s pattern hits
+    → Selects (IsAsked pattern.line) (all_lines wanted) hits → IsScanOf s pattern hits
 IsScanOf-wanted s pattern wanted hits are kept = record {
   rises = sorted-Selects hit_cmp kept (all_lines-sorted wanted are.rises);
   exact = λ f. (λ h. forth f (Contains-kept f kept h), λ h. back f h);
 }
   where
-    forth : (f : Hit) → Contains (all_lines wanted) f × HasMatch pattern.tree f → IsHit s pattern f
+    forth : (f : Hit) → Contains (all_lines wanted) f × IsAsked pattern.line f → IsHit s pattern f
     forth f h =
         let line = all_lines-Contains wanted f h.0 in
         let is = (are.exact line.0).0 line.1 in
@@ -260,12 +263,12 @@ IsScanOf-wanted s pattern wanted hits are kept = record {
         let place : at.i ≡ f.line - 1 = omega (arith, at.at) in
         record {
           document = line.0;
-          there = (filter-Contains (λ x. condition pattern.tree (trigrams_of_body x.body)) s.documents line.0 is.candidate).0;
+          there = (filter-Contains (λ x. can_have pattern.line (trigrams_of_body x.body)) s.documents line.0 is.candidate).0;
           named = at.named;
           counted = omega (arith, at.at);
           line = ap (λ n. slice_get (lines_of line.0.body) n) (sym place) ∙ at.text;
           hit = h.1;
-          name_hit = subst (λ name. IfSome pattern.name_tree (λ tree. ContainsMatch tree name)) (sym at.named) is.name_hit;
+          name_hits = subst (λ name. All (λ test. Passes test name) pattern.names) (sym at.named) is.name_hits;
         }
 
     back : (f : Hit) → IsHit s pattern f → Contains hits f
@@ -276,6 +279,6 @@ IsScanOf-wanted s pattern wanted hits are kept = record {
         let named = subst (λ n. Contains (lines_of_document h.document.name h.document.body) (found n f.line f.text)) (sym h.named) moved in
         let is : IsWanted s pattern h.document = record {
           candidate = candidate s pattern h.document (f.line - 1) f.text h.there h.line h.hit;
-          name_hit = subst (λ name. IfSome pattern.name_tree (λ tree. ContainsMatch tree name)) h.named h.name_hit;
+          name_hits = subst (λ name. All (λ test. Passes test name) pattern.names) h.named h.name_hits;
         } in
         kept-Contains f kept (Contains-all_lines wanted h.document f ((are.exact h.document).1 is) named) h.hit

@@ -9,7 +9,8 @@ use Rattle.lines.specs.Lines.{lines_of}
 use Rattle.finder.specs.FirstLine.{IsFirstLine, IsInside}
 use Rattle.finder.specs.declared.finding.FirstLine.{FirstLine}
 use Rattle.search.specs.declared.places.Place.{Place}
-use Rattle.search.specs.Private.Selects.{found, numbered, HasMatch, Selects, done, keep, skip}
+use Rattle.search.specs.Pattern.{with_match}
+use Rattle.search.specs.Private.Selects.{found, numbered, IsAsked, Selects, done, keep, skip}
 use Rattle.search.specs.Private.Added.{HasTextAt, AddsPlaces}
 use Rattle.search.proofs.LineLemmas.{numbered-empty}
 use Rattle.search.proofs.PieceLemmas.{numbered-append}
@@ -17,18 +18,18 @@ use Rattle.search.proofs.PlaceLemmas.{part_of_body, one_place}
 
 keep_at : (tree : Tree) (name : List ℕ) (line : ℕ) (front : List (List ℕ)) (text : List ℕ)
     → AllByRecursion (λ other. ContainsMatch tree other → ⊥) front → ContainsMatch tree text
-    → Selects (HasMatch tree) (numbered name line (front ++ text ∷ [])) (found name (line + length front) text ∷ [])
+    → Selects (IsAsked (with_match tree)) (numbered name line (front ++ text ∷ [])) (found name (line + length front) text ∷ [])
 unfolding numbered
 keep_at tree name line [] text none hit =
     let here : line ≡ line + 0 = omega arith in
-    subst (λ n. Selects (HasMatch tree) (found name line text ∷ []) (found name n text ∷ [])) here (keep hit done)
+    subst (λ n. Selects (IsAsked (with_match tree)) (found name line text ∷ []) (found name n text ∷ [])) here (keep hit done)
 keep_at tree name line (other ∷ front) text none hit =
     let place : suc line + length front ≡ line + suc (length front) = omega arith in
-    skip none.0 (subst (λ n. Selects (HasMatch tree) (numbered name (suc line) (front ++ text ∷ [])) (found name n text ∷ [])) place
+    skip none.0 (subst (λ n. Selects (IsAsked (with_match tree)) (numbered name (suc line) (front ++ text ∷ [])) (found name n text ∷ [])) place
     (keep_at tree name (suc line) front text none.1 hit))
 
 pub none_numbered : (tree : Tree) (name : List ℕ) (line : ℕ) (texts : List (List ℕ))
-    → AllByRecursion (λ other. ContainsMatch tree other → ⊥) texts → Selects (HasMatch tree) (numbered name line texts) []
+    → AllByRecursion (λ other. ContainsMatch tree other → ⊥) texts → Selects (IsAsked (with_match tree)) (numbered name line texts) []
 unfolding numbered
 none_numbered tree name line [] none = done
 none_numbered tree name line (text ∷ texts) none = skip none.0 (none_numbered tree name (suc line) texts none.1)
@@ -39,13 +40,13 @@ lines_through is = lines_of is.front ++ is.line ∷ []
 
 module _ (tree : Tree) (name : List ℕ) (line : ℕ) (text : List ℕ) (first : FirstLine) (is : IsFirstLine tree text first) where
   -- the one with a match is selected
-  pub selects_first : Selects (HasMatch tree) (numbered name line (lines_through is))
+  pub selects_first : Selects (IsAsked (with_match tree)) (numbered name line (lines_through is))
       (found name (line + first.before) (take (first.end - first.start) (drop first.start text)) ∷ [])
   selects_first =
       let same : found name (line + length (lines_of is.front)) is.line
       ≡ found name (line + first.before) (take (first.end - first.start) (drop first.start text)) =
       ap (λ n. found name (line + n) is.line) (sym is.counted) ∙ ap (λ t. found name (line + first.before) t) is.at in
-      subst (λ f. Selects (HasMatch tree) (numbered name line (lines_through is)) (f ∷ [])) same
+      subst (λ f. Selects (IsAsked (with_match tree)) (numbered name line (lines_through is)) (f ∷ [])) same
       (keep_at tree name line (lines_of is.front) is.line is.none_before is.match)
 
   -- these lines, and those that are left
@@ -72,16 +73,16 @@ module _ (tree : Tree) (name : List ℕ) (line : ℕ) (text : List ℕ) (first :
 pub first_place : (tree : Tree) (document : ℕ) (name body : List ℕ) (line at : ℕ) (text : List ℕ) (first : FirstLine)
     (is : IsFirstLine tree text first) → IsInside text first → HasTextAt body at text → (old new : List Place)
     → new ≡ old ++ record { document = document; line = line + first.before; start = at + first.start; end = at + first.end } ∷ []
-    → AddsPlaces tree document name body (numbered name line (lines_through is)) old new
+    → AddsPlaces (with_match tree) document name body (numbered name line (lines_through is)) old new
 first_place tree document name body line at text first is inside there old new grown =
-    one_place tree document name body (numbered name line (lines_through is))
+    one_place (with_match tree) document name body (numbered name line (lines_through is))
     (record { document = document; line = line + first.before; start = at + first.start; end = at + first.end }) old new
     (record {
       document = refl;
       ordered = omega (arith, inside.ordered);
       inside = omega (arith, inside.inside, there.inside);
     })
-    (subst (λ t. Selects (HasMatch tree) (numbered name line (lines_through is)) (found name (line + first.before) t ∷ []))
+    (subst (λ t. Selects (IsAsked (with_match tree)) (numbered name line (lines_through is)) (found name (line + first.before) t ∷ []))
     (sym (part_of_body body at text there first.start first.end inside.ordered inside.inside))
     (selects_first tree name line text first is)) grown
 

@@ -7,11 +7,9 @@ use Rattle.simulation.specs.Simulations.{IsSimulationOf}
 use Rattle.finder.specs.declared.finding.Finder.{Finder}
 use Rattle.finder.specs.declared.compiled.Compiled.{Compiled}
 use Rattle.simulation.specs.declared.simulation.Simulation.{Simulation as SimulationValue}
-use Rattle.search.specs.declared.way.LineWay.{LineWay}
-use Rattle.search.specs.declared.way.LineWay.TheVariants.{Matcher, Simulation}
 use Rattle.search.specs.declared.way.Way.{Way}
-use Rattle.search.specs.declared.way.Way.TheVariants.{FromMatchToMatch, LineByLine}
-use Rattle.search.specs.Private.Ways.{Finds, Looks, IsDecided, IsDecidedByLine}
+use Rattle.search.specs.declared.way.Way.TheVariants.{FromMatchToMatch, Matcher, Simulation}
+use Rattle.search.specs.Private.Ways.{Finds, IsDecided}
 
 pub finder_of : (tree : Tree) (way : Way) (finder : Finder) → way ≡ FromMatchToMatch finder → Finds tree way → IsFinderOf tree finder
 unfolding Finds
@@ -21,37 +19,18 @@ pub finds_by : (tree : Tree) (finder : Finder) → IsFinderOf tree finder → Fi
 unfolding Finds
 finds_by tree finder stands = stands
 
-pub looks_of : (tree : Tree) (way : Way) (by : LineWay) → way ≡ LineByLine by → Finds tree way → Looks tree by
+pub finds_by_matcher : (tree : Tree) → Finds tree Matcher
 unfolding Finds
-looks_of tree way by is finds = subst (Finds tree) is finds
+finds_by_matcher tree = tt
 
-pub finds_by_line : (tree : Tree) (by : LineWay) → Looks tree by → Finds tree (LineByLine by)
-unfolding Finds
-finds_by_line tree by looks = looks
-
-pub looks_by_matcher : (tree : Tree) → Looks tree Matcher
-unfolding Looks
-looks_by_matcher tree = tt
-
-pub finds_by_matcher : (tree : Tree) → Finds tree (LineByLine Matcher)
-finds_by_matcher tree = finds_by_line tree Matcher (looks_by_matcher tree)
-
-pub simulation_of : (tree : Tree) (way : LineWay) (simulation : SimulationValue) → way ≡ Simulation simulation → Looks tree way
+pub simulation_of : (tree : Tree) (way : Way) (simulation : SimulationValue) → way ≡ Simulation simulation → Finds tree way
     → IsSimulationOf tree simulation
-unfolding Looks
-simulation_of tree way simulation is looks = subst (Looks tree) is looks
+unfolding Finds
+simulation_of tree way simulation is finds = subst (Finds tree) is finds
 
-pub looks_by_simulation : (tree : Tree) (simulation : SimulationValue) → IsSimulationOf tree simulation → Looks tree (Simulation simulation)
-unfolding Looks
-looks_by_simulation tree simulation is = is
-
-pub decided_matcher : (tree : Tree) → IsQuick tree → IsDecidedByLine tree Matcher
-unfolding IsDecidedByLine
-decided_matcher tree quick = quick
-
-pub decided_simulation : (tree : Tree) (simulation : SimulationValue) → (IsQuick tree → ⊥) → IsDecidedByLine tree (Simulation simulation)
-unfolding IsDecidedByLine
-decided_simulation tree simulation slow = slow
+pub finds_by_simulation : (tree : Tree) (simulation : SimulationValue) → IsSimulationOf tree simulation → Finds tree (Simulation simulation)
+unfolding Finds
+finds_by_simulation tree simulation is = is
 
 pub compiled_from : (tree : Tree) (o : Option Compiled) (compiled : Compiled) → o ≡ Some compiled → IfSome o (IsCompiledFrom tree)
     → IsCompiledFrom tree compiled
@@ -63,7 +42,13 @@ unfolding IsDecided
 decided_by tree (Some one) compiled finder is = tt
 decided_by tree None compiled finder is = cc
 
-pub decided_by_line : (tree : Tree) (o : Option Compiled) (by : LineWay) → IsDecidedByLine tree by → IsDecided tree o (LineByLine by)
+pub decided_matcher : (tree : Tree) (o : Option Compiled) → IsQuick tree → IsDecided tree o Matcher
 unfolding IsDecided
-decided_by_line tree (Some compiled) by decided = decided
-decided_by_line tree None by decided = decided
+decided_matcher tree (Some compiled) quick = quick
+decided_matcher tree None quick = quick
+
+pub decided_simulation : (tree : Tree) (o : Option Compiled) (simulation : SimulationValue) → (IsQuick tree → ⊥)
+    → IsDecided tree o (Simulation simulation)
+unfolding IsDecided
+decided_simulation tree (Some compiled) simulation slow = slow
+decided_simulation tree None simulation slow = slow

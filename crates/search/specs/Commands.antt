@@ -1,10 +1,9 @@
 -- What a pattern asks for in the documents that commands leave.
-use Rattle.std.specs.Prelude.{◌≡◌, ℕ, ◌-◌, ◌<◌, List, Some, slice_get, IfSome}
-use Rattle.ere.specs.Language.{ContainsMatch}
+use Rattle.std.specs.Prelude.{◌≡◌, ℕ, ◌-◌, ◌<◌, List, Some, slice_get, All}
 use Rattle.lines.specs.Lines.{lines_of}
 use Rattle.index.specs.declared.command.Command.{Command}
 use Rattle.index.specs.Documents.{IsPutLast}
-use Rattle.search.specs.Pattern.{Pattern}
+use Rattle.search.specs.Pattern.{Passes, Pattern}
 use Rattle.search.specs.Scan.{Hit}
 
 -- The pattern asks for this line of the last Put of its name, which no later command names.
@@ -13,5 +12,5 @@ pub record IsHitOfPut (commands : List Command) (pattern : Pattern) (found : Hit
   pub put : IsPutLast commands found.name body
   pub counted : 0 < found.line
   pub line : slice_get (lines_of body) (found.line - 1) ≡ Some found.text
-  pub hit : ContainsMatch pattern.tree found.text
-  pub name_hit : IfSome pattern.name_tree (λ tree. ContainsMatch tree found.name)
+  pub hit : Passes pattern.line found.text
+  pub name_hits : All (λ test. Passes test found.name) pattern.names

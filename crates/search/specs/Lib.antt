@@ -1,4 +1,5 @@
 pub mod Pattern
+pub mod Tests
 pub mod Prepared
 pub mod Scan
 pub mod Commands

@@ -1,24 +1,45 @@
--- What a search looks for: the tree of its pattern, and that of its name pattern, if it has one.
-use Rattle.std.specs.Prelude.{◌≡◌, List, ℕ, Option, None, IsSomeAnd}
+-- What a search asks for: which lines, and in documents of which names.
+use Rattle.std.specs.Prelude.{◌≡◌, List, [], ◌∷◌, ℕ, Bool, false, MatchBool, All}
 use Rattle.ere.specs.declared.case.Case.{Case}
 use Rattle.ere.specs.declared.case.Case.TheVariants.{Exact}
+use Rattle.ere.specs.Language.{ContainsMatch}
 use Rattle.ere.specs.Tree.{Tree}
 use Rattle.ere.specs.Limits.{IsTreeOf}
 
-pub record Pattern : Type 0 where
+-- a tree, and whether it is asked for texts without a match of it
+pub record Test : Type 0 where
   pub tree : Tree
-  pub name_tree : Option Tree
+  pub inverted : Bool
 
--- the pattern that a text spells, for documents with any name
+-- The text contains a match of the tree or, if the test is inverted, it contains none.
+abbrev pub Passes : Test → List ℕ → Type 0
+Passes test text = MatchBool test.inverted (ContainsMatch test.tree text → ⊥) (ContainsMatch test.tree text)
+
+-- the test of lines, and those of the names of documents, all of which a name has to pass
+pub record Pattern : Type 0 where
+  pub line : Test
+  pub names : List Test
+
+-- texts with a match of the tree
+abbrev pub with_match : Tree → Test
+with_match tree = record { tree = tree; inverted = false }
+
+-- the lines with a match of the tree that a text spells, in documents with any name
 pub record IsPatternOf (case : Case) (text : List ℕ) (pattern : Pattern) : Type 0 where
-  pub tree : IsTreeOf case text pattern.tree
-  pub every_name : pattern.name_tree ≡ None
+  pub tree : Tree
+  pub spelled : IsTreeOf case text tree
+  pub line : pattern.line ≡ with_match tree
+  pub every_name : pattern.names ≡ []
 
--- the pattern that a text spells, for documents whose names match the pattern that `name_text` spells, in which
--- the case of letters always counts
+-- The same in documents whose names contain a match of the tree that `name_text` spells, in which the case of letters
+-- always counts.
 pub record IsPatternWithin (case : Case) (name_text text : List ℕ) (pattern : Pattern) : Type 0 where
-  pub tree : IsTreeOf case text pattern.tree
-  pub name_tree : IsSomeAnd pattern.name_tree (IsTreeOf Exact name_text)
+  pub tree : Tree
+  pub spelled : IsTreeOf case text tree
+  pub name_tree : Tree
+  pub name_spelled : IsTreeOf Exact name_text name_tree
+  pub line : pattern.line ≡ with_match tree
+  pub names : pattern.names ≡ with_match name_tree ∷ []
 
 -- the text has a tree
 abbrev pub HasTree : Case → List ℕ → Type 0

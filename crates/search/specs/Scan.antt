@@ -1,17 +1,15 @@
 -- The lines that a search finds, and its answer.
-use Rattle.std.specs.Prelude.{◌≡◌, ℕ, ◌-◌, ◌<◌, List, length, Some, slice_get, filter, IfSome, Contains, ◌↔◌}
+use Rattle.std.specs.Prelude.{◌≡◌, ℕ, ◌-◌, ◌<◌, Bool, ◌||◌, List, length, Some, slice_get, filter, All, Contains, ◌↔◌}
 use Rattle.std.specs.Ordering.{nat_cmp, then_cmp, on}
 use Rattle.std.specs.Cmp.Lexicographic.{slice_cmp}
 use Rattle.std.specs.List.Sorted.{IsStrictlySortedBy}
 use Rattle.std.specs.declared.cmp.Ordering.{Ordering}
-use Rattle.ere.specs.Language.{ContainsMatch}
-use Rattle.ere.specs.Tree.{Tree}
 use Rattle.lines.specs.Lines.{lines_of}
-use Rattle.query.specs.Trigrams.{trigrams_of_body}
+use Rattle.query.specs.Trigrams.{TrigramSet, trigrams_of_body}
 use Rattle.trigram.specs.Analysis.{condition}
 use Rattle.index.specs.Documents.{Document}
 use Rattle.index.specs.State.{State}
-use Rattle.search.specs.Pattern.{Pattern}
+use Rattle.search.specs.Pattern.{Test, Passes, Pattern}
 
 -- a line that was found: its document's name, its number from 1, and its text
 pub record Hit : Type 0 where
@@ -26,8 +24,8 @@ pub record IsHit (state : State) (pattern : Pattern) (found : Hit) : Type 0 wher
   pub named : found.name ≡ document.name
   pub counted : 0 < found.line
   pub line : slice_get (lines_of document.body) (found.line - 1) ≡ Some found.text
-  pub hit : ContainsMatch pattern.tree found.text
-  pub name_hit : IfSome pattern.name_tree (λ tree. ContainsMatch tree found.name)
+  pub hit : Passes pattern.line found.text
+  pub name_hits : All (λ test. Passes test found.name) pattern.names
 
 -- by the names' bytes, as unsigned numbers, and then by line
 abbrev pub hit_cmp : Hit → Hit → Ordering
@@ -38,9 +36,13 @@ pub record IsScanOf (state : State) (pattern : Pattern) (scan : List Hit) : Type
   pub rises : IsStrictlySortedBy hit_cmp scan
   pub exact : (found : Hit) → Contains scan found ↔ IsHit state pattern found
 
--- the documents whose trigrams meet the condition of the tree
-abbrev pub candidates_of : State → Tree → List Document
-candidates_of state tree = filter (λ d. condition tree (trigrams_of_body d.body)) state.documents
+-- whether a document with these trigrams can have a line that passes the test: always, if lines without a match are asked for
+abbrev pub can_have : Test → TrigramSet → Bool
+can_have test set = test.inverted || condition test.tree set
+
+-- the documents whose trigrams let them have a line that passes the test
+abbrev pub candidates_of : State → Test → List Document
+candidates_of state test = filter (λ d. can_have test (trigrams_of_body d.body)) state.documents
 
 -- an answer: its version, which is the number of commands; the lines found; how many documents there are; and how
 -- many of them are candidates
@@ -54,4 +56,4 @@ pub record IsAnswerOf (state : State) (pattern : Pattern) (answer : Answer) : Ty
   pub version : answer.version ≡ state.version
   pub hits : IsScanOf state pattern answer.hits
   pub documents : answer.documents ≡ length state.documents
-  pub candidates : answer.candidates ≡ length (candidates_of state pattern.tree)
+  pub candidates : answer.candidates ≡ length (candidates_of state pattern.line)

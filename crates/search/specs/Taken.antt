@@ -14,5 +14,5 @@ pub record IsTakenOf (state : State) (pattern : Pattern) (taken : Taken) : Type 
   pub prepared : pattern_of taken.prepared.now ≡ pattern
   pub version : taken.version ≡ state.version
   pub documents : taken.documents ≡ length state.documents
-  pub count : taken.count ≡ length (candidates_of state pattern.tree)
-  pub candidates : IsInNameOrder (candidates_of state pattern.tree) (documents_shared taken.candidates.items)
+  pub count : taken.count ≡ length (candidates_of state pattern.line)
+  pub candidates : IsInNameOrder (candidates_of state pattern.line) (documents_shared taken.candidates.items)

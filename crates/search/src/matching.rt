@@ -1,22 +1,23 @@
-//! The lines of documents that contain a match.
+//! The lines of documents that pass a test.
 
-ghost use Rattle.std.specs.Prelude.{◌≡◌, ◌≤◌, ◌+◌, ℕ, List, false, [], ◌∷◌, length, take, flat_map, IfOk, OnOk, All};
+ghost use Rattle.std.specs.Prelude.{◌≡◌, ◌≢◌, ◌<◌, ◌≤◌, ◌+◌, ℕ, List, false, [], ◌∷◌, length, take, flat_map, slice_index, IfOk, OnOk, All};
 ghost use Rattle.ere.specs.Tree.{Tree, form};
-ghost use Rattle.ere.specs.Limits.{IsWithinLimits};
 ghost use Rattle.index.specs.Text.{greatest_body, has_long_line};
 ghost use Rattle.finder.specs.Patterns.{IsFinderOf};
+ghost use Rattle.search.specs.Pattern.{with_match};
+ghost use Rattle.search.specs.Tests.{test_of};
 ghost use Rattle.search.specs.Places.{hits_at, IsPlaced};
-ghost use Rattle.search.specs.Private.Selects.{Adds, Selects, HasMatch, found, lines_of_document};
+ghost use Rattle.search.specs.Private.Selects.{Adds, Selects, IsAsked, found, lines_of_document};
 ghost use Rattle.search.specs.Private.Added.{HasTextAt, AddsPlaces, AddsLinesOf};
 ghost use Rattle.search.specs.Private.Documents.{lines_of_taken};
-ghost use Rattle.search.specs.Private.Ways.{Finds, Looks, AreFew};
+ghost use Rattle.search.specs.Private.Ways.{Finds, AreFew};
 
+use crate::asked::Test;
 use crate::piece::piece_end;
 use crate::places::{Place, Places, share};
 use crate::unanswered::Unanswered;
 use crate::watch::{Watch, ask};
-use crate::way::{LineWay, Way, compile, has_match, way_by};
-use ere::Ere;
+use crate::way::{Way, compile, has_match, way_by};
 use finder::{Finder, lines_before};
 use index::{Body, SharedDocument};
 use lines::MAX_LINE;
@@ -29,48 +30,46 @@ use std::alloc::{AllocError, Global};
 /// with most other patterns, and between 20 and 50 KB with `[0-9]+`.
 const FEW_BYTES: usize = 8192;
 
-/// The lines with a match in these documents, document after document. `watch` gets the number of each document, and
+/// The lines of these documents that pass the test, document after document. `watch` gets the number of each document, and
 /// is asked whether the answer is wanted before each document and before each further piece of one.
 pub fn scan_documents<W: Watch>(
     alloc: Global,
-    tree: &Ere,
+    test: &Test,
     documents: &[SharedDocument],
     watch: &mut W,
 ) -> Result<Places, Unanswered>
-    requires { IsWithinLimits (form tree.now) }
-    ensures { IfOk result (λ hits. Selects (HasMatch (form tree.now)) (flat_map lines_of_taken documents.now) hits) }
+    ensures { IfOk result (λ hits. Selects (IsAsked (test_of test.now)) (flat_map lines_of_taken documents.now) hits) }
 {
     let mut hits = Places::new(alloc);
-    let few = scan_few(tree, documents, &mut hits, watch)?;
-    scan_compiled(alloc, tree, &documents[few..], &mut hits, watch)?;
+    let few = scan_few(test, documents, &mut hits, watch)?;
+    scan_compiled(alloc, test, &documents[few..], &mut hits, watch)?;
     Ok(hits)
 }
 
-/// Adds the lines with a match in the first few documents (see `few_documents`), looking at each line by itself.
+/// Adds the lines that pass the test in the first few documents (see `few_documents`), looking at each line by itself.
 /// Returns how many documents these are.
 fn scan_few<W: Watch>(
-    tree: &Ere,
+    test: &Test,
     documents: &[SharedDocument],
     hits: &mut Places,
     watch: &mut W,
 ) -> Result<usize, Unanswered>
-    requires { IsWithinLimits (form tree.now) }
-    ensures few { IfOk result (AreFew (form tree.now) documents.now) }
-    ensures hits { IfOk result (λ few. Adds (HasMatch (form tree.now)) (flat_map lines_of_taken (take few documents.now))
+    ensures few { IfOk result (AreFew (form test.now.tree) documents.now) }
+    ensures hits { IfOk result (λ few. Adds (IsAsked (test_of test.now)) (flat_map lines_of_taken (take few documents.now))
         hits.old hits.new) }
 {
-    let few = few_documents(tree, documents);
-    let mut way = Way::LineByLine(LineWay::Matcher);
-    scan_by(tree, &mut way, &documents[..few], hits, watch)?;
+    let few = few_documents(test, documents);
+    let mut way = Way::Matcher;
+    scan_by(test, &mut way, &documents[..few], hits, watch)?;
     Ok(few)
 }
 
 /// How many documents, from the first on, are so small together that their lines are looked at one by one: 0 if the
 /// tree is not quick. No answer depends on it.
-fn few_documents(tree: &Ere, documents: &[SharedDocument]) -> usize
-    ensures { AreFew (form tree.now) documents.now result }
+fn few_documents(test: &Test, documents: &[SharedDocument]) -> usize
+    ensures { AreFew (form test.now.tree) documents.now result }
 {
-    if !is_quick(tree) {
+    if !is_quick(&test.tree) {
         return 0;
     }
     let mut left = FEW_BYTES;
@@ -91,63 +90,60 @@ pub(crate) fn body_size(document: &SharedDocument) -> usize
     document.held.body().as_bytes().len()
 }
 
-/// Adds the lines with a match in these documents, by the compiled pattern if there is one. If there are no documents,
+/// Adds the lines that pass the test in these documents, by the compiled pattern if there is one. If there are no documents,
 /// the pattern is not compiled.
 fn scan_compiled<W: Watch>(
     alloc: Global,
-    tree: &Ere,
+    test: &Test,
     documents: &[SharedDocument],
     hits: &mut Places,
     watch: &mut W,
 ) -> Result<(), Unanswered>
-    requires { IsWithinLimits (form tree.now) }
-    ensures { OnOk result (Adds (HasMatch (form tree.now)) (flat_map lines_of_taken documents.now)
+    ensures { OnOk result (Adds (IsAsked (test_of test.now)) (flat_map lines_of_taken documents.now)
         hits.old hits.new) }
 {
     if documents.is_empty() {
         return Ok(());
     }
-    let compiled = compile(alloc, tree);
-    let mut way = way_by(alloc, tree, &compiled)?;
-    scan_by(tree, &mut way, documents, hits, watch)
+    let compiled = compile(alloc, &test.tree);
+    let mut way = way_by(alloc, &test.tree, &compiled)?;
+    scan_by(test, &mut way, documents, hits, watch)
 }
 
-/// Adds the lines with a match in these documents, by this way.
+/// Adds the lines that pass the test in these documents, by this way.
 fn scan_by<W: Watch>(
-    tree: &Ere,
+    test: &Test,
     way: &mut Way<'_>,
     documents: &[SharedDocument],
     hits: &mut Places,
     watch: &mut W,
 ) -> Result<(), Unanswered>
-    requires limits { IsWithinLimits (form tree.now) }
-    requires way { Finds (form tree.now) way.old }
-    ensures { OnOk result (Adds (HasMatch (form tree.now)) (flat_map lines_of_taken documents.now)
+    requires way { Finds (form test.now.tree) way.old }
+    ensures { OnOk result (Adds (IsAsked (test_of test.now)) (flat_map lines_of_taken documents.now)
         hits.old hits.new) }
 {
     for document in documents {
         ask(watch)?;
         watch.reads(document.number);
-        scan_document(tree, way, document, hits, watch)?;
+        scan_document(test, way, document, hits, watch)?;
     }
     Ok(())
 }
 
-/// Adds the lines with a match of one document. After an `Err` there are no hits.
+/// Adds the lines that pass the test of one document. After an `Err` there are no hits.
 fn scan_document<W: Watch>(
-    tree: &Ere,
+    test: &Test,
     way: &mut Way<'_>,
     document: &SharedDocument,
     hits: &mut Places,
     watch: &mut W,
 ) -> Result<(), Unanswered>
-    requires limits { IsWithinLimits (form tree.now) }
-    requires way { Finds (form tree.now) way.old }
-    ensures way { Finds (form tree.now) way.new }
-    ensures hits { OnOk result (Adds (HasMatch (form tree.now)) (lines_of_taken document.now) hits.old hits.new) }
+    requires way { Finds (form test.now.tree) way.old }
+    ensures way { Finds (form test.now.tree) way.new }
+    ensures hits { OnOk result (Adds (IsAsked (test_of test.now)) (lines_of_taken document.now) hits.old hits.new) }
 {
     match add_document(
-        tree,
+        test,
         way,
         document,
         &mut hits.documents,
@@ -163,49 +159,47 @@ fn scan_document<W: Watch>(
     }
 }
 
-/// Adds the places of the lines with a match of one document, and a handle to the document if there are any. An `Err`
+/// Adds the places of the lines that pass the test of one document, and a handle to the document if there are any. An `Err`
 /// can leave places without their document.
 fn add_document<W: Watch>(
-    tree: &Ere,
+    test: &Test,
     way: &mut Way<'_>,
     document: &SharedDocument,
     documents: &mut Vec<SharedDocument>,
     places: &mut Vec<Place>,
     watch: &mut W,
 ) -> Result<(), Unanswered>
-    requires limits { IsWithinLimits (form tree.now) }
-    requires way { Finds (form tree.now) way.old }
+    requires way { Finds (form test.now.tree) way.old }
     requires placed { All (IsPlaced documents.old.items) places.old.items }
-    ensures way { Finds (form tree.now) way.new }
+    ensures way { Finds (form test.now.tree) way.new }
     ensures placed { OnOk result (All (IsPlaced documents.new.items) places.new.items) }
-    ensures hits { OnOk result (Adds (HasMatch (form tree.now)) (lines_of_taken document.now)
+    ensures hits { OnOk result (Adds (IsAsked (test_of test.now)) (lines_of_taken document.now)
         (hits_at documents.old.items places.old.items) (hits_at documents.new.items places.new.items)) }
 {
     let Ok(number) = u32::try_from(documents.len()) else {
         return Err(Unanswered::OutOfMemory);
     };
     let before = places.len();
-    scan_body(tree, way, number, document.held.body(), places, watch)?;
+    scan_body(test, way, number, document.held.body(), places, watch)?;
     if places.len() != before {
         documents.push(share(document)?)?;
     }
     Ok(())
 }
 
-/// Adds the places of the lines with a match of one body, piece after piece. `document` says which of the documents
+/// Adds the places of the lines that pass the test of one body, piece after piece. `document` says which of the documents
 /// with a hit it is.
 fn scan_body<W: Watch>(
-    tree: &Ere,
+    test: &Test,
     way: &mut Way<'_>,
     document: u32,
     body: &Body,
     places: &mut Vec<Place>,
     watch: &mut W,
 ) -> Result<(), Unanswered>
-    requires limits { IsWithinLimits (form tree.now) }
-    requires way { Finds (form tree.now) way.old }
-    ensures way { Finds (form tree.now) way.new }
-    ensures places { OnOk result ((name : List ℕ) → AddsPlaces (form tree.now) document name body.now
+    requires way { Finds (form test.now.tree) way.old }
+    ensures way { Finds (form test.now.tree) way.new }
+    ensures places { OnOk result ((name : List ℕ) → AddsPlaces (test_of test.now) document name body.now
         (lines_of_document name body.now) places.old.items places.new.items) }
 {
     let mut rest = body.as_bytes();
@@ -213,21 +207,21 @@ fn scan_body<W: Watch>(
     let mut line = 1;
     let mut end = piece_end(rest);
     while end < rest.len() {
-        scan_piece(tree, way, document, offset, line, &rest[..end], places)?;
+        scan_piece(test, way, document, offset, line, &rest[..end], places)?;
         ask(watch)?;
         line += lines_before(rest, end) as u32;
         offset += end as u32;
         rest = &rest[end..];
         end = piece_end(rest);
     }
-    scan_piece(tree, way, document, offset, line, rest, places)?;
+    scan_piece(test, way, document, offset, line, rest, places)?;
     Ok(())
 }
 
-/// Adds the places of the lines with a match of a text of whole lines, of which the first has the number `from`. The
+/// Adds the places of the lines that pass the test of a text of whole lines, of which the first has the number `from`. The
 /// text is at this offset of its body.
 fn scan_piece(
-    tree: &Ere,
+    test: &Test,
     way: &mut Way<'_>,
     document: u32,
     offset: u32,
@@ -235,22 +229,23 @@ fn scan_piece(
     text: &[u8],
     places: &mut Vec<Place>,
 ) -> Result<(), AllocError>
-    requires limits { IsWithinLimits (form tree.now) }
-    requires way { Finds (form tree.now) way.old }
+    requires way { Finds (form test.now.tree) way.old }
     requires short { has_long_line text.now ≡ false }
     requires inside { offset + length text.now ≤ greatest_body }
     requires room { from + length text.now ≤ 1 + greatest_body }
-    ensures way { Finds (form tree.now) way.new }
-    ensures places { OnOk result ((body : List ℕ) → AddsLinesOf (form tree.now) document body offset from text.now
+    ensures way { Finds (form test.now.tree) way.new }
+    ensures places { OnOk result ((body : List ℕ) → AddsLinesOf (test_of test.now) document body offset from text.now
         places.old.items places.new.items) }
 {
-    match way {
-        Way::FromMatchToMatch(finder) => sweep_lines(finder, document, offset, from, text, places),
-        Way::LineByLine(way) => scan_lines(tree, way, document, offset, from, text, places),
+    if !test.inverted {
+        if let Way::FromMatchToMatch(finder) = way {
+            return sweep_lines(finder, document, offset, from, text, places);
+        }
     }
+    scan_lines(test, way, document, offset, from, text, places)
 }
 
-/// Adds the places of the lines with a match, looking for each in what is left after the one before.
+/// Adds the places of the lines that pass the test, looking for each in what is left after the one before.
 fn sweep_lines(
     finder: &mut Finder<'_>,
     document: u32,
@@ -263,7 +258,7 @@ fn sweep_lines(
     requires room { from + length text.now ≤ 1 + greatest_body }
     ensures same { (tree : Tree) → IsFinderOf tree finder.old → IsFinderOf tree finder.new }
     ensures places { OnOk result ((tree : Tree) (body : List ℕ) → IsFinderOf tree finder.old
-        → AddsLinesOf tree document body offset from text.now places.old.items places.new.items) }
+        → AddsLinesOf (with_match tree) document body offset from text.now places.old.items places.new.items) }
 {
     let mut rest = text;
     let mut at = offset;
@@ -286,30 +281,29 @@ fn sweep_lines(
     Ok(())
 }
 
-/// Adds the places of the lines with a match, looking at each line by itself.
+/// Adds the places of the lines that pass the test, looking at each line by itself.
 fn scan_lines(
-    tree: &Ere,
-    way: &mut LineWay,
+    test: &Test,
+    way: &mut Way<'_>,
     document: u32,
     offset: u32,
     from: u32,
     text: &[u8],
     places: &mut Vec<Place>,
 ) -> Result<(), AllocError>
-    requires limits { IsWithinLimits (form tree.now) }
-    requires way { Looks (form tree.now) way.old }
+    requires way { Finds (form test.now.tree) way.old }
     requires short { has_long_line text.now ≡ false }
     requires inside { offset + length text.now ≤ greatest_body }
     requires room { from + length text.now ≤ 1 + greatest_body }
-    ensures way { Looks (form tree.now) way.new }
-    ensures places { OnOk result ((body : List ℕ) → AddsLinesOf (form tree.now) document body offset from text.now
+    ensures way { Finds (form test.now.tree) way.new }
+    ensures places { OnOk result ((body : List ℕ) → AddsLinesOf (test_of test.now) document body offset from text.now
         places.old.items places.new.items) }
 {
     let mut rest = text;
     let mut at = offset;
     let mut line = from;
     while let Some(end) = memchr(b'\n', rest) {
-        scan_line(tree, way, document, at, line, &rest[..end], places)?;
+        scan_line(test, way, document, at, line, &rest[..end], places)?;
         at += end as u32 + 1;
         rest = &rest[end + 1..];
         line += 1;
@@ -317,28 +311,28 @@ fn scan_lines(
     if rest.is_empty() {
         return Ok(());
     }
-    scan_line(tree, way, document, at, line, rest, places)
+    scan_line(test, way, document, at, line, rest, places)
 }
 
-/// Adds the place of a line if it contains a match.
+/// Adds the place of a line if it passes the test.
 fn scan_line(
-    tree: &Ere,
-    way: &mut LineWay,
+    test: &Test,
+    way: &mut Way<'_>,
     document: u32,
     offset: u32,
     line: u32,
     text: &[u8],
     places: &mut Vec<Place>,
 ) -> Result<(), AllocError>
-    requires limits { IsWithinLimits (form tree.now) }
-    requires way { Looks (form tree.now) way.old }
+    requires way { Finds (form test.now.tree) way.old }
     requires short { length text.now ≤ MAX_LINE }
+    requires no_feed { (k : ℕ) → k < length text.now → slice_index text.now k ≢ 10 }
     requires inside { offset + length text.now ≤ greatest_body }
-    ensures way { Looks (form tree.now) way.new }
+    ensures way { Finds (form test.now.tree) way.new }
     ensures places { OnOk result ((name body : List ℕ) → HasTextAt body offset text.now
-        → AddsPlaces (form tree.now) document name body (found name line text.now ∷ []) places.old.items places.new.items) }
+        → AddsPlaces (test_of test.now) document name body (found name line text.now ∷ []) places.old.items places.new.items) }
 {
-    if !has_match(tree, way, text) {
+    if has_match(&test.tree, way, text) == test.inverted {
         return Ok(());
     }
     places.push(Place {

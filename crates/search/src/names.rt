@@ -1,90 +1,75 @@
-//! The documents whose names match the name pattern of a search.
+//! The documents whose names pass the tests of a search.
 
-ghost use Rattle.std.specs.Prelude.{◌↔◌, IfOk, IsTrue};
+ghost use Rattle.std.specs.Prelude.{IfOk, map, take};
 ghost use Rattle.ere.specs.Tree.{form};
-ghost use Rattle.ere.specs.Language.{ContainsMatch};
 ghost use Rattle.ere.specs.Limits.{IsWithinLimits};
 ghost use Rattle.search.specs.Prepared.{pattern_of};
-ghost use Rattle.search.specs.Private.Selects.{Selects, IsNamed, IsNamedFor};
+ghost use Rattle.search.specs.Tests.{test_of};
+ghost use Rattle.search.specs.Private.Selects.{Selects, IsNamed, IsNamedForAll};
 ghost use Rattle.search.specs.Private.Ways.{Finds};
 
+use crate::asked::Test;
 use crate::pattern::Prepared;
 use crate::unanswered::Unanswered;
 use crate::watch::{Watch, ask};
-use crate::way::{LineWay, Way, compile, has_match, way_by};
-use ere::Ere;
-use index::{Name, SharedDocument};
+use crate::way::{Way, compile, has_match, way_by};
+use index::SharedDocument;
 use matcher::is_quick;
 use std::alloc::Global;
 
-/// Those of the documents whose names, each taken as a line, contain a match of the name pattern, in the same order.
-/// If there is no name pattern, these are all of the documents. `watch` is asked whether the answer is wanted before
-/// each name that is matched.
+/// Those of the documents whose names, each taken as a line, pass the tests of names, in the same order. If there are none,
+/// these are all of the documents. `watch` is asked whether the answer is wanted before each name that is matched.
 pub(crate) fn named<W: Watch>(
     alloc: Global,
     prepared: &Prepared,
     documents: Vec<SharedDocument>,
     watch: &mut W,
 ) -> Result<Vec<SharedDocument>, Unanswered>
-    ensures { IfOk result (λ kept. Selects (IsNamedFor (pattern_of prepared.now)) documents.items kept.items) }
+    ensures { IfOk result (λ kept. Selects (IsNamedForAll (pattern_of prepared.now).names) documents.items kept.items) }
 {
-    match &prepared.name_tree {
-        None => Ok(documents),
-        Some(tree) => with_names(alloc, tree, documents, watch),
-    }
-}
-
-/// Those of the documents whose names contain a match of the tree.
-fn with_names<W: Watch>(
-    alloc: Global,
-    tree: &Ere,
-    documents: Vec<SharedDocument>,
-    watch: &mut W,
-) -> Result<Vec<SharedDocument>, Unanswered>
-    requires { IsWithinLimits (form tree.now) }
-    ensures { IfOk result (λ kept. Selects (IsNamed (form tree.now)) documents.items kept.items) }
-{
-    if documents.is_empty() || is_quick(tree) {
-        // Names are short, so compiling the pattern does not pay.
-        let mut way = Way::LineByLine(LineWay::Matcher);
-        return with_names_by(alloc, tree, &mut way, documents, watch);
-    }
-    let compiled = compile(alloc, tree);
-    let mut way = way_by(alloc, tree, &compiled)?;
-    with_names_by(alloc, tree, &mut way, documents, watch)
-}
-
-/// The same by this way. A document whose name does not match is dropped.
-fn with_names_by<W: Watch>(
-    alloc: Global,
-    tree: &Ere,
-    way: &mut Way<'_>,
-    documents: Vec<SharedDocument>,
-    watch: &mut W,
-) -> Result<Vec<SharedDocument>, Unanswered>
-    requires limits { IsWithinLimits (form tree.now) }
-    requires way { Finds (form tree.now) way.old }
-    ensures { IfOk result (λ kept. Selects (IsNamed (form tree.now)) documents.items kept.items) }
-{
-    let mut kept = Vec::new(alloc);
-    for document in documents {
-        ask(watch)?;
-        if matches_name(tree, way, &document.name) {
-            kept.push(document)?;
-        }
+    let mut kept = documents;
+    for test in &prepared.names {
+        kept = with_names(alloc, test, kept, watch)?;
     }
     Ok(kept)
 }
 
-/// Whether the name, taken as a line, contains a match.
-fn matches_name(tree: &Ere, way: &mut Way<'_>, name: &Name) -> bool
-    requires limits { IsWithinLimits (form tree.now) }
-    requires way { Finds (form tree.now) way.old }
-    ensures way { Finds (form tree.now) way.new }
-    ensures matches { IsTrue result ↔ ContainsMatch (form tree.now) name.now }
+/// Those of the documents whose names pass the test.
+fn with_names<W: Watch>(
+    alloc: Global,
+    test: &Test,
+    documents: Vec<SharedDocument>,
+    watch: &mut W,
+) -> Result<Vec<SharedDocument>, Unanswered>
+    ensures { IfOk result (λ kept. Selects (IsNamed (test_of test.now)) documents.items kept.items) }
 {
-    match way {
-        Way::FromMatchToMatch(finder) => finder.matches(name.as_bytes()),
-        Way::LineByLine(way) => has_match(tree, way, name.as_bytes()),
+    if documents.is_empty() || is_quick(&test.tree) {
+        // Names are short, so compiling the pattern does not pay.
+        let mut way = Way::Matcher;
+        return with_names_by(alloc, test, &mut way, documents, watch);
     }
+    let compiled = compile(alloc, &test.tree);
+    let mut way = way_by(alloc, &test.tree, &compiled)?;
+    with_names_by(alloc, test, &mut way, documents, watch)
+}
+
+/// The same by this way. A document whose name does not pass is dropped.
+fn with_names_by<W: Watch>(
+    alloc: Global,
+    test: &Test,
+    way: &mut Way<'_>,
+    documents: Vec<SharedDocument>,
+    watch: &mut W,
+) -> Result<Vec<SharedDocument>, Unanswered>
+    requires { Finds (form test.now.tree) way.old }
+    ensures { IfOk result (λ kept. Selects (IsNamed (test_of test.now)) documents.items kept.items) }
+{
+    let mut kept = Vec::new(alloc);
+    for document in documents {
+        ask(watch)?;
+        if has_match(&test.tree, way, document.name.as_bytes()) != test.inverted {
+            kept.push(document)?;
+        }
+    }
+    Ok(kept)
 }

@@ -1,33 +1,32 @@
 //! Patterns, read once and used by many searches.
 
-ghost use Rattle.std.specs.Prelude.{◌≢◌, IfOk, IfErr, MatchBool};
-ghost use Rattle.std.specs.Option.{ForSome};
-ghost use Rattle.ere.specs.Tree.{form};
-ghost use Rattle.ere.specs.Limits.{IsWithinLimits, HasNoTree, IsTreeOf};
-ghost use Rattle.ere.proofs.OneWay.{IsWithinLimits-prop, ForSome-prop};
+ghost use Rattle.std.specs.Prelude.{◌≡◌, ◌≢◌, ◌∷◌, [], map, IfOk, IfErr, MatchBool};
+ghost use Rattle.ere.specs.Tree.{Tree};
+ghost use Rattle.ere.specs.Limits.{HasNoTree, IsTreeOf};
 ghost use Rattle.query.specs.Query.{formula_of, is_met};
-ghost use Rattle.trigram.specs.Analysis.{condition};
 ghost use Rattle.trigram.proofs.Sameness.{same-prop};
+ghost use Rattle.search.specs.Pattern.{with_match};
 ghost use Rattle.search.specs.Queries.{IsQueryOf};
+ghost use Rattle.search.specs.Scan.{can_have};
+ghost use Rattle.search.specs.Tests.{test_of};
 
+use crate::asked::Test;
 use ere::{Case, Ere, EreError, EreErrorKind, parse, parse_with};
 use std::alloc::Global;
 use trigram::{Query, analyse};
 
-/// A pattern, and a pattern for names if there is one, read and ready to search.
+/// What a search asks for, read and ready to search: a test of lines, and tests of names.
 ///
 /// A search never changes it, so one value can serve many searches at a time.
 #[derive(Debug, Drop)]
 pub struct Prepared {
-    /// The tree of the pattern.
-    pub(crate) tree: Ere,
-    /// The tree of the name pattern, if there is one.
-    pub(crate) name_tree: Option<Ere>,
-    /// The condition of the pattern: the trigrams of every document with a hit meet it.
+    /// The test of lines.
+    pub(crate) line: Test,
+    /// The tests of names. A name has to pass all of them.
+    pub(crate) names: Vec<Test>,
+    /// The condition of the test of lines: the trigrams of every document with a hit meet it.
     pub(crate) query: Query,
-    pub ghost limits: { IsWithinLimits (form tree) } by { IsWithinLimits-prop (form tree) },
-    pub ghost name_limits: { ForSome name_tree (λ e. IsWithinLimits (form e)) } by { ForSome-prop name_tree },
-    pub ghost filter: { IsQueryOf tree query } by { same-prop (is_met (formula_of query)) (condition (form tree)) },
+    pub ghost filter: { IsQueryOf (test_of line) query } by { same-prop (is_met (formula_of query)) (can_have (test_of line)) },
 }
 
 /// Why a search with a name pattern is refused.
@@ -60,10 +59,10 @@ impl Prepared {
         ensures pattern { IfOk result (λ p. IsPatternOf case pattern.now (pattern_of p)) }
         ensures refused { IfErr result (λ e. e.kind ≢ EreErrorKind.OutOfMemory → HasNoTree case pattern.now) }
     {
-        let (tree, query) = analysed(alloc, pattern, case)?;
+        let (line, query) = analysed(alloc, pattern, case)?;
         Ok(Prepared {
-            tree,
-            name_tree: None,
+            line,
+            names: Vec::new(alloc),
             query,
         })
     }
@@ -95,8 +94,8 @@ impl Prepared {
         ensures refused { IfErr result (λ e. e.error.kind ≢ EreErrorKind.OutOfMemory →
             MatchBool e.in_name (HasNoTree Case.Exact name_pattern.now) (HasTree Case.Exact name_pattern.now × HasNoTree case pattern.now)) }
     {
-        let name_tree = match parse(alloc, name_pattern) {
-            Ok(name_tree) => name_tree,
+        let names = match name_tests(alloc, name_pattern) {
+            Ok(names) => names,
             Err(error) => {
                 return Err(WithinError {
                     in_name: true,
@@ -105,11 +104,7 @@ impl Prepared {
             }
         };
         match analysed(alloc, pattern, case) {
-            Ok((tree, query)) => Ok(Prepared {
-                tree,
-                name_tree: Some(name_tree),
-                query,
-            }),
+            Ok((line, query)) => Ok(Prepared { line, names, query }),
             Err(error) => Err(WithinError {
                 in_name: false,
                 error,
@@ -118,19 +113,46 @@ impl Prepared {
     }
 }
 
-/// The tree of a pattern, and the query of its condition.
-fn analysed(alloc: Global, pattern: &[u8], case: Case) -> Result<(Ere, Query), EreError>
-    ensures tree { IfOk result (λ both. IsTreeOf case pattern.now (form both.0)) }
-    ensures limits { IfOk result (λ both. IsWithinLimits (form both.0)) }
-    ensures query { IfOk result (λ both. IsQueryOf both.0 both.1) }
+/// The tests of names with a match of the pattern.
+fn name_tests(alloc: Global, name_pattern: &[u8]) -> Result<Vec<Test>, EreError>
+    ensures tests { IfOk result (λ tests. (tree : Tree) × IsTreeOf Case.Exact name_pattern.now tree × (map test_of tests.items ≡ with_match tree ∷ [])) }
+    ensures refused { IfErr result (λ e. e.kind ≢ EreErrorKind.OutOfMemory → HasNoTree Case.Exact name_pattern.now) }
+{
+    let tree = parse(alloc, name_pattern)?;
+    let mut names = Vec::new(alloc);
+    match names.push(Test {
+        tree,
+        inverted: false,
+    }) {
+        Ok(()) => Ok(names),
+        Err(_) => Err(out_of_memory()),
+    }
+}
+
+/// The test of lines with a match of a pattern, and the query of its condition.
+fn analysed(alloc: Global, pattern: &[u8], case: Case) -> Result<(Test, Query), EreError>
+    ensures test { IfOk result (λ both. (tree : Tree) × IsTreeOf case pattern.now tree × (test_of both.0 ≡ with_match tree)) }
+    ensures query { IfOk result (λ both. IsQueryOf (test_of both.0) both.1) }
     ensures refused { IfErr result (λ e. e.kind ≢ EreErrorKind.OutOfMemory → HasNoTree case pattern.now) }
 {
     let tree = parse_with(alloc, pattern, case)?;
     match analyse(alloc, &tree) {
-        Ok(query) => Ok((tree, query)),
-        Err(_) => Err(EreError {
-            kind: EreErrorKind::OutOfMemory,
-            at: 0,
-        }),
+        Ok(query) => Ok((
+            Test {
+                tree,
+                inverted: false,
+            },
+            query,
+        )),
+        Err(_) => Err(out_of_memory()),
+    }
+}
+
+fn out_of_memory() -> EreError
+    ensures { result.kind ≡ EreErrorKind.OutOfMemory }
+{
+    EreError {
+        kind: EreErrorKind::OutOfMemory,
+        at: 0,
     }
 }

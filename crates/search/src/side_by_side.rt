@@ -1,17 +1,16 @@
-//! The lines of documents that contain a match, found in several parts side by side.
+//! The lines of documents that pass a test, found in several parts side by side.
 
 ghost use Rattle.std.specs.Prelude.{◌≡◌, ◌≤◌, length, flat_map, IfOk, OnOk, ◌++◌};
 ghost use denote.Param.Send.{IsSync, IsSend};
-ghost use Rattle.ere.specs.Tree.{form};
-ghost use Rattle.ere.specs.Limits.{IsWithinLimits};
-ghost use Rattle.search.specs.Private.Selects.{Selects, HasMatch};
+ghost use Rattle.search.specs.Private.Selects.{Selects, IsAsked};
+ghost use Rattle.search.specs.Tests.{test_of};
 ghost use Rattle.search.specs.Private.Documents.{lines_of_taken};
 
 use crate::matching::{body_size, scan_documents};
+use crate::asked::Test;
 use crate::places::Places;
 use crate::unanswered::Unanswered;
 use crate::watch::Watch;
-use ere::Ere;
 use index::SharedDocument;
 use std::alloc::Global;
 use std::thread::{Threads, join};
@@ -20,21 +19,20 @@ use std::thread::{Threads, join};
 /// twentieth of that.
 const PART: usize = 524_288;
 
-/// The lines with a match in these documents, document after document, found in up to `most` parts of about equal bytes, each
+/// The lines of these documents that pass the test, document after document, found in up to `most` parts of about equal bytes, each
 /// in a thread of its own where one can be started. `watch` is copied for each part.
 pub(crate) fn scan_side_by_side<R: Threads + Sync, W: Watch + Copy + Send>(
     rt: &R,
     alloc: Global,
-    tree: &Ere,
+    test: &Test,
     documents: &[SharedDocument],
     most: usize,
     watch: W,
 ) -> Result<Places, Unanswered>
-    requires { IsWithinLimits (form tree.now) }
-    ensures { IfOk result (λ hits. Selects (HasMatch (form tree.now)) (flat_map lines_of_taken documents.now) hits) }
+    ensures { IfOk result (λ hits. Selects (IsAsked (test_of test.now)) (flat_map lines_of_taken documents.now) hits) }
 {
     let parts = (bytes_of(documents) / PART).min(most);
-    scan_parts(rt, alloc, tree, documents, parts, watch)
+    scan_parts(rt, alloc, test, documents, parts, watch)
 }
 
 /// The bytes of the documents' bodies together.
@@ -61,23 +59,22 @@ fn documents_with(documents: &[SharedDocument], bytes: usize) -> usize
     documents.len()
 }
 
-/// The lines with a match in these documents, found in so many parts. The documents are halved by their bytes at each step, and
+/// The lines of these documents that pass the test, found in so many parts. The documents are halved by their bytes at each step, and
 /// the front half goes to a new thread.
 #[cycle(scan_parts)]
 fn scan_parts<R: Threads + Sync, W: Watch + Copy + Send>(
     rt: &R,
     alloc: Global,
-    tree: &Ere,
+    test: &Test,
     documents: &[SharedDocument],
     parts: usize,
     watch: W,
 ) -> Result<Places, Unanswered>
-    requires { IsWithinLimits (form tree.now) }
-    ensures { IfOk result (λ hits. Selects (HasMatch (form tree.now)) (flat_map lines_of_taken documents.now) hits) }
+    ensures { IfOk result (λ hits. Selects (IsAsked (test_of test.now)) (flat_map lines_of_taken documents.now) hits) }
 {
     if parts < 2 {
         let mut watch = watch;
-        return scan_documents(alloc, tree, documents, &mut watch);
+        return scan_documents(alloc, test, documents, &mut watch);
     }
     let low = parts / 2;
     let high = parts - low;
@@ -86,13 +83,13 @@ fn scan_parts<R: Threads + Sync, W: Watch + Copy + Send>(
         bytes_of(documents) / parts * low,
     ));
     let front = move || -> Result<Places, Unanswered>
-        requires { IsSync R.row × IsSend W.row × IsWithinLimits (form tree.now) }
-        ensures { IfOk result (λ hits. Selects (HasMatch (form tree.entry.now)) (flat_map lines_of_taken first.entry.now) hits) }
-    { scan_parts(rt, alloc, tree, first, low, watch) };
+        requires { IsSync R.row × IsSend W.row }
+        ensures { IfOk result (λ hits. Selects (IsAsked (test_of test.entry.now)) (flat_map lines_of_taken first.entry.now) hits) }
+    { scan_parts(rt, alloc, test, first, low, watch) };
     let back = move || -> Result<Places, Unanswered>
-        requires { IsSync R.row × IsSend W.row × IsWithinLimits (form tree.now) }
-        ensures { IfOk result (λ hits. Selects (HasMatch (form tree.entry.now)) (flat_map lines_of_taken others.entry.now) hits) }
-    { scan_parts(rt, alloc, tree, others, high, watch) };
+        requires { IsSync R.row × IsSend W.row }
+        ensures { IfOk result (λ hits. Selects (IsAsked (test_of test.entry.now)) (flat_map lines_of_taken others.entry.now) hits) }
+    { scan_parts(rt, alloc, test, others, high, watch) };
     let (found, rest) = join(rt, front, back);
     let mut hits = found?;
     hits.append(rest?)?;

@@ -84,7 +84,7 @@ impl Taken<'_> {
         ensures { IfOk result (λ answer. (state : State) (pattern : Pattern) → IsTakenOf state pattern self.entry → IsAnswerOf state pattern answer) }
     {
         let kept = named(alloc, self.prepared, self.candidates, watch)?;
-        let hits = scan_documents(alloc, &self.prepared.tree, kept.as_slice(), watch)?;
+        let hits = scan_documents(alloc, &self.prepared.line, kept.as_slice(), watch)?;
         let contents = Contents {
             version: self.version,
             hits,
@@ -109,7 +109,7 @@ impl Taken<'_> {
     {
         let mut own = watch;
         let kept = named(alloc, self.prepared, self.candidates, &mut own)?;
-        let hits = scan_side_by_side(rt, alloc, &self.prepared.tree, kept.as_slice(), most, watch)?;
+        let hits = scan_side_by_side(rt, alloc, &self.prepared.line, kept.as_slice(), most, watch)?;
         let contents = Contents {
             version: self.version,
             hits,

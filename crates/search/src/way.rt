@@ -1,11 +1,11 @@
 //! The ways in which lines that contain a match are found.
 
-ghost use Rattle.std.specs.Prelude.{◌≡◌, ◌≤◌, ◌↔◌, IfOk, IfSome, IsTrue, length};
+ghost use Rattle.std.specs.Prelude.{◌≢◌, ◌<◌, ◌≤◌, ◌↔◌, ℕ, IfOk, IfSome, IsTrue, length, slice_index};
 ghost use Rattle.ere.specs.Tree.{form};
 ghost use Rattle.ere.specs.Language.{ContainsMatch};
 ghost use Rattle.ere.specs.Limits.{IsWithinLimits};
 ghost use Rattle.finder.specs.Patterns.{IsCompiledFrom};
-ghost use Rattle.search.specs.Private.Ways.{Finds, Looks, IsDecided, IsDecidedByLine};
+ghost use Rattle.search.specs.Private.Ways.{Finds, IsDecided};
 
 use ere::Ere;
 use finder::{Compiled, Finder};
@@ -19,16 +19,9 @@ use std::alloc::{AllocError, Global};
 pub enum Way<'p> {
     /// By the engine, over a whole body at once.
     FromMatchToMatch(Finder<'p>),
-    /// Looking at each line by itself.
-    LineByLine(LineWay),
-}
-
-/// How a line is looked at by itself.
-#[derive(Drop)]
-pub enum LineWay {
-    /// By the matcher, for a tree for which a line costs it few steps.
+    /// By the matcher, line by line, for a tree for which a line costs it few steps.
     Matcher,
-    /// By the simulation, whose time for a byte is bounded for every tree.
+    /// By the simulation, line by line. Its time for a byte is bounded for every tree.
     Simulation(Simulation),
 }
 
@@ -42,8 +35,8 @@ pub fn compile(alloc: Global, tree: &Ere) -> Option<Compiled>
     }
 }
 
-/// The way for the tree: by the compiled pattern, if there is one and there is memory for it, and else line by line. An
-/// `Err` means that there is no memory for the simulation either.
+/// The way for the tree: by the compiled pattern, if there is one and there is memory for it; or else by the matcher, if the
+/// tree is quick; or else by the simulation. An `Err` means that there is no memory for the simulation either.
 pub fn way_by<'p>(
     alloc: Global,
     tree: &Ere,
@@ -59,33 +52,25 @@ pub fn way_by<'p>(
             return Ok(Way::FromMatchToMatch(finder));
         }
     }
-    Ok(Way::LineByLine(line_way(alloc, tree)?))
-}
-
-/// How a line is looked at for the tree: by the matcher if the tree is quick, and else by the simulation. An `Err` means that
-/// memory ran out.
-fn line_way(alloc: Global, tree: &Ere) -> Result<LineWay, AllocError>
-    requires { IsWithinLimits (form tree.now) }
-    ensures looks { IfOk result (Looks (form tree.now)) }
-    ensures decided { IfOk result (IsDecidedByLine (form tree.now)) }
-{
     if is_quick(tree) {
-        return Ok(LineWay::Matcher);
+        return Ok(Way::Matcher);
     }
     let simulation = Simulation::new(alloc, tree)?;
-    Ok(LineWay::Simulation(simulation))
+    Ok(Way::Simulation(simulation))
 }
 
-/// Whether the line contains a match of the tree, by this way.
-pub fn has_match(tree: &Ere, way: &mut LineWay, line: &[u8]) -> bool
+/// Whether the line contains a match of the tree, by this way. The line has no line feed.
+pub fn has_match(tree: &Ere, way: &mut Way<'_>, line: &[u8]) -> bool
     requires limits { IsWithinLimits (form tree.now) }
     requires short { length line.now ≤ MAX_LINE }
-    requires way { Looks (form tree.now) way.old }
-    ensures way { Looks (form tree.now) way.new }
+    requires no_feed { (k : ℕ) → k < length line.now → slice_index line.now k ≢ 10 }
+    requires way { Finds (form tree.now) way.old }
+    ensures way { Finds (form tree.now) way.new }
     ensures found { IsTrue result ↔ ContainsMatch (form tree.now) line.now }
 {
     match way {
-        LineWay::Matcher => matches(tree, line),
-        LineWay::Simulation(simulation) => simulation.matches(line),
+        Way::FromMatchToMatch(finder) => finder.matches(line),
+        Way::Matcher => matches(tree, line),
+        Way::Simulation(simulation) => simulation.matches(line),
     }
 }

@@ -1,11 +1,11 @@
 -- The places that are added for the lines of one document.
 use Rattle.std.specs.Prelude.{◌≡◌, ℕ, ◌+◌, ◌≤◌, List, ◌++◌, length, map, slice_range, All}
-use Rattle.ere.specs.Tree.{Tree}
 use Rattle.lines.specs.Lines.{lines_of}
 use Rattle.search.specs.declared.places.Place.{Place}
+use Rattle.search.specs.Pattern.{Test}
 use Rattle.search.specs.Scan.{Hit}
 use Rattle.search.specs.Places.{hit_in}
-use Rattle.search.specs.Private.Selects.{Selects, HasMatch, numbered}
+use Rattle.search.specs.Private.Selects.{Selects, IsAsked, numbered}
 
 -- The body has this text from this offset on.
 pub record HasTextAt (body : List ℕ) (offset : ℕ) (text : List ℕ) : Type 0 where
@@ -18,16 +18,16 @@ pub record IsPlaceIn (number : ℕ) (body : List ℕ) (place : Place) : Type 0 w
   pub ordered : place.start ≤ place.end
   pub inside : place.end ≤ length body
 
--- The new places are the old ones, followed by those of the lines that contain a match, all in the document with this
+-- The new places are the old ones, followed by those of the lines that pass the test, all in the document with this
 -- number, this name and this body.
-pub record AddsPlaces (tree : Tree) (document : ℕ) (name body : List ℕ) (lines : List Hit) (old new : List Place) : Type 0 where
+pub record AddsPlaces (test : Test) (document : ℕ) (name body : List ℕ) (lines : List Hit) (old new : List Place) : Type 0 where
   pub added : List Place
   pub appended : new ≡ old ++ added
   pub inside : All (IsPlaceIn document body) added
-  pub selected : Selects (HasMatch tree) lines (map (hit_in name body) added)
+  pub selected : Selects (IsAsked test) lines (map (hit_in name body) added)
 
 -- The same for a text that is at this offset of the body, and whose first line has the number `line`, in a document
 -- with any name.
-abbrev pub AddsLinesOf : Tree → ℕ → List ℕ → ℕ → ℕ → List ℕ → List Place → List Place → Type 0
-AddsLinesOf tree document body offset line text old new =
-    (name : List ℕ) → HasTextAt body offset text → AddsPlaces tree document name body (numbered name line (lines_of text)) old new
+abbrev pub AddsLinesOf : Test → ℕ → List ℕ → ℕ → ℕ → List ℕ → List Place → List Place → Type 0
+AddsLinesOf test document body offset line text old new =
+    (name : List ℕ) → HasTextAt body offset text → AddsPlaces test document name body (numbered name line (lines_of text)) old new

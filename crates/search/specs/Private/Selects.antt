@@ -1,10 +1,8 @@
 -- The lines of documents, one after another, and those of them that a search keeps.
-use Rattle.std.specs.Prelude.{◌≡◌, ℕ, suc, List, [], ◌∷◌, ◌++◌, IfSome}
-use Rattle.ere.specs.Tree.{Tree}
-use Rattle.ere.specs.Language.{ContainsMatch}
+use Rattle.std.specs.Prelude.{◌≡◌, ℕ, suc, List, [], ◌∷◌, ◌++◌, All}
 use Rattle.lines.specs.Lines.{lines_of}
 use Rattle.index.specs.declared.document.SharedDocument.{SharedDocument}
-use Rattle.search.specs.Pattern.{Pattern}
+use Rattle.search.specs.Pattern.{Test, Passes, Pattern}
 use Rattle.search.specs.Scan.{Hit}
 
 abbrev pub found : List ℕ → ℕ → List ℕ → Hit
@@ -31,14 +29,14 @@ pub record Adds (Has : Hit → Type 0) (all old new : List Hit) : Type 0 where
   pub appended : new ≡ old ++ added
   pub selected : Selects Has all added
 
--- the line contains a match of the tree
-abbrev pub HasMatch : Tree → Hit → Type 0
-HasMatch tree f = ContainsMatch tree f.text
+-- the line passes the test
+abbrev pub IsAsked : Test → Hit → Type 0
+IsAsked test f = Passes test f.text
 
--- The document's name, taken as a line, contains a match of the tree.
-abbrev pub IsNamed : Tree → SharedDocument → Type 0
-IsNamed tree document = ContainsMatch tree document.name
+-- The document's name, taken as a line, passes the test.
+abbrev pub IsNamed : Test → SharedDocument → Type 0
+IsNamed test document = Passes test document.name
 
--- the same for the name tree of a pattern, if it has one
-abbrev pub IsNamedFor : Pattern → SharedDocument → Type 0
-IsNamedFor pattern document = IfSome pattern.name_tree (λ tree. IsNamed tree document)
+-- It passes all of these tests.
+abbrev pub IsNamedForAll : List Test → SharedDocument → Type 0
+IsNamedForAll tests document = All (λ test. IsNamed test document) tests

@@ -6,30 +6,22 @@ use Rattle.matcher.specs.Steps.{IsQuick}
 use Rattle.simulation.specs.Simulations.{IsSimulationOf}
 use Rattle.finder.specs.declared.compiled.Compiled.{Compiled}
 use Rattle.index.specs.declared.document.SharedDocument.{SharedDocument}
-use Rattle.search.specs.declared.way.LineWay.{LineWay}
-use Rattle.search.specs.declared.way.LineWay.TheVariants.{Matcher, Simulation}
 use Rattle.search.specs.declared.way.Way.{Way}
-use Rattle.search.specs.declared.way.Way.TheVariants.{FromMatchToMatch, LineByLine}
-
-unfoldable pub Looks : Tree → LineWay → Type 0
-Looks tree Matcher = Unit {0}
-Looks tree (Simulation simulation) = IsSimulationOf tree simulation
+use Rattle.search.specs.declared.way.Way.TheVariants.{FromMatchToMatch, Matcher, Simulation}
 
 unfoldable pub Finds : Tree → Way → Type 0
 Finds tree (FromMatchToMatch finder) = IsFinderOf tree finder
-Finds tree (LineByLine way) = Looks tree way
+Finds tree Matcher = Unit {0}
+Finds tree (Simulation simulation) = IsSimulationOf tree simulation
 
--- A tree that goes line by line goes by the matcher exactly if it is quick.
-unfoldable pub IsDecidedByLine : Tree → LineWay → Type 0
-IsDecidedByLine tree Matcher = IsQuick tree
-IsDecidedByLine tree (Simulation simulation) = IsQuick tree → ⊥
-
--- The engine takes only a tree whose pattern is compiled.
+-- The engine takes only a tree whose pattern is compiled. Any other tree goes by the matcher exactly if it is quick.
 unfoldable pub IsDecided : Tree → Option Compiled → Way → Type 0
 IsDecided tree (Some compiled) (FromMatchToMatch finder) = Unit {0}
 IsDecided tree None (FromMatchToMatch finder) = ⊥
-IsDecided tree (Some compiled) (LineByLine way) = IsDecidedByLine tree way
-IsDecided tree None (LineByLine way) = IsDecidedByLine tree way
+IsDecided tree (Some compiled) Matcher = IsQuick tree
+IsDecided tree None Matcher = IsQuick tree
+IsDecided tree (Some compiled) (Simulation simulation) = IsQuick tree → ⊥
+IsDecided tree None (Simulation simulation) = IsQuick tree → ⊥
 
 -- the most bytes of bodies that are looked at line by line before a pattern is compiled
 abbrev pub byte_limit : ℕ

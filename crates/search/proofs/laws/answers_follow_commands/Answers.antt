@@ -16,7 +16,7 @@ to_put commands pattern found h = record {
   counted = h.counted;
   line = h.line;
   hit = h.hit;
-  name_hit = h.name_hit;
+  name_hits = h.name_hits;
 }
 
 from_put : (commands : List Command) (pattern : Pattern) (found : Hit) → IsHitOfPut commands pattern found → IsHit (state_of commands) pattern found
@@ -29,7 +29,7 @@ from_put commands pattern found h =
       counted = h.counted;
       line = h.line;
       hit = h.hit;
-      name_hit = h.name_hit;
+      name_hits = h.name_hits;
     }
 
 pub returns-clause-version : goal.returns-clause-version

@@ -1,6 +1,6 @@
 use Rattle.std.proofs.Common.{◌+◌, ◌-◌, length, take, drop, arith}
 use Rattle.std.proofs.lemmas.List.{length-take, length-drop}
-use Rattle.ere.specs.Tree.{form}
+use Rattle.search.specs.Tests.{test_of}
 use Rattle.lines.specs.Lines.{lines_of}
 use Rattle.index.specs.Text.{greatest_body}
 use Rattle.search.specs.Private.Selects.{numbered, lines_of_document}
@@ -39,7 +39,7 @@ loop-end-preserved g c =
     record {
       so_far =
           λ name.
-          go_on (form c.args.tree.now) c.args.document name body (numbered name at.line (lines_of (take at.end text)))
+          go_on (test_of c.args.test.now) c.args.document name body (numbered name at.line (lines_of (take at.end text)))
           (numbered name (at.line + lines) (lines_of (rest_of text at.end))) (numbered name at.line (lines_of text))
           (lines_of_document name body) c.args.places.now.items at.places.items c.scan_piece.new.places.items
           (numbered-pieces name at.line text at.end whole_lines lines c.lines_before.ensures) (at.invariant.so_far name)
@@ -64,6 +64,6 @@ pub returns-clause-places : goal.returns-clause-places
 returns-clause-places g c = λ name.
     let at = c.loop-end in
     let body = c.args.body.now in
-    at_last (form c.args.tree.now) c.args.document name body (numbered name at.line (lines_of at.rest.now)) (lines_of_document name body)
+    at_last (test_of c.args.test.now) c.args.document name body (numbered name at.line (lines_of at.rest.now)) (lines_of_document name body)
     c.args.places.now.items at.places.items c.scan_piece-2.new.places.items (at.invariant.so_far name)
     (c.in_ok-scan_piece-2.ensures.places body name at.invariant.there)

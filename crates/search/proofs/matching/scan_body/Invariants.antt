@@ -1,5 +1,6 @@
 use Rattle.std.proofs.Common.{◌≡◌, ◌+◌, ◌≤◌, ℕ, false, List, length}
 use Rattle.ere.specs.Tree.{form}
+use Rattle.search.specs.Tests.{test_of}
 use Rattle.lines.specs.Lines.{lines_of}
 use Rattle.index.specs.Text.{greatest_body, has_long_line}
 use Rattle.search.specs.Private.Pieces.{IsPiece}
@@ -11,9 +12,9 @@ use Rattle.search.proofs.matching.scan_body.Given as goal
 
 abbrev pub invariant-loop-end : goal.invariant-loop-end
 invariant-loop-end g l = record {
-  so_far : (name : List ℕ) → AddsSoFar (form l.tree) l.document name l.body (numbered name l.line (lines_of l.rest))
+  so_far : (name : List ℕ) → AddsSoFar (test_of l.test) l.document name l.body (numbered name l.line (lines_of l.rest))
       (lines_of_document name l.body) l.initial.places.items l.places.items;
-  way : Finds (form l.tree) l.way;
+  way : Finds (form l.test.tree) l.way;
   short : has_long_line l.rest ≡ false;
   there : HasTextAt l.body l.offset l.rest;
   place : l.offset + length l.rest ≤ greatest_body;

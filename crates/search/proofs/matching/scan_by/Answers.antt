@@ -1,7 +1,7 @@
 use Rattle.std.proofs.Common.{refl}
 use Rattle.std.specs.Prelude.{flat_map}
-use Rattle.ere.specs.Tree.{form}
-use Rattle.search.specs.Private.Selects.{HasMatch}
+use Rattle.search.specs.Tests.{test_of}
+use Rattle.search.specs.Private.Selects.{IsAsked}
 use Rattle.search.specs.Private.Documents.{lines_of_taken}
 use Rattle.search.proofs.ScanLemmas.{lines-step, lines-end}
 use Rattle.search.proofs.matching.scan_by.Goals as goal
@@ -15,7 +15,7 @@ loop-document-init g c = record {
 pub loop-document-preserved : goal.loop-document-preserved
 loop-document-preserved g c = record {
   so_far =
-      lines-step (HasMatch (form c.args.tree.now)) lines_of_taken c.args.documents.now c.loop-document.document-index c.document-item.result
+      lines-step (IsAsked (test_of c.args.test.now)) lines_of_taken c.args.documents.now c.loop-document.document-index c.document-item.result
       (flat_map lines_of_taken c.args.documents.now) c.args.hits.now c.loop-document.hits c.scan_document.new.hits c.loop-document-test.true
       c.document-item.is c.in_ok-scan_document.ensures.hits c.loop-document.invariant.so_far;
   way = c.scan_document.ensures.way;
@@ -23,7 +23,7 @@ loop-document-preserved g c = record {
 
 pub returns : goal.returns
 returns g c =
-    lines-end (HasMatch (form c.args.tree.now)) lines_of_taken c.args.documents.now c.loop-document.document-index
+    lines-end (IsAsked (test_of c.args.test.now)) lines_of_taken c.args.documents.now c.loop-document.document-index
     (flat_map lines_of_taken c.args.documents.now) c.args.hits.now c.loop-document.hits
     c.loop-document-test.false c.loop-document.invariant.so_far
 

@@ -3,4 +3,4 @@ use Rattle.search.proofs.WayLemmas.{finds_by_matcher}
 use Rattle.search.proofs.matching.scan_few.Goals as goal
 
 pub scan_by-requires-clause-way : goal.scan_by-requires-clause-way
-scan_by-requires-clause-way g c = finds_by_matcher (form c.args.tree.now)
+scan_by-requires-clause-way g c = finds_by_matcher (form c.args.test.now.tree)

@@ -2,7 +2,7 @@ use Rattle.std.proofs.Common.{◌≡◌, ◌<◌, ◌+◌, ◌-◌, ◌∷◌, [
 use Rattle.std.proofs.lemmas.Bool.Decides.{nat_tests}
 use Rattle.std.proofs.lemmas.List.{length-take, length-drop}
 use Rattle.std.proofs.lemmas.Result.{on_ok_weaker}
-use Rattle.ere.specs.Tree.{form}
+use Rattle.search.specs.Tests.{test_of}
 use Rattle.lines.specs.Lines.{lines_of}
 use Rattle.search.specs.Private.Selects.{found, numbered}
 use Rattle.search.specs.Private.Added.{AddsPlaces}
@@ -23,7 +23,7 @@ loop-end-preserved c =
     record {
       so_far =
           λ body name there.
-          go_on (form c.args.tree.now) c.args.document name body (found name at.line (take end text) ∷ [])
+          go_on (test_of c.args.test.now) c.args.document name body (found name at.line (take end text) ∷ [])
           (numbered name (at.line + 1) (lines_of rest)) (numbered name at.line (lines_of text))
           (numbered name c.args.from (lines_of c.args.text.now)) c.args.places.now.items at.places.items c.scan_line.new.places.items
           (numbered-first name at.line text end c.in-Some.ensures) (at.invariant.so_far body name there)
@@ -39,7 +39,7 @@ pub returns-then-is_empty-clause-places : goal.returns-then-is_empty-clause-plac
 returns-then-is_empty-clause-places c = λ body name there.
     let at = c.loop-end in
     let empty : length at.rest.now ≡ 0 = grind (arith, nat_tests) in
-    at_end (form c.args.tree.now) c.args.document name body (numbered name at.line (lines_of at.rest.now))
+    at_end (test_of c.args.test.now) c.args.document name body (numbered name at.line (lines_of at.rest.now))
     (numbered name c.args.from (lines_of c.args.text.now)) c.args.places.now.items at.places.items
     (numbered-empty name at.line at.rest.now empty) (at.invariant.so_far body name there)
 
@@ -52,8 +52,8 @@ returns-clause-places c =
     let text = at.rest.now in
     let some : 0 < length text = grind (arith, nat_tests) in
     on_ok_weaker c.scan_line-2.result (λ added. λ body name there.
-    at_last (form c.args.tree.now) c.args.document name body (numbered name at.line (lines_of text))
+    at_last (test_of c.args.test.now) c.args.document name body (numbered name at.line (lines_of text))
     (numbered name c.args.from (lines_of c.args.text.now)) c.args.places.now.items at.places.items c.scan_line-2.new.places.items
     (at.invariant.so_far body name there)
-    (subst (λ lines. AddsPlaces (form c.args.tree.now) c.args.document name body lines at.places.items c.scan_line-2.new.places.items)
+    (subst (λ lines. AddsPlaces (test_of c.args.test.now) c.args.document name body lines at.places.items c.scan_line-2.new.places.items)
     (sym (numbered-last name at.line text some c.in_default.ensures)) (added name body (at.invariant.there body there)))) c.scan_line-2.ensures.places

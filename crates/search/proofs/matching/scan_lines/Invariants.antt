@@ -1,19 +1,20 @@
 use Rattle.std.proofs.Common.{◌≡◌, ◌+◌, ◌≤◌, ℕ, false, List, length}
 use Rattle.lines.specs.Lines.{lines_of}
 use Rattle.ere.specs.Tree.{form}
+use Rattle.search.specs.Tests.{test_of}
 use Rattle.index.specs.Text.{has_long_line}
 use Rattle.search.specs.Private.Selects.{numbered}
 use Rattle.search.specs.Private.Added.{HasTextAt}
-use Rattle.search.specs.Private.Ways.{Looks}
+use Rattle.search.specs.Private.Ways.{Finds}
 use Rattle.search.proofs.PlaceLemmas.{AddsSoFar}
 use Rattle.search.proofs.matching.scan_lines.Given as goal
 
 abbrev pub invariant-loop-end : goal.invariant-loop-end
 invariant-loop-end l = record {
   so_far : (body name : List ℕ) → HasTextAt body l.offset l.text
-      → AddsSoFar (form l.tree) l.document name body (numbered name l.line (lines_of l.rest)) (numbered name l.from (lines_of l.text))
+      → AddsSoFar (test_of l.test) l.document name body (numbered name l.line (lines_of l.rest)) (numbered name l.from (lines_of l.text))
       l.initial.places.items l.places.items;
-  way : Looks (form l.tree) l.way;
+  way : Finds (form l.test.tree) l.way;
   short : has_long_line l.rest ≡ false;
   there : (body : List ℕ) → HasTextAt body l.offset l.text → HasTextAt body l.at l.rest;
   place : l.at + length l.rest ≡ l.offset + length l.text;

@@ -4,6 +4,7 @@ use Rattle.lines.specs.Lines.{lines_of}
 use Rattle.search.specs.Private.Selects.{numbered}
 use Rattle.search.specs.Private.Added.{AddsPlaces}
 use Rattle.search.proofs.PlaceLemmas.{rest_is_there, no_place, go_on, at_last}
+use Rattle.search.specs.Pattern.{with_match}
 use Rattle.search.proofs.SweepLemmas.{none_numbered, lines_through, numbered-through, numbered-to_end, first_place, left_after, room_left}
 use Rattle.search.proofs.matching.sweep_lines.Goals as goal
 
@@ -13,9 +14,9 @@ returns-then-first-rest-clause-places c = λ tree body stands name there.
     let text = at.rest.now in
     let first = c.in-Some.first in
     let is = c.in-Some.ensures.some tree (at.invariant.same tree stands) in
-    at_last tree c.args.document name body (numbered name at.line (lines_of text)) (numbered name c.args.from (lines_of c.args.text.now))
+    at_last (with_match tree) c.args.document name body (numbered name at.line (lines_of text)) (numbered name c.args.from (lines_of c.args.text.now))
     c.args.places.now.items at.places.items c.push.new.self.items (at.invariant.so_far tree body name stands there)
-    (subst (λ lines. AddsPlaces tree c.args.document name body lines at.places.items c.push.new.self.items)
+    (subst (λ lines. AddsPlaces (with_match tree) c.args.document name body lines at.places.items c.push.new.self.items)
     (sym (numbered-to_end tree name at.line text first is c.if-first-rest.true))
     (first_place tree c.args.document name body at.line at.at text first is c.in-Some.ensures.inside (at.invariant.there body there)
     at.places.items c.push.new.self.items c.in_ok-push.ensures.items))
@@ -31,7 +32,7 @@ loop-first-preserved c =
       so_far =
           λ tree body name stands there.
           (let is = c.in-Some.ensures.some tree (at.invariant.same tree stands) in
-          go_on tree c.args.document name body (numbered name at.line (lines_through is))
+          go_on (with_match tree) c.args.document name body (numbered name at.line (lines_through is))
           (numbered name (at.line + first.before + 1) (lines_of rest)) (numbered name at.line (lines_of text))
           (numbered name c.args.from (lines_of c.args.text.now)) c.args.places.now.items at.places.items c.push.new.self.items
           (numbered-through tree name at.line text first is rest (left_after text first)) (at.invariant.so_far tree body name stands there)
@@ -56,7 +57,7 @@ pub returns-clause-places : goal.returns-clause-places
 returns-clause-places c = λ tree body stands name there.
     let at = c.loop-first in
     let text = at.rest.now in
-    at_last tree c.args.document name body (numbered name at.line (lines_of text)) (numbered name c.args.from (lines_of c.args.text.now))
+    at_last (with_match tree) c.args.document name body (numbered name at.line (lines_of text)) (numbered name c.args.from (lines_of c.args.text.now))
     c.args.places.now.items at.places.items at.places.items (at.invariant.so_far tree body name stands there)
-    (no_place tree c.args.document name body (numbered name at.line (lines_of text)) at.places.items
+    (no_place (with_match tree) c.args.document name body (numbered name at.line (lines_of text)) at.places.items
     (none_numbered tree name at.line (lines_of text) (c.in_default.ensures.none tree (at.invariant.same tree stands))))

@@ -4,13 +4,14 @@ use Rattle.ere.specs.Tree.{Tree}
 use Rattle.finder.specs.Patterns.{IsFinderOf}
 use Rattle.search.specs.Private.Selects.{numbered}
 use Rattle.search.specs.Private.Added.{HasTextAt}
+use Rattle.search.specs.Pattern.{with_match}
 use Rattle.search.proofs.PlaceLemmas.{AddsSoFar}
 use Rattle.search.proofs.matching.sweep_lines.Given as goal
 
 abbrev pub invariant-loop-first : goal.invariant-loop-first
 invariant-loop-first l = record {
   so_far : (tree : Tree) (body name : List ℕ) → IsFinderOf tree l.initial.finder → HasTextAt body l.offset l.text
-      → AddsSoFar tree l.document name body (numbered name l.line (lines_of l.rest)) (numbered name l.from (lines_of l.text))
+      → AddsSoFar (with_match tree) l.document name body (numbered name l.line (lines_of l.rest)) (numbered name l.from (lines_of l.text))
       l.initial.places.items l.places.items;
   same : (tree : Tree) → IsFinderOf tree l.initial.finder → IsFinderOf tree l.finder;
   there : (body : List ℕ) → HasTextAt body l.offset l.text → HasTextAt body l.at l.rest;

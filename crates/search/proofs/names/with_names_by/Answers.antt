@@ -2,7 +2,7 @@ use Rattle.std.proofs.Common.{◌≡◌, ◌∷◌, length, sym, ◌∙◌, subs
 use Rattle.std.specs.Vec.Iter.{into_iter_items}
 use Rattle.std.proofs.lemmas.Bool.{false≢true}
 use Rattle.std.proofs.lemmas.List.{nil_from_length}
-use Rattle.ere.specs.Tree.{form}
+use Rattle.search.specs.Tests.{test_of}
 use Rattle.search.specs.Private.Selects.{Selects, IsNamed}
 use Rattle.search.proofs.NameLemmas.{keeps_one, keeps_none, keeps_end}
 use Rattle.search.proofs.names.with_names_by.Goals as goal
@@ -13,7 +13,7 @@ loop-document-preserved g c =
     let steps : into_iter_items at.document-iterator ≡ c.in-Some.document ∷ into_iter_items c.next.new.self = c.in-Some.ensures.steps.0 in
     record {
       so_far =
-          keeps_none (IsNamed (form c.args.tree.now)) (into_iter_items c.into_iter-document-iterator.result) at.kept.items
+          keeps_none (IsNamed (test_of c.args.test.now)) (into_iter_items c.into_iter-document-iterator.result) at.kept.items
           (into_iter_items at.document-iterator) (into_iter_items c.next.new.self) c.in-Some.document steps at.invariant.so_far
           (λ h. false≢true (sym c.if-matches_name.false ∙ c.matches_name.ensures.matches.1 h));
       len = (let gone = c.in-Some.ensures.steps.1 in let short = ap length steps in omega (arith, at.invariant.len));
@@ -26,7 +26,7 @@ loop-document-preserved-in-Continue-branch-2 g c =
     let steps : into_iter_items at.document-iterator ≡ c.in-Some.document ∷ into_iter_items c.next.new.self = c.in-Some.ensures.steps.0 in
     record {
       so_far =
-          keeps_one (IsNamed (form c.args.tree.now)) (into_iter_items c.into_iter-document-iterator.result) at.kept.items
+          keeps_one (IsNamed (test_of c.args.test.now)) (into_iter_items c.into_iter-document-iterator.result) at.kept.items
           (into_iter_items at.document-iterator) (into_iter_items c.next.new.self) c.in-Some.document steps at.invariant.so_far
           c.push.new.self.items (c.matches_name.ensures.matches.0 c.if-matches_name.true) c.in_ok-push.ensures.items;
       len = (let gone = c.in-Some.ensures.steps.1 in let short = ap length steps in omega (arith, at.invariant.len));
@@ -37,6 +37,6 @@ pub returns : goal.returns
 returns g c =
     let at = c.loop-document in
     let none = nil_from_length (into_iter_items at.document-iterator) (sym at.invariant.len ∙ c.in-None.ensures.steps.0) in
-    subst (λ all. Selects (IsNamed (form c.args.tree.now)) all at.kept.items) c.into_iter-document-iterator.ensures.into_iter_gives.0
-    (keeps_end (IsNamed (form c.args.tree.now)) (into_iter_items c.into_iter-document-iterator.result) at.kept.items
+    subst (λ all. Selects (IsNamed (test_of c.args.test.now)) all at.kept.items) c.into_iter-document-iterator.ensures.into_iter_gives.0
+    (keeps_end (IsNamed (test_of c.args.test.now)) (into_iter_items c.into_iter-document-iterator.result) at.kept.items
     (into_iter_items at.document-iterator) none at.invariant.so_far)

@@ -1,10 +1,21 @@
 use Rattle.ere.specs.Tree.{form}
-use Rattle.search.proofs.WayLemmas.{simulation_of, looks_by_simulation}
+use Rattle.search.proofs.WayLemmas.{finder_of, finds_by, simulation_of, finds_by_simulation}
 use Rattle.search.proofs.way.has_match.Goals as goal
+
+pub returns-in-FromMatchToMatch-clause-way : goal.returns-in-FromMatchToMatch-clause-way
+returns-in-FromMatchToMatch-clause-way c =
+    finds_by (form c.args.tree.now) c.matches.new.self
+    (c.matches.ensures.same (form c.args.tree.now)
+    (finder_of (form c.args.tree.now) c.args.way.now c.in-FromMatchToMatch.finder c.in-FromMatchToMatch.is c.requires.way))
+
+pub returns-in-FromMatchToMatch-clause-found : goal.returns-in-FromMatchToMatch-clause-found
+returns-in-FromMatchToMatch-clause-found c =
+    c.matches.ensures.found (form c.args.tree.now)
+    (finder_of (form c.args.tree.now) c.args.way.now c.in-FromMatchToMatch.finder c.in-FromMatchToMatch.is c.requires.way)
 
 pub returns-in-Simulation-clause-way : goal.returns-in-Simulation-clause-way
 returns-in-Simulation-clause-way c =
-    looks_by_simulation (form c.args.tree.now) c.matches-in-Simulation.new.self
+    finds_by_simulation (form c.args.tree.now) c.matches-in-Simulation.new.self
     (c.matches-in-Simulation.ensures.same (form c.args.tree.now)
     (simulation_of (form c.args.tree.now) c.args.way.now c.in-Simulation.simulation c.in-Simulation.is c.requires.way))
 

@@ -1,5 +1,6 @@
 use Rattle.ere.specs.Tree.{form}
-use Rattle.search.proofs.WayLemmas.{finds_by, finds_by_line, compiled_from, decided_by, decided_by_line}
+use Rattle.search.proofs.WayLemmas.{finds_by, finds_by_matcher, compiled_from, decided_by, decided_matcher, decided_simulation}
+use Rattle.search.proofs.WayLemmas.{finds_by_simulation}
 use Rattle.search.proofs.way.way_by.Goals as goal
 
 pub returns-in-Ok-clause-finds : goal.returns-in-Ok-clause-finds
@@ -11,8 +12,8 @@ returns-in-Ok-clause-finds c =
 pub returns-in-Ok-clause-decided : goal.returns-in-Ok-clause-decided
 returns-in-Ok-clause-decided c = decided_by (form c.args.tree.now) c.args.compiled.now c.in-Some.compiled c.in-Ok.finder c.in-Some.is
 
-pub returns-clause-finds : goal.returns-clause-finds
-returns-clause-finds c = finds_by_line (form c.args.tree.now) c.in_ok-line_way.field-0 c.in_ok-line_way.ensures.looks
+pub returns-then-is_quick-clause-finds : goal.returns-then-is_quick-clause-finds
+returns-then-is_quick-clause-finds c = finds_by_matcher (form c.args.tree.now)
 
-pub returns-clause-decided : goal.returns-clause-decided
-returns-clause-decided c = decided_by_line (form c.args.tree.now) c.args.compiled.now c.in_ok-line_way.field-0 c.in_ok-line_way.ensures.decided
+pub returns-then-is_quick-clause-decided : goal.returns-then-is_quick-clause-decided
+returns-then-is_quick-clause-decided c = decided_matcher (form c.args.tree.now) c.args.compiled.now (c.is_quick.ensures.0 c.if-is_quick.true)

@@ -1,0 +1,81 @@
+-- Tests of lines and names.
+use Rattle.std.proofs.Common.{◌≡◌, ℕ, suc, ◌+◌, ◌<◌, Bool, true, false, List, [], ◌∷◌, ◌++◌, map, length, take, get_or, Some, refl, sym, ◌∙◌, ap, subst, arith}
+use Rattle.std.specs.Prelude.{◌↔◌, IsTrue, All}
+use Rattle.std.proofs.Math.Seq.{take-suc}
+use Rattle.std.proofs.lemmas.List.{map-append}
+use Rattle.std.proofs.lemmas.List.Elements.{All-nil, All-push, All-pop}
+use Rattle.ere.specs.Tree.{Tree}
+use Rattle.ere.specs.Language.{ContainsMatch}
+use Rattle.index.specs.declared.document.SharedDocument.{SharedDocument}
+use Rattle.search.specs.Pattern.{Test, Passes, with_match}
+use Rattle.search.specs.Private.Selects.{Selects, done, keep, skip, IsNamed, IsNamedForAll}
+use Rattle.search.specs.declared.asked.Test.{Test as PreparedTest}
+use Rattle.search.specs.Tests.{test_of}
+
+-- The text passes a test exactly if what was found differs from whether the test is inverted.
+passes : (tree : Tree) (inverted found : Bool) (text : List ℕ) → IsTrue found ↔ ContainsMatch tree text → (found ≡ inverted → ⊥)
+    → Passes (record { tree = tree; inverted = inverted }) text
+passes tree true found text is other = λ h. other (is.1 h)
+passes tree false true text is other = is.0 refl
+passes tree false false text is other = absurd (other refl)
+
+fails : (tree : Tree) (inverted found : Bool) (text : List ℕ) → IsTrue found ↔ ContainsMatch tree text → found ≡ inverted
+    → Passes (record { tree = tree; inverted = inverted }) text → ⊥
+fails tree true found text is same = λ none. none (is.0 same)
+fails tree false true text is same = absurd (cc)
+fails tree false false text is same = λ h. absurd (cc (is.1 h))
+
+pub passes_test : (test : Test) (found : Bool) (text : List ℕ) → IsTrue found ↔ ContainsMatch test.tree text → (found ≡ test.inverted → ⊥) → Passes test text
+passes_test test found text is other = passes test.tree test.inverted found text is other
+
+pub fails_test : (test : Test) (found : Bool) (text : List ℕ) → IsTrue found ↔ ContainsMatch test.tree text → found ≡ test.inverted → Passes test text → ⊥
+fails_test test found text is same = fails test.tree test.inverted found text is same
+
+pub is_with_match : (test : Test) → test.inverted ≡ false → with_match test.tree ≡ test
+is_with_match test is = ap (λ i. record { tree = test.tree; inverted = i }) (sym is)
+
+-- ---- names that pass tests
+
+-- what is kept of what is kept
+pub Selects-both : {X : Type 0} {P Q : X → Type 0} {all middle kept : List X} → Selects P all middle → Selects Q middle kept
+    → Selects (λ x. P x × Q x) all kept
+Selects-both done done = done
+Selects-both (keep has s) (keep also t) = keep (has, also) (Selects-both s t)
+Selects-both (keep has s) (skip none t) = skip (λ h. none h.1) (Selects-both s t)
+Selects-both (skip none s) t = skip (λ h. none h.0) (Selects-both s t)
+
+pub Selects-same : {X : Type 0} {P Q : X → Type 0} {all kept : List X} → ((x : X) → P x ↔ Q x) → Selects P all kept → Selects Q all kept
+Selects-same same done = done
+Selects-same same (keep {x} has s) = keep ((same x).0 has) (Selects-same same s)
+Selects-same same (skip {x} none s) = skip (λ h. none ((same x).1 h)) (Selects-same same s)
+
+-- the first tests of some
+abbrev pub first_tests : List PreparedTest → ℕ → List Test
+first_tests tests count = map test_of (take count tests)
+
+next_tests : (tests : List PreparedTest) (at : ℕ) (test : PreparedTest) → at < length tests → test ≡ get_or tests at test
+    → first_tests tests (at + 1) ≡ first_tests tests at ++ test_of test ∷ []
+next_tests tests at test low is =
+    let next : at + 1 ≡ suc at = omega arith in
+    ap (λ n. map test_of (take n tests)) next
+    ∙ (ap (map test_of) (take-suc tests at test low)
+    ∙ (map-append test_of (take at tests) (get_or tests at test ∷ []) ∙ ap (λ t. first_tests tests at ++ test_of t ∷ []) (sym is)))
+
+-- one more test
+pub named_by_more : (tests : List PreparedTest) (at : ℕ) (test : PreparedTest) (all middle kept : List SharedDocument) → at < length tests
+    → test ≡ get_or tests at test → Selects (IsNamedForAll (first_tests tests at)) all middle → Selects (IsNamed (test_of test)) middle kept
+    → Selects (IsNamedForAll (first_tests tests (at + 1))) all kept
+named_by_more tests at test all middle kept low is before named =
+    let next = next_tests tests at test low is in
+    Selects-same
+    (λ document. (
+      λ h. subst (λ ts. All (λ t. IsNamed t document) ts) (sym next) (All-push (λ t. IsNamed t document) (first_tests tests at) (test_of test) h.0 h.1),
+      λ h. All-pop (λ t. IsNamed t document) (first_tests tests (at + 1)) (first_tests tests at) (Some (test_of test)) next h,
+    )) (Selects-both before named)
+
+pub named_by_none : (tests : List PreparedTest) (all : List SharedDocument) → Selects (IsNamedForAll (first_tests tests 0)) all all
+named_by_none tests all = every all
+  where
+    every : (all : List SharedDocument) → Selects (IsNamedForAll (first_tests tests 0)) all all
+    every [] = done
+    every (document ∷ all) = keep (All-nil (λ t. IsNamed t document)) (every all)
