@@ -1,7 +1,7 @@
 -- The lines of documents, and the scan of all of them.
 use Rattle.std.proofs.Common.{◌≡◌, ℕ, zero, suc, ◌+◌, ◌-◌, ◌<◌, ◌≤◌, ◌⊎◌, inl, inr, List, [], ◌∷◌, ◌++◌, map, length, length-drop, drop}
 use Rattle.std.proofs.Common.{take, get_or, Some, Contains, refl, sym, ◌∙◌, ap, subst, arith}
-use Rattle.std.specs.Prelude.{◌↔◌, slice_get, flat_map, All, true, false}
+use Rattle.std.specs.Prelude.{◌↔◌, slice_get, flat_map, All, Bool, true, false}
 use Rattle.std.proofs.Math.Seq.{drop-cons}
 use Rattle.std.proofs.Math.ListN.{drop_of_length-le}
 use Rattle.std.proofs.lemmas.List.{append-nil, take-append-drop, take_all}
@@ -20,7 +20,8 @@ use Rattle.trigram.proofs.LawLemmas.{matching_line}
 use Rattle.index.specs.Documents.{Document, RisesByName}
 use Rattle.index.specs.State.{State}
 use Rattle.index.proofs.DocumentLemmas.{Contains-cons, Contains-head, Contains-tail}
-use Rattle.search.specs.Pattern.{Test, Passes, Pattern}
+use Rattle.ere.specs.Tree.{Tree}
+use Rattle.search.specs.Pattern.{Passes, Pattern}
 use Rattle.search.specs.Scan.{Hit, IsHit, hit_cmp, IsScanOf, can_have, candidates_of}
 use Rattle.search.specs.Private.Selects.{found, numbered, lines_of_document, Selects, done, Adds, IsAsked}
 use Rattle.index.proofs.DocumentLemmas.{filter-Contains, Contains-filter}
@@ -239,11 +240,15 @@ candidate : (s : State) (pattern : Pattern) (d : Document) (i : ℕ) (text : Lis
     → slice_get (lines_of d.body) i ≡ Some text → Passes pattern.line text → Contains (candidates_of s pattern.line) d
 candidate s pattern d i text there at hit =
     Contains-filter (λ x. can_have pattern.line (trigrams_of_body x.body)) s.documents d there
-    (go pattern.line hit)
+    (go pattern.line.inverted hit)
   where
-    go : (test : Test) → Passes test text → can_have test (trigrams_of_body d.body) ≡ true
-    go (record { tree = tree; inverted = true }) none = refl
-    go (record { tree = tree; inverted = false }) some =
+    tree : Tree
+    tree = pattern.line.tree
+
+    go : (inverted : Bool) → Passes (record { tree = tree; inverted = inverted }) text
+        → can_have (record { tree = tree; inverted = inverted }) (trigrams_of_body d.body) ≡ true
+    go true none = refl
+    go false some =
         matching_line tree d.body text
         (i, slice_get_within (lines_of d.body) i text at, get_or_from_slice_get (lines_of d.body) i text text at) some
 

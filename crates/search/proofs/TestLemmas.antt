@@ -1,10 +1,9 @@
 -- Tests of lines and names.
-use Rattle.std.proofs.Common.{◌≡◌, ℕ, suc, ◌+◌, ◌<◌, Bool, true, false, List, [], ◌∷◌, ◌++◌, map, length, take, get_or, Some, refl, sym, ◌∙◌, ap, subst, arith}
+use Rattle.std.proofs.Common.{◌≡◌, ℕ, suc, ◌+◌, ◌<◌, Bool, true, false, not, List, [], ◌∷◌, ◌++◌, map, length, take, get_or, Some, refl, sym, ◌∙◌, ap, subst, arith}
 use Rattle.std.specs.Prelude.{◌↔◌, IsTrue, All}
 use Rattle.std.proofs.Math.Seq.{take-suc}
 use Rattle.std.proofs.lemmas.List.{map-append}
 use Rattle.std.proofs.lemmas.List.Elements.{All-nil, All-push, All-pop}
-use Rattle.ere.specs.Tree.{Tree}
 use Rattle.ere.specs.Language.{ContainsMatch}
 use Rattle.index.specs.declared.document.SharedDocument.{SharedDocument}
 use Rattle.search.specs.Pattern.{Test, Passes, with_match}
@@ -12,27 +11,25 @@ use Rattle.search.specs.Private.Selects.{Selects, done, keep, skip, IsNamed, IsN
 use Rattle.search.specs.declared.asked.Test.{Test as PreparedTest}
 use Rattle.search.specs.Tests.{test_of}
 
--- The text passes a test exactly if what was found differs from whether the test is inverted.
-passes : (tree : Tree) (inverted found : Bool) (text : List ℕ) → IsTrue found ↔ ContainsMatch tree text → (found ≡ inverted → ⊥)
-    → Passes (record { tree = tree; inverted = inverted }) text
-passes tree true found text is other = λ h. other (is.1 h)
-passes tree false true text is other = is.0 refl
-passes tree false false text is other = absurd (other refl)
+pub passes_found : (test : Test) (found : Bool) (text : List ℕ) → test.inverted ≡ false → IsTrue found ↔ ContainsMatch test.tree text
+    → IsTrue found ↔ Passes test text
+passes_found test found text is same = subst (λ i. IsTrue found ↔ Passes (record { tree = test.tree; inverted = i }) text) (sym is) same
 
-fails : (tree : Tree) (inverted found : Bool) (text : List ℕ) → IsTrue found ↔ ContainsMatch tree text → found ≡ inverted
-    → Passes (record { tree = tree; inverted = inverted }) text → ⊥
-fails tree true found text is same = λ none. none (is.0 same)
-fails tree false true text is same = absurd (cc)
-fails tree false false text is same = λ h. absurd (cc (is.1 h))
-
-pub passes_test : (test : Test) (found : Bool) (text : List ℕ) → IsTrue found ↔ ContainsMatch test.tree text → (found ≡ test.inverted → ⊥) → Passes test text
-passes_test test found text is other = passes test.tree test.inverted found text is other
-
-pub fails_test : (test : Test) (found : Bool) (text : List ℕ) → IsTrue found ↔ ContainsMatch test.tree text → found ≡ test.inverted → Passes test text → ⊥
-fails_test test found text is same = fails test.tree test.inverted found text is same
+pub passes_not_found : (test : Test) (found : Bool) (text : List ℕ) → test.inverted ≡ true → IsTrue found ↔ ContainsMatch test.tree text
+    → IsTrue (not found) ↔ Passes test text
+passes_not_found test found text is same =
+    subst (λ i. IsTrue (not found) ↔ Passes (record { tree = test.tree; inverted = i }) text) (sym is) (turned found same)
+  where
+    turned : (found : Bool) → IsTrue found ↔ ContainsMatch test.tree text → IsTrue (not found) ↔ (ContainsMatch test.tree text → ⊥)
+    turned true same = (λ h. absurd (cc), λ none. absurd (none (same.0 refl)))
+    turned false same = (λ h. λ match. absurd (cc (same.1 match)), λ none. refl)
 
 pub is_with_match : (test : Test) → test.inverted ≡ false → with_match test.tree ≡ test
 is_with_match test is = ap (λ i. record { tree = test.tree; inverted = i }) (sym is)
+
+-- the bytes of a name are the name
+pub passed_by_name : (test : Test) (name bytes : List ℕ) (passed : Bool) → bytes ≡ name → IsTrue passed ↔ Passes test bytes → IsTrue passed ↔ Passes test name
+passed_by_name test name bytes passed same is = subst (λ text. IsTrue passed ↔ Passes test text) same is
 
 -- ---- names that pass tests
 

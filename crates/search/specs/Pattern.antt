@@ -1,5 +1,5 @@
 -- What a search asks for: which lines, and in documents of which names.
-use Rattle.std.specs.Prelude.{◌≡◌, List, [], ◌∷◌, ℕ, Bool, false, MatchBool, All}
+use Rattle.std.specs.Prelude.{◌≡◌, List, [], ◌∷◌, ℕ, Bool, false, MatchBool}
 use Rattle.ere.specs.declared.case.Case.{Case}
 use Rattle.ere.specs.declared.case.Case.TheVariants.{Exact}
 use Rattle.ere.specs.Language.{ContainsMatch}

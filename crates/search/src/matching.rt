@@ -17,7 +17,7 @@ use crate::piece::piece_end;
 use crate::places::{Place, Places, share};
 use crate::unanswered::Unanswered;
 use crate::watch::{Watch, ask};
-use crate::way::{Way, compile, has_match, way_by};
+use crate::way::{Way, compile, passes, way_by};
 use finder::{Finder, lines_before};
 use index::{Body, SharedDocument};
 use lines::MAX_LINE;
@@ -332,7 +332,7 @@ fn scan_line(
     ensures places { OnOk result ((name body : List ℕ) → HasTextAt body offset text.now
         → AddsPlaces (test_of test.now) document name body (found name line text.now ∷ []) places.old.items places.new.items) }
 {
-    if has_match(&test.tree, way, text) == test.inverted {
+    if !passes(test, way, text) {
         return Ok(());
     }
     places.push(Place {

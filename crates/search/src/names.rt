@@ -12,7 +12,7 @@ use crate::asked::Test;
 use crate::pattern::Prepared;
 use crate::unanswered::Unanswered;
 use crate::watch::{Watch, ask};
-use crate::way::{Way, compile, has_match, way_by};
+use crate::way::{Way, compile, passes, way_by};
 use index::SharedDocument;
 use matcher::is_quick;
 use std::alloc::Global;
@@ -67,7 +67,7 @@ fn with_names_by<W: Watch>(
     let mut kept = Vec::new(alloc);
     for document in documents {
         ask(watch)?;
-        if has_match(&test.tree, way, document.name.as_bytes()) != test.inverted {
+        if passes(test, way, document.name.as_bytes()) {
             kept.push(document)?;
         }
     }

@@ -5,8 +5,11 @@ ghost use Rattle.ere.specs.Tree.{form};
 ghost use Rattle.ere.specs.Language.{ContainsMatch};
 ghost use Rattle.ere.specs.Limits.{IsWithinLimits};
 ghost use Rattle.finder.specs.Patterns.{IsCompiledFrom};
+ghost use Rattle.search.specs.Pattern.{Passes};
+ghost use Rattle.search.specs.Tests.{test_of};
 ghost use Rattle.search.specs.Private.Ways.{Finds, IsDecided};
 
+use crate::asked::Test;
 use ere::Ere;
 use finder::{Compiled, Finder};
 use lines::MAX_LINE;
@@ -59,8 +62,23 @@ pub fn way_by<'p>(
     Ok(Way::Simulation(simulation))
 }
 
+/// Whether the line passes the test, by this way for its tree. The line has no line feed.
+pub fn passes(test: &Test, way: &mut Way<'_>, line: &[u8]) -> bool
+    requires short { length line.now ≤ MAX_LINE }
+    requires no_feed { (k : ℕ) → k < length line.now → slice_index line.now k ≢ 10 }
+    requires way { Finds (form test.now.tree) way.old }
+    ensures way { Finds (form test.now.tree) way.new }
+    ensures passes { IsTrue result ↔ Passes (test_of test.now) line.now }
+{
+    let found = has_match(&test.tree, way, line);
+    if test.inverted {
+        return !found;
+    }
+    found
+}
+
 /// Whether the line contains a match of the tree, by this way. The line has no line feed.
-pub fn has_match(tree: &Ere, way: &mut Way<'_>, line: &[u8]) -> bool
+fn has_match(tree: &Ere, way: &mut Way<'_>, line: &[u8]) -> bool
     requires limits { IsWithinLimits (form tree.now) }
     requires short { length line.now ≤ MAX_LINE }
     requires no_feed { (k : ℕ) → k < length line.now → slice_index line.now k ≢ 10 }

@@ -2,7 +2,7 @@
 use Rattle.std.specs.Prelude.{◌≡◌, ℕ, suc, List, [], ◌∷◌, ◌++◌, All}
 use Rattle.lines.specs.Lines.{lines_of}
 use Rattle.index.specs.declared.document.SharedDocument.{SharedDocument}
-use Rattle.search.specs.Pattern.{Test, Passes, Pattern}
+use Rattle.search.specs.Pattern.{Test, Passes}
 use Rattle.search.specs.Scan.{Hit}
 
 abbrev pub found : List ℕ → ℕ → List ℕ → Hit

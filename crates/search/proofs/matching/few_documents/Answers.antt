@@ -1,6 +1,4 @@
 use Rattle.std.proofs.Common.{◌≡◌, length, take, refl, ap, arith}
-use Rattle.ere.specs.Tree.{form}
-use Rattle.matcher.specs.Steps.{IsQuick}
 use Rattle.search.specs.Private.Ways.{bytes_in}
 use Rattle.search.proofs.FewLemmas.{bytes_in-more}
 use Rattle.search.proofs.matching.few_documents.Goals as goal

@@ -27,5 +27,5 @@ returns g c =
     (flat_map lines_of_taken c.args.documents.now) c.args.hits.now c.loop-document.hits
     c.loop-document-test.false c.loop-document.invariant.so_far
 
-pub scan_document-requires-clause-way : goal.scan_document-requires-clause-way
-scan_document-requires-clause-way g c = c.loop-document.invariant.way
+pub scan_document-requires : goal.scan_document-requires
+scan_document-requires g c = record { way = c.loop-document.invariant.way }

@@ -2,5 +2,5 @@ use Rattle.ere.specs.Tree.{form}
 use Rattle.search.proofs.WayLemmas.{finds_by_matcher}
 use Rattle.search.proofs.matching.scan_few.Goals as goal
 
-pub scan_by-requires-clause-way : goal.scan_by-requires-clause-way
-scan_by-requires-clause-way g c = finds_by_matcher (form c.args.test.now.tree)
+pub scan_by-requires : goal.scan_by-requires
+scan_by-requires g c = record { way = finds_by_matcher (form c.args.test.now.tree) }

@@ -1,16 +1,16 @@
-use Rattle.std.proofs.Common.{◌∷◌, [], ◌∙◌, sym}
+use Rattle.std.proofs.Common.{◌∷◌, [], sym, ◌∙◌}
 use Rattle.std.proofs.lemmas.Bool.{false≢true}
 use Rattle.search.specs.Tests.{test_of}
 use Rattle.search.specs.Private.Selects.{found, done, skip}
 use Rattle.search.proofs.PlaceLemmas.{no_place, line_place}
 use Rattle.search.proofs.matching.scan_line.Goals as goal
 
-pub returns-then-not-has_match-clause-places : goal.returns-then-not-has_match-clause-places
-returns-then-not-has_match-clause-places c = λ name body there.
+pub returns-then-not-passes-clause-places : goal.returns-then-not-passes-clause-places
+returns-then-not-passes-clause-places c = λ name body there.
     no_place (test_of c.args.test.now) c.args.document name body (found name c.args.line c.args.text.now ∷ []) c.args.places.now.items
-    (skip (λ h. false≢true (sym c.if-not-has_match.true ∙ c.has_match.ensures.found.1 h)) done)
+    (skip (λ h. false≢true (sym c.if-not-passes.true ∙ c.passes.ensures.passes.1 h)) done)
 
 pub returns-clause-places : goal.returns-clause-places
 returns-clause-places c = λ name body there.
     line_place (test_of c.args.test.now) c.args.document name body c.args.line c.args.offset c.args.text.now there
-    (c.has_match.ensures.found.0 c.if-not-has_match.false) c.args.places.now.items c.push.new.self.items c.in_ok-push.ensures.items
+    (c.passes.ensures.passes.0 c.if-not-passes.false) c.args.places.now.items c.push.new.self.items c.in_ok-push.ensures.items

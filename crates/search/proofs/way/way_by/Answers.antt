@@ -1,6 +1,5 @@
 use Rattle.ere.specs.Tree.{form}
-use Rattle.search.proofs.WayLemmas.{finds_by, finds_by_matcher, compiled_from, decided_by, decided_matcher, decided_simulation}
-use Rattle.search.proofs.WayLemmas.{finds_by_simulation}
+use Rattle.search.proofs.WayLemmas.{finds_by, finds_by_matcher, compiled_from, decided_by, decided_matcher}
 use Rattle.search.proofs.way.way_by.Goals as goal
 
 pub returns-in-Ok-clause-finds : goal.returns-in-Ok-clause-finds

@@ -1,0 +1,11 @@
+use Rattle.search.specs.Tests.{test_of}
+use Rattle.search.proofs.TestLemmas.{passes_found, passes_not_found}
+use Rattle.search.proofs.way.passes.Goals as goal
+
+pub returns-then-test-clause-passes : goal.returns-then-test-clause-passes
+returns-then-test-clause-passes c =
+    passes_not_found (test_of c.args.test.now) c.has_match-found.result c.args.line.now c.if-test.true c.has_match-found.ensures.found
+
+pub returns-clause-passes : goal.returns-clause-passes
+returns-clause-passes c =
+    passes_found (test_of c.args.test.now) c.has_match-found.result c.args.line.now c.if-test.false c.has_match-found.ensures.found
