@@ -8,7 +8,7 @@ ghost use Rattle.search.specs.Private.Selects.{Selects, HasMatch};
 ghost use Rattle.search.specs.Private.Documents.{lines_of_taken};
 
 use crate::matching::{body_size, scan_documents};
-use crate::places::Places;
+use crate::parts::Found;
 use crate::unanswered::Unanswered;
 use crate::watch::Watch;
 use ere::Ere;
@@ -21,20 +21,21 @@ use std::thread::{Threads, join};
 const PART: usize = 524_288;
 
 /// The lines with a match in these documents, document after document, found in up to `most` parts of about equal bytes, each
-/// in a thread of its own where one can be started. `watch` is copied for each part.
+/// in a thread of its own where one can be started. Each forms the text of its first lines, of about `ahead` bytes in all. `watch` is copied for each part.
 pub(crate) fn scan_side_by_side<R: Threads + Sync, W: Watch + Copy + Send>(
     rt: &R,
     alloc: Global,
     tree: &Ere,
     documents: &[SharedDocument],
     most: usize,
+    ahead: usize,
     watch: W,
-) -> Result<Places, Unanswered>
+) -> Result<Found, Unanswered>
     requires { IsWithinLimits (form tree.now) }
     ensures { IfOk result (λ hits. Selects (HasMatch (form tree.now)) (flat_map lines_of_taken documents.now) hits) }
 {
-    let parts = (bytes_of(documents) / PART).min(most);
-    scan_parts(rt, alloc, tree, documents, parts, watch)
+    let parts = (bytes_of(documents) / PART).min(most).max(1);
+    scan_parts(rt, alloc, tree, documents, parts, ahead / parts, watch)
 }
 
 /// The bytes of the documents' bodies together.
@@ -61,8 +62,8 @@ fn documents_with(documents: &[SharedDocument], bytes: usize) -> usize
     documents.len()
 }
 
-/// The lines with a match in these documents, found in so many parts. The documents are halved by their bytes at each step, and
-/// the front half goes to a new thread.
+/// The lines with a match in these documents, found in so many parts, each with `ahead` bytes of text. The documents are halved
+/// by their bytes at each step, and the front half goes to a new thread.
 #[cycle(scan_parts)]
 fn scan_parts<R: Threads + Sync, W: Watch + Copy + Send>(
     rt: &R,
@@ -70,14 +71,16 @@ fn scan_parts<R: Threads + Sync, W: Watch + Copy + Send>(
     tree: &Ere,
     documents: &[SharedDocument],
     parts: usize,
+    ahead: usize,
     watch: W,
-) -> Result<Places, Unanswered>
+) -> Result<Found, Unanswered>
     requires { IsWithinLimits (form tree.now) }
     ensures { IfOk result (λ hits. Selects (HasMatch (form tree.now)) (flat_map lines_of_taken documents.now) hits) }
 {
     if parts < 2 {
         let mut watch = watch;
-        return scan_documents(alloc, tree, documents, &mut watch);
+        let hits = scan_documents(alloc, tree, documents, &mut watch)?;
+        return Found::new(alloc, hits, ahead, &mut watch);
     }
     let low = parts / 2;
     let high = parts - low;
@@ -85,14 +88,14 @@ fn scan_parts<R: Threads + Sync, W: Watch + Copy + Send>(
         documents,
         bytes_of(documents) / parts * low,
     ));
-    let front = move || -> Result<Places, Unanswered>
+    let front = move || -> Result<Found, Unanswered>
         requires { IsSync R.row × IsSend W.row × IsWithinLimits (form tree.now) }
         ensures { IfOk result (λ hits. Selects (HasMatch (form tree.entry.now)) (flat_map lines_of_taken first.entry.now) hits) }
-    { scan_parts(rt, alloc, tree, first, low, watch) };
-    let back = move || -> Result<Places, Unanswered>
+    { scan_parts(rt, alloc, tree, first, low, ahead, watch) };
+    let back = move || -> Result<Found, Unanswered>
         requires { IsSync R.row × IsSend W.row × IsWithinLimits (form tree.now) }
         ensures { IfOk result (λ hits. Selects (HasMatch (form tree.entry.now)) (flat_map lines_of_taken others.entry.now) hits) }
-    { scan_parts(rt, alloc, tree, others, high, watch) };
+    { scan_parts(rt, alloc, tree, others, high, ahead, watch) };
     let (found, rest) = join(rt, front, back);
     let mut hits = found?;
     hits.append(rest?)?;
