@@ -11,4 +11,4 @@ mod WayLemmas
 mod FewLemmas
 mod PieceLemmas
 mod PlaceLemmas
-mod PartLemmas
+pub mod PartLemmas

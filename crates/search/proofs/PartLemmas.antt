@@ -2,6 +2,7 @@
 use Rattle.std.proofs.Common.{◌≡◌, ℕ, suc, ◌+◌, ◌-◌, ◌<◌, ◌≤◌, List, [], ◌∷◌, ◌++◌, length, take, drop, get_or, refl, sym, ◌∙◌, ap, subst, arith, append_assoc, drop-cons, zero, Some, None}
 use Rattle.std.proofs.Math.Seq.{take-suc}
 use Rattle.std.proofs.lemmas.Option.{slice_get_within, get_or_from_slice_get}
+use Rattle.std.proofs.Math.ListN.{drop_of_length-le}
 use Rattle.std.specs.Prelude.{flat_map, slice_get}
 use Rattle.std.proofs.lemmas.Grind.{flat_map-append}
 use Rattle.std.proofs.lemmas.List.{append-nil, length-append, take-append-drop}
@@ -34,6 +35,11 @@ text-joined hits at front back whole first rest joined =
     ∙ (ap (λ t. t ++ back) first
     ∙ (ap (λ t. text_of_hits (take at hits) ++ t) rest
     ∙ (sym (text-append (take at hits) (drop at hits)) ∙ ap (λ hs. text_of_hits hs) (take-append-drop at hits))))
+
+pub text-both : (hits first others : List Hit) (at : ℕ) (front back whole : List ℕ) → first ≡ take at hits → others ≡ drop at hits
+    → front ≡ text_of_hits first → back ≡ text_of_hits others → whole ≡ front ++ back → whole ≡ text_of_hits hits
+text-both hits first others at front back whole is_first are_others one two joined =
+    text-joined hits at front back whole (one ∙ ap (λ hs. text_of_hits hs) is_first) (two ∙ ap (λ hs. text_of_hits hs) are_others) joined
 
 -- the text of the first hits, and of one more
 text-next : (hits : List Hit) (at : ℕ) (hit : Hit) → slice_get hits at ≡ Some hit
@@ -85,3 +91,22 @@ module _ (parts : List (List Hit)) (i : ℕ) (part : List Hit) (inside : i < len
   pub hit-later : length part ≤ left → slice_get (all_hits parts) at ≡ slice_get (all_hits (drop (i + 1) parts)) (left - length part)
   hit-later above =
       so_far ∙ (ap (λ hits. slice_get hits left) (hits-next parts i part inside is) ∙ slice_get-behind part (all_hits (drop (i + 1) parts)) left above)
+
+-- the text of the parts from one on is that of this one and of those after it
+pub text-parts : (parts : List (List Hit)) (i : ℕ) (part : List Hit) → i < length parts → part ≡ get_or parts i part
+    → text_of_hits (all_hits (drop i parts)) ≡ text_of_hits part ++ text_of_hits (all_hits (drop (i + 1) parts))
+text-parts parts i part inside is =
+    ap (λ hits. text_of_hits hits) (hits-next parts i part inside is) ∙ text-append part (all_hits (drop (i + 1) parts))
+
+pub text-no_part : (parts : List (List Hit)) (i : ℕ) → length parts ≤ i → text_of_hits (all_hits (drop i parts)) ≡ []
+text-no_part parts i end = ap (λ ps. text_of_hits (all_hits ps)) (drop_of_length-le parts end)
+
+-- the text of the first hits, and of the others
+pub text-split : (hits first others : List Hit) (at : ℕ) → first ≡ take at hits → others ≡ drop at hits
+    → text_of_hits hits ≡ text_of_hits first ++ text_of_hits others
+text-split hits first others at is_first are_others =
+    sym (text-both hits first others at (text_of_hits first) (text_of_hits others) (text_of_hits first ++ text_of_hits others) is_first are_others
+    refl refl refl)
+
+pub text-none : (hits : List Hit) → hits ≡ [] → text_of_hits hits ≡ []
+text-none hits none = ap (λ hs. text_of_hits hs) none

@@ -121,6 +121,16 @@ impl<'a> Lines<'a> {
         }
     }
 
+    /// The same hits once more.
+    pub(crate) fn again(&self) -> Lines<'a>
+        ensures { result ≡ self.now }
+    {
+        Lines {
+            documents: self.documents,
+            places: self.places,
+        }
+    }
+
     /// How many hits are left.
     pub fn len(&self) -> usize
         ensures { result ≡ length self.now }
@@ -146,10 +156,10 @@ impl<'a> Lines<'a> {
     }
 
     /// The first `at` of these hits, and the others.
-    pub fn split_at(self, at: usize) -> (Lines<'a>, Lines<'a>)
-        requires { at ≤ length self }
-        ensures front { result.0 ≡ take at self.entry }
-        ensures back { result.1 ≡ drop at self.entry }
+    pub fn split_at(&self, at: usize) -> (Lines<'a>, Lines<'a>)
+        requires { at ≤ length self.now }
+        ensures front { result.0 ≡ take at self.now }
+        ensures back { result.1 ≡ drop at self.now }
     {
         let (front, back) = self.places.split_at(at);
         (

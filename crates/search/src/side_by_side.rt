@@ -79,8 +79,8 @@ fn scan_parts<R: Threads + Sync, W: Watch + Copy + Send>(
 {
     if parts < 2 {
         let mut watch = watch;
-        let hits = scan_documents(alloc, tree, documents, &mut watch)?;
-        return Found::new(alloc, hits, ahead, &mut watch);
+        let places = scan_documents(alloc, tree, documents, &mut watch)?;
+        return Found::new(alloc, places, ahead, &mut watch);
     }
     let low = parts / 2;
     let high = parts - low;

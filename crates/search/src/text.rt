@@ -53,27 +53,28 @@ pub(crate) fn text_of_first<W: Watch>(
 pub fn form_lines<R: Threads + Sync>(
     rt: &R,
     alloc: Global,
-    lines: Lines<'_>,
+    lines: &Lines<'_>,
     parts: usize,
 ) -> Result<Vec<u8>, AllocError>
-    ensures { IfOk result (λ text. text.items ≡ text_of_hits lines.entry) }
+    ensures { IfOk result (λ text. text.items ≡ text_of_hits lines.now) }
 {
     if parts < 2 || lines.count_within(PIECE) == lines.len() {
         let mut text = Vec::new(alloc);
-        append_lines(&mut text, lines)?;
+        append_lines(&mut text, lines.again())?;
         return Ok(text);
     }
     let low = parts / 2;
     let high = parts - low;
     let at = lines.len() / parts * low;
     let (first, others) = lines.split_at(at);
+    let (first, others) = (&first, &others);
     let front = move || -> Result<Vec<u8>, AllocError>
         requires { IsSync R.row }
-        ensures { IfOk result (λ text. text.items ≡ text_of_hits first.entry) }
+        ensures { IfOk result (λ text. text.items ≡ text_of_hits first.entry.now) }
     { form_lines(rt, alloc, first, low) };
     let back = move || -> Result<Vec<u8>, AllocError>
         requires { IsSync R.row }
-        ensures { IfOk result (λ text. text.items ≡ text_of_hits others.entry) }
+        ensures { IfOk result (λ text. text.items ≡ text_of_hits others.entry.now) }
     { form_lines(rt, alloc, others, high) };
     let (formed, rest) = join(rt, front, back);
     let mut text = formed?;

@@ -158,6 +158,11 @@ module _ (a b c : Option (List ℕ)) (all piece left left' held : List ℕ) (so_
       subst (AppendsFront a c) (sym split)
       (front_of_longer a c (so_far.done ++ piece) left' (held_in_part a b c (so_far.done ++ piece) (held ++ piece) more_held some))
 
+-- what is left begins with a text that is one text after another
+pub next_of_two : (left text first second left' : List ℕ) → left ≡ text ++ left' → first ++ second ≡ text → left ≡ first ++ (second ++ left')
+next_of_two left text first second left' next joined =
+    next ∙ (ap (λ t. t ++ left') (sym joined) ∙ append_assoc first second left')
+
 -- nothing is left
 pub done_all : (a b : Option (List ℕ)) (all left held : List ℕ) → left ≡ [] → IsDoneTo a b all left held → AppendsAllBut a b all held
 done_all a b all left held none so_far =

@@ -84,8 +84,9 @@ pub fn write_entry<R: Threads + Sync, W: Write>(
     ensures ok { OnOk result (AppendsAllBut (W.contents out.old) (W.contents out.new) (text.old.items ++ text_of_entry stats entry.now) text.new.items) }
     ensures err { OnErr result (AppendsFront (W.contents out.old) (W.contents out.new) (text.old.items ++ text_of_entry stats entry.now)) }
 {
-    if append_head(entry, stats, text).is_err() {
-        return Err(WriteError::OutOfMemory);
+    match append_head(entry, stats, text) {
+        Ok(()) => {}
+        Err(_) => return Err(WriteError::OutOfMemory),
     }
     match entry {
         Entry::Found { answer, .. } => write_parts(rt, alloc, threads, answer.parts(), text, out),
@@ -160,7 +161,7 @@ fn write_piece<R: Threads + Sync, W: Write>(
         }
         return write_part(out, text);
     }
-    match form_lines(rt, alloc, piece, threads) {
+    match form_lines(rt, alloc, &piece, threads) {
         Ok(formed) => write_behind(&formed, text, out),
         Err(_) => Err(WriteError::OutOfMemory),
     }
