@@ -314,6 +314,30 @@ def large_answer_leaves_memory_level(start):
         session.end(0)
 
 
+def slow_client_of_a_large_answer(start):
+    """The text of an answer is formed as it is written: 21 MB of it, of 100,000 short lines with a long name, take a MiB or two at a
+    time, and a MiB and a half for the places, also if the client reads slowly."""
+    name, count = b"n" * 200, 100_000
+    with start() as session:
+        session.send(b"put %s %d\n%s\npublish\n" % (name, 2 * count, b"x\n" * count))
+        session.ask(b"search y\n", b"search 1 version 1 lines 0\n")
+        early = session.memory("VmHWM")
+        session.send(b"search x\n")
+        wanted = b"search 2 version 1 lines %d\n" % count + b"".join(b"%s:%d:x\n" % (name, line) for line in range(1, count + 1))
+        text = b""
+        for pause in [0.05] * 10 + [0] * len(wanted):
+            time.sleep(pause)
+            text += session.read()
+            if len(text) >= len(wanted):
+                break
+        same("the large answer", text, wanted)
+        session.ask(b"search y\n", b"search 3 version 1 lines 0\n")
+        most = session.memory("VmHWM")
+        if most - early > 8 * MEBIBYTE:
+            raise Wrong(f"{early} bytes at most before the answer, and {most} after it")
+        session.end(0)
+
+
 def client_that_goes_away(start):
     with start() as session:
         session.send(b"put a 1\nx\npublish\n")
@@ -534,6 +558,7 @@ WITH_EACH = [
     replacements_leave_memory_level,
     client_that_reads_slowly,
     large_answer_leaves_memory_level,
+    slow_client_of_a_large_answer,
     client_that_goes_away,
     session_from_a_fifo,
     input_longer_than_a_script,

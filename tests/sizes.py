@@ -5,7 +5,7 @@ hits, and reads of a line or a body.
 Each test makes a script and the text that must be written for it, and names the ways in which it is run: with a number of readers or as a
 session, with or without readers. With readers a session's answers may come in another order. What comes in many reads is sent through a pipe
 that gives the program one byte for each read. As many tests run at once as there are processors. The memory of a run's entries is measured
-with as many entries as a script can have.
+with as many entries as a script can have, and that of an answer with 2^24 hits.
 
 Usage: tests/sizes.py [NAME..]   The last line counts: N passed, M failed.
 """
@@ -32,6 +32,8 @@ SESSION, READING = ["--live", "--readers", "0"], ["--live", "--readers", "2"]
 # How many bytes an entry of a run may take, and how many the program beside the script and the entries.
 MOST_OF_AN_ENTRY, MOST_BESIDE = 48, 16 * 1_048_576
 MANY_COMMANDS = ["--max-commands", "1000000"]
+# The most bytes that the program may take for 16,777,216 hits, whose places take 268,435,456.
+MOST_OF_MANY_HITS = 320 * 1_048_576
 
 
 class Case:
@@ -287,10 +289,45 @@ def memory_of_entries():
     return faults
 
 
+def memory_near_its_end(path, words, length):
+    """The most bytes that the program has had when all of its text but the last 200,000 bytes are read, of which a pipe holds the
+    first. It is ended then."""
+    with subprocess.Popen([str(PROGRAM), *words, path], stdout=subprocess.PIPE) as process:
+        left = length - 200_000
+        while left > 0:
+            text = process.stdout.read(min(left, 1_048_576))
+            if not text:
+                return None
+            left -= len(text)
+        status = pathlib.Path(f"/proc/{process.pid}/status").read_text()
+        process.kill()
+    return 1024 * int(status.split("VmHWM:")[1].split()[0])
+
+
+def memory_of_many_hits():
+    """A search with 16,777,216 hits: all lines of 16 of the longest bodies, which are empty. Its text has 200 MB."""
+    names = [b"f%02d" % number for number in range(16)]
+    script = b"".join(put(name, b"\n" * GREATEST_BODY) for name in names) + b"publish\nsearch ^\n"
+    numbers = sum(len(b"%d" % line) for line in range(1, GREATEST_BODY + 1))
+    length = len(b"search 1 version 16 lines 16777216\n") + len(names) * (numbers + GREATEST_BODY * len(b"f00::\n"))
+    faults = []
+    with tempfile.NamedTemporaryFile() as file:
+        file.write(script)
+        file.flush()
+        for words in ALONE, TWO_READERS, SESSION, READING:
+            most = memory_near_its_end(file.name, words, length)
+            wrong = most is None or most > MOST_OF_MANY_HITS
+            faults.append(f"memory_of_many_hits with {' '.join(words)}: {most} bytes, and at most {MOST_OF_MANY_HITS} are allowed" if wrong else None)
+    return faults
+
+
+MEMORY = [memory_of_entries, memory_of_many_hits]
+
+
 def faults_of(test):
     """For each way of a test, what is wrong, or None."""
-    if test is memory_of_entries:
-        return memory_of_entries()
+    if test in MEMORY:
+        return test()
     case = test()
     faults = []
     for words in case.ways:
@@ -300,4 +337,4 @@ def faults_of(test):
 
 
 if __name__ == "__main__":
-    run_tests(CASES + [memory_of_entries], faults_of, os.cpu_count())
+    run_tests(CASES + MEMORY, faults_of, os.cpu_count())

@@ -15,6 +15,9 @@ const EVENTS: usize = 8;
 /// How many items are read ahead of the session.
 const AHEAD: usize = 16;
 
+/// About how many bytes of an answer's text its reader forms. The session forms the rest, piece by piece.
+const TEXT_AHEAD: usize = 1_048_576;
+
 /// What a session waits for: an item or the end of the reading, or an answer.
 #[derive(Drop)]
 pub(crate) enum Event<J: service::Naming, K: reads::Naming> {
@@ -197,7 +200,7 @@ fn work<
     R: Threads + Wait + Clock + Sync + Drop,
     G: Gate + Drop,
 >(rt: R, alloc: Global, reader: Reader<J>, tasks: Receiver<Task>, events: Sender<M>, gate: G) {
-    reader.work(&rt, alloc, tasks, events, &gate)
+    reader.work(&rt, alloc, tasks, events, TEXT_AHEAD, &gate)
 }
 
 /// Starts the thread that reads the input, and hands out the first permits. An `Err` means that it could not be started,

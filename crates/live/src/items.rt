@@ -14,6 +14,7 @@ use service::{Done, Service, Source, Taken, Task};
 use std::alloc::Global;
 use std::io::{BufRead, Write};
 use std::sync::Wait;
+use std::thread::Threads;
 use std::time::Clock;
 use stream::OwnedItem;
 use transcript::Entry;
@@ -26,7 +27,7 @@ const MAX_OPEN: usize = 1024;
 pub(crate) fn step<
     J: service::Naming,
     K: reads::Naming,
-    R: Wait + Clock,
+    R: Threads + Wait + Clock + Sync,
     S: Source,
     I: BufRead + Drop,
     O: Write,
@@ -92,7 +93,13 @@ fn next_event<J: service::Naming, K: reads::Naming, R: Wait, I: BufRead + Drop>(
 }
 
 /// Waits for the next event, and takes it. Returns `true`.
-fn take_event<J: service::Naming, K: reads::Naming, R: Wait + Clock, I: BufRead + Drop, O: Write>(
+fn take_event<
+    J: service::Naming,
+    K: reads::Naming,
+    R: Threads + Wait + Clock + Sync,
+    I: BufRead + Drop,
+    O: Write,
+>(
     plan: &Plan<'_, R>,
     service: &mut Service<J>,
     crew: &mut Crew<J, K, I>,
@@ -118,7 +125,7 @@ fn take_event<J: service::Naming, K: reads::Naming, R: Wait + Clock, I: BufRead 
 }
 
 /// Writes what a reader answered.
-fn take_answer<J: service::Naming, R: Wait + Clock, O: Write>(
+fn take_answer<J: service::Naming, R: Threads + Wait + Clock + Sync, O: Write>(
     plan: &Plan<'_, R>,
     service: &mut Service<J>,
     written: &mut Written,
@@ -130,7 +137,7 @@ fn take_answer<J: service::Naming, R: Wait + Clock, O: Write>(
     ensures err { OnErr result (AnswersFront plan.now.options.stats service.old (O.contents out.old) service.new (O.contents out.new)) }
 {
     match service.answered(plan.rt, plan.alloc, done) {
-        Some(entry) => written.show(plan.alloc, plan.options.stats, &entry, out),
+        Some(entry) => written.show(plan, &entry, out),
         None => Ok(()),
     }
 }
@@ -139,7 +146,7 @@ fn take_answer<J: service::Naming, R: Wait + Clock, O: Write>(
 fn carry_out<
     J: service::Naming,
     K: reads::Naming,
-    R: Wait + Clock,
+    R: Threads + Wait + Clock + Sync,
     S: Source,
     I: BufRead + Drop,
     O: Write,
@@ -166,7 +173,7 @@ fn carry_out<
 {
     let ReadItem { line, item } = read;
     match take_put(plan.alloc, service, line, item) {
-        Ok(entry) => written.show(plan.alloc, plan.options.stats, &entry, out),
+        Ok(entry) => written.show(plan, &entry, out),
         Err(other) => take(plan, service, crew, written, source, out, line, &other),
     }
 }
@@ -193,7 +200,7 @@ fn take_put<J: service::Naming>(
 fn take<
     J: service::Naming,
     K: reads::Naming,
-    R: Wait + Clock,
+    R: Threads + Wait + Clock + Sync,
     S: Source,
     I: BufRead + Drop,
     O: Write,
@@ -224,15 +231,21 @@ fn take<
         unreachable!()
     };
     match service.take(plan.rt, plan.alloc, source, Numbered { line, item }) {
-        Taken::Entry(entry) => written.show(plan.alloc, plan.options.stats, &entry, out),
+        Taken::Entry(entry) => written.show(plan, &entry, out),
         Taken::Search(task) => hand_out(plan, service, crew, written, out, task),
-        Taken::Cancelled(entry) => written.show(plan.alloc, plan.options.stats, &entry, out),
+        Taken::Cancelled(entry) => written.show(plan, &entry, out),
         Taken::Nothing => Ok(()),
     }
 }
 
 /// Hands a search to the readers. If they cannot have it, it is answered here, and its entry is written.
-fn hand_out<J: service::Naming, K: reads::Naming, R: Wait + Clock, I: BufRead + Drop, O: Write>(
+fn hand_out<
+    J: service::Naming,
+    K: reads::Naming,
+    R: Threads + Wait + Clock + Sync,
+    I: BufRead + Drop,
+    O: Write,
+>(
     plan: &Plan<'_, R>,
     service: &mut Service<J>,
     crew: &Crew<J, K, I>,
@@ -248,7 +261,7 @@ fn hand_out<J: service::Naming, K: reads::Naming, R: Wait + Clock, I: BufRead + 
         return Ok(());
     };
     match service.answer_here(plan.rt, plan.alloc, &task) {
-        Some(entry) => written.show(plan.alloc, plan.options.stats, &entry, out),
+        Some(entry) => written.show(plan, &entry, out),
         None => Ok(()),
     }
 }

@@ -152,7 +152,7 @@ fn serve_as<
 fn serve_all<
     J: service::Naming,
     K: reads::Naming,
-    R: Wait + Clock,
+    R: Threads + Wait + Clock + Sync,
     S: Source,
     I: BufRead + Drop,
     O: Write,

@@ -9,9 +9,10 @@ ghost use Rattle.live.specs.Private.Serving.{marks_of, marks_with};
 use crate::error::LiveError;
 use crate::marks::Marks;
 use crate::serving::LiveOptions;
-use crate::write::write_entry;
+use crate::write::write_now;
 use std::alloc::Global;
 use std::io::Write;
+use std::thread::Threads;
 use transcript::Entry;
 
 /// What a session needs throughout.
@@ -44,18 +45,18 @@ impl Written {
     }
 
     /// Notes an entry and writes its text.
-    pub(crate) fn show<O: Write>(
+    pub(crate) fn show<R: Threads + Sync, O: Write>(
         &mut self,
-        alloc: Global,
-        stats: bool,
+        plan: &Plan<'_, R>,
         entry: &Entry,
         out: &mut O,
     ) -> Result<(), LiveError>
         ensures marks { self.new.marks ≡ marks_with self.old.marks entry.now }
-        ensures ok { OnOk result (Appends (O.contents out.old) (O.contents out.new) (text_of_entry stats entry.now)) }
-        ensures err { OnErr result (AppendsFront (O.contents out.old) (O.contents out.new) (text_of_entry stats entry.now)) }
+        ensures ok { OnOk result (Appends (O.contents out.old) (O.contents out.new) (text_of_entry plan.now.options.stats entry.now)) }
+        ensures err { OnErr result (AppendsFront (O.contents out.old) (O.contents out.new) (text_of_entry plan.now.options.stats entry.now)) }
     {
         self.marks = self.marks.with(entry);
-        write_entry(alloc, entry, stats, &mut self.text, out)
+        let stats = plan.options.stats;
+        write_now(plan.rt, plan.alloc, entry, stats, &mut self.text, out)
     }
 }

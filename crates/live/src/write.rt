@@ -1,22 +1,23 @@
 //! The text of an entry, written at once.
 
-ghost use Rattle.std.specs.Prelude.{◌≡◌, OnOk, OnErr};
+ghost use Rattle.std.specs.Prelude.{◌≡◌, [], Bool, MatchBool, OnOk, OnErr};
 ghost use Rattle.std.specs.Io.KnownBytes.{Appends};
 ghost use Rattle.transcript.specs.Transcript.{text_of_entry};
 ghost use Rattle.transcript.specs.Written.{AppendsFront};
 
 use crate::error::{LiveError, of_writing};
-use index::MAX_BODY;
 use std::alloc::Global;
 use std::io::Write;
-use transcript::{Entry, append_entry, flush_whole, write_whole};
+use std::thread::Threads;
+use transcript::{Entry, flush_whole, write_entry, write_whole};
 
-/// A buffer of more bytes than this is freed once its text is written.
-const LARGE: usize = MAX_BODY;
+/// The session itself forms the text that is not formed with an answer.
+const THREADS: usize = 1;
 
 /// Writes the text of an entry and flushes it. For an entry without text, nothing is written or flushed. `text` is a
 /// buffer; its old bytes do not matter.
-pub(crate) fn write_entry<O: Write>(
+pub(crate) fn write_now<R: Threads + Sync, O: Write>(
+    rt: &R,
     alloc: Global,
     entry: &Entry,
     stats: bool,
@@ -26,22 +27,29 @@ pub(crate) fn write_entry<O: Write>(
     ensures ok { OnOk result (Appends (O.contents out.old) (O.contents out.new) (text_of_entry stats entry.now)) }
     ensures err { OnErr result (AppendsFront (O.contents out.old) (O.contents out.new) (text_of_entry stats entry.now)) }
 {
-    text.clear();
-    if append_entry(entry, stats, text).is_err() {
-        return Err(LiveError::OutOfMemory);
-    }
-    if text.is_empty() {
+    if has_no_text(entry) {
         return Ok(());
     }
-    let written = write_now(text, out);
-    if text.capacity() > LARGE {
-        *text = Vec::new(alloc);
+    text.clear();
+    if let Err(error) = write_entry(rt, alloc, THREADS, entry, stats, text, out) {
+        return Err(of_writing(error));
     }
-    written
+    write_last(text, out)
+}
+
+/// Whether the entry has no text.
+fn has_no_text(entry: &Entry) -> bool
+    ensures { MatchBool result ((stats : Bool) → text_of_entry stats entry.now ≡ []) Unit }
+{
+    match entry {
+        Entry::Accepted { .. } => true,
+        Entry::Published { .. } => true,
+        _ => false,
+    }
 }
 
 /// Writes all bytes and flushes them.
-fn write_now<O: Write>(bytes: &[u8], out: &mut O) -> Result<(), LiveError>
+fn write_last<O: Write>(bytes: &[u8], out: &mut O) -> Result<(), LiveError>
     ensures ok { OnOk result (Appends (O.contents out.old) (O.contents out.new) bytes.now) }
     ensures err { OnErr result (AppendsFront (O.contents out.old) (O.contents out.new) bytes.now) }
 {

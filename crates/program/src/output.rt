@@ -9,24 +9,28 @@ ghost use Rattle.program.specs.Response.{IsFaultOfOutput, IsFaultOfText};
 use crate::error::ProgramError;
 use std::alloc::Global;
 use std::io::Write;
+use std::thread::Threads;
 use transcript::{Transcript, WriteError, flush_whole, write_transcript, write_whole};
 
-/// Writes the text of a transcript, and flushes it.
+/// Writes the text of a transcript, and flushes it. The text of a large answer is formed in up to `threads` threads, if these
+/// are two or more.
 ///
-/// `OutOfMemory` means that memory ran out for an entry's text, `CannotWrite` that the output failed, and `OutputClosed`
+/// `OutOfMemory` means that memory ran out for text, `CannotWrite` that the output failed, and `OutputClosed`
 /// that nobody reads it any more. A beginning of the text is then written.
 #[tactic(auto, using(crate::proofs::OutputLemmas::written_and_kept, crate::proofs::OutputLemmas::whole_and_kept))]
-pub fn write_text<W: Write>(
+pub fn write_text<R: Threads + Sync, W: Write>(
+    rt: &R,
     alloc: Global,
-    transcript: &Transcript,
+    threads: usize,
+    transcript: Transcript,
     stats: bool,
     out: &mut W,
 ) -> Result<(), ProgramError>
-    ensures ok { OnOk result (Appends (W.contents out.old) (W.contents out.new) (text_of_transcript stats transcript.now.entries.items)) }
-    ensures err { OnErr result (AppendsFront (W.contents out.old) (W.contents out.new) (text_of_transcript stats transcript.now.entries.items)) }
+    ensures ok { OnOk result (Appends (W.contents out.old) (W.contents out.new) (text_of_transcript stats transcript.entries.items)) }
+    ensures err { OnErr result (AppendsFront (W.contents out.old) (W.contents out.new) (text_of_transcript stats transcript.entries.items)) }
     ensures fault { IfErr result IsFaultOfText }
 {
-    if let Err(error) = write_transcript(alloc, transcript, stats, out) {
+    if let Err(error) = write_transcript(rt, alloc, threads, transcript, stats, out) {
         return Err(fault_of_writing(error));
     }
     match flush_whole(out) {

@@ -13,7 +13,6 @@ use crate::session::serve_session;
 use cli::{HELP, Request, Settings, VERSION, read_arguments};
 use std::alloc::Global;
 use std::io::{Read, Write};
-use std::mem::forget;
 use std::sync::Wait;
 use std::thread::Threads;
 use std::time::Clock;
@@ -149,12 +148,10 @@ fn run_script<R: Threads + Wait + Clock + Sync, D: Disk, I: Read + Drop, O: Writ
         Ok(transcript) => transcript,
         Err(error) => return Err(ProgramError::Run(error)),
     };
-    let written = write_text(alloc, &transcript, settings.stats, out);
     let status = status(&transcript);
-    // The process ends next, which frees its memory at once: freeing each hit of the answers would take about as long
-    // as writing it.
-    forget(transcript);
-    match written {
+    // Without readers, no thread is started.
+    let threads = settings.readers as usize + 1;
+    match write_text(rt, alloc, threads, transcript, settings.stats, out) {
         Ok(()) => Ok(status),
         Err(error) => Err(error),
     }

@@ -52,11 +52,18 @@ pub(crate) fn expect<R: Threads + Wait + Clock + Abort + Sync, G: Gate>(
     gate: &G,
 ) -> Result<(), Fail> {
     let transcript = transcript_of(rt, alloc, case, readers, source, gate)?;
-    let mut text = Vec::new(alloc);
-    write_transcript(alloc, &transcript, case.stats, &mut text)?;
-    assert_eq!(rt; text.as_slice(), case.text, "{readers} readers");
     assert!(rt; status(&transcript) == case.status, "{readers} readers");
     assert!(rt; has_turns(&transcript, readers), "{readers} readers");
+    let mut text = Vec::new(alloc);
+    write_transcript(
+        rt,
+        alloc,
+        readers as usize,
+        transcript,
+        case.stats,
+        &mut text,
+    )?;
+    assert_eq!(rt; text.as_slice(), case.text, "{readers} readers");
     Ok(())
 }
 

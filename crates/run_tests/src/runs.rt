@@ -7,7 +7,10 @@ use crate::streams::{Output, Stops};
 use std::alloc::Global;
 use std::io::ErrorKind;
 use std::process::Abort;
+use std::sync::Wait;
 use std::test::Fail;
+use std::thread::Threads;
+use std::time::Clock;
 use transcript::{Transcript, WriteError, write_transcript};
 use tsearch::Source;
 
@@ -60,16 +63,16 @@ fn faults_of_loads(rt: HostRuntime) -> Result<(), Fail> {
 }
 
 /// Writes the transcript to a narrow writer. The writer takes these bytes, and the writing ends like this.
-fn expect_written(
-    rt: &impl Abort,
+fn expect_written<R: Threads + Abort + Sync>(
+    rt: &R,
     alloc: Global,
-    transcript: &Transcript,
+    transcript: Transcript,
     stops: Stops,
     taken: &[u8],
     end: End,
 ) {
     let mut out = Output::narrow(alloc, stops);
-    let ended = end_of(write_transcript(alloc, transcript, false, &mut out));
+    let ended = end_of(write_transcript(rt, alloc, 1, transcript, false, &mut out));
     assert_eq!(rt; out.bytes.as_slice(), taken);
     assert!(rt; ended == end);
 }
@@ -108,14 +111,14 @@ const WRITERS: &[(ErrorKind, End)] = &[
 
 const TEXT: &[u8] = b"search 1 version 1 lines 1\na.txt:1:hello world\n";
 
-/// The writer stops at no call, or at any one of the 16 calls in which it takes the 47 bytes.
-fn expect_stops(
-    rt: &impl Abort,
+/// The writer of a run's text stops at no call, or at any one of the 16 calls in which it takes the 47 bytes.
+fn expect_stops<R: Threads + Wait + Clock + Abort + Sync>(
+    rt: &R,
     alloc: Global,
-    transcript: &Transcript,
+    case: &Case<'_>,
     kind: ErrorKind,
     end: End,
-) {
+) -> Result<(), Fail> {
     for call in 0..18u32 {
         let (failing, taking_nothing) = if end == End::Stopped {
             (0, call)
@@ -133,8 +136,12 @@ fn expect_stops(
         } else {
             (&TEXT[..3 * call as usize - 3], end)
         };
+        let mut source = Table::new(&[], b"", 0);
+        let gate = Turns::new(Rule::Open);
+        let transcript = transcript_of(rt, alloc, case, 2, &mut source, &gate)?;
         expect_written(rt, alloc, transcript, stops, taken, end);
     }
+    Ok(())
 }
 
 #[test]
@@ -148,11 +155,8 @@ fn writers(rt: HostRuntime) -> Result<(), Fail> {
         text: TEXT,
         status: 0,
     };
-    let mut source = Table::new(&[], b"", 0);
-    let gate = Turns::new(Rule::Open);
-    let transcript = transcript_of(&rt, alloc, &case, 2, &mut source, &gate)?;
     for (kind, end) in WRITERS {
-        expect_stops(&rt, alloc, &transcript, *kind, *end);
+        expect_stops(&rt, alloc, &case, *kind, *end)?;
     }
     Ok(())
 }

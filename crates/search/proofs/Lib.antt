@@ -12,4 +12,4 @@ mod WayLemmas
 mod FewLemmas
 mod PieceLemmas
 mod PlaceLemmas
-mod AppendLemmas
+pub mod PartLemmas

@@ -5,6 +5,7 @@ pub mod Scan
 pub mod Commands
 pub mod Hits
 pub mod Places
+pub mod Parts
 pub mod Text
 pub mod Queries
 pub mod Taken

@@ -4,4 +4,3 @@ pub mod Ways
 pub mod Documents
 pub mod Added
 pub mod Pieces
-pub mod Moved

@@ -9,6 +9,10 @@ line_end = 10 ∷ []
 unfoldable pub text_of_hit : Hit → List ℕ
 text_of_hit found = found.name ++ codes ":" ++ decimal found.line ++ codes ":" ++ found.text ++ line_end
 
+-- a line for each hit
+abbrev pub text_of_hits : List Hit → List ℕ
+text_of_hits hits = flat_map text_of_hit hits
+
 unfoldable pub text_of_stats : Answer → List ℕ
 text_of_stats answer = codes " candidates " ++ decimal answer.candidates ++ codes " of " ++ decimal answer.documents
 
@@ -19,7 +23,7 @@ text_of_head search stats answer =
 
 -- a line for the search, then a line for each hit
 unfoldable pub text_of_answer : ℕ → Bool → Answer → List ℕ
-text_of_answer search stats answer = text_of_head search stats answer ++ flat_map text_of_hit answer.hits
+text_of_answer search stats answer = text_of_head search stats answer ++ text_of_hits answer.hits
 
 -- the new text begins with the old
 abbrev pub Begins : List ℕ → List ℕ → Type 0

@@ -1,10 +1,8 @@
-//! Answers of searches, and their text.
+//! Answers of searches.
 
-ghost use Rattle.std.specs.Prelude.{◌≡◌, ◌++◌, flat_map, OnOk, OnErr};
-ghost use Rattle.search.specs.Hits.{hit_of};
-ghost use Rattle.search.specs.Text.{text_of_hit, Begins};
-
-use crate::places::{Hit, Hits, Places};
+use crate::parts::{Found, Hits, Part};
+use crate::places::Hit;
+use crate::text::append_all;
 use itoa::Buffer;
 use std::alloc::AllocError;
 use std::marker::Model;
@@ -25,7 +23,7 @@ pub(crate) struct Contents {
     /// The version that was searched.
     pub(crate) version: u32,
     /// The lines that contain a match, in order.
-    pub(crate) hits: Places,
+    pub(crate) hits: Found,
     /// The number of documents that the index had.
     pub(crate) documents: u32,
     /// The number of candidates among them.
@@ -45,7 +43,8 @@ impl Model for Answer {
 impl Answer {
     ghost use Rattle.std.specs.Prelude.{◌≡◌, ◌++◌, length, option_map, slice_get, OnOk, OnErr};
     ghost use Rattle.search.specs.Hits.{hit_of};
-    ghost use Rattle.search.specs.Text.{text_of_answer, text_of_head, text_of_stats, Begins};
+    ghost use Rattle.search.specs.Parts.{all_hits};
+    ghost use Rattle.search.specs.Text.{text_of_head, text_of_stats, Begins};
 
     /// The version that was searched: the number of commands that were applied to the index.
     pub fn version(&self) -> u32
@@ -90,35 +89,17 @@ impl Answer {
         self.contents.candidates
     }
 
-    /// Appends the text of this answer to `out`. It is a line `search K version V lines L`, where K is `search`, with
-    /// ` candidates C of D` at its end if `stats`, and then a line `NAME:LINE:TEXT` for each hit. An `Err` means that
-    /// memory ran out; `out` is then as it was.
-    pub fn write_to(&self, search: u32, stats: bool, out: &mut Vec<u8>) -> Result<(), AllocError>
-        ensures ok { OnOk result (out.new.items ≡ out.old.items ++ text_of_answer search stats self.now) }
-        ensures err { OnErr result (out.new.items ≡ out.old.items) }
+    /// The hits, part after part, each with the text of its first lines where that is formed already.
+    pub fn parts(&self) -> &[Part]
+        ensures { all_hits result.now ≡ self.now.hits }
     {
-        let before = out.len();
-        match self.append_to(search, stats, out) {
-            Ok(()) => Ok(()),
-            Err(error) => {
-                out.truncate(before);
-                Err(error)
-            }
-        }
+        self.contents.hits.parts()
     }
 
-    /// Appends the text of the answer. An `Err` can leave a beginning of it in `out`.
-    fn append_to(&self, search: u32, stats: bool, out: &mut Vec<u8>) -> Result<(), AllocError>
-        ensures ok { OnOk result (out.new.items ≡ out.old.items ++ text_of_answer search stats self.now) }
-        ensures err { OnErr result (Begins out.old.items out.new.items) }
-    {
-        self.append_head(search, stats, out)?;
-        out.reserve(text_bound(self.hits()))?;
-        append_hits(out, self.hits())
-    }
-
-    /// Appends the line of the search. An `Err` can leave a beginning of it in `out`.
-    fn append_head(&self, search: u32, stats: bool, out: &mut Vec<u8>) -> Result<(), AllocError>
+    /// Appends the line of the search, `search K version V lines L`, where K is `search`, with ` candidates C of D` at its end if
+    /// `stats`. What follows it in the text of the answer is a line `NAME:LINE:TEXT` for each hit. An `Err` means that memory ran
+    /// out; it can leave a beginning of the line in `out`.
+    pub fn append_head(&self, search: u32, stats: bool, out: &mut Vec<u8>) -> Result<(), AllocError>
         ensures ok { OnOk result (out.new.items ≡ out.old.items ++ text_of_head search stats self.now) }
         ensures err { OnErr result (Begins out.old.items out.new.items) }
     {
@@ -159,59 +140,4 @@ impl Answer {
             ],
         )
     }
-}
-
-/// A number of bytes that is enough for the lines of these hits. With room for all of them, none is copied again.
-fn text_bound(hits: Hits<'_>) -> usize {
-    let mut bytes = 0usize;
-    for hit in hits {
-        // Two colons, a line feed, and a number of at most ten digits.
-        bytes = bytes.saturating_add(hit.name.as_bytes().len() + hit.text.len() + 13);
-    }
-    bytes
-}
-
-/// Appends a line for each hit. An `Err` can leave some of them in `out`.
-fn append_hits(out: &mut Vec<u8>, hits: Hits<'_>) -> Result<(), AllocError>
-    ensures ok { OnOk result (out.new.items ≡ out.old.items ++ flat_map text_of_hit hits.entry) }
-    ensures err { OnErr result (Begins out.old.items out.new.items) }
-{
-    for hit in hits {
-        append_hit(out, &hit)?;
-    }
-    Ok(())
-}
-
-/// Appends the line of a hit.
-fn append_hit(out: &mut Vec<u8>, hit: &Hit<'_>) -> Result<(), AllocError>
-    ensures ok { OnOk result (out.new.items ≡ out.old.items ++ text_of_hit (hit_of hit.now)) }
-    ensures err { OnErr result (out.new.items ≡ out.old.items) }
-{
-    let mut line = Buffer::new();
-    append_all(
-        out,
-        &[
-            hit.name.as_bytes(),
-            b":".as_slice(),
-            line.format(hit.line).as_bytes(),
-            b":".as_slice(),
-            hit.text,
-            b"\n".as_slice(),
-        ],
-    )
-}
-
-/// Appends the parts, one after another. An `Err` means that memory ran out; `out` is then as it was.
-pub fn append_all(out: &mut Vec<u8>, parts: &[&[u8]]) -> Result<(), AllocError>
-    ensures ok { OnOk result (out.new.items ≡ out.old.items ++ flat_map (λ part. part.now) parts.now) }
-    ensures err { OnErr result (out.new.items ≡ out.old.items) }
-{
-    let before = out.len();
-    for part in parts {
-        if let Err(error) = out.extend_from_slice(part) {
-            out.truncate(before);
-            return Err(error);
-        }
-    }
-    Ok(())
 }

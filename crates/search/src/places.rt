@@ -1,11 +1,9 @@
-//! The hits of answers, as places in the bodies of their documents.
+//! The hits of documents that were searched together, as places in the documents' bodies.
 
-ghost use Rattle.std.specs.Prelude.{◌≡◌, ◌+◌, ◌^◌, ◌<◌, ◌≤◌, ◌++◌, [], length, map, option_map, slice_get, IfOk, OnOk, All};
-ghost use Rattle.std.specs.Vec.{vec_len, vec_capacity};
+ghost use Rattle.std.specs.Prelude.{◌≡◌, ◌<◌, ◌≤◌, [], length, take, drop, option_map, slice_get, IfOk, MatchBool};
 ghost use Rattle.std.specs.Iterator.{YieldsFirstBy, item_count};
 ghost use Rattle.search.specs.Hits.{hit_of};
 ghost use Rattle.search.specs.Places.{hit_at, IsPlaced};
-ghost use Rattle.search.specs.Private.Moved.{moved};
 
 use index::{Name, SharedDocument};
 use std::alloc::{AllocError, Global};
@@ -37,7 +35,7 @@ pub(crate) struct Place {
     pub(crate) end: u32,
 }
 
-/// The hits of an answer: the documents that have any, and the places of the lines in them.
+/// The hits of documents that were searched together: the documents that have any, and the places of the lines in them.
 ///
 /// Contracts see it as the hits.
 #[derive(Drop)]
@@ -72,46 +70,11 @@ impl Places {
         }
     }
 
-    /// How many hits there are.
-    pub(crate) fn len(&self) -> usize
-        ensures { result ≡ length self.now }
-    {
-        self.places.len()
-    }
-
-    /// The hit at this index, if there is one.
-    pub(crate) fn get(&self, at: usize) -> Option<Hit<'_>>
-        ensures { option_map hit_of result ≡ slice_get self.now at }
-    {
-        match self.places.get(at) {
-            Some(place) => Some(hit_at(self.documents.as_slice(), place)),
-            None => None,
-        }
-    }
-
-    /// Adds other hits behind these. An `Err` means that memory ran out, or that there are too many documents.
-    pub(crate) fn append(&mut self, other: Places) -> Result<(), AllocError>
-        ensures { OnOk result (self.new ≡ self.old ++ other) }
-    {
-        let Places {
-            mut documents,
-            places,
-        } = other;
-        let before = self.documents.len();
-        if before.saturating_add(documents.len()) > u32::MAX as usize {
-            return Err(AllocError);
-        }
-        self.places.reserve(places.len())?;
-        self.documents.append(&mut documents)?;
-        move_in(&mut self.places, places.as_slice(), before as u32);
-        Ok(())
-    }
-
     /// The hits, one after another.
-    pub(crate) fn iter(&self) -> Hits<'_>
+    pub(crate) fn lines(&self) -> Lines<'_>
         ensures { result ≡ self.now }
     {
-        Hits {
+        Lines {
             documents: self.documents.as_slice(),
             places: self.places.as_slice(),
         }
@@ -120,21 +83,21 @@ impl Places {
 
 impl Debug for Places {
     fn fmt<W: fmt::Write>(&self, f: &mut Formatter<W>) -> fmt::Result {
-        f.debug_list().entries(self.iter()).finish()
+        f.debug_list().entries(self.lines()).finish()
     }
 }
 
-/// The hits of an answer, one after another.
+/// Hits of documents that were searched together, one after another.
 ///
 /// Contracts see it as those that are left.
 #[derive(Drop)]
-pub struct Hits<'a> {
+pub struct Lines<'a> {
     documents: &'a [SharedDocument],
     /// The places of the hits that are left.
     places: &'a [Place],
 }
 
-impl<'a> Model for Hits<'a> {
+impl<'a> Model for Lines<'a> {
     ghost use Rattle.std.specs.Prelude.{List, All};
     ghost use Rattle.search.specs.Scan.{Hit as HitValue};
 
@@ -147,7 +110,107 @@ impl<'a> Model for Hits<'a> {
     ghost invariant = { λ h. All (IsPlaced h.documents.now) h.places.now };
 }
 
-impl<'a> Iterator for Hits<'a> {
+impl<'a> Lines<'a> {
+    /// No hits.
+    pub(crate) fn none() -> Lines<'a>
+        ensures { result ≡ [] }
+    {
+        Lines {
+            documents: &[],
+            places: &[],
+        }
+    }
+
+    /// The same hits once more.
+    pub(crate) fn again(&self) -> Lines<'a>
+        ensures { result ≡ self.now }
+    {
+        Lines {
+            documents: self.documents,
+            places: self.places,
+        }
+    }
+
+    /// How many hits are left.
+    pub fn len(&self) -> usize
+        ensures { result ≡ length self.now }
+    {
+        self.places.len()
+    }
+
+    /// Whether no hit is left.
+    pub fn is_empty(&self) -> bool
+        ensures { MatchBool result (self.now ≡ []) (0 < length self.now) }
+    {
+        self.places.is_empty()
+    }
+
+    /// The hit at this index, if there is one.
+    pub fn get(&self, at: usize) -> Option<Hit<'a>>
+        ensures { option_map hit_of result ≡ slice_get self.now at }
+    {
+        match self.places.get(at) {
+            Some(place) => Some(hit_at(self.documents, place)),
+            None => None,
+        }
+    }
+
+    /// The first `at` of these hits, and the others.
+    pub fn split_at(&self, at: usize) -> (Lines<'a>, Lines<'a>)
+        requires { at ≤ length self.now }
+        ensures front { result.0 ≡ take at self.now }
+        ensures back { result.1 ≡ drop at self.now }
+    {
+        let (front, back) = self.places.split_at(at);
+        (
+            Lines {
+                documents: self.documents,
+                places: front,
+            },
+            Lines {
+                documents: self.documents,
+                places: back,
+            },
+        )
+    }
+
+    /// How many of these hits, from the first on, have lines of at most `bytes` bytes together. It is at least one, if a hit
+    /// is left.
+    pub fn count_within(&self, bytes: usize) -> usize
+        ensures within { result ≤ length self.now }
+        ensures some { 0 < length self.now → 0 < result }
+    {
+        let mut left = bytes;
+        for at in 0..self.len() {
+            let size = self.size_at(at);
+            if size > left {
+                return at.max(1);
+            }
+            left -= size;
+        }
+        self.len()
+    }
+
+    /// A number of bytes that is enough for the lines of all these hits.
+    pub(crate) fn bytes(&self) -> usize {
+        let mut bytes = 0usize;
+        for at in 0..self.len() {
+            bytes = bytes.saturating_add(self.size_at(at));
+        }
+        bytes
+    }
+
+    /// A number of bytes that is enough for the line of the hit at this index.
+    fn size_at(&self, at: usize) -> usize {
+        match self.get(at) {
+            // Two colons, a line feed, and a number of at most ten digits.
+            Some(hit) => hit.name.as_bytes().len() + hit.text.len() + 13,
+            None => 0,
+        }
+    }
+}
+
+impl<'a> Iterator for Lines<'a> {
     type Item = Hit<'a>;
 
     ghost next_gives = { YieldsFirstBy hit_of (λ hits. hits) };
@@ -158,22 +221,6 @@ impl<'a> Iterator for Hits<'a> {
         let (place, others) = self.places.split_first()?;
         self.places = others;
         Some(hit_at(self.documents, place))
-    }
-}
-
-/// Adds other places, for which there is room, behind so many further documents.
-fn move_in(places: &mut Vec<Place>, others: &[Place], before: u32)
-    requires room { vec_len places.old + length others.now ≤ vec_capacity places.old }
-    requires few { All (λ p. p.document + before < 2 ^ 32) others.now }
-    ensures { places.new.items ≡ places.old.items ++ map (moved before) others.now }
-{
-    for place in others {
-        places.push_reserved(Place {
-            document: place.document + before,
-            line: place.line,
-            start: place.start,
-            end: place.end,
-        });
     }
 }
 

@@ -6,9 +6,9 @@ ghost use Rattle.search.specs.Private.Selects.{Selects, IsAsked};
 ghost use Rattle.search.specs.Tests.{test_of};
 ghost use Rattle.search.specs.Private.Documents.{lines_of_taken};
 
-use crate::matching::{body_size, scan_documents};
 use crate::asked::Test;
-use crate::places::Places;
+use crate::matching::{body_size, scan_documents};
+use crate::parts::Found;
 use crate::unanswered::Unanswered;
 use crate::watch::Watch;
 use index::SharedDocument;
@@ -20,19 +20,21 @@ use std::thread::{Threads, join};
 const PART: usize = 524_288;
 
 /// The lines of these documents that pass the test, document after document, found in up to `most` parts of about equal bytes, each
-/// in a thread of its own where one can be started. `watch` is copied for each part.
+/// in a thread of its own where one can be started. Each forms the text of its first lines, of about `ahead` bytes in all.
+/// `watch` is copied for each part.
 pub(crate) fn scan_side_by_side<R: Threads + Sync, W: Watch + Copy + Send>(
     rt: &R,
     alloc: Global,
     test: &Test,
     documents: &[SharedDocument],
     most: usize,
+    ahead: usize,
     watch: W,
-) -> Result<Places, Unanswered>
+) -> Result<Found, Unanswered>
     ensures { IfOk result (λ hits. Selects (IsAsked (test_of test.now)) (flat_map lines_of_taken documents.now) hits) }
 {
-    let parts = (bytes_of(documents) / PART).min(most);
-    scan_parts(rt, alloc, test, documents, parts, watch)
+    let parts = (bytes_of(documents) / PART).min(most).max(1);
+    scan_parts(rt, alloc, test, documents, parts, ahead / parts, watch)
 }
 
 /// The bytes of the documents' bodies together.
@@ -59,8 +61,8 @@ fn documents_with(documents: &[SharedDocument], bytes: usize) -> usize
     documents.len()
 }
 
-/// The lines of these documents that pass the test, found in so many parts. The documents are halved by their bytes at each step, and
-/// the front half goes to a new thread.
+/// The lines of these documents that pass the test, found in so many parts, each with `ahead` bytes of text. The documents are halved
+/// by their bytes at each step, and the front half goes to a new thread.
 #[cycle(scan_parts)]
 fn scan_parts<R: Threads + Sync, W: Watch + Copy + Send>(
     rt: &R,
@@ -68,13 +70,15 @@ fn scan_parts<R: Threads + Sync, W: Watch + Copy + Send>(
     test: &Test,
     documents: &[SharedDocument],
     parts: usize,
+    ahead: usize,
     watch: W,
-) -> Result<Places, Unanswered>
+) -> Result<Found, Unanswered>
     ensures { IfOk result (λ hits. Selects (IsAsked (test_of test.now)) (flat_map lines_of_taken documents.now) hits) }
 {
     if parts < 2 {
         let mut watch = watch;
-        return scan_documents(alloc, test, documents, &mut watch);
+        let places = scan_documents(alloc, test, documents, &mut watch)?;
+        return Found::new(alloc, places, ahead, &mut watch);
     }
     let low = parts / 2;
     let high = parts - low;
@@ -82,14 +86,14 @@ fn scan_parts<R: Threads + Sync, W: Watch + Copy + Send>(
         documents,
         bytes_of(documents) / parts * low,
     ));
-    let front = move || -> Result<Places, Unanswered>
+    let front = move || -> Result<Found, Unanswered>
         requires { IsSync R.row × IsSend W.row }
         ensures { IfOk result (λ hits. Selects (IsAsked (test_of test.entry.now)) (flat_map lines_of_taken first.entry.now) hits) }
-    { scan_parts(rt, alloc, test, first, low, watch) };
-    let back = move || -> Result<Places, Unanswered>
+    { scan_parts(rt, alloc, test, first, low, ahead, watch) };
+    let back = move || -> Result<Found, Unanswered>
         requires { IsSync R.row × IsSend W.row }
         ensures { IfOk result (λ hits. Selects (IsAsked (test_of test.entry.now)) (flat_map lines_of_taken others.entry.now) hits) }
-    { scan_parts(rt, alloc, test, others, high, watch) };
+    { scan_parts(rt, alloc, test, others, high, ahead, watch) };
     let (found, rest) = join(rt, front, back);
     let mut hits = found?;
     hits.append(rest?)?;

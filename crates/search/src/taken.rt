@@ -7,6 +7,7 @@ ghost use Rattle.search.specs.Taken.{IsTakenOf};
 use crate::answer::{Answer, Contents};
 use crate::matching::scan_documents;
 use crate::names::named;
+use crate::parts::Found;
 use crate::pattern::Prepared;
 use crate::side_by_side::scan_side_by_side;
 use crate::unanswered::Unanswered;
@@ -84,7 +85,8 @@ impl Taken<'_> {
         ensures { IfOk result (λ answer. (state : State) (pattern : Pattern) → IsTakenOf state pattern self.entry → IsAnswerOf state pattern answer) }
     {
         let kept = named(alloc, self.prepared, self.candidates, watch)?;
-        let hits = scan_documents(alloc, &self.prepared.line, kept.as_slice(), watch)?;
+        let places = scan_documents(alloc, &self.prepared.line, kept.as_slice(), watch)?;
+        let hits = Found::new(alloc, places, 0, watch)?;
         let contents = Contents {
             version: self.version,
             hits,
@@ -97,19 +99,21 @@ impl Taken<'_> {
 
     /// The same as `answer_watched`, but where the documents whose lines are matched have some MiB together, they are cut
     /// into up to `most` parts, which are matched side by side, each in a thread of its own where one can be started. Each
-    /// part has a copy of `watch`.
+    /// part has a copy of `watch`. The text of the first lines is formed too, of about `ahead` bytes in all.
     pub fn answer_by<R: Threads + Sync, W: Watch + Copy + Send>(
         self,
         rt: &R,
         alloc: Global,
         most: usize,
+        ahead: usize,
         watch: W,
     ) -> Result<Answer, Unanswered>
         ensures { IfOk result (λ answer. (state : State) (pattern : Pattern) → IsTakenOf state pattern self.entry → IsAnswerOf state pattern answer) }
     {
         let mut own = watch;
         let kept = named(alloc, self.prepared, self.candidates, &mut own)?;
-        let hits = scan_side_by_side(rt, alloc, &self.prepared.line, kept.as_slice(), most, watch)?;
+        let test = &self.prepared.line;
+        let hits = scan_side_by_side(rt, alloc, test, kept.as_slice(), most, ahead, watch)?;
         let contents = Contents {
             version: self.version,
             hits,

@@ -10,8 +10,8 @@ pub trait Watch {
     /// Called just before the lines of the document with this number are matched.
     fn reads(&mut self, number: u32);
 
-    /// Whether the answer is still wanted. It is asked before each name that is matched, before each document, and at
-    /// the next 64 KiB within one. After `false` the search is given up.
+    /// Whether the answer is still wanted. It is asked before each name that is matched, before each document, at the next
+    /// 64 KiB within one, and before each 64 KiB of text that is formed. After `false` the search is given up.
     fn wants(&mut self) -> bool;
 }
 

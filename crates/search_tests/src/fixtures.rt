@@ -2,7 +2,7 @@
 
 use index::{Body, Command, Index, Name};
 use posting::List;
-use search::Answer;
+use search::{Answer, append_lines};
 use std::alloc::{AllocError, Global};
 use std::process::Abort;
 use std::test::Fail;
@@ -78,7 +78,12 @@ pub(crate) fn lists(alloc: Global, set: &List, numbers: &[u32]) -> Result<bool, 
 /// The text of the answer to search 1, with its counts.
 pub(crate) fn text_of_answer(alloc: Global, answer: &Answer) -> Result<Vec<u8>, AllocError> {
     let mut text = Vec::new(alloc);
-    answer.write_to(1, true, &mut text)?;
+    answer.append_head(1, true, &mut text)?;
+    for part in answer.parts() {
+        let (formed, others) = part.text();
+        text.extend_from_slice(formed)?;
+        append_lines(&mut text, others)?;
+    }
     Ok(text)
 }
 

@@ -31,12 +31,14 @@ pub struct Reader<J: Naming> {
 impl<J: Naming> Reader<J> {
     /// Searches what is published, and calls the gate at each point of the search. It waits for nothing but the gate and the
     /// threads that it starts: a large search may go on in several (see `Task`). The search is given up once it was called
-    /// off, or its time is over: before the next name or document, or the next 64 KiB of one.
+    /// off, or its time is over: before the next name or document, or the next 64 KiB of one or of text. Of the answer's text,
+    /// about `ahead` bytes are formed here.
     pub fn answer<R: Clock + Threads + Sync, G: Gate>(
         &mut self,
         rt: &R,
         alloc: Global,
         task: Task,
+        ahead: usize,
         gate: &G,
     ) -> Done<J> {
         let Task {
@@ -54,6 +56,7 @@ impl<J: Naming> Reader<J> {
             gate,
             number,
             parts,
+            ahead,
             Look::at(rt, &wish),
         );
         gate.turn(number, Point::Done);
@@ -107,7 +110,7 @@ pub(crate) fn search<G: Gate, W: Watch>(
     taken.answer_watched(alloc, watch)
 }
 
-/// The same, but a large search may go on in so many threads.
+/// The same, but a large search may go on in so many threads, and some text of the answer is formed.
 fn search_by<R: Threads + Sync, G: Gate, W: Watch + Copy + Send>(
     rt: &R,
     alloc: Global,
@@ -116,6 +119,7 @@ fn search_by<R: Threads + Sync, G: Gate, W: Watch + Copy + Send>(
     gate: &G,
     number: u32,
     parts: usize,
+    ahead: usize,
     watch: W,
 ) -> Result<Answer, Unanswered>
     ensures opening { reading.new.opening ≡ reading.old.opening }
@@ -124,7 +128,7 @@ fn search_by<R: Threads + Sync, G: Gate, W: Watch + Copy + Send>(
 {
     let mut own = watch;
     let taken = take(alloc, reading, prepared, gate, number, &mut own)?;
-    taken.answer_by(rt, alloc, parts, watch)
+    taken.answer_by(rt, alloc, parts, ahead, watch)
 }
 
 /// Takes the candidates of a search that is still wanted, and calls the gate.

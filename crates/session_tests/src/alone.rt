@@ -10,10 +10,11 @@ use std::marker::Brand;
 use std::process::Abort;
 use std::sync::Wait;
 use std::test::Fail;
+use std::thread::Threads;
 use std::time::Clock;
 
 /// Carries out a script without readers, and appends the text of each entry.
-fn carry_out<J: Naming, R: Abort + Wait + Clock>(
+fn carry_out<J: Naming, R: Abort + Wait + Threads + Clock + Sync>(
     rt: &R,
     alloc: Global,
     service: &mut Service<J>,
@@ -31,14 +32,14 @@ fn carry_out<J: Naming, R: Abort + Wait + Clock>(
         let entry = take_alone(rt, alloc, service, &mut source, item);
         assert!(rt; service.open_searches() == 0);
         if let Some(entry) = entry {
-            assert!(rt; write(text, &entry));
+            assert!(rt; write(rt, alloc, text, &entry));
         }
     }
     service.catch_up(rt);
 }
 
 /// The text of a script's entries without readers.
-fn text_of<J: Naming, R: Abort + Wait + Clock>(
+fn text_of<J: Naming, R: Abort + Wait + Threads + Clock + Sync>(
     rt: &R,
     alloc: Global,
     opened: Opened,
@@ -55,7 +56,7 @@ fn text_of<J: Naming, R: Abort + Wait + Clock>(
 }
 
 /// A script without readers has this text.
-fn expect<R: Abort + Wait + Clock>(
+fn expect<R: Abort + Wait + Threads + Clock + Sync>(
     rt: &R,
     alloc: Global,
     script: &[u8],

@@ -36,9 +36,9 @@ impl<J: Naming> Played<J> {
         let item = items.next_item().expect(rt, "an item");
         assert!(rt; !service.is_full());
         match service.take(rt, alloc, &mut source, item) {
-            Taken::Entry(entry) => assert!(rt; write(&mut self.text, &entry)),
+            Taken::Entry(entry) => assert!(rt; write(rt, alloc, &mut self.text, &entry)),
             Taken::Search(task) => assert!(rt; self.tasks.push_back(task).is_ok()),
-            Taken::Cancelled(entry) => assert!(rt; write(&mut self.text, &entry)),
+            Taken::Cancelled(entry) => assert!(rt; write(rt, alloc, &mut self.text, &entry)),
             Taken::Nothing => {}
         }
     }
@@ -51,7 +51,7 @@ impl<J: Naming> Played<J> {
         reader: &mut Reader<J>,
     ) {
         let task = self.tasks.pop_front().expect(rt, "a task");
-        let done = reader.answer(rt, alloc, task, &Open);
+        let done = reader.answer(rt, alloc, task, 0, &Open);
         assert!(rt; self.answers.push_back(done).is_ok());
     }
 
@@ -64,7 +64,7 @@ impl<J: Naming> Played<J> {
     ) {
         let done = self.answers.pop_front().expect(rt, "an answer");
         let entry = service.answered(rt, alloc, done).expect(rt, "an entry");
-        assert!(rt; write(&mut self.text, &entry));
+        assert!(rt; write(rt, alloc, &mut self.text, &entry));
     }
 
     /// Hands in the answer that was made first, whose search is not open any more.
@@ -88,7 +88,7 @@ impl<J: Naming> Played<J> {
         let task = self.tasks.pop_front().expect(rt, "a task");
         let open = service.open_searches();
         let entry = service.answer_here(rt, alloc, &task).expect(rt, "an entry");
-        assert!(rt; write(&mut self.text, &entry));
+        assert!(rt; write(rt, alloc, &mut self.text, &entry));
         assert!(rt; open.checked_sub(1) == Some(service.open_searches()));
         assert!(rt; service.answer_here(rt, alloc, &task).is_none());
     }

@@ -6,8 +6,9 @@ use script::Numbered;
 use service::{Fault, Gate, Naming, Point, Service, Source, Taken};
 use std::alloc::Global;
 use std::sync::Wait;
+use std::thread::Threads;
 use std::time::Clock;
-use transcript::{Entry, append_entry};
+use transcript::{Entry, write_entry};
 
 /// A source with no files.
 #[derive(Drop)]
@@ -37,9 +38,15 @@ impl Gate for Open {
     fn turn(&self, _search: u32, _point: Point) {}
 }
 
-/// Appends the text of an entry, or a line for an entry that has none: `accepted N`, or `published`.
-pub(crate) fn write(text: &mut Vec<u8>, entry: &Entry) -> bool {
-    append_entry(entry, false, text).is_ok()
+/// Appends the text of an entry, which leaves the text shorter than what is written at a time.
+pub(crate) fn write<R: Threads + Sync>(
+    rt: &R,
+    alloc: Global,
+    text: &mut Vec<u8>,
+    entry: &Entry,
+) -> bool {
+    let mut out = Vec::new(alloc);
+    write_entry(rt, alloc, 1, entry, false, text, &mut out).is_ok() && out.is_empty()
 }
 
 /// Takes an item without readers: a search is answered at once.

@@ -100,7 +100,7 @@ fn answer_all<J: Naming, R: Abort + Wait + Threads + Clock + Sync>(
             break;
         };
         turn = turn.saturating_add(1);
-        let done = reader.answer(rt, alloc, task, &Open);
+        let done = reader.answer(rt, alloc, task, 0, &Open);
         let entry = service.answered(rt, alloc, done).expect(rt, "an entry");
         let Some((number, given)) = number_and_turn(&entry) else {
             return false;

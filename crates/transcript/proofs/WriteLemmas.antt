@@ -2,11 +2,13 @@
 use Rattle.std.proofs.Common.{◌≡◌, ℕ, List, [], ◌∷◌, ◌++◌, Option, Some, None, refl, sym, ap, ◌∙◌, length, take, drop, append_assoc, subst}
 use Rattle.std.proofs.Common.{◌-◌, arith, length-drop}
 use Rattle.std.proofs.lemmas.List.{append-nil, take-append-drop, take_all}
-use Rattle.std.proofs.Common.{suc, ◌+◌, ◌<◌, add-one, get_or}
-use Rattle.std.proofs.Math.Seq.{take-suc}
-use Rattle.std.proofs.lemmas.Grind.{flat_map-append}
-use Rattle.std.specs.Prelude.{flat_map, Result, Ok, Err, OnErr}
+use Rattle.std.specs.Prelude.{Bool, Result, Ok, Err, OnErr}
 use Rattle.std.specs.Io.KnownBytes.{Appends, Keeps}
+use Rattle.search.specs.Text.{text_of_answer}
+use Rattle.transcript.specs.declared.entry.Entry.{Entry}
+use Rattle.transcript.specs.declared.entry.Entry.TheVariants.{Accepted, Refused, Published, Found, SearchRefused, Status}
+use Rattle.transcript.specs.Heads.{head_of_entry, lines_of_entry}
+use Rattle.transcript.specs.Transcript.{line_refusal, search_refusal, status_line, text_of_entry}
 use Rattle.transcript.specs.Written.{AppendsAllBut, AppendsFront}
 
 pub appends_nothing : (known : Option (List ℕ)) → Appends known known []
@@ -95,31 +97,95 @@ held_in_part a b c all held so_far last = record {
 pub held_back : (a b : Option (List ℕ)) (all held : List ℕ) → AppendsAllBut a b all held → AppendsFront a b all
 held_back a b all held so_far = record { front = so_far.front; rest = held; whole = so_far.whole; appended = so_far.appended }
 
--- a beginning of the text of the first items is one of the text of all
-pub front_of_more : {X : Type 0} (piece : X → List ℕ) (items : List X) (i : ℕ) (a b : Option (List ℕ))
-    → AppendsFront a b (flat_map piece (take i items)) → AppendsFront a b (flat_map piece items)
-front_of_more piece items i a b some = record {
+-- nothing is written
+pub nothing_of : (known : Option (List ℕ)) (text : List ℕ) → AppendsFront known known text
+nothing_of known text = record { front = []; rest = text; whole = refl; appended = appends_nothing known }
+
+-- a beginning of a text is one of a longer text
+pub front_of_longer : (a b : Option (List ℕ)) (text more : List ℕ) → AppendsFront a b text → AppendsFront a b (text ++ more)
+front_of_longer a b text more some = record {
   front = some.front;
-  rest = some.rest ++ flat_map piece (drop i items);
-  whole =
-      ap (flat_map piece) (sym (take-append-drop i items)) ∙ flat_map-append piece (take i items) (drop i items)
-      ∙ ap (λ t. t ++ flat_map piece (drop i items)) some.whole ∙ append_assoc some.front some.rest (flat_map piece (drop i items));
+  rest = some.rest ++ more;
+  whole = ap (λ t. t ++ more) some.whole ∙ append_assoc some.front some.rest more;
   appended = some.appended;
 }
 
--- the text of the first items, and of one more
-text_of_one_more : {X : Type 0} (piece : X → List ℕ) (items : List X) (i : ℕ) (x : X) → i < length items → x ≡ get_or items i x
-    → flat_map piece (take (suc i) items) ≡ flat_map piece (take i items) ++ piece x
-text_of_one_more piece items i x inside is =
-    ap (flat_map piece) (take-suc items i x inside) ∙ flat_map-append piece (take i items) (get_or items i x ∷ [])
-    ∙ ap (λ t. flat_map piece (take i items) ++ t) (append-nil (piece (get_or items i x)) ∙ ap piece (sym is))
+-- one text is written after the other
+pub front_of_second : (a b c : Option (List ℕ)) (first second : List ℕ) → Appends a b first → AppendsFront b c second
+    → AppendsFront a c (first ++ second)
+front_of_second a b c first second all some = record {
+  front = first ++ some.front;
+  rest = some.rest;
+  whole = ap (λ t. first ++ t) some.whole ∙ sym (append_assoc first some.front some.rest);
+  appended = appends_both a b c first some.front all some.appended;
+}
 
--- the text of one more item is held back too
-pub held_with_next : {X : Type 0} (piece : X → List ℕ) (items : List X) (i : ℕ) (x : X) (a b : Option (List ℕ)) (held held' : List ℕ)
-    → i < length items → x ≡ get_or items i x → AppendsAllBut a b (flat_map piece (take i items)) held → held' ≡ held ++ piece x
-    → AppendsAllBut a b (flat_map piece (take (i + 1) items)) held'
-held_with_next piece items i x a b held held' inside is so_far grown =
-    rw (add-one, text_of_one_more piece items i x inside is, grown) (held_more a b (flat_map piece (take i items)) held (piece x) so_far)
+pub both_whole : (a b c : Option (List ℕ)) (first second rest : List ℕ) → rest ≡ [] → Appends a b first → Appends b c second
+    → AppendsAllBut a c (first ++ second) rest
+both_whole a b c first second rest none one two =
+    written_emptied a c (first ++ second) rest none (appends_both a b c first second one two)
+
+-- ---- a text that is written piece by piece
+
+-- What is done of the text is written, but for what is held back, and this is left of it.
+pub record IsDoneTo (a b : Option (List ℕ)) (all left held : List ℕ) : Type 0 where
+  pub done : List ℕ
+  pub written : AppendsAllBut a b done held
+  pub whole : all ≡ done ++ left
+
+-- before the first piece
+pub done_none : (known : Option (List ℕ)) (held left : List ℕ) → IsDoneTo known known (held ++ left) left held
+done_none known held left = record { done = held; written = written_none known held; whole = refl }
+
+module _ (a b c : Option (List ℕ)) (all piece left left' held : List ℕ) (so_far : IsDoneTo a b all left held) (next : left ≡ piece ++ left') where
+  split : all ≡ (so_far.done ++ piece) ++ left'
+  split = so_far.whole ∙ (ap (λ t. so_far.done ++ t) next ∙ sym (append_assoc so_far.done piece left'))
+
+  more_held : AppendsAllBut a b (so_far.done ++ piece) (held ++ piece)
+  more_held = held_more a b so_far.done held piece so_far.written
+
+  -- one more piece
+  pub done_more : (held' : List ℕ) → AppendsAllBut b c (held ++ piece) held' → IsDoneTo a c all left' held'
+  done_more held' wrote = record {
+    done = so_far.done ++ piece;
+    written = held_less a b c (so_far.done ++ piece) (held ++ piece) held' more_held wrote;
+    whole = split;
+  }
+
+  -- or a beginning of it
+  pub done_in_part : AppendsFront b c (held ++ piece) → AppendsFront a c all
+  done_in_part some =
+      subst (AppendsFront a c) (sym split)
+      (front_of_longer a c (so_far.done ++ piece) left' (held_in_part a b c (so_far.done ++ piece) (held ++ piece) more_held some))
+
+-- what is left begins with a text that is one text after another
+pub next_of_two : (left text first second left' : List ℕ) → left ≡ text ++ left' → first ++ second ≡ text → left ≡ first ++ (second ++ left')
+next_of_two left text first second left' next joined =
+    next ∙ (ap (λ t. t ++ left') (sym joined) ∙ append_assoc first second left')
+
+-- nothing is left
+pub done_all : (a b : Option (List ℕ)) (all left held : List ℕ) → left ≡ [] → IsDoneTo a b all left held → AppendsAllBut a b all held
+done_all a b all left held none so_far =
+    subst (λ t. AppendsAllBut a b t held) (sym (so_far.whole ∙ (ap (λ t. so_far.done ++ t) none ∙ append-nil so_far.done))) so_far.written
+
+-- ---- the texts of entries and of answers
+
+pub entry-parts : (stats : Bool) (entry : Entry) → text_of_entry stats entry ≡ head_of_entry stats entry ++ lines_of_entry entry
+unfolding text_of_answer
+entry-parts stats (Accepted line commands) = refl
+entry-parts stats (Refused line reason) = sym (append-nil (line_refusal line reason))
+entry-parts stats (Published line version) = refl
+entry-parts stats (Found number reader turn answer) = refl
+entry-parts stats (SearchRefused number reason) = sym (append-nil (search_refusal number reason))
+entry-parts stats (Status line version documents bytes accepted most open_searches) =
+    sym (append-nil (status_line line version documents bytes accepted most open_searches))
+
+-- the text behind another, from its head and its lines
+pub behind_head : (stats : Bool) (entry : Entry) (old now : List ℕ) → now ≡ old ++ head_of_entry stats entry
+    → now ++ lines_of_entry entry ≡ old ++ text_of_entry stats entry
+behind_head stats entry old now grown =
+    ap (λ t. t ++ lines_of_entry entry) grown
+    ∙ (append_assoc old (head_of_entry stats entry) (lines_of_entry entry) ∙ ap (λ t. old ++ t) (sym (entry-parts stats entry)))
 
 pub on_err_weaker : {A E P Q : Type 0} (result : Result A E) → (P → Q) → OnErr result P → OnErr result Q
 on_err_weaker (Ok a) weaker is = is

@@ -1,3 +1,4 @@
 pub mod Reasons
 pub mod Transcript
 pub mod Written
+pub mod Heads

@@ -7,6 +7,5 @@ mod texts;
 mod transcript;
 
 pub use entry::{Entry, Reason, SearchReason, has_hit, is_refusal};
-pub use output::{WriteError, flush_whole, write_transcript, write_whole};
-pub use texts::append_entry;
+pub use output::{WriteError, flush_whole, write_entry, write_transcript, write_whole};
 pub use transcript::{Transcript, status};

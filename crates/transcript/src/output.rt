@@ -3,13 +3,18 @@
 ghost use Rattle.std.specs.Prelude.{◌≡◌, ◌≢◌, ◌≤◌, ◌++◌, List, ℕ, length, take, ◌⊎◌, IfOk, IfErr, OnOk, OnErr, IsErrOf};
 ghost use Rattle.std.specs.Io.KnownBytes.{Appends, Keeps};
 ghost use Rattle.std.specs.IoError.{error_kind};
-ghost use Rattle.transcript.specs.Transcript.{text_of_transcript};
+ghost use Rattle.search.specs.Parts.{all_hits};
+ghost use Rattle.search.specs.Text.{text_of_hits};
+ghost use Rattle.transcript.specs.Transcript.{text_of_entry, text_of_transcript};
 ghost use Rattle.transcript.specs.Written.{AppendsFront, AppendsAllBut};
 
-use crate::texts::append_entry;
+use crate::entry::Entry;
+use crate::texts::append_head;
 use crate::transcript::Transcript;
+use search::{Lines, PIECE, Part, append_lines, form_lines};
 use std::alloc::Global;
 use std::io::{Error, ErrorKind, Write};
+use std::thread::Threads;
 use thiserror::Error;
 
 /// Text is written once there are this many bytes of it.
@@ -34,31 +39,150 @@ pub enum WriteError {
 
 /// Writes the text of a transcript, entry by entry: the lines of searches and of refusals (their form is this
 /// program's choice; `NAME:LINE:TEXT` is grep's form). With `stats` each answer also shows its number of candidates
-/// and of documents. It is written in parts of 65,536 bytes or more, and the rest at the end.
+/// and of documents. It is written in parts of 65,536 bytes or more, and the rest at the end. Each entry is dropped once its
+/// text is written, and with it what an answer shares of its documents. `threads` is as for `write_entry`.
 ///
 /// `Failed` means that the writer failed, `Closed` that nobody reads any more what is written, `Stopped` that it took
-/// no byte, and `OutOfMemory` that memory ran out for an entry's text. After an `Err`, what was written is a beginning
-/// of the text.
-pub fn write_transcript<W: Write>(
+/// no byte, and `OutOfMemory` that memory ran out for text. After an `Err`, what was written is a beginning of the text.
+pub fn write_transcript<R: Threads + Sync, W: Write>(
+    rt: &R,
     alloc: Global,
-    transcript: &Transcript,
+    threads: usize,
+    transcript: Transcript,
     stats: bool,
     out: &mut W,
 ) -> Result<(), WriteError>
-    ensures ok { OnOk result (Appends (W.contents out.old) (W.contents out.new) (text_of_transcript stats transcript.now.entries.items)) }
-    ensures err { OnErr result (AppendsFront (W.contents out.old) (W.contents out.new) (text_of_transcript stats transcript.now.entries.items)) }
+    ensures ok { OnOk result (Appends (W.contents out.old) (W.contents out.new) (text_of_transcript stats transcript.entries.items)) }
+    ensures err { OnErr result (AppendsFront (W.contents out.old) (W.contents out.new) (text_of_transcript stats transcript.entries.items)) }
 {
+    let Transcript { entries } = transcript;
     let mut text = Vec::new(alloc);
-    for entry in &transcript.entries {
-        if let Err(error) = write_part(out, &mut text) {
+    for entry in entries {
+        if let Err(error) = write_entry(rt, alloc, threads, &entry, stats, &mut text, out) {
             return Err(error);
-        }
-        match append_entry(entry, stats, &mut text) {
-            Ok(()) => {}
-            Err(_) => return Err(WriteError::OutOfMemory),
         }
     }
     write_whole(out, &text)
+}
+
+/// Writes the text of an entry, behind that in `text`, which is not written yet. The last bytes, fewer than 65,536, are left in
+/// `text`. Of an answer, only a piece of the text is in memory at a time, besides what was formed with the answer: of
+/// `search::PIECE` bytes or a line for each of `threads`. With two or more of them, the text of a large answer is formed by
+/// so many threads side by side, where they can be started; otherwise none is started.
+///
+/// The errors are those of `write_transcript`. After an `Err`, what was written is a beginning of both texts, and `text` has
+/// any bytes.
+pub fn write_entry<R: Threads + Sync, W: Write>(
+    rt: &R,
+    alloc: Global,
+    threads: usize,
+    entry: &Entry,
+    stats: bool,
+    text: &mut Vec<u8>,
+    out: &mut W,
+) -> Result<(), WriteError>
+    ensures ok { OnOk result (AppendsAllBut (W.contents out.old) (W.contents out.new) (text.old.items ++ text_of_entry stats entry.now) text.new.items) }
+    ensures err { OnErr result (AppendsFront (W.contents out.old) (W.contents out.new) (text.old.items ++ text_of_entry stats entry.now)) }
+{
+    match append_head(entry, stats, text) {
+        Ok(()) => {}
+        Err(_) => return Err(WriteError::OutOfMemory),
+    }
+    match entry {
+        Entry::Found { answer, .. } => write_parts(rt, alloc, threads, answer.parts(), text, out),
+        _ => write_part(out, text),
+    }
+}
+
+/// Writes the lines of an answer, which has these parts, behind `text`.
+fn write_parts<R: Threads + Sync, W: Write>(
+    rt: &R,
+    alloc: Global,
+    threads: usize,
+    parts: &[Part],
+    text: &mut Vec<u8>,
+    out: &mut W,
+) -> Result<(), WriteError>
+    ensures ok { OnOk result (AppendsAllBut (W.contents out.old) (W.contents out.new) (text.old.items ++ text_of_hits (all_hits parts.now)) text.new.items) }
+    ensures err { OnErr result (AppendsFront (W.contents out.old) (W.contents out.new) (text.old.items ++ text_of_hits (all_hits parts.now))) }
+{
+    for part in parts {
+        let (formed, others) = part.text();
+        if let Err(error) = write_behind(formed, text, out) {
+            return Err(error);
+        }
+        if let Err(error) = write_lines(rt, alloc, threads, others, text, out) {
+            return Err(error);
+        }
+    }
+    Ok(())
+}
+
+/// Writes lines behind `text`, piece by piece.
+fn write_lines<R: Threads + Sync, W: Write>(
+    rt: &R,
+    alloc: Global,
+    threads: usize,
+    lines: Lines<'_>,
+    text: &mut Vec<u8>,
+    out: &mut W,
+) -> Result<(), WriteError>
+    ensures ok { OnOk result (AppendsAllBut (W.contents out.old) (W.contents out.new) (text.old.items ++ text_of_hits lines.entry) text.new.items) }
+    ensures err { OnErr result (AppendsFront (W.contents out.old) (W.contents out.new) (text.old.items ++ text_of_hits lines.entry)) }
+{
+    let most = threads.max(1).saturating_mul(PIECE);
+    let mut rest = lines;
+    while !rest.is_empty() {
+        let count = rest.count_within(most);
+        let (piece, others) = rest.split_at(count);
+        if let Err(error) = write_piece(rt, alloc, threads, piece, text, out) {
+            return Err(error);
+        }
+        rest = others;
+    }
+    Ok(())
+}
+
+/// Forms the text of a piece, and writes it behind `text`.
+fn write_piece<R: Threads + Sync, W: Write>(
+    rt: &R,
+    alloc: Global,
+    threads: usize,
+    piece: Lines<'_>,
+    text: &mut Vec<u8>,
+    out: &mut W,
+) -> Result<(), WriteError>
+    ensures ok { OnOk result (AppendsAllBut (W.contents out.old) (W.contents out.new) (text.old.items ++ text_of_hits piece.entry) text.new.items) }
+    ensures err { OnErr result (AppendsFront (W.contents out.old) (W.contents out.new) (text.old.items ++ text_of_hits piece.entry)) }
+{
+    if threads < 2 {
+        if append_lines(text, piece).is_err() {
+            return Err(WriteError::OutOfMemory);
+        }
+        return write_part(out, text);
+    }
+    match form_lines(rt, alloc, &piece, threads) {
+        Ok(formed) => write_behind(&formed, text, out),
+        Err(_) => Err(WriteError::OutOfMemory),
+    }
+}
+
+/// Writes these bytes behind `text`. Few bytes are added to it, and many are written from where they are.
+fn write_behind<W: Write>(bytes: &[u8], text: &mut Vec<u8>, out: &mut W) -> Result<(), WriteError>
+    ensures ok { OnOk result (AppendsAllBut (W.contents out.old) (W.contents out.new) (text.old.items ++ bytes.now) text.new.items) }
+    ensures err { OnErr result (AppendsFront (W.contents out.old) (W.contents out.new) (text.old.items ++ bytes.now)) }
+{
+    if bytes.len() < PART {
+        if text.extend_from_slice(bytes).is_err() {
+            return Err(WriteError::OutOfMemory);
+        }
+        return write_part(out, text);
+    }
+    if let Err(error) = write_whole(out, text) {
+        return Err(error);
+    }
+    text.clear();
+    write_whole(out, bytes)
 }
 
 /// Writes the text and empties it, if it is long enough for a part.

@@ -4,7 +4,8 @@ ghost use Rattle.std.specs.Prelude.{◌≡◌, ◌++◌, OnOk, OnErr, codes, dec
 ghost use Rattle.ere.specs.Faults.{reason_of};
 ghost use Rattle.search.specs.Text.{line_end};
 ghost use Rattle.transcript.specs.Reasons.{text_of_name_error, text_of_body_error, text_of_reason};
-ghost use Rattle.transcript.specs.Transcript.{text_of_entry, line_refusal, search_refusal, status_line};
+ghost use Rattle.transcript.specs.Heads.{head_of_entry};
+ghost use Rattle.transcript.specs.Transcript.{line_refusal, search_refusal, status_line};
 
 use crate::entry::{Entry, Reason, SearchReason};
 use ere::EreError;
@@ -187,18 +188,17 @@ fn append_status(out: &mut Vec<u8>, shown: Shown) -> Result<(), AllocError>
     )
 }
 
-/// Appends the text of an entry. With `stats` an answer also shows its number of candidates and of documents. An
-/// `Err` means that memory ran out; `out` is then as it was.
-pub fn append_entry(entry: &Entry, stats: bool, out: &mut Vec<u8>) -> Result<(), AllocError>
-    ensures ok { OnOk result (out.new.items ≡ out.old.items ++ text_of_entry stats entry.now) }
-    ensures err { OnErr result (out.new.items ≡ out.old.items) }
+/// Appends the text of an entry, for an answer only that of its first line. With `stats` that also shows its number of
+/// candidates and of documents. An `Err` means that memory ran out; it can leave a beginning of the text in `out`.
+pub(crate) fn append_head(entry: &Entry, stats: bool, out: &mut Vec<u8>) -> Result<(), AllocError>
+    ensures { OnOk result (out.new.items ≡ out.old.items ++ head_of_entry stats entry.now) }
 {
     match entry {
         Entry::Accepted { .. } => Ok(()),
         Entry::Published { .. } => Ok(()),
         Entry::Refused { line, reason } => append_line_refusal(out, *line, *reason),
         Entry::SearchRefused { search, reason } => append_search_refusal(out, *search, *reason),
-        Entry::Found { search, answer, .. } => answer.write_to(*search, stats, out),
+        Entry::Found { search, answer, .. } => answer.append_head(*search, stats, out),
         Entry::Status {
             line,
             version,

@@ -11,6 +11,9 @@ use std::time::Clock;
 /// How many answers can wait for the run. A reader that has one more waits.
 const ANSWERS: usize = 64;
 
+/// How many bytes of an answer's text a reader forms: none, since a run keeps its answers until the end.
+const AHEAD: usize = 0;
+
 /// The channels to readers that are at work.
 #[derive(Drop)]
 struct Channels<J: Naming> {
@@ -73,7 +76,7 @@ fn start<'s, 'a: 's, E, J: Naming + Send + Sync, R: Threads + Wait + Clock + Syn
     };
     let (rt, alloc, gate) = (plan.rt, plan.alloc, plan.gate);
     scope
-        .spawn(move || reader.work(rt, alloc, tasks, done, gate))
+        .spawn(move || reader.work(rt, alloc, tasks, done, AHEAD, gate))
         .is_ok()
 }
 

@@ -7,7 +7,7 @@ use Rattle.index.specs.declared.document.SharedDocument.{SharedDocument}
 use Rattle.search.specs.Scan.{Hit}
 use Rattle.search.specs.Private.Selects.{Selects, IsAsked}
 use Rattle.search.specs.Private.Documents.{lines_of_taken}
-use Rattle.search.proofs.AppendLemmas.{both-parts}
+use Rattle.search.proofs.PartLemmas.{both-parts}
 use Rattle.search.proofs.side_by_side.+scan_parts.Goals as goal
 
 abbrev Found : Test → List SharedDocument → List Hit → Type 0

@@ -1,24 +1,59 @@
-use Rattle.transcript.specs.Transcript.{text_of_entry}
-use Rattle.transcript.proofs.WriteLemmas.{front_of_more, held_back, held_in_part, held_less, held_with_next, on_err_weaker}
+use Rattle.std.proofs.Common.{◌≡◌, ◌∷◌, length, sym, ◌∙◌, ap, subst, arith, List}
+use Rattle.std.specs.Vec.Iter.{into_iter_items}
+use Rattle.std.proofs.lemmas.List.{nil_from_length}
+use Rattle.std.proofs.lemmas.Result.{on_ok_weaker}
+use Rattle.std.specs.Io.KnownBytes.{Appends}
+use Rattle.transcript.specs.declared.entry.Entry.{Entry}
+use Rattle.transcript.specs.Transcript.{text_of_transcript}
+use Rattle.transcript.specs.Written.{AppendsFront}
+use Rattle.transcript.proofs.WriteLemmas.{done_all, done_in_part, done_more, held_in_part, held_none, on_err_weaker}
 use Rattle.transcript.proofs.output.write_transcript.Goals as goal
 
 pub returns-in-Err-clause-err : goal.returns-in-Err-clause-err
 returns-in-Err-clause-err g c =
-    front_of_more (text_of_entry c.args.stats) c.args.transcript.now.entries.items c.loop-entry.entry-index _ _
-    (held_in_part _ _ _ _ _ (rw c.deref-entry-items.ensures.value at c.loop-entry.invariant) c.in-Err.ensures.err)
+    let at = c.loop-entry in
+    let steps : into_iter_items at.entry-iterator ≡ c.in-Some.entry ∷ into_iter_items c.next.new.self = c.in-Some.ensures.steps.0 in
+    let next = ap (λ es. text_of_transcript c.args.stats es) steps in
+    subst (λ (es : List Entry). AppendsFront (g.W.Write.contents c.args.out.now) (g.W.Write.contents c.write_entry.new.out)
+    (text_of_transcript c.args.stats es)) c.into_iter-entry-iterator.ensures.into_iter_gives.0
+    (done_in_part _ _ _ _ _ _ _ _ at.invariant.so_far next c.in-Err.ensures.err)
 
-pub returns-in-Err-append_entry-clause-err : goal.returns-in-Err-append_entry-clause-err
-returns-in-Err-append_entry-clause-err g c =
-    front_of_more (text_of_entry c.args.stats) c.args.transcript.now.entries.items c.loop-entry.entry-index _ _
-    (held_back _ _ _ _ (held_less _ _ _ _ _ _ (rw c.deref-entry-items.ensures.value at c.loop-entry.invariant) c.in_default.ensures.ok))
+pub loop-entry-preserved-in_default : goal.loop-entry-preserved-in_default
+loop-entry-preserved-in_default g c =
+    let at = c.loop-entry in
+    let steps : into_iter_items at.entry-iterator ≡ c.in-Some.entry ∷ into_iter_items c.next.new.self = c.in-Some.ensures.steps.0 in
+    let next = ap (λ es. text_of_transcript c.args.stats es) steps in
+    record {
+      so_far = done_more _ _ _ _ _ _ _ _ at.invariant.so_far next _ c.in_default.ensures.ok;
+      len = (let gone = c.in-Some.ensures.steps.1 in let short = ap length steps in omega (arith, at.invariant.len));
+    }
 
 pub loop-entry-preserved : goal.loop-entry-preserved
 loop-entry-preserved g c =
-    held_with_next (text_of_entry c.args.stats) c.deref-entry-items.result.now c.loop-entry.entry-index c.entry-item.result _ _ _ _
-    c.loop-entry-test.true c.entry-item.is (held_less _ _ _ _ _ _ c.loop-entry.invariant c.in_default.ensures.ok) c.in-Ok.ensures.ok
+    let at = c.loop-entry in
+    let steps : into_iter_items at.entry-iterator ≡ c.in-Some.entry ∷ into_iter_items c.next.new.self = c.in-Some.ensures.steps.0 in
+    let next = ap (λ es. text_of_transcript c.args.stats es) steps in
+    record {
+      so_far = done_more _ _ _ _ _ _ _ _ at.invariant.so_far next _ c.in_default.ensures.ok;
+      len = (let gone = c.in-Some.ensures.steps.1 in let short = ap length steps in omega (arith, at.invariant.len));
+    }
+
+pub returns-clause-ok : goal.returns-clause-ok
+returns-clause-ok g c =
+    let at = c.loop-entry in
+    let none = nil_from_length (into_iter_items at.entry-iterator) (sym at.invariant.len ∙ c.in-None.ensures.steps.0) in
+    let held = done_all _ _ _ _ _ (ap (λ es. text_of_transcript c.args.stats es) none) at.invariant.so_far in
+    on_ok_weaker c.write_whole.result (λ last.
+    subst (λ (es : List Entry). Appends (g.W.Write.contents c.args.out.now) (g.W.Write.contents c.write_whole.new.out)
+    (text_of_transcript c.args.stats es)) c.into_iter-entry-iterator.ensures.into_iter_gives.0 (held_none _ _ _ _ _ held last))
+    (rw c.deref.ensures.value at c.write_whole.ensures.ok)
 
 pub returns-clause-err : goal.returns-clause-err
 returns-clause-err g c =
-    on_err_weaker c.write_whole.result
-    (λ part. front_of_more (text_of_entry c.args.stats) c.args.transcript.now.entries.items c.loop-entry.entry-index _ _
-    (held_in_part _ _ _ _ _ (rw c.deref-entry-items.ensures.value at c.loop-entry.invariant) part)) (rw c.deref.ensures.value at c.write_whole.ensures.err)
+    let at = c.loop-entry in
+    let none = nil_from_length (into_iter_items at.entry-iterator) (sym at.invariant.len ∙ c.in-None.ensures.steps.0) in
+    let held = done_all _ _ _ _ _ (ap (λ es. text_of_transcript c.args.stats es) none) at.invariant.so_far in
+    on_err_weaker c.write_whole.result (λ some.
+    subst (λ (es : List Entry). AppendsFront (g.W.Write.contents c.args.out.now) (g.W.Write.contents c.write_whole.new.out)
+    (text_of_transcript c.args.stats es)) c.into_iter-entry-iterator.ensures.into_iter_gives.0 (held_in_part _ _ _ _ _ held some))
+    (rw c.deref.ensures.value at c.write_whole.ensures.err)

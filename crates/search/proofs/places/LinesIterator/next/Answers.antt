@@ -1,6 +1,6 @@
 use Rattle.std.proofs.lemmas.List.Elements.{All-rest}
 use Rattle.search.specs.Places.{IsPlaced}
-use Rattle.search.proofs.places.HitsIterator.next.Goals as goal
+use Rattle.search.proofs.places.LinesIterator.next.Goals as goal
 
 pub invariant_of-self : goal.invariant_of-self
 invariant_of-self c =

@@ -3,7 +3,7 @@ use Rattle.std.specs.Prelude.{codes, decimal}
 use Rattle.std.proofs.lemmas.Result.{on_ok_weaker}
 use Rattle.search.specs.Text.{text_of_hit, line_end}
 use Rattle.search.proofs.TextLemmas.{six}
-use Rattle.search.proofs.answer.append_hit.Goals as goal
+use Rattle.search.proofs.text.append_hit.Goals as goal
 
 pub returns-clause-ok : goal.returns-clause-ok
 unfolding text_of_hit
