@@ -15,4 +15,6 @@ mod PartLemmas
 mod ReaderSteps
 mod TreeLaws
 mod Sizes
+mod EdgeLemmas
+mod LiteralLemmas
 pub mod OneWay
