@@ -17,4 +17,5 @@ mod TreeLaws
 mod Sizes
 mod EdgeLemmas
 mod LiteralLemmas
+mod FrameLemmas
 pub mod OneWay

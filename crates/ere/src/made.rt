@@ -33,6 +33,14 @@ pub fn literal(alloc: Global, text: &[u8], case: Case) -> Result<Ere, EreError>
     ensures refused { IfErr result (λ e. e.kind ≢ EreErrorKind.OutOfMemory → IsTextFault text.now e) }
 {
     check_bytes(text)?;
+    spelled(alloc, case, text)
+}
+
+/// The tree of the text, whatever its bytes.
+fn spelled(alloc: Global, case: Case, text: &[u8]) -> Result<Ere, EreError>
+    ensures tree { IfOk result (λ e. form e ≡ literal_tree case text.now) }
+    ensures err { IfErr result (λ e. e.kind ≡ EreErrorKind.OutOfMemory) }
+{
     match text {
         [] => Ok(Ere::Empty),
         [byte] => Ok(Ere::Set(single_in(case, *byte))),
