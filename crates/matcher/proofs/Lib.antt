@@ -4,9 +4,11 @@ pub mod Shifting
 pub mod Passing
 pub mod Joining
 pub mod OneWords
+pub mod Dropping
 pub mod Meaning
 pub mod Walks
 pub mod Rounds
 pub mod Longer
 pub mod MemberLemmas
 pub mod HeightLemmas
+pub mod SpanLemmas

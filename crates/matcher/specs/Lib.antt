@@ -1,3 +1,4 @@
+pub mod FirstSpan
 pub mod PositionSets
 pub mod Private
 pub mod Spans
