@@ -138,3 +138,12 @@ last_in_word words at limit below bit is inside held none later = (omega arith, 
             subst (λ n. has_position words n ≡ false) place
             (position_in words at (k - at * 64) (omega arith) ∙ none (k - at * 64) (omega arith) (omega arith))
         go false e = later k (grind (arith, nat_tests)) l
+
+-- none in the words looked at, and none before them
+pub none_at_all : {size : ℕ} (words : List ℕ) (first end at limit : ℕ) → IsBounded size words first end → at ≤ first
+    → HasNoneFrom words (at * 64) limit → HasNoneFrom words 0 limit
+none_at_all words first end at limit bounds low none k _ below = go (nat_lt k (at * 64)) refl
+  where
+    go : (t : Bool) → nat_lt k (at * 64) ≡ t → has_position words k ≡ false
+    go true e = let before : k < at * 64 = grind (arith, nat_tests) in none_before bounds k (omega arith)
+    go false e = none k (grind (arith, nat_tests)) below

@@ -106,3 +106,71 @@ halved_high line tree first past low middle high h above below none = record {
   none = none_begins_on line tree first low middle h.none none;
   some = some_begins_behind line tree low middle high none h.some;
 }
+
+-- what is right before and after a part that is whole
+free_before : (line : List ℕ) (start end : ℕ) → IsWhole line start end → is_word_before line start ≡ false
+free_before line zero end whole = refl
+free_before line (suc k) end whole = whole.before k refl
+
+free_after : (line : List ℕ) (start end : ℕ) → IsWhole line start end → is_word_after line end ≡ false
+free_after line start end whole = go (nat_lt end (length line)) refl
+  where
+    go : (t : Bool) → nat_lt end (length line) ≡ t → (t && is_word_byte (get_or line end 0)) ≡ false
+    go true e = whole.after (grind (arith, nat_tests))
+    go false e = refl
+
+whole_of_free : (line : List ℕ) (start end : ℕ) → is_word_before line start ≡ false → is_word_after line end ≡ false → IsWhole line start end
+whole_of_free line start end front back = record { before = λ k e. before k e; after = λ inside. after inside }
+  where
+    before : (k : ℕ) → start ≡ suc k → IsFalse (is_word_byte (get_or line k 0))
+    before k e = subst (λ n. is_word_before line n ≡ false) e front
+
+    after : end < length line → IsFalse (is_word_byte (get_or line end 0))
+    after inside = let test : nat_lt end (length line) ≡ true = grind (arith, nat_tests) in rw test at back
+
+-- A part that begins at a position behind `from` also begins at that position or behind it.
+pub span_from : {line : List ℕ} {tree : Tree} {whole_words : Bool} {from start end : ℕ} (at : ℕ) → IsSpan line tree whole_words from start end → at ≤ start
+    → IsSpan line tree whole_words at start end
+span_from at s low = record { begins = low; some = s.some; inside = s.inside; word = s.word; whole = s.whole }
+
+-- Where no word begins, no part begins.
+pub none_earlier : (line : List ℕ) (tree : Tree) (whole_words : Bool) (from next start : ℕ)
+    → ((other end : ℕ) → IsSpan line tree whole_words from other end → next ≤ other) → NoneBegins line tree next start → (other end : ℕ)
+    → IsSpan line tree whole_words from other end → start ≤ other
+none_earlier line tree whole_words from next start behind none other end s = go (nat_lt other start) refl
+  where
+    go : (t : Bool) → nat_lt other start ≡ t → start ≤ other
+    go true e = absurd (none other (behind other end s) (grind (arith, nat_tests)) (end, s.word))
+    go false e = grind (arith, nat_tests)
+
+pub no_span_left : (line : List ℕ) (tree : Tree) (whole_words : Bool) (from next : ℕ)
+    → ((start end : ℕ) → IsSpan line tree whole_words from start end → next ≤ start) → NoneBegins line tree next (length line + 1)
+    → HasNoSpan line tree whole_words from
+no_span_left line tree whole_words from next behind none start end s =
+    let some = s.some in
+    let inside = s.inside in
+    none start (behind start end s) (omega arith) (end, s.word)
+
+pub first_of : (line : List ℕ) (tree : Tree) (whole_words : Bool) (from next start end : ℕ) → from ≤ next → next ≤ start
+    → ((other last : ℕ) → IsSpan line tree whole_words from other last → next ≤ other) → NoneBegins line tree next start
+    → IsSpan line tree whole_words start start end → ((last : ℕ) → IsSpan line tree whole_words start start last → last ≤ end)
+    → IsFirstSpan line tree whole_words from (record { start = start; end = end })
+first_of line tree whole_words from next start end before after behind none s longest = record {
+  is_span = span_from from s (omega arith);
+  leftmost = none_earlier line tree whole_words from next start behind none;
+  longest = λ last other. longest last (span_from start other (omega arith));
+}
+
+pub later_start : (line : List ℕ) (tree : Tree) (whole_words : Bool) (from next start : ℕ)
+    → ((other last : ℕ) → IsSpan line tree whole_words from other last → next ≤ other) → NoneBegins line tree next start
+    → ((end : ℕ) → IsSpan line tree whole_words start start end → ⊥) → (other last : ℕ) → IsSpan line tree whole_words from other last → start + 1 ≤ other
+later_start line tree whole_words from next start behind none never other last s = go (other == start) refl
+  where
+    low : start ≤ other
+    low = none_earlier line tree whole_words from next start behind none other last s
+
+    go : (t : Bool) → (other == start) ≡ t → start + 1 ≤ other
+    go true e =
+        let same : other ≡ start = grind (arith, nat_tests) in
+        absurd (never last (subst (λ n. IsSpan line tree whole_words start n last) same (span_from start s low)))
+    go false e = let apart : other ≢ start = grind (arith, nat_tests) in omega (arith, low)
