@@ -12,3 +12,4 @@ pub mod Longer
 pub mod MemberLemmas
 pub mod HeightLemmas
 pub mod SpanLemmas
+pub mod SpanLaws

@@ -66,12 +66,12 @@ mutual
   spans_of_some line (more tree trees) x w y whole (inr h) = inr (spans_of_some line trees x w y whole h)
 
 -- After x, in z, a word leads to the position.
-record Leads (language : Language) (x z : List ℕ) (to : ℕ) : Type 0 where
-  word : List ℕ
-  after : List ℕ
-  is_rest : z ≡ word ++ after
-  is_end : to ≡ length (x ++ word)
-  in_language : language x word after
+pub record Leads (language : Language) (x z : List ℕ) (to : ℕ) : Type 0 where
+  pub word : List ℕ
+  pub after : List ℕ
+  pub is_rest : z ≡ word ++ after
+  pub is_end : to ≡ length (x ++ word)
+  pub in_language : language x word after
 
 leads_nowhere : (language : Language) (x z : List ℕ) (to : ℕ) → length x ≡ to → language x [] z → Leads language x z to
 leads_nowhere language x z to e h = record { word = []; after = z; is_rest = refl; is_end = sym e ∙ ap length (sym (append-nil x)); in_language = h }
@@ -113,7 +113,7 @@ next_byte line x (b ∷ y) whole inside = (y, ap (λ t. t ∷ y) (seam line x y 
 mutual
   unfolding InLanguage InEach InSome Spans SpansEach SpansSome
 
-  language_of_spans : (line : List ℕ) (tree : Tree) (x z : List ℕ) (from to : ℕ) → line ≡ x ++ z → length x ≡ from → Spans line tree from to
+  pub language_of_spans : (line : List ℕ) (tree : Tree) (x z : List ℕ) (from to : ℕ) → line ≡ x ++ z → length x ≡ from → Spans line tree from to
       → Leads (InLanguage tree) x z to
   language_of_spans line empty x z from to whole at h = leads_nowhere (InLanguage empty) x z to (at ∙ h) refl
   language_of_spans line (set members) x z from to whole at h =

@@ -5,6 +5,8 @@
 //! 9.4.9 those of anchors. Nothing is allocated.
 #![tactic(auto)]
 
+mod each_span;
+mod laws;
 mod one_word;
 mod plain;
 mod position_set;
@@ -28,7 +30,9 @@ use crate::walk::advance;
 use crate::words::BITS;
 use ere::Ere;
 use lines::MAX_LINE;
-pub use spans::{Span, first_span};
+pub use each_span::SpansOf;
+pub use laws::{one_list_of_spans, spans_are_words, whole_words_by_positions};
+pub use spans::{Span, first_span, spans_of};
 pub use star_height::has_star_height;
 pub use steps::steps_of;
 pub use words::{WORDS, step};

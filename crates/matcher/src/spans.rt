@@ -1,12 +1,15 @@
 //! The parts of a line that match, from left to right.
 
-ghost use Rattle.std.specs.Prelude.{◌≡◌, ◌+◌, ◌≤◌, ◌<◌, ◌↔◌, ℕ, IsFalse, IsTrue, MatchBool, MatchOption, length};
+ghost use Rattle.std.specs.Prelude.{◌≡◌, ◌+◌, ◌≤◌, ◌<◌, ℕ, List, MatchBool, MatchOption, length};
+ghost use Rattle.std.specs.Iterator.{Drains};
 ghost use Rattle.ere.specs.Limits.{IsWithinLimits};
 ghost use Rattle.ere.specs.Tree.{form};
-ghost use Rattle.matcher.specs.FirstSpan.{HasNoSpan, IsFirstSpan, IsSpan, IsWhole};
+ghost use Rattle.matcher.specs.FirstSpan.{AreSpans, HasNoSpan, IsFirstSpan, IsSpan};
+ghost use Rattle.matcher.specs.SpansOf.{YieldsSpan};
 ghost use Rattle.matcher.specs.Private.Starts.{is_word_after, is_word_before, Begins, NoneBegins, SomeBegins};
 
 use crate::FEWER;
+use crate::each_span::SpansOf;
 use crate::one_word::OneWord;
 use crate::position_set::PositionSet;
 use crate::positions::Positions;
@@ -37,6 +40,36 @@ pub struct Span {
 pub fn first_span(tree: &Ere, line: &[u8], from: usize, whole_words: bool) -> Option<Span>
     requires within_limits { IsWithinLimits (form tree.now) }
     requires line { length line.now ≤ MAX_LINE }
+    ensures { MatchOption result (HasNoSpan line.now (form tree.now) whole_words from) (IsFirstSpan line.now (form tree.now) whole_words from) }
+{
+    found(tree, line, from, whole_words)
+}
+
+/// The spans of the line, from left to right: the first one, then the first one from its end on, and so on, as
+/// `grep -o` shows them. `first_span` says what `whole_words` means.
+///
+/// The tree is within the limits, and the line has at most `MAX_LINE` bytes. Nothing is allocated, and there are no
+/// errors. Each span takes the time of a call of `first_span`.
+pub fn spans_of<'a>(tree: &'a Ere, line: &'a [u8], whole_words: bool) -> SpansOf<'a>
+    requires within_limits { IsWithinLimits (form tree.now) }
+    requires line { length line.now ≤ MAX_LINE }
+    ensures runs { (spans : List Span) → Drains YieldsSpan result spans → AreSpans line.now (form tree.now) whole_words 0 spans }
+    ensures tree { result.tree.now ≡ tree.now }
+    ensures line { result.line.now ≡ line.now }
+    ensures whole_words { result.whole_words ≡ whole_words }
+    ensures from { result.from ≡ 0 }
+{
+    SpansOf {
+        tree,
+        line,
+        whole_words,
+        from: 0,
+    }
+}
+
+/// Does what `first_span` does, whatever the size of the tree.
+pub fn found(tree: &Ere, line: &[u8], from: usize, whole_words: bool) -> Option<Span>
+    requires { length line.now ≤ MAX_LINE }
     ensures { MatchOption result (HasNoSpan line.now (form tree.now) whole_words from) (IsFirstSpan line.now (form tree.now) whole_words from) }
 {
     if line.len() < BITS {
