@@ -1,5 +1,5 @@
 -- Words and lines that are matched whole.
-use Rattle.std.proofs.Common.{◌≡◌, ℕ, ◌+◌, ◌<◌, Bool, true, false, not, ◌&&◌, IsTrue, IsFalse, List, [], ◌∷◌, ◌++◌, length, ◌⊎◌, inl, inr}
+use Rattle.std.proofs.Common.{◌≡◌, ℕ, Bool, true, false, not, ◌&&◌, IsTrue, IsFalse, List, [], ◌∷◌, ◌++◌, length, ◌⊎◌, inl, inr}
 use Rattle.std.proofs.Common.{⊎_elim, refl, sym, ap, ◌∙◌, subst, arith, append_assoc, length-append, get_or}
 use Rattle.std.specs.List.{AllPass}
 use Rattle.std.proofs.lemmas.List.{append-nil}
@@ -8,7 +8,7 @@ use Rattle.ere.specs.ByteSet.{complement, has, is_line_byte, set_of}
 use Rattle.ere.specs.Classes.{is_word_byte}
 use Rattle.ere.specs.Edges.{between_words, line_tree, word_tree, ContainsWholeWord}
 use Rattle.ere.specs.Language.{ContainsMatch, InEach, InLanguage, InSome}
-use Rattle.ere.specs.Tree.{Tree, alt, at_end, at_start, cat, more, none, set}
+use Rattle.ere.specs.Tree.{Tree, alt, at_end, at_start, more, none}
 use Rattle.ere.proofs.SetLemmas.{has-set_of}
 
 -- A byte between words is a line byte that is in no word.
@@ -120,7 +120,7 @@ unfolding InLanguage InEach
 match_of_whole tree line all h =
     let first = front_of h.before (h.word ++ h.after) (λ front b e. (
       passes_at line front (h.word ++ h.after) b all
-      (h.is_line ∙ ap (λ t. t ++ (h.word ++ h.after)) e ∙ append_assoc front (b ∷ []) (h.word ++ h.after)),
+          (h.is_line ∙ ap (λ t. t ++ (h.word ++ h.after)) e ∙ append_assoc front (b ∷ []) (h.word ++ h.after)),
       h.begins front b e,
     )) in
     let last = back_of (h.before ++ h.word) h.after (λ b rest e. (

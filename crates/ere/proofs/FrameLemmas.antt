@@ -8,7 +8,7 @@ use Rattle.ere.specs.declared.tree.Ere.TheVariants.{Start, End}
 use Rattle.ere.specs.Edges.{between_words, IsSizeFault}
 use Rattle.ere.specs.Edges.{IsSizeFault as fault}
 use Rattle.ere.specs.Limits.{height, leaves, AreProper, IsProper, IsWithinLimits}
-use Rattle.ere.specs.Tree.{Tree, alt, at_end, at_start, cat, form, more, none}
+use Rattle.ere.specs.Tree.{Tree, alt, cat, form, more, none}
 use Rattle.ere.proofs.Forms.{form-Start, form-End}
 use Rattle.ere.proofs.Sizes.{forms}
 

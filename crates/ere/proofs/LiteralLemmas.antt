@@ -1,5 +1,5 @@
 -- Texts as patterns: their trees, and the words of these.
-use Rattle.std.proofs.Common.{◌≡◌, ◌≢◌, ℕ, suc, ◌+◌, ◌-◌, ◌<◌, ◌≤◌, Bool, true, false, ◌&&◌, ◌||◌, ◌==◌, ◌↔◌, IsTrue, List, [], ◌∷◌, ◌++◌, length}
+use Rattle.std.proofs.Common.{◌≡◌, ℕ, suc, ◌+◌, ◌-◌, ◌<◌, ◌≤◌, Bool, true, false, ◌&&◌, ◌||◌, ◌==◌, ◌↔◌, IsTrue, List, [], ◌∷◌, ◌++◌, length}
 use Rattle.std.proofs.Common.{lit≤, map, ◌⊎◌, inl, inr, refl, sym, ap, ◌∙◌, subst, arith, get_or, take, Result, Ok, Err, IfOk}
 use Rattle.std.proofs.lemmas.Bool.Decides.{nat_tests}
 use Rattle.std.proofs.lemmas.List.{append-nil, take_more}
@@ -7,7 +7,7 @@ use Rattle.ere.specs.ByteSet.{has, is_line_byte, single}
 use Rattle.ere.specs.Classes.{is_lower, is_upper}
 use Rattle.ere.specs.Language.{InEach, InLanguage}
 use Rattle.ere.specs.Letters.{other_case, read_in}
-use Rattle.ere.specs.Limits.{greatest_pattern, height, highest, leaves, leaves_in, AreProper, IsProper, IsWithinLimits}
+use Rattle.ere.specs.Limits.{height, highest, leaves, leaves_in, AreProper, IsProper, IsWithinLimits}
 use Rattle.ere.specs.Literal.{folded, literal_tree, sets_of, IsPatternText, IsSameText}
 use Rattle.ere.specs.Spelling.{branch_of}
 use Rattle.ere.specs.Private.Reading.{join}

@@ -1,5 +1,5 @@
 -- Trees that match only whole words or whole lines.
-use Rattle.std.specs.Prelude.{◌≡◌, ◌≢◌, ℕ, ◌<◌, ◌≤◌, Bool, IsFalse, List, [], ◌∷◌, ◌++◌}
+use Rattle.std.specs.Prelude.{◌≡◌, ℕ, ◌<◌, ◌≤◌, IsFalse, List, [], ◌∷◌, ◌++◌}
 use Rattle.ere.specs.ByteSet.{complement, set_of}
 use Rattle.ere.specs.Classes.{is_word_byte}
 use Rattle.ere.specs.Language.{InLanguage}

@@ -1,20 +1,20 @@
 -- Laws of spans.
-use Rattle.std.proofs.Common.{◌≡◌, ◌≢◌, ℕ, zero, suc, ◌+◌, ◌≤◌, ◌<◌, Bool, IsFalse, List, [], ◌∷◌, ◌++◌, length, get_or, take, drop, Option, Some, None}
+use Rattle.std.proofs.Common.{◌≡◌, ℕ, suc, ◌+◌, ◌≤◌, ◌<◌, Bool, IsFalse, List, [], ◌∷◌, ◌++◌, length, get_or, take, drop}
 use Rattle.std.proofs.Common.{refl, sym, ap, subst, ◌∙◌, arith, append_assoc, length-append}
 use Rattle.std.proofs.lemmas.List.{append_cancel_left, length-take-le, take-append-drop, take_more}
 use Rattle.std.proofs.Math.ListN.{get_or-append}
-use Rattle.std.proofs.Math.Seq.{drop-append_seam, take-append_seam, get_or-append_seam}
+use Rattle.std.proofs.Math.Seq.{take-append_seam, get_or-append_seam}
 use Rattle.std.specs.Iterator.{Drains}
 use Rattle.ere.specs.Classes.{is_word_byte}
 use Rattle.ere.specs.Edges.{ContainsWholeWord}
 use Rattle.ere.specs.Language.{InLanguage}
 use Rattle.ere.specs.Tree.{Tree, form}
-use Rattle.matcher.specs.FirstSpan.{AreSpans, IsFirstSpan, IsSpan, IsWhole}
+use Rattle.matcher.specs.FirstSpan.{AreSpans, IsSpan, IsWhole}
 use Rattle.matcher.specs.Spans.{Spans}
 use Rattle.matcher.specs.SpansOf.{YieldsSpan}
 use Rattle.matcher.specs.declared.each_span.SpansOf.{SpansOf}
 use Rattle.matcher.specs.declared.spans.Span.{Span}
-use Rattle.matcher.proofs.Meaning.{Leads, language_of_spans, spans_of_language, spans_within}
+use Rattle.matcher.proofs.Meaning.{language_of_spans, spans_of_language}
 
 -- the front of two texts that are the same
 same_front : (left right after other : List ℕ) → left ++ after ≡ right ++ other → length left ≡ length right → left ≡ right
@@ -56,8 +56,11 @@ one_list line tree whole_words from (one ∷ ones) (two ∷ twos) h k =
     let start : one.start ≡ two.start =
     omega (arith, first.leftmost two.start two.end second.is_span, second.leftmost one.start one.end first.is_span) in
     let end : one.end ≡ two.end =
-    omega (arith, first.longest two.end (subst (λ n. IsSpan line tree whole_words from n two.end) (sym start) second.is_span),
-    second.longest one.end (subst (λ n. IsSpan line tree whole_words from n one.end) start first.is_span)) in
+    omega (
+      arith,
+      first.longest two.end (subst (λ n. IsSpan line tree whole_words from n two.end) (sym start) second.is_span),
+      second.longest one.end (subst (λ n. IsSpan line tree whole_words from n one.end) start first.is_span),
+    ) in
     let rest : ones ≡ twos = one_list line tree whole_words one.end ones twos h.1 (subst (λ n. AreSpans line tree whole_words n twos) (sym end) k.1) in
     ap (λ s. s ∷ ones) (same_span one two start end) ∙ ap (λ s. two ∷ s) rest
 
@@ -92,9 +95,10 @@ whole_of_parts line before word after whole begins ends = record { before = λ k
 
 -- the byte after a text is read at its length
 read_after : (line front rest : List ℕ) (b at : ℕ) → line ≡ front ++ b ∷ rest → at ≡ length front → (get_or line at 0 ≡ b) × (at < length line)
-read_after line front rest b at whole e =
-    (ap (get_or line at) refl ∙ ap (λ n. get_or line n 0) e ∙ ap (λ t. get_or t (length front) 0) whole ∙ get_or-append_seam front b rest 0,
-    omega (arith, ap length whole, length-append front (b ∷ rest)))
+read_after line front rest b at whole e = (
+  ap (get_or line at) refl ∙ ap (λ n. get_or line n 0) e ∙ ap (λ t. get_or t (length front) 0) whole ∙ get_or-append_seam front b rest 0,
+  omega (arith, ap length whole, length-append front (b ∷ rest)),
+)
 
 parts_of_whole : (tree : Tree) (line : List ℕ) (start end : ℕ) → start ≤ length line → Spans line tree start end → IsWhole line start end
     → ContainsWholeWord tree line

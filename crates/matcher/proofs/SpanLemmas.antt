@@ -1,18 +1,15 @@
 -- The first part of a line that matches.
-use Rattle.std.proofs.Common.{◌≡◌, ◌≢◌, ℕ, zero, suc, ◌+◌, ◌-◌, ◌*◌, ◌/◌, ◌≤◌, ◌<◌, Bool, true, false, not, ◌&&◌, ◌==◌, nat_le, nat_lt, IsTrue, IsFalse}
-use Rattle.std.proofs.Common.{MatchBool, List, [], ◌∷◌, ◌++◌, length, get_or, take, drop, Option, Some, None, MatchOption, refl, sym, ap, subst, ◌∙◌, arith, length-append}
+use Rattle.std.proofs.Common.{◌≡◌, ◌≢◌, ℕ, zero, suc, ◌+◌, ◌-◌, ◌≤◌, ◌<◌, Bool, true, false, not, ◌&&◌, ◌==◌, nat_le, nat_lt, IsTrue, IsFalse}
+use Rattle.std.proofs.Common.{MatchBool, List, length, get_or, refl, sym, ap, subst, ◌∙◌, arith}
 use Rattle.std.proofs.lemmas.Bool.Decides.{nat_tests}
-use Rattle.std.proofs.lemmas.List.{take-append-drop, length-take-le}
 use Rattle.ere.specs.Classes.{is_word_byte}
 use Rattle.ere.specs.Tree.{Tree}
-use Rattle.matcher.specs.declared.spans.Span.{Span}
 use Rattle.matcher.specs.FirstSpan.{HasNoSpan, IsFirstSpan, IsSpan, IsWhole}
 use Rattle.matcher.specs.PositionSets.{has_position}
-use Rattle.matcher.specs.Private.Moves.{HasNone, HasNoneFrom, Moves}
+use Rattle.matcher.specs.Private.Moves.{HasNone, Moves}
 use Rattle.matcher.specs.Private.Starts.{is_word_after, is_word_before, Begins, NoneBegins, SomeBegins}
 use Rattle.matcher.specs.Spans.{Spans}
 use Rattle.matcher.proofs.Bits.{false≢true}
-use Rattle.matcher.proofs.Meaning.{spans_within}
 use Rattle.matcher.proofs.Walks.{not_held}
 
 -- the positions from `first` up to but not including `past`

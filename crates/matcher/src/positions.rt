@@ -4,7 +4,8 @@ ghost use Rattle.std.specs.Prelude.{◌≤◌, ◌<◌, ℕ};
 
 use crate::position_set::PositionSet;
 use crate::words::{
-    BITS, either, every, first_held, from_bit, last_bit, only_bit, shift, sweep, through_bit, without,
+    BITS, either, every, first_held, from_bit, last_bit, only_bit, shift, sweep, through_bit,
+    without,
 };
 use ere::ByteSet;
 use std::marker::Model;

@@ -1,4 +1,4 @@
-use Rattle.std.proofs.Common.{ap, arith, sym, ◌∙◌}
+use Rattle.std.proofs.Common.{ap, sym, ◌∙◌}
 use Rattle.ere.specs.Tree.{cat, set}
 use Rattle.ere.proofs.Forms.{form-Cat, form-Empty, form-Set}
 use Rattle.ere.proofs.LiteralLemmas.{literal_more, literal_none, literal_one}
