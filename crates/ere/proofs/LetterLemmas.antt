@@ -20,10 +20,10 @@ letter b = go (is_upper b) refl (is_lower b) refl
     go false e true f = lower (grind (arith, nat_tests)) (grind (arith, nat_tests)) (rw (e, f) refl)
     go false e false f = neither (rw (e, f) refl)
 
-upper_is : (b : ℕ) → 65 ≤ b → b ≤ 90 → other_case b ≡ b + 32
+pub upper_is : (b : ℕ) → 65 ≤ b → b ≤ 90 → other_case b ≡ b + 32
 upper_is b low high = let e : is_upper b ≡ true = grind (arith, nat_tests) in rw e refl
 
-lower_is : (b : ℕ) → 97 ≤ b → b ≤ 122 → other_case b ≡ b - 32
+pub lower_is : (b : ℕ) → 97 ≤ b → b ≤ 122 → other_case b ≡ b - 32
 lower_is b low high =
     let e : is_upper b ≡ false = grind (arith, nat_tests) in
     let f : is_lower b ≡ true = grind (arith, nat_tests) in
@@ -37,7 +37,7 @@ other_case_twice b = go (letter b)
     go (lower low high e) = ap other_case e ∙ upper_is (b - 32) (omega arith) (omega arith) ∙ omega arith
     go (neither e) = ap other_case e ∙ e
 
-other_case_line : (b : ℕ) → is_line_byte (other_case b) ≡ is_line_byte b
+pub other_case_line : (b : ℕ) → is_line_byte (other_case b) ≡ is_line_byte b
 other_case_line b = go (letter b)
   where
     line : (c : ℕ) → 11 ≤ c → c < 256 → is_line_byte c ≡ true

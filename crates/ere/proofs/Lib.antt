@@ -15,4 +15,7 @@ mod PartLemmas
 mod ReaderSteps
 mod TreeLaws
 mod Sizes
+mod EdgeLemmas
+mod LiteralLemmas
+mod FrameLemmas
 pub mod OneWay

@@ -45,6 +45,10 @@ is_space b = between 9 13 b || b == 32
 abbrev pub is_cntrl : ℕ → Bool
 is_cntrl b = nat_le b 31 || b == 127
 
+-- a letter, a digit or `_`: the bytes of words (POSIX.1-2017 XCU vi)
+abbrev pub is_word_byte : ℕ → Bool
+is_word_byte b = is_alnum b || b == 95
+
 -- the set of the class with this name, if there is one
 unfoldable pub class_named : List ℕ → Option (List Bool)
 class_named name =

@@ -10,4 +10,6 @@ pub mod Limits
 pub mod Language
 pub mod Faults
 pub mod Anchors
+pub mod Literal
+pub mod Edges
 pub mod Private

@@ -2,7 +2,7 @@
 
 ghost use Rattle.std.specs.Prelude.{◌≡◌};
 ghost use Rattle.ere.specs.Classes.{class_named, is_alnum, is_alpha, is_blank, is_cntrl, is_digit, is_graph};
-ghost use Rattle.ere.specs.Classes.{is_lower, is_print, is_punct, is_space, is_upper, is_xdigit};
+ghost use Rattle.ere.specs.Classes.{is_lower, is_print, is_punct, is_space, is_upper, is_word_byte, is_xdigit};
 
 use crate::byte_set::ByteSet;
 
@@ -70,6 +70,13 @@ fn is_alnum(b: u8) -> bool
     ensures { result ≡ is_alnum b }
 {
     is_alpha(b) || is_digit(b)
+}
+
+/// Whether the byte is an ASCII letter, a decimal digit or `_`: a byte of a word (POSIX.1-2017 XCU vi).
+pub fn is_word_byte(b: u8) -> bool
+    ensures { result ≡ is_word_byte b }
+{
+    is_alnum(b) || b == b'_'
 }
 
 fn is_xdigit(b: u8) -> bool

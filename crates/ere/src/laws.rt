@@ -1,8 +1,10 @@
 //! Laws of the definitions: each is the contract of a function that does nothing.
 
 ghost use Rattle.std.specs.Prelude.{◌≡◌, ◌↔◌, ℕ, Bool, None, ◌⊎◌, IsTrue, List, [], ◌∷◌, ◌++◌};
+ghost use Rattle.std.specs.List.{AllPass};
 ghost use Rattle.ere.specs.Anchors.{ForgetsSurroundings};
-ghost use Rattle.ere.specs.ByteSet.{has};
+ghost use Rattle.ere.specs.ByteSet.{has, is_line_byte};
+ghost use Rattle.ere.specs.Edges.{line_tree, word_tree, ContainsWholeWord};
 ghost use Rattle.ere.specs.Language.{ContainsMatch, InLanguage};
 ghost use Rattle.ere.specs.Limits.{IsTreeOf, IsWithinLimits};
 ghost use Rattle.ere.specs.Spelling.{Spells};
@@ -36,6 +38,18 @@ pub fn star_unrolls()
 pub fn anchored_set()
     ensures { (members : List Bool) (line : List ℕ) → ContainsMatch (cat (more at_start (more (set members) (more at_end none)))) line
         ↔ ((b : ℕ) × (line ≡ b ∷ []) × IsTrue (has members b)) }
+{}
+
+/// A line, which is made of line bytes, contains a match of `as_word`'s tree exactly if some part of it is a word of the
+/// tree there with no word byte right before it or right after it.
+pub fn whole_words()
+    ensures { (tree : Tree) (line : List ℕ) → AllPass is_line_byte line → ContainsMatch (word_tree tree) line ↔ ContainsWholeWord tree line }
+{}
+
+/// A line contains a match of `as_line`'s tree exactly if all of it is a word of the tree, with nothing before it and
+/// nothing after it.
+pub fn whole_lines()
+    ensures { (tree : Tree) (line : List ℕ) → ContainsMatch (line_tree tree) line ↔ InLanguage tree [] line [] }
 {}
 
 /// A word of a tree in its surroundings is, in any surroundings, a word of the tree with each anchor replaced

@@ -12,6 +12,7 @@ mod error;
 mod laws;
 mod letters;
 mod limits;
+mod made;
 mod parts;
 mod reader;
 mod sixteen;
@@ -20,11 +21,13 @@ mod tree;
 
 pub use byte_set::ByteSet;
 pub use case::Case;
+pub use classes::is_word_byte;
 pub use error::{EreError, EreErrorKind};
 pub use laws::{
     anchored_set, one_tree, only_the_empty_word, star_unrolls, surroundings_are_forgotten,
-    tree_within_limits,
+    tree_within_limits, whole_lines, whole_words,
 };
 pub use limits::MAX_LEAVES;
+pub use made::{as_line, as_word, literal};
 pub use reader::{parse, parse_with};
 pub use tree::Ere;

@@ -68,7 +68,7 @@ fn is_ordered(least: u8, greatest: Option<u8>) -> bool
 
 /// Whether the tree's height is at most `most`. The calls nest no deeper than that.
 #[cycle(height)]
-fn is_low(tree: &Ere, most: u8) -> bool
+pub fn is_low(tree: &Ere, most: u8) -> bool
     ensures { result ≡ nat_le (height (form tree.now)) most }
 {
     if most == 0 {

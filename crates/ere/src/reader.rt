@@ -3,6 +3,7 @@
 ghost use Rattle.std.specs.Prelude.{◌≡◌, ◌≢◌, ◌<◌, ◌≤◌, IfErr, IfOk, IsFalse, List, OnOk, OnErr, drop, length};
 ghost use Rattle.std.specs.List.{AllByRecursion};
 ghost use Rattle.ere.specs.Limits.{greatest_open, greatest_pattern, height, HasNoTree, IsTreeOf, IsWithinLimits};
+ghost use Rattle.ere.specs.Literal.{IsPatternText, IsTextFault};
 ghost use Rattle.ere.specs.Private.Reading.{ends_branch, HasNoTokens, IsBuilt, NoAlternatives, NoAtom, NoBranch, NoDuplication};
 ghost use Rattle.ere.specs.Private.Reading.{NoPiece, NoTimes, ReadsAlternatives, ReadsAtom, ReadsBranch, ReadsDuplications, ReadsPiece};
 ghost use Rattle.ere.specs.Tokens.{opens, SpellsToken, Token as AnyToken, Tokens};
@@ -56,10 +57,12 @@ pub fn parse_with(alloc: Global, pattern: &[u8], case: Case) -> Result<Ere, EreE
 }
 
 /// Checks that the pattern is short enough and made of line bytes.
-fn check_bytes(pattern: &[u8]) -> Result<(), EreError>
+pub fn check_bytes(pattern: &[u8]) -> Result<(), EreError>
     ensures short { OnOk result (length pattern.now ≤ greatest_pattern) }
     ensures allowed { OnOk result (AllByRecursion (λ b. (b ≢ 0) × (b ≢ 10)) pattern.now) }
+    ensures text { OnOk result (IsPatternText pattern.now) }
     ensures err { OnErr result ((case : Case) → HasNoTree case pattern.now) }
+    ensures fault { IfErr result (IsTextFault pattern.now) }
 {
     if pattern.len() > MAX_PATTERN {
         return Err(EreError::new(EreErrorKind::TooLong, MAX_PATTERN));

@@ -4,6 +4,7 @@ pub mod Shifting
 pub mod Passing
 pub mod Joining
 pub mod OneWords
+pub mod Dropping
 pub mod Meaning
 pub mod Walks
 pub mod Rounds
@@ -11,3 +12,5 @@ pub mod Longer
 pub mod MemberLemmas
 pub mod HeightLemmas
 pub mod StepLemmas
+pub mod SpanLemmas
+pub mod SpanLaws

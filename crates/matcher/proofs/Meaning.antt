@@ -1,5 +1,5 @@
 -- The language by positions is the language of the tree.
-use Rattle.std.proofs.Common.{◌≡◌, ℕ, zero, suc, ◌≤◌, ◌<◌, IsTrue, List, [], ◌∷◌, ◌++◌, length, get_or, take, drop, inl, inr, refl, sym, ap}
+use Rattle.std.proofs.Common.{◌≡◌, ℕ, zero, suc, ◌+◌, ◌≤◌, ◌<◌, IsTrue, List, [], ◌∷◌, ◌++◌, length, get_or, take, drop, inl, inr, refl, sym, ap}
 use Rattle.std.proofs.Common.{subst, ◌∙◌, arith, append_assoc, length-append}
 use Rattle.std.proofs.lemmas.List.{append-nil, take-append-drop, length-take-le}
 use Rattle.std.proofs.Math.Seq.{get_or-append_seam}
@@ -66,12 +66,12 @@ mutual
   spans_of_some line (more tree trees) x w y whole (inr h) = inr (spans_of_some line trees x w y whole h)
 
 -- After x, in z, a word leads to the position.
-record Leads (language : Language) (x z : List ℕ) (to : ℕ) : Type 0 where
-  word : List ℕ
-  after : List ℕ
-  is_rest : z ≡ word ++ after
-  is_end : to ≡ length (x ++ word)
-  in_language : language x word after
+pub record Leads (language : Language) (x z : List ℕ) (to : ℕ) : Type 0 where
+  pub word : List ℕ
+  pub after : List ℕ
+  pub is_rest : z ≡ word ++ after
+  pub is_end : to ≡ length (x ++ word)
+  pub in_language : language x word after
 
 leads_nowhere : (language : Language) (x z : List ℕ) (to : ℕ) → length x ≡ to → language x [] z → Leads language x z to
 leads_nowhere language x z to e h = record { word = []; after = z; is_rest = refl; is_end = sym e ∙ ap length (sym (append-nil x)); in_language = h }
@@ -113,7 +113,7 @@ next_byte line x (b ∷ y) whole inside = (y, ap (λ t. t ∷ y) (seam line x y 
 mutual
   unfolding InLanguage InEach InSome Spans SpansEach SpansSome
 
-  language_of_spans : (line : List ℕ) (tree : Tree) (x z : List ℕ) (from to : ℕ) → line ≡ x ++ z → length x ≡ from → Spans line tree from to
+  pub language_of_spans : (line : List ℕ) (tree : Tree) (x z : List ℕ) (from to : ℕ) → line ≡ x ++ z → length x ≡ from → Spans line tree from to
       → Leads (InLanguage tree) x z to
   language_of_spans line empty x z from to whole at h = leads_nowhere (InLanguage empty) x z to (at ∙ h) refl
   language_of_spans line (set members) x z from to whole at h =
@@ -153,6 +153,18 @@ mutual
   some_of_spans line (more tree trees) x z from to whole at (inr h) =
       let one = some_of_spans line trees x z from to whole at h in
       record { word = one.word; after = one.after; is_rest = one.is_rest; is_end = one.is_end; in_language = inr one.in_language }
+
+-- A word does not lead backwards, or out of the line.
+pub spans_within : (line : List ℕ) (tree : Tree) (from to : ℕ) → from ≤ length line → Spans line tree from to → (from ≤ to) × (to ≤ length line)
+spans_within line tree from to inside h =
+    let whole : line ≡ take from line ++ drop from line = sym (take-append-drop from line) in
+    let front : length (take from line) ≡ from = length-take-le from line inside in
+    let leads = language_of_spans line tree (take from line) (drop from line) from to whole front h in
+    let joined : to ≡ from + length leads.word = leads.is_end ∙ length-append (take from line) leads.word ∙ ap (λ n. n + length leads.word) front in
+    let parts : length line ≡ from + (length leads.word + length leads.after) =
+    ap length whole ∙ length-append (take from line) (drop from line) ∙ ap (λ n. n + length (drop from line)) front
+    ∙ ap (λ n. from + n) (ap length leads.is_rest ∙ length-append leads.word leads.after) in
+    (omega arith, omega arith)
 
 -- A line contains a match if a word of the tree leads from one of its positions to any position.
 pub hit_of_spans : (line : List ℕ) (tree : Tree) (from to : ℕ) → from ≤ length line → Spans line tree from to → ContainsMatch tree line

@@ -3,3 +3,4 @@ pub mod Bounds
 pub mod Moving
 pub mod Longer
 pub mod Rounds
+pub mod Starts

@@ -5,10 +5,13 @@
 //! 9.4.9 those of anchors. Nothing is allocated.
 #![tactic(auto)]
 
+mod each_span;
+mod laws;
 mod one_word;
 mod plain;
 mod position_set;
 mod positions;
+mod spans;
 mod star_height;
 mod steps;
 mod trees;
@@ -25,8 +28,11 @@ use crate::position_set::PositionSet;
 use crate::positions::Positions;
 use crate::walk::advance;
 use crate::words::BITS;
+pub use each_span::SpansOf;
 use ere::Ere;
+pub use laws::{one_list_of_spans, spans_are_words, whole_words_by_positions};
 use lines::MAX_LINE;
+pub use spans::{Span, first_span, spans_of};
 pub use steps::is_quick;
 pub use words::{WORDS, step};
 

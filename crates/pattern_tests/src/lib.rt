@@ -9,6 +9,10 @@ mod filtering;
 #[cfg(test)]
 mod fixtures;
 #[cfg(test)]
+mod made;
+#[cfg(test)]
 mod matching;
 #[cfg(test)]
 mod patterns;
+#[cfg(test)]
+mod spans;

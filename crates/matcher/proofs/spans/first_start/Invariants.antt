@@ -1,0 +1,14 @@
+use Rattle.std.proofs.Common.{◌+◌, ◌-◌, ◌≤◌, ◌<◌, length}
+use Rattle.ere.specs.Tree.{form}
+use Rattle.matcher.specs.Private.Starts.{NoneBegins}
+use Rattle.matcher.proofs.spans.first_start.Given as goal
+
+abbrev pub invariant-loop-first : goal.invariant-loop-first
+invariant-loop-first g l = record {
+  none : NoneBegins l.line (form l.tree) l.from l.first;
+  after : l.from ≤ l.first;
+  wide : 0 < l.width;
+}
+
+abbrev pub decreases-loop-first : goal.decreases-loop-first
+decreases-loop-first g l = length l.line + 1 - l.first
