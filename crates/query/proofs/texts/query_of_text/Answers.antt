@@ -1,10 +1,9 @@
 use Rattle.std.proofs.Common.{◌+◌, drop, arith, length-drop}
 use Rattle.query.proofs.Forms.{formula_of-Any, formula_of-Has}
-use Rattle.query.specs.declared.query.Connective.TheVariants.{And}
 use Rattle.query.specs.Trigrams.{has_all_trigrams}
 use Rattle.query.specs.Query.{formula_of, has}
-use Rattle.trigram.proofs.TextsLemmas.{IsQuerySoFar-always, IsQuerySoFar-more, IsPlainFor-and, IsPlainFor-has, trigrams_step, short_text}
-use Rattle.trigram.proofs.texts.query_of_text.Goals as goal
+use Rattle.query.proofs.TextLemmas.{IsQuerySoFar-always, IsQuerySoFar-more, IsPlainFor-all, IsPlainFor-has, trigrams_step, short_text}
+use Rattle.query.proofs.texts.query_of_text.Goals as goal
 
 pub loop-i-init : goal.loop-i-init
 loop-i-init c = rw formula_of-Any (IsQuerySoFar-always (has_all_trigrams c.args.text.now))
@@ -14,7 +13,7 @@ join-requires-clause-right c = rw (formula_of-Has c.of-trigram.result) tt
 
 pub loop-i-preserved : goal.loop-i-preserved
 loop-i-preserved c =
-    IsQuerySoFar-more And (has_all_trigrams (drop c.loop-i.i c.args.text.now)) (λ set. set c.of-trigram.result)
+    IsQuerySoFar-more (has_all_trigrams (drop c.loop-i.i c.args.text.now)) (λ set. set c.of-trigram.result)
     (has_all_trigrams (drop (c.loop-i.i + 1) c.args.text.now)) (has_all_trigrams c.args.text.now) (formula_of c.loop-i.query)
     (has c.of-trigram.result) (formula_of c.in_ok-query.query) c.loop-i.invariant
     (λ set. rw c.of-trigram.ensures (trigrams_step c.args.text.now c.loop-i.i (omega arith) set)) (IsPlainFor-has c.of-trigram.result)
@@ -22,5 +21,5 @@ loop-i-preserved c =
 
 pub returns : goal.returns
 returns c =
-    IsPlainFor-and (has_all_trigrams (drop c.loop-i.i c.args.text.now)) (has_all_trigrams c.args.text.now) (formula_of c.loop-i.query)
+    IsPlainFor-all (has_all_trigrams (drop c.loop-i.i c.args.text.now)) (has_all_trigrams c.args.text.now) (formula_of c.loop-i.query)
     c.loop-i.invariant (λ set. short_text (drop c.loop-i.i c.args.text.now) set (omega (arith, length-drop c.loop-i.i c.args.text.now)))
