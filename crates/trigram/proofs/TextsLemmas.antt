@@ -58,6 +58,10 @@ plain_for_joins left right query h = record {
   met = λ set. h.met set ∙ sym (has_all_of_one-distinct (joined_texts left right) set);
 }
 
+pub plain_for_same : (texts others : Texts) (query : Formula) → texts ≡ others → IsPlainFor (has_all_of_one texts) query
+    → IsPlainFor (has_all_of_one others) query
+plain_for_same texts others query same h = record { plain = h.plain; met = λ set. h.met set ∙ ap (λ ts. has_all_of_one ts set) same }
+
 -- each text, followed by the empty one
 pub joined_with_empty : (texts : Texts) → joined_texts texts ([] ∷ []) ≡ texts
 joined_with_empty [] = refl

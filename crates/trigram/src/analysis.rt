@@ -211,7 +211,7 @@ fn both(alloc: Global, left: Analysis, right: Analysis) -> Result<Analysis, Allo
 {
     match left {
         Analysis::Known(prefixes) => match right {
-            Analysis::Known(suffixes) => both_known(alloc, prefixes.as_slice(), suffixes.as_slice()),
+            Analysis::Known(suffixes) => both_known(alloc, prefixes, suffixes),
             Analysis::Loose(ends) => Ok(Analysis::Loose(known_before(alloc, prefixes, ends)?)),
         },
         Analysis::Loose(ends) => match right {
@@ -221,14 +221,14 @@ fn both(alloc: Global, left: Analysis, right: Analysis) -> Result<Analysis, Allo
     }
 }
 
-fn both_known(alloc: Global, left: &[Vec<u8>], right: &[Vec<u8>]) -> Result<Analysis, AllocError>
-    ensures { IfOk result (StandFor (both (known (texts_of left.now)) (known (texts_of right.now)))) }
+fn both_known(alloc: Global, left: Vec<Vec<u8>>, right: Vec<Vec<u8>>) -> Result<Analysis, AllocError>
+    ensures { IfOk result (StandFor (both (known (texts_of left.items)) (known (texts_of right.items)))) }
 {
-    let texts = joins(alloc, left, right)?;
+    let texts = joins(alloc, left.as_slice(), right.as_slice())?;
     if are_kept(texts.as_slice()) {
         return Ok(Analysis::Known(texts));
     }
-    let condition = query_of_joined(alloc, left, right)?;
+    let condition = query_of_joined(alloc, left.as_slice(), right.as_slice())?;
     Ok(Analysis::Loose(loosened(alloc, texts, condition)?))
 }
 
