@@ -1,12 +1,12 @@
 -- Queries for texts.
 use Rattle.std.proofs.Common.{◌≡◌, ℕ, zero, suc, ◌+◌, ◌<◌, ◌≤◌, Bool, true, false, ◌&&◌, ◌||◌, List, [], ◌∷◌, ◌++◌, length, map, drop, get_or}
 use Rattle.std.proofs.Common.{refl, sym, ap, ◌∙◌, arith, length-append}
-use Rattle.std.specs.List.{flat_map, list_any}
+use Rattle.std.specs.List.{flat_map, list_all}
 use Rattle.std.specs.declared.alloc.Global.{Global}
 use Rattle.std.specs.declared.boxed.Box.{Box}
 use Rattle.std.specs.declared.vec.Vec.{Vec}
 use Rattle.std.proofs.lemmas.List.{drop_more}
-use Rattle.std.proofs.lemmas.List.Folds.{list_any_at, list_any-append}
+use Rattle.std.proofs.lemmas.List.Folds.{list_all-append, list_any-append}
 use Rattle.std.proofs.Math.Bool.{and_assoc}
 use Rattle.query.specs.declared.pairs.Pairs.{Pairs}
 use Rattle.query.specs.declared.query.Connective.TheVariants.{And}
@@ -80,6 +80,17 @@ short_text [] set h = refl
 short_text (a ∷ []) set h = refl
 short_text (a ∷ b ∷ []) set h = refl
 short_text (a ∷ b ∷ c ∷ text) set h = absurd (omega arith)
+
+-- one more trigram of a list
+pub all_pushed : (set : TrigramSet) (trigrams : List ℕ) (trigram : ℕ) (rest : Bool)
+    → (list_all set (trigrams ++ trigram ∷ []) && rest) ≡ (list_all set trigrams && (set trigram && rest))
+all_pushed set trigrams trigram rest =
+    ap (λ b. b && rest) (list_all-append set trigrams (trigram ∷ []))
+    ∙ ap (λ b. (list_all set trigrams && b) && rest) (and_true (set trigram))
+    ∙ and_assoc (list_all set trigrams) (set trigram) rest
+
+pub all_in_turn : (a b : Bool) → b ≡ true → a ≡ (a && b)
+all_in_turn a b e = sym (ap (λ c. a && c) e ∙ and_true a)
 
 -- ---- joins of two lists of texts
 

@@ -13,4 +13,4 @@ pub use body::trigrams_of;
 pub use number::Trigram;
 pub use pairs::Pairs;
 pub use query::{Connective, Query, join, simplify};
-pub use texts::{are_same_texts, joined, joined_texts, query_of_joins};
+pub use texts::{are_same_texts, joined, joined_texts, query_of_joins, trigrams_in_turn};

@@ -1,10 +1,12 @@
 //! Texts, and the queries that ask for their trigrams.
 
 ghost use Rattle.std.specs.Prelude.{◌≡◌, ℕ, ◌++◌, ◌<◌, IfOk, OnOk, IsTrue, true, [], ◌∷◌, length, map};
+ghost use Rattle.std.specs.List.{list_all};
 ghost use Rattle.query.specs.Trigrams.{TrigramSet, has_all_trigrams};
 ghost use Rattle.query.specs.Texts.{texts_of, joined_texts, has_all_of_one};
 ghost use Rattle.query.specs.Query.{formula_of, IsPlainFor};
 
+use crate::body::trigram_at;
 use crate::number::Trigram;
 use crate::pairs::Pairs;
 use crate::query::{Connective, Query, join};
@@ -64,10 +66,22 @@ fn query_of_text(alloc: Global, text: &[u8]) -> Result<Query, AllocError>
 {
     let mut query = Query::Any;
     for i in 0..text.len().saturating_sub(2) {
-        let trigram = Trigram::of([text[i], text[i + 1], text[i + 2]]);
-        query = join(alloc, Connective::And, query, Query::Has(trigram))?;
+        query = join(alloc, Connective::And, query, Query::Has(trigram_at(text, i)))?;
     }
     Ok(query)
+}
+
+/// The trigrams of the text, in turn.
+///
+/// An `Err` means that memory ran out.
+pub fn trigrams_in_turn(alloc: Global, text: &[u8]) -> Result<Vec<Trigram>, AllocError>
+    ensures { IfOk result (λ trigrams. (set : TrigramSet) → list_all set trigrams.items ≡ has_all_trigrams text.now set) }
+{
+    let mut trigrams = Vec::new(alloc);
+    for i in 0..text.len().saturating_sub(2) {
+        trigrams.push(trigram_at(text, i))?;
+    }
+    Ok(trigrams)
 }
 
 /// Every text of the first list, followed by every text of the second, in this order.

@@ -9,15 +9,15 @@ pub loop-i-init : goal.loop-i-init
 loop-i-init c = rw formula_of-Any (IsQuerySoFar-always (has_all_trigrams c.args.text.now))
 
 pub join-requires-clause-right : goal.join-requires-clause-right
-join-requires-clause-right c = rw (formula_of-Has c.of-trigram.result) tt
+join-requires-clause-right c = rw (formula_of-Has c.trigram_at.result) tt
 
 pub loop-i-preserved : goal.loop-i-preserved
 loop-i-preserved c =
-    IsQuerySoFar-more (has_all_trigrams (drop c.loop-i.i c.args.text.now)) (λ set. set c.of-trigram.result)
+    IsQuerySoFar-more (has_all_trigrams (drop c.loop-i.i c.args.text.now)) (λ set. set c.trigram_at.result)
     (has_all_trigrams (drop (c.loop-i.i + 1) c.args.text.now)) (has_all_trigrams c.args.text.now) (formula_of c.loop-i.query)
-    (has c.of-trigram.result) (formula_of c.in_ok-query.query) c.loop-i.invariant
-    (λ set. rw c.of-trigram.ensures (trigrams_step c.args.text.now c.loop-i.i (omega arith) set)) (IsPlainFor-has c.of-trigram.result)
-    (rw (formula_of-Has c.of-trigram.result) at c.in_ok-query.ensures)
+    (has c.trigram_at.result) (formula_of c.in_ok-query.query) c.loop-i.invariant
+    (λ set. rw c.trigram_at.ensures (trigrams_step c.args.text.now c.loop-i.i (omega arith) set)) (IsPlainFor-has c.trigram_at.result)
+    (rw (formula_of-Has c.trigram_at.result) at c.in_ok-query.ensures)
 
 pub returns : goal.returns
 returns c =
