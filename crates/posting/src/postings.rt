@@ -1,10 +1,12 @@
 //! The sets of all trigrams.
 
-ghost use Rattle.std.specs.Prelude.{◌≡◌, ◌≢◌, ℕ, ◌<◌, ◌≤◌, ◌||◌, ◌==◌, false, [], ◌∷◌, filter, map, IfOk, IfSome, IfNone, OnOk};
-ghost use Rattle.query.specs.Query.{formula_of, formulas_of, all_of, one_of};
+ghost use Rattle.std.specs.Prelude.{◌≡◌, ◌≢◌, ℕ, ◌<◌, ◌≤◌, ◌||◌, ◌==◌, false, [], ◌∷◌, filter, map, IfOk, IfSome, IfNone, OnOk, IsTrue};
+ghost use Rattle.std.specs.List.{list_all};
+ghost use Rattle.query.specs.Query.{formula_of, formulas_of, texts, all_of, one_of};
+ghost use Rattle.query.specs.Pairs.{texts_in};
 ghost use Rattle.posting.specs.ListValue.{has, without};
 ghost use Rattle.posting.specs.Postings.{slot_limit, set_of, holds, IsPrepared, IsAbsent, AllDiffer};
-ghost use Rattle.posting.specs.Postings.{SameSets, KeepsRoom, AddsNumber, WithdrawsNumber, GivesBack, selected};
+ghost use Rattle.posting.specs.Postings.{SameSets, KeepsRoom, AddsNumber, WithdrawsNumber, GivesBack, selected, trigrams_with};
 ghost use Rattle.posting.specs.Private.Pages.{StandsFor};
 ghost use Rattle.posting.specs.Private.Sets.{members_of};
 ghost use Rattle.posting.specs.Private.Selection.{Finds};
@@ -13,7 +15,7 @@ use crate::list::{List, union_of};
 use crate::owned::{Owned, add_list, drop_list, give_back, make_first};
 use crate::pages::{Pages, SLOT_LIMIT, Slot};
 use crate::trigrams::Trigrams;
-use query::{Query, Trigram};
+use query::{Pairs, Query, Trigram, trigrams_in_turn};
 use std::alloc::{AllocError, Global};
 use std::marker::Model;
 
@@ -198,6 +200,90 @@ impl Postings {
         }
     }
 
+    /// The numbers of `within` whose trigrams have this one.
+    fn narrow_by(&self, alloc: Global, trigram: Trigram, within: &List) -> Result<List, AllocError>
+        ensures { IfOk result (λ chosen. chosen.members ≡ filter (has (set_of self.now trigram).members) within.now.members) }
+    {
+        match self.set(trigram) {
+            Set::Empty => Ok(List::new(alloc)),
+            Set::One(number) => only(alloc, number, within),
+            Set::List(list) => within.intersect(list),
+        }
+    }
+
+    /// The numbers of `within` whose trigrams have this one, and perhaps numbers outside `within`.
+    fn collect_by(&self, alloc: Global, trigram: Trigram, within: &List) -> Result<List, AllocError>
+        ensures { IfOk result (λ found. (n : ℕ) → IsTrue (has within.now.members n)
+            → has found.members n ≡ has (set_of self.now trigram).members n) }
+    {
+        match self.set(trigram) {
+            Set::Empty => Ok(List::new(alloc)),
+            Set::One(number) => Ok(List::one(alloc, number)),
+            Set::List(list) => list.shortened(within),
+        }
+    }
+
+    /// The numbers of `within` whose trigrams have all of these, and perhaps numbers outside `within`. The trigram that
+    /// the fewest numbers have comes first.
+    fn collect_all_by(
+        &self,
+        alloc: Global,
+        trigrams: &[Trigram],
+        within: &List,
+    ) -> Result<List, AllocError>
+        ensures { IfOk result (λ found. (n : ℕ) → IsTrue (has within.now.members n)
+            → has found.members n ≡ list_all (trigrams_with self.now n) trigrams.now) }
+    {
+        let first = self.rarest(trigrams);
+        let mut found = match trigrams.get(first) {
+            Some(trigram) => self.collect_by(alloc, *trigram, within)?,
+            None => within.copy()?,
+        };
+        for trigram in trigrams {
+            if found.is_empty() {
+                return Ok(found);
+            }
+            found = self.narrow_by(alloc, *trigram, &found)?;
+        }
+        Ok(found)
+    }
+
+    /// The place of the trigram that the fewest numbers have (the first such).
+    fn rarest(&self, trigrams: &[Trigram]) -> usize {
+        let mut first = 0;
+        let mut fewest = usize::MAX;
+        for (i, trigram) in trigrams.iter().enumerate() {
+            let size = self.size_by(*trigram);
+            if size < fewest {
+                first = i;
+                fewest = size;
+            }
+        }
+        first
+    }
+
+    /// How many numbers have the trigram.
+    fn size_by(&self, trigram: Trigram) -> usize {
+        match self.set(trigram) {
+            Set::Empty => 0,
+            Set::One(_) => 1,
+            Set::List(list) => list.size(),
+        }
+    }
+
+    /// The numbers of `within` whose trigrams have all those of one of the texts, and perhaps numbers outside `within`.
+    fn collect_texts(&self, alloc: Global, pairs: &Pairs, within: &List) -> Result<List, AllocError>
+        ensures { IfOk result (λ found. Finds self.now (texts (texts_in pairs.now)) within.now.members found.members) }
+    {
+        let texts = pairs.texts(alloc)?;
+        let mut lists = Vec::new(alloc);
+        for text in &texts {
+            let trigrams = trigrams_in_turn(alloc, text.as_slice())?;
+            lists.push(self.collect_all_by(alloc, trigrams.as_slice(), within)?)?;
+        }
+        union_of(alloc, &lists)
+    }
+
     /// The numbers of `within` that meet the query.
     #[cycle(narrow)]
     fn narrow(&self, alloc: Global, query: &Query, within: &List) -> Result<List, AllocError>
@@ -206,11 +292,7 @@ impl Postings {
     {
         match query {
             Query::Any => within.copy(),
-            Query::Has(trigram) => match self.set(*trigram) {
-                Set::Empty => Ok(List::new(alloc)),
-                Set::One(number) => only(alloc, number, within),
-                Set::List(list) => within.intersect(list),
-            },
+            Query::Has(trigram) => self.narrow_by(alloc, *trigram, within),
             _ => within.intersect(&self.collect(alloc, query, within)?),
         }
     }
@@ -224,11 +306,8 @@ impl Postings {
         match query {
             Query::Any => within.copy(),
             Query::None => Ok(List::new(alloc)),
-            Query::Has(trigram) => match self.set(*trigram) {
-                Set::Empty => Ok(List::new(alloc)),
-                Set::One(number) => Ok(List::one(alloc, number)),
-                Set::List(list) => list.shortened(within),
-            },
+            Query::Has(trigram) => self.collect_by(alloc, *trigram, within),
+            Query::Pairs(pairs) => self.collect_texts(alloc, pairs, within),
             Query::And(members) => self.collect_all(alloc, members, within),
             Query::Or(members) => self.collect_any(alloc, members, within),
         }
@@ -284,11 +363,9 @@ impl Postings {
         match query {
             Query::Any => usize::MAX,
             Query::None => 0,
-            Query::Has(trigram) => match self.set(*trigram) {
-                Set::Empty => 0,
-                Set::One(_) => 1,
-                Set::List(list) => list.size(),
-            },
+            Query::Has(trigram) => self.size_by(*trigram),
+            // To count them takes as long as to find them.
+            Query::Pairs(_) => usize::MAX,
             Query::And(members) => {
                 let (_, most) = self.fewest(members);
                 most
