@@ -9,8 +9,7 @@ use Rattle.std.proofs.lemmas.List.{append-nil}
 use Rattle.query.specs.Trigrams.{TrigramSet, has_all_trigrams}
 use Rattle.query.specs.Texts.{Texts, texts_of, joined_texts, has_all_of_one}
 use Rattle.query.specs.Query.{Formula, is_met, IsPlainFor}
-use Rattle.trigram.specs.Texts.{has_text, with_text, with_texts, distinct, joins}
-use Rattle.trigram.proofs.MemberLemmas.{IsIn, IsIn-distinct, IsIn-from_distinct, list_any-IsIn, IsIn-list_any}
+use Rattle.trigram.specs.Texts.{has_text, with_text, with_texts}
 
 pub next_text : (texts : List (Vec ℕ Global)) (i : ℕ) (x : Vec ℕ Global) → i < length texts → x ≡ get_or texts i x
     → texts_of (drop i texts) ≡ x.items ∷ texts_of (drop (i + 1) texts)
@@ -31,32 +30,6 @@ pub with_texts-append : (texts left right : Texts) → with_texts texts (left ++
 unfolding with_texts
 with_texts-append texts [] right = refl
 with_texts-append texts (text ∷ left) right = with_texts-append (with_text texts text) left right
-
--- ---- whether a set has all trigrams of one text of a list
-
-same_test : (a b : Bool) → (a ≡ true → b ≡ true) → (b ≡ true → a ≡ true) → a ≡ b
-same_test true true f g = refl
-same_test true false f g = sym (f refl)
-same_test false true f g = g refl
-same_test false false f g = refl
-
--- what is left out is there already
-pub has_all_of_one-distinct : (texts : Texts) (set : TrigramSet) → has_all_of_one (distinct texts) set ≡ has_all_of_one texts set
-has_all_of_one-distinct texts set =
-    same_test (has_all_of_one (distinct texts) set) (has_all_of_one texts set)
-    (λ some.
-    let one = IsIn-list_any (λ text. has_all_trigrams text set) (distinct texts) some in
-    list_any-IsIn (λ text. has_all_trigrams text set) texts one.0 (IsIn-from_distinct texts one.0 one.1) one.2)
-    (λ some.
-    let one = IsIn-list_any (λ text. has_all_trigrams text set) texts some in
-    list_any-IsIn (λ text. has_all_trigrams text set) (distinct texts) one.0 (IsIn-distinct texts one.0 one.1) one.2)
-
-pub plain_for_joins : (left right : Texts) (query : Formula) → IsPlainFor (has_all_of_one (joined_texts left right)) query
-    → IsPlainFor (has_all_of_one (joins left right)) query
-plain_for_joins left right query h = record {
-  plain = h.plain;
-  met = λ set. h.met set ∙ sym (has_all_of_one-distinct (joined_texts left right) set);
-}
 
 pub plain_for_same : (texts others : Texts) (query : Formula) → texts ≡ others → IsPlainFor (has_all_of_one texts) query
     → IsPlainFor (has_all_of_one others) query

@@ -1,21 +1,21 @@
 //! The analysis of a pattern into the condition that every document with a matching line meets.
 
-ghost use Rattle.std.specs.Prelude.{◌≡◌, IfOk, IsTrue, map, ◌∷◌, [], None, Some, if◌then◌else◌};
+ghost use Rattle.std.specs.Prelude.{◌≡◌, IfOk, IfSome, IfNone, IsTrue, true, false, map, ◌∷◌, [], None, Some, if◌then◌else◌};
 ghost use Rattle.ere.specs.Limits.{IsWithinLimits};
 ghost use Rattle.ere.specs.Tree.{form, trees_of};
 ghost use Rattle.ere.specs.Tree as tree;
 ghost use Rattle.query.specs.Query.{formula_of, is_met, IsPlain, IsPlainFor};
-ghost use Rattle.trigram.specs.Texts.{union, has_all_of_one};
+ghost use Rattle.trigram.specs.Texts.{union, joins, has_all_of_one};
 ghost use Rattle.trigram.specs.Private.Values.{texts_of, shown_analysis, ends_analysis, without_condition, ArePlain, StandFor, EndsStandFor};
 ghost use Rattle.trigram.specs.Analysis.{just_empty, anything, settle_loose, settle_known, are_kept, loosen, either, both};
 ghost use Rattle.trigram.specs.Analysis.{copies_of, optional, repeated, bytes_in, one_byte, analysis_of, condition, known};
 
 use crate::texts::{
-    MOST_TEXTS, Side, copied_texts, has_text, joins, just_empty, kept_ends, query_of_joined,
-    query_of_texts, union,
+    MOST_TEXTS, Side, copied_texts, few_joins, has_text, just_empty, kept_ends, query_of_texts,
+    union,
 };
 use ere::{ByteSet, Ere};
-use query::{Connective, Query, are_same_texts, join};
+use query::{Connective, Query, are_same_texts, join, joined_texts, query_of_joins};
 use std::alloc::{AllocError, Global};
 
 /// The length of the longest text that is kept whole, in bytes.
@@ -224,12 +224,34 @@ fn both(alloc: Global, left: Analysis, right: Analysis) -> Result<Analysis, Allo
 fn both_known(alloc: Global, left: Vec<Vec<u8>>, right: Vec<Vec<u8>>) -> Result<Analysis, AllocError>
     ensures { IfOk result (StandFor (both (known (texts_of left.items)) (known (texts_of right.items)))) }
 {
-    let texts = joins(alloc, left.as_slice(), right.as_slice())?;
-    if are_kept(texts.as_slice()) {
+    if let Some(texts) = kept_joins(alloc, left.as_slice(), right.as_slice())? {
         return Ok(Analysis::Known(texts));
     }
-    let condition = query_of_joined(alloc, left.as_slice(), right.as_slice())?;
+    let condition = query_of_joins(alloc, left.as_slice(), right.as_slice())?;
+    let texts = joined_texts(alloc, left.as_slice(), right.as_slice())?;
     Ok(Analysis::Loose(loosened(alloc, texts, condition)?))
+}
+
+/// The joins of known texts, if they are kept whole.
+fn kept_joins(
+    alloc: Global,
+    left: &[Vec<u8>],
+    right: &[Vec<u8>],
+) -> Result<Option<Vec<Vec<u8>>>, AllocError>
+    ensures some { IfOk result (λ o. IfSome o (λ texts. texts_of texts.items ≡ joins (texts_of left.now) (texts_of right.now))) }
+    ensures kept { IfOk result (λ o. IfSome o (λ texts. are_kept (joins (texts_of left.now) (texts_of right.now)) ≡ true)) }
+    ensures none { IfOk result (λ o. IfNone o (are_kept (joins (texts_of left.now) (texts_of right.now)) ≡ false)) }
+{
+    match few_joins(alloc, left, right)? {
+        None => Ok(None),
+        Some(texts) => {
+            if are_kept(texts.as_slice()) {
+                Ok(Some(texts))
+            } else {
+                Ok(None)
+            }
+        }
+    }
 }
 
 fn known_before(alloc: Global, texts: Vec<Vec<u8>>, ends: Ends) -> Result<Ends, AllocError>
@@ -243,8 +265,8 @@ fn known_before(alloc: Global, texts: Vec<Vec<u8>>, ends: Ends) -> Result<Ends, 
         condition,
     } = ends;
     let all_nullable = has_text(texts.as_slice(), &[]) & nullable;
-    let at_prefix = query_of_joined(alloc, texts.as_slice(), prefixes.as_slice())?;
-    let prefixes = joins(alloc, texts.as_slice(), prefixes.as_slice())?;
+    let at_prefix = query_of_joins(alloc, texts.as_slice(), prefixes.as_slice())?;
+    let prefixes = joined_texts(alloc, texts.as_slice(), prefixes.as_slice())?;
     let suffixes = widened(alloc, nullable, suffixes, texts)?;
     let at_suffix = query_of_texts(alloc, suffixes.as_slice())?;
     let whole = Ends {
@@ -267,8 +289,8 @@ fn known_after(alloc: Global, ends: Ends, texts: Vec<Vec<u8>>) -> Result<Ends, A
         condition,
     } = ends;
     let all_nullable = nullable & has_text(texts.as_slice(), &[]);
-    let at_suffix = query_of_joined(alloc, suffixes.as_slice(), texts.as_slice())?;
-    let suffixes = joins(alloc, suffixes.as_slice(), texts.as_slice())?;
+    let at_suffix = query_of_joins(alloc, suffixes.as_slice(), texts.as_slice())?;
+    let suffixes = joined_texts(alloc, suffixes.as_slice(), texts.as_slice())?;
     let prefixes = widened(alloc, nullable, prefixes, texts)?;
     let at_prefix = query_of_texts(alloc, prefixes.as_slice())?;
     let whole = Ends {
@@ -297,7 +319,7 @@ fn both_loose(alloc: Global, left: Ends, right: Ends) -> Result<Ends, AllocError
         suffixes: right_suffixes,
         condition: right_condition,
     } = right;
-    let across = query_of_joined(alloc, left_suffixes.as_slice(), right_prefixes.as_slice())?;
+    let across = query_of_joins(alloc, left_suffixes.as_slice(), right_prefixes.as_slice())?;
     let after = join(alloc, Connective::And, right_condition, across)?;
     let condition = join(alloc, Connective::And, left_condition, after)?;
     let prefixes = widened(alloc, left_nullable, left_prefixes, right_prefixes)?;

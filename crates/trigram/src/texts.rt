@@ -2,13 +2,13 @@
 
 ghost use Rattle.std.specs.Prelude.{◌≡◌, ◌≤◌, ◌<◌, ◌++◌, IfOk, IfSome, IfNone, OnOk, IsTrue, length, map, flat_map};
 ghost use Rattle.std.specs.Str.{bytes_eq};
-ghost use Rattle.query.specs.Texts.{texts_of, joined_texts, has_all_of_one};
+ghost use Rattle.query.specs.Texts.{texts_of, has_all_of_one};
 ghost use Rattle.query.specs.Query.{formula_of, IsPlainFor};
 ghost use Rattle.trigram.specs.Texts.{has_text, with_text, with_texts, union, joins, kept_ends, cuts, shortest, has_shorter_end};
-ghost use Rattle.trigram.specs.Private.Values.{cut_at, AreDistinct};
+ghost use Rattle.trigram.specs.Private.Values.{cut_at};
 ghost use Rattle.trigram.specs.Analysis.{just_empty};
 
-use query::{Query, joined, joined_texts, query_of_joins};
+use query::{Query, joined, query_of_joins};
 use std::alloc::{AllocError, Global};
 
 /// The greatest number of texts that are kept.
@@ -107,52 +107,24 @@ pub(crate) fn copied_texts(alloc: Global, texts: &[Vec<u8>]) -> Result<Vec<Vec<u
     Ok(copies)
 }
 
-/// Every text of the first set, followed by every text of the second.
+/// Every text of the first set, followed by every text of the second, if these are at most 16 different texts.
 #[tactic(auto, unfolding(crate::specs::Texts::with_texts))]
-pub(crate) fn joins(
+pub(crate) fn few_joins(
     alloc: Global,
     left: &[Vec<u8>],
     right: &[Vec<u8>],
-) -> Result<Vec<Vec<u8>>, AllocError>
-    ensures { IfOk result (λ whole. texts_of whole.items ≡ joins (texts_of left.now) (texts_of right.now)) }
+) -> Result<Option<Vec<Vec<u8>>>, AllocError>
+    ensures some { IfOk result (λ o. IfSome o (λ whole. texts_of whole.items ≡ joins (texts_of left.now) (texts_of right.now))) }
+    ensures none { IfOk result (λ o. IfNone o (MOST_TEXTS < length (joins (texts_of left.now) (texts_of right.now)))) }
 {
-    if are_all_different(left, right) {
-        return joined_texts(alloc, left, right);
-    }
     let mut whole = Vec::new(alloc);
     for prefix in left {
         add_joins(alloc, &mut whole, prefix.as_slice(), right)?;
-    }
-    Ok(whole)
-}
-
-/// Whether it is clear that no two joins are equal, because neither set is empty, and the texts of each set all
-/// differ and have the same length. After a `false`, the joins may still all differ.
-#[tactic(auto, using(crate::proofs::DistinctLemmas::joins_of_distinct))]
-fn are_all_different(left: &[Vec<u8>], right: &[Vec<u8>]) -> bool
-    ensures { IsTrue result → joins (texts_of left.now) (texts_of right.now)
-        ≡ joined_texts (texts_of left.now) (texts_of right.now) }
-{
-    let Some(prefix) = left.first() else {
-        return false;
-    };
-    let Some(suffix) = right.first() else {
-        return false;
-    };
-    are_distinct(left, prefix.len()) && are_distinct(right, suffix.len())
-}
-
-/// Whether the texts are all different, and of this length.
-#[cycle(are_distinct)]
-fn are_distinct(texts: &[Vec<u8>], size: usize) -> bool
-    ensures { IsTrue result → AreDistinct size (texts_of texts.now) }
-{
-    match texts.split_first() {
-        None => true,
-        Some((text, rest)) => {
-            text.len() == size && !has_text(rest, text.as_slice()) && are_distinct(rest, size)
+        if whole.len() > MOST_TEXTS {
+            return Ok(None);
         }
     }
+    Ok(Some(whole))
 }
 
 #[tactic(auto, unfolding(crate::specs::Texts::with_texts))]
@@ -268,18 +240,6 @@ pub(crate) fn query_of_texts(alloc: Global, texts: &[Vec<u8>]) -> Result<Query, 
 {
     let nothing = just_empty(alloc)?;
     query_of_joins(alloc, texts, nothing.as_slice())
-}
-
-/// A plain query that a set of trigrams meets exactly if it has all trigrams of at least one of the joins: a text of the
-/// first set, followed by a text of the second.
-pub(crate) fn query_of_joined(
-    alloc: Global,
-    left: &[Vec<u8>],
-    right: &[Vec<u8>],
-) -> Result<Query, AllocError>
-    ensures { IfOk result (λ query. IsPlainFor (has_all_of_one (joins (texts_of left.now) (texts_of right.now))) (formula_of query)) }
-{
-    query_of_joins(alloc, left, right)
 }
 
 /// The set of the empty text.

@@ -7,13 +7,8 @@ use Rattle.trigram.specs.declared.analysis.Analysis as program
 use Rattle.trigram.specs.declared.analysis.Analysis.TheVariants.{Known, Loose}
 use Rattle.trigram.specs.declared.texts.Side.{Side}
 use Rattle.trigram.specs.declared.texts.Side.TheVariants.{Prefix, Suffix}
-use Rattle.trigram.specs.Texts.{Cut, ending, has_text}
+use Rattle.trigram.specs.Texts.{Cut, ending}
 use Rattle.trigram.specs.Analysis.{Analysis, known, loose}
-
--- the texts are all different, and of this length
-abbrev pub AreDistinct : ℕ → List (List ℕ) → Type 0
-AreDistinct size [] = Unit {0}
-AreDistinct size (text ∷ texts) = (length text ≡ size) × (has_text texts text ≡ false) × AreDistinct size texts
 
 -- the cut at one end
 abbrev pub cut_at : Side → Cut
