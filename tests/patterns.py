@@ -186,10 +186,13 @@ HARD = [
 
 
 def trigrams_in_part(tree, chance):
-    """Some trigrams of two words of a tree: all, or all but a few."""
+    """Trigrams of two words of a tree: all but some that are picked at random, or all but those with a certain byte."""
     words = [word_of(tree, chance) for _ in range(2)]
     trigrams = sorted(trigrams_of(words[0]) | trigrams_of(words[1]))
-    gone = chance.sample(trigrams, min(len(trigrams), chance.choice([0, 1, 1, 2, 5])))
+    if chance.random() < 0.3:
+        byte = chance.choice(chance.choice(trigrams))
+        return [trigram for trigram in trigrams if byte not in trigram]
+    gone = chance.sample(trigrams, min(len(trigrams), chance.choice([0, 1, 3, 9, len(trigrams) // 2])))
     return [trigram for trigram in trigrams if trigram not in gone]
 
 

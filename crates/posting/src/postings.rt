@@ -234,7 +234,7 @@ impl Postings {
         ensures { IfOk result (λ found. (n : ℕ) → IsTrue (has within.now.members n)
             → has found.members n ≡ list_all (trigrams_with self.now n) trigrams.now) }
     {
-        let first = self.rarest(trigrams);
+        let (first, _) = self.rarest(trigrams);
         let mut found = match trigrams.get(first) {
             Some(trigram) => self.collect_by(alloc, *trigram, within)?,
             None => within.copy()?,
@@ -248,8 +248,8 @@ impl Postings {
         Ok(found)
     }
 
-    /// The place of the trigram that the fewest numbers have (the first such).
-    fn rarest(&self, trigrams: &[Trigram]) -> usize {
+    /// The place of the trigram that the fewest numbers have (the first such), and how many have it.
+    fn rarest(&self, trigrams: &[Trigram]) -> (usize, usize) {
         let mut first = 0;
         let mut fewest = usize::MAX;
         for (i, trigram) in trigrams.iter().enumerate() {
@@ -259,7 +259,7 @@ impl Postings {
                 fewest = size;
             }
         }
-        first
+        (first, fewest)
     }
 
     /// How many numbers have the trigram.
@@ -324,7 +324,7 @@ impl Postings {
         ensures { IfOk result (λ found. Finds self.now (all_of (formulas_of (map formula_of members.now)))
             within.now.members found.members) }
     {
-        let (first, _) = self.fewest(members);
+        let (first, _) = self.fewest(alloc, members)?;
         let mut found = match members.get(first) {
             Some(member) => self.collect(alloc, member, within)?,
             None => within.copy()?,
@@ -359,43 +359,53 @@ impl Postings {
 
     /// At most this many numbers meet the query.
     #[cycle(most)]
-    fn most(&self, query: &Query) -> usize {
+    fn most(&self, alloc: Global, query: &Query) -> Result<usize, AllocError> {
         match query {
-            Query::Any => usize::MAX,
-            Query::None => 0,
-            Query::Has(trigram) => self.size_by(*trigram),
-            // To count them takes as long as to find them.
-            Query::Pairs(_) => usize::MAX,
+            Query::Any => Ok(usize::MAX),
+            Query::None => Ok(0),
+            Query::Has(trigram) => Ok(self.size_by(*trigram)),
+            Query::Pairs(pairs) => self.most_of_texts(alloc, pairs),
             Query::And(members) => {
-                let (_, most) = self.fewest(members);
-                most
+                let (_, most) = self.fewest(alloc, members)?;
+                Ok(most)
             }
-            Query::Or(members) => self.most_of_all(members),
+            Query::Or(members) => self.most_of_all(alloc, members),
         }
     }
 
     /// The place of the member that the fewest numbers can meet (the first such), and how many can meet it at most.
     #[cycle(most)]
-    fn fewest(&self, members: &[Query]) -> (usize, usize) {
+    fn fewest(&self, alloc: Global, members: &[Query]) -> Result<(usize, usize), AllocError> {
         let mut first = 0;
         let mut fewest = usize::MAX;
         for (i, member) in members.iter().enumerate() {
-            let most = self.most(member);
+            let most = self.most(alloc, member)?;
             if most < fewest {
                 first = i;
                 fewest = most;
             }
         }
-        (first, fewest)
+        Ok((first, fewest))
     }
 
     #[cycle(most)]
-    fn most_of_all(&self, members: &[Query]) -> usize {
+    fn most_of_all(&self, alloc: Global, members: &[Query]) -> Result<usize, AllocError> {
         let mut sum: usize = 0;
         for member in members {
-            sum = sum.saturating_add(self.most(member));
+            sum = sum.saturating_add(self.most(alloc, member)?);
         }
-        sum
+        Ok(sum)
+    }
+
+    fn most_of_texts(&self, alloc: Global, pairs: &Pairs) -> Result<usize, AllocError> {
+        let texts = pairs.texts(alloc)?;
+        let mut sum: usize = 0;
+        for text in &texts {
+            let trigrams = trigrams_in_turn(alloc, text.as_slice())?;
+            let (_, most) = self.rarest(trigrams.as_slice());
+            sum = sum.saturating_add(most);
+        }
+        Ok(sum)
     }
 }
 

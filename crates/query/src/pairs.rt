@@ -103,7 +103,11 @@ impl Pairs {
 }
 
 /// Adds the lengths and the bytes of these parts.
-fn add_parts(lengths: &mut Vec<usize>, bytes: &mut Vec<u8>, parts: &[Vec<u8>]) -> Result<(), AllocError>
+fn add_parts(
+    lengths: &mut Vec<usize>,
+    bytes: &mut Vec<u8>,
+    parts: &[Vec<u8>],
+) -> Result<(), AllocError>
     ensures lengths { OnOk result (lengths.new.items ≡ lengths.old.items ++ map length (texts_of parts.now)) }
     ensures bytes { OnOk result (bytes.new.items ≡ bytes.old.items ++ flat_map (λ part. part) (texts_of parts.now)) }
 {

@@ -19,7 +19,11 @@ const SHORTEST: usize = 3;
 /// a text of `left`, followed by a text of `right`. It takes memory for the texts of both, but not for each join.
 ///
 /// An `Err` means that memory ran out.
-pub fn query_of_joins(alloc: Global, left: &[Vec<u8>], right: &[Vec<u8>]) -> Result<Query, AllocError>
+pub fn query_of_joins(
+    alloc: Global,
+    left: &[Vec<u8>],
+    right: &[Vec<u8>],
+) -> Result<Query, AllocError>
     ensures { IfOk result (λ query. IsPlainFor (has_all_of_one (joined_texts (texts_of left.now) (texts_of right.now))) (formula_of query)) }
 {
     if left.is_empty() || right.is_empty() {
@@ -66,7 +70,12 @@ fn query_of_text(alloc: Global, text: &[u8]) -> Result<Query, AllocError>
 {
     let mut query = Query::Any;
     for i in 0..text.len().saturating_sub(2) {
-        query = join(alloc, Connective::And, query, Query::Has(trigram_at(text, i)))?;
+        query = join(
+            alloc,
+            Connective::And,
+            query,
+            Query::Has(trigram_at(text, i)),
+        )?;
     }
     Ok(query)
 }

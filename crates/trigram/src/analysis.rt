@@ -221,7 +221,11 @@ fn both(alloc: Global, left: Analysis, right: Analysis) -> Result<Analysis, Allo
     }
 }
 
-fn both_known(alloc: Global, left: Vec<Vec<u8>>, right: Vec<Vec<u8>>) -> Result<Analysis, AllocError>
+fn both_known(
+    alloc: Global,
+    left: Vec<Vec<u8>>,
+    right: Vec<Vec<u8>>,
+) -> Result<Analysis, AllocError>
     ensures { IfOk result (StandFor (both (known (texts_of left.items)) (known (texts_of right.items)))) }
 {
     if let Some(texts) = kept_joins(alloc, left.as_slice(), right.as_slice())? {

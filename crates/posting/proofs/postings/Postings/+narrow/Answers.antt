@@ -76,7 +76,7 @@ collect-returns-in-Or t c =
 pub collect_all-returns-then-is_empty : goal.collect_all-returns-then-is_empty
 collect_all-returns-then-is_empty t c =
     finds_all c.args.self.now c.args.members.now c.args.within.now.members c.loop-i.found.members
-    (narrowed_to_none (is_met_by c.args.self.now) c.args.members.now c.fewest-first.result.0 c.loop-i.i c.args.within.now.members c.loop-i.found.members
+    (narrowed_to_none (is_met_by c.args.self.now) c.args.members.now c.in_ok-first.first c.loop-i.i c.args.within.now.members c.loop-i.found.members
     (c.is_empty.ensures.empty.0 c.if-is_empty.true) c.loop-i.invariant)
 
 pub collect_all-loop-i-preserved : goal.collect_all-loop-i-preserved
@@ -84,19 +84,19 @@ collect_all-loop-i-preserved t c =
     elim c.if-i-first.branch [
       | collect_all-then-i-first+in_ok-found w ↦
           rw w.found-is
-          (narrowed_more (is_met_by c.args.self.now) c.args.members.now c.fewest-first.result.0 c.loop-i.i c.index-members-i.result
+          (narrowed_more (is_met_by c.args.self.now) c.args.members.now c.in_ok-first.first c.loop-i.i c.index-members-i.result
           c.args.within.now.members c.loop-i.found.members w.in_ok-found.found.members c.loop-i-test.true c.index-members-i.is
           c.loop-i.invariant w.in_ok-found.ensures)
       | collect_all-else-i-first w ↦
           rw w.found-is
-          (narrowed_passed (is_met_by c.args.self.now) c.args.members.now c.fewest-first.result.0 c.loop-i.i c.index-members-i.result
+          (narrowed_passed (is_met_by c.args.self.now) c.args.members.now c.in_ok-first.first c.loop-i.i c.index-members-i.result
           c.args.within.now.members c.loop-i.found.members w.if-i-first.false c.loop-i-test.true c.loop-i.invariant)
     ]
 
 pub collect_all-returns : goal.collect_all-returns
 collect_all-returns t c =
     finds_all c.args.self.now c.args.members.now c.args.within.now.members c.loop-i.found.members
-    (narrowed_ends (is_met_by c.args.self.now) c.args.members.now c.fewest-first.result.0 c.loop-i.i c.args.within.now.members c.loop-i.found.members
+    (narrowed_ends (is_met_by c.args.self.now) c.args.members.now c.in_ok-first.first c.loop-i.i c.args.within.now.members c.loop-i.found.members
     c.loop-i-test.false c.loop-i.invariant)
 
 pub collect_any-returns : goal.collect_any-returns
