@@ -23,7 +23,7 @@ EACH, ALWAYS = 300, 65_536
 AT_ONCE = 400
 
 # The program reads the names of a file of patterns, one a line, and of the case. For each pattern it writes a line: how long it
-# took in nanoseconds, or 0 if it is refused. The library counts the memory between two lines.
+# took in nanoseconds, the least of three times, or 0 if it is refused. The library counts the memory between two lines.
 METER = r"""//! What the preparation of patterns takes.
 #![tactic(auto)]
 
@@ -64,10 +64,14 @@ fn first_line(text: &[u8]) -> (&[u8], &[u8]) {
 }
 
 fn meter<R: Clock + Print + AllocGlobal>(rt: &R, pattern: &[u8], ignored: bool) -> io::Result<()> {
-    let start = Instant::now(rt)?;
-    let prepared = prepare(rt.alloc(), pattern, ignored)?;
-    let nanos = start.elapsed(rt)?.as_nanos();
-    if prepared { println!(rt; "{nanos}") } else { println!(rt; "0") }
+    let mut least = u128::MAX;
+    for _ in 0..3 {
+        let start = Instant::now(rt)?;
+        let prepared = prepare(rt.alloc(), pattern, ignored)?;
+        let nanos = start.elapsed(rt)?.as_nanos();
+        least = least.min(if prepared { nanos } else { 0 });
+    }
+    println!(rt; "{least}")
 }
 
 fn prepare(alloc: Global, pattern: &[u8], ignored: bool) -> Result<bool, AllocError> {
@@ -83,7 +87,8 @@ fn prepare(alloc: Global, pattern: &[u8], ignored: bool) -> Result<bool, AllocEr
 }
 """
 
-# Counts the bytes in use, as they were asked for. At each line of the program it writes the most that were in use since the last one.
+# Counts the bytes in use, with what the C library adds to each request. At each line of the program it writes how many more were in use
+# at most since the last one.
 COUNTING = r"""
 #include <malloc.h>
 #include <stddef.h>
@@ -122,6 +127,10 @@ KNOWN = [
     ("(abcdefghijkl[!-0]){255}", False),
     ("(abcdefghijklmnopqrstuvwxyzABCDEF[!-0]){2}", False),
     ("".join("(%s[!-0]){2}" % LETTERS[i : i + 30] for i in range(0, 30)), False),
+    ("".join(random.Random(1).choices(LETTERS[:26], k=MOST)), True),
+    ("".join(random.Random(1).choices(LETTERS[:26], k=MOST // 2 + 1)), True),
+    ("(".join("[!-0]%s[!-0]%s" % (LETTERS[i], LETTERS[i + 1]) for i in range(60)) + ")" * 59, False),
+    ("A(4{63}[$-3]){8}|V{8}(1{60}[$-3]){4}(1{60}[$-3]){4}", True),
     ("(1{60}abcd){4,}" * 16, True),
     ("([!-0]1{63}){4,}" * 16, False),
     ("(abcd1{60})" * 60, True),

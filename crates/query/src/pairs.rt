@@ -88,10 +88,11 @@ impl Pairs {
     pub(crate) fn is_same(&self, other: &Pairs) -> bool
         ensures { IsTrue result → texts_in self.now ≡ texts_in other.now }
     {
-        self.lefts == other.lefts
+        // The bytes differ most often.
+        self.bytes == other.bytes
+            && self.lefts == other.lefts
             && self.rights == other.rights
             && self.lengths == other.lengths
-            && self.bytes == other.bytes
     }
 
     /// The bytes of all parts.
