@@ -9,15 +9,17 @@ Each row of tests/patterns.rows is of one of these kinds:
     iset, iall-but              the same with case ignored
     asks PATTERN +SET.. -SET..  a document whose trigrams are a set with a plus is a candidate, and one of a set with a minus is not
 
-The tables below are those that are too long for a file.
+The tables below are those that are too long for a file. What hard patterns ask is compared with a model of the analysis (asked.py).
 
 Usage: tests/patterns.py   The last line counts: N passed, M failed.
 """
 
 import itertools
+import random
 import re
 import subprocess
 
+from asked import Cat, Range, Text, Times, is_asked, pattern_of, trigrams_of, word_of
 from built import PROGRAM, TOP, need_program, put, rows_of
 from counted import Counted
 
@@ -172,6 +174,41 @@ def spellings_of_a_text():
     return compare(begin, [(b"isearch %s\n" % pattern, wanted, candidates_and_texts) for pattern in (b"abc", b"ABC", b"[Aa]bC")])
 
 
+LETTERS = bytes([*range(65, 91), *range(97, 123), *range(48, 58)])
+SIXTEEN = Range(ord("!"), ord("0"))
+# Patterns whose parts have sixteen texts each, so that two parts have 256: a set after each of 70 letters, and after a text.
+HARD = [
+    Times(Cat([part for byte in LETTERS + LETTERS[:8] for part in (SIXTEEN, Text(bytes([byte])))]), 29),
+    Times(Cat([Text(b"abcdefghijkl"), SIXTEEN]), 255),
+    Times(Cat([Text(b"abcdefghijklmnopqrstuvwxyzABCDEF"), SIXTEEN]), 2),
+    Cat([Times(Cat([Text(b"ab"), SIXTEEN]), 2), Times(Cat([SIXTEEN, Text(b"cd")]), 3), Text(b"ef"), SIXTEEN, Text(b"g")]),
+]
+
+
+def trigrams_in_part(tree, chance):
+    """Trigrams of two words of a tree: all but some that are picked at random, or all but those with a certain byte."""
+    words = [word_of(tree, chance) for _ in range(2)]
+    trigrams = sorted(trigrams_of(words[0]) | trigrams_of(words[1]))
+    if chance.random() < 0.3:
+        byte = chance.choice(chance.choice(trigrams))
+        return [trigram for trigram in trigrams if byte not in trigram]
+    gone = chance.sample(trigrams, min(len(trigrams), chance.choice([0, 1, 3, 9, len(trigrams) // 2])))
+    return [trigram for trigram in trigrams if trigram not in gone]
+
+
+def demands_of_hard_patterns():
+    """A document is a candidate exactly if its trigrams pass the test of the model."""
+    chance = random.Random(1)
+    for tree in HARD:
+        test, seen = is_asked(tree), set()
+        for _ in range(40):
+            held = trigrams_in_part(tree, chance)
+            wanted = test(frozenset(held))
+            seen.add(wanted)
+            yield put(b"d", b"\n".join(held)) + b"publish\nsearch %s\n" % pattern_of(tree), wanted, is_candidate
+        assert seen == {True, False}
+
+
 def main():
     need_program()
     rows, counted = list(rows_of(ROWS)), Counted()
@@ -182,6 +219,7 @@ def main():
     counted.judge(compare(put(b"f", b"\n".join(LINES)) + b"publish\n", searches))
     asked = [row for row in rows if row[0] == b"asks"]
     counted.judge(compare(b"", [search for _, pattern, *given in asked for search in demands(pattern, given)]))
+    counted.judge(compare(b"", list(demands_of_hard_patterns())))
     counted.judge(spellings_of_a_text())
     kinds = len(refused) + len(sets) + len(asked)
     counted.judge([None if kinds == len(rows) else f"{len(rows) - kinds} rows are of no kind"])

@@ -19,7 +19,7 @@ fn analysed(rt: &impl Abort, alloc: Global, pattern: &[u8]) -> Result<Query, Fai
     Ok(asked(rt, alloc, &tree)?)
 }
 
-/// How many parts the query has: itself, its members, and theirs.
+/// How many parts the query has: itself, its members, and theirs. Texts of two parts are one.
 fn size_of(query: &Query) -> usize {
     let mut size: usize = 1;
     match query {
@@ -118,10 +118,6 @@ fn hardest(alloc: Global) -> Result<Vec<u8>, AllocError> {
     Ok(pattern)
 }
 
-/// The most parts that the query of a join of known texts has: 108 trigrams and an And for each of 256 texts, and an
-/// Or. What comes up in the words, in their fronts and in their backs counts once.
-const MOST_OF_A_JOIN: usize = 256 * 109 + 1;
-
 /// Patterns, and the sizes of their queries: an And and its trigrams, or a trigram alone.
 const SAME_AGAIN: [(&[u8], usize); 9] = [
     // abc, bcd
@@ -156,10 +152,12 @@ fn conditions_that_are_there_already(rt: HostRuntime) -> Result<(), Fail> {
 }
 
 /// Patterns, and the greatest sizes of their queries.
-const SIZES: [(&[u8], usize); 3] = [
+const SIZES: [(&[u8], usize); 4] = [
     (b"(a{255}){16}", 10),
     (b"([ab]c?){255}", 4 * 255),
-    (b"([a-p](abcdefghijklmnopqr){3}){2}", MOST_OF_A_JOIN),
+    // 256 texts, each of two parts of which there are 16
+    (b"([a-p](abcdefghijklmnopqr){3}){2}", 1),
+    (b"(abcdefghijklmnopqrstuvwxyzABCDEF[!-0]){2}", 1),
 ];
 
 fn size_asked(rt: &impl Abort, alloc: Global, pattern: &[u8]) -> Result<usize, Fail> {
@@ -182,6 +180,7 @@ fn sizes_of_queries(rt: HostRuntime) -> Result<(), Fail> {
 fn size_of_the_hardest(rt: HostRuntime) -> Result<(), Fail> {
     let pattern = hardest(rt.alloc())?;
     assert!(rt; pattern.len() == 1023);
-    assert!(rt; size_asked(&rt, rt.alloc(), &pattern)? <= 31 * (MOST_OF_A_JOIN + 1000));
+    // an And, the texts of each group, and those across each border of two groups
+    assert!(rt; size_asked(&rt, rt.alloc(), &pattern)? <= 1 + 31 + 30);
     Ok(())
 }

@@ -10,11 +10,15 @@ use Rattle.std.proofs.lemmas.List.{take_all}
 use Rattle.std.proofs.lemmas.List.Elements.{filter_agree}
 use Rattle.std.proofs.lemmas.List.Folds.{list_all_more, list_any_more, list_any-append}
 use Rattle.std.proofs.lemmas.Option.{slice_get-get_or, slice_get_read, slice_get_past}
-use Rattle.query.specs.Trigrams.{TrigramSet}
+use Rattle.std.specs.declared.boxed.Box.{Box}
+use Rattle.query.specs.declared.pairs.Pairs.{Pairs}
+use Rattle.query.specs.Trigrams.{TrigramSet, has_all_trigrams}
+use Rattle.query.specs.Texts.{Texts, texts_of, has_all_of_one}
+use Rattle.query.specs.Pairs.{texts_in}
 use Rattle.query.specs.declared.query.Query.{Query}
 use Rattle.query.specs.declared.query.Query.TheVariants as query
-use Rattle.query.specs.Query.{Formula, all_of, one_of, formula_of, formulas_of, is_met, are_all_met, is_one_met}
-use Rattle.query.proofs.Forms.{formula_of-Any, formula_of-None, formula_of-Has, formula_of-And, formula_of-Or}
+use Rattle.query.specs.Query.{Formula, texts, all_of, one_of, formula_of, formulas_of, is_met, are_all_met, is_one_met}
+use Rattle.query.proofs.Forms.{formula_of-Any, formula_of-None, formula_of-Has, formula_of-Pairs, formula_of-And, formula_of-Or}
 use Rattle.posting.specs.ListValue.{ListValue, has}
 use Rattle.posting.specs.Postings.{NumberSet, set_of, trigrams_with, selected}
 use Rattle.posting.specs.Private.Selection.{Finds}
@@ -46,11 +50,6 @@ pub chosen-Has : (table : List NumberSet) (t : ℕ) (xs : List ℕ)
 chosen-Has table t xs =
     filter_agree (λ n. is_met (formula_of (query.Has t)) (trigrams_with table n)) (has (set_of table t).members)
     (λ n. met-Has t (trigrams_with table n)) xs
-
--- a trigram whose set is empty
-pub chosen-Has_empty : (table : List NumberSet) (t : ℕ) (xs : List ℕ) → (set_of table t).members ≡ []
-    → filter (λ n. is_met (formula_of (query.Has t)) (trigrams_with table n)) xs ≡ []
-chosen-Has_empty table t xs empty = chosen-Has table t xs ∙ filter_none (has (set_of table t).members) xs (λ k d inside. rw empty refl)
 
 -- the set meets the query
 abbrev pub meets : TrigramSet → Query → Bool
@@ -114,17 +113,17 @@ found-Or table members given found h = rw (formula_of-Or members) h
 -- ---- all members, the first one before the others
 
 -- the member that comes first, where there is one
-abbrev pub first_meets : TrigramSet → Option Query → Bool
-first_meets set None = true
-first_meets set (Some q) = meets set q
+abbrev pub first_passes : {X : Type 0} → (X → Bool) → Option X → Bool
+first_passes test None = true
+first_passes test (Some x) = test x
 
 -- the first member and those before place i
-abbrev pub some_meet : TrigramSet → List Query → ℕ → ℕ → Bool
-some_meet set members first i = first_meets set (slice_get members first) && list_all (meets set) (take i members)
+abbrev pub some_pass : {X : Type 0} → (X → Bool) → List X → ℕ → ℕ → Bool
+some_pass test members first i = first_passes test (slice_get members first) && list_all test (take i members)
 
--- Of the given numbers, exactly those that meet the first member and the members before place i were found.
-abbrev pub Narrowed : List NumberSet → List Query → ℕ → ℕ → List ℕ → List ℕ → Type 0
-Narrowed table members first i given found = (n : ℕ) → has given n ≡ true → has found n ≡ some_meet (trigrams_with table n) members first i
+-- Of the given numbers, exactly those were found with which the first member and the members before place i pass the test.
+abbrev pub Narrowed : {X : Type 0} → (ℕ → X → Bool) → List X → ℕ → ℕ → List ℕ → List ℕ → Type 0
+Narrowed test members first i given found = (n : ℕ) → has given n ≡ true → has found n ≡ some_pass (test n) members first i
 
 and_true : (a : Bool) → a ≡ (a && true)
 and_true true = refl
@@ -134,30 +133,28 @@ and_assoc : (a b c : Bool) → ((a && b) && c) ≡ (a && (b && c))
 and_assoc true b c = refl
 and_assoc false b c = refl
 
-pub narrowed_from_first : (table : List NumberSet) (members : List Query) (first : ℕ) (member : Query) (given found : List ℕ)
-    → first < length members → member ≡ get_or members first member → Finds table (formula_of member) given found
-    → Narrowed table members first 0 given found
-narrowed_from_first table members first member given found inside is h n there =
-    h n there ∙ ap (first_meets (trigrams_with table n)) (sym (slice_get_read members (length members) first member refl inside is))
-    ∙ and_true (first_meets (trigrams_with table n) (slice_get members first))
+pub narrowed_from_first : {X : Type 0} (test : ℕ → X → Bool) (members : List X) (first : ℕ) (member : X) (given found : List ℕ)
+    → first < length members → member ≡ get_or members first member
+    → ((n : ℕ) → has given n ≡ true → has found n ≡ test n member) → Narrowed test members first 0 given found
+narrowed_from_first test members first member given found inside is h n there =
+    h n there ∙ ap (first_passes (test n)) (sym (slice_get_read members (length members) first member refl inside is))
+    ∙ and_true (first_passes (test n) (slice_get members first))
 
-pub narrowed_from_all : (table : List NumberSet) (members : List Query) (first : ℕ) (given found : List ℕ) → length members ≤ first
-    → found ≡ given → Narrowed table members first 0 given found
-narrowed_from_all table members first given found past same n there =
-    ap (λ ns. has ns n) same ∙ there ∙ ap (first_meets (trigrams_with table n)) (sym (slice_get_past members first past))
-    ∙ and_true (first_meets (trigrams_with table n) (slice_get members first))
+pub narrowed_from_all : {X : Type 0} (test : ℕ → X → Bool) (members : List X) (first : ℕ) (given found : List ℕ) → length members ≤ first
+    → found ≡ given → Narrowed test members first 0 given found
+narrowed_from_all test members first given found past same n there =
+    ap (λ ns. has ns n) same ∙ there ∙ ap (first_passes (test n)) (sym (slice_get_past members first past))
+    ∙ and_true (first_passes (test n) (slice_get members first))
 
-pub narrowed_more : (table : List NumberSet) (members : List Query) (first i : ℕ) (member : Query) (given found fewer : List ℕ)
-    → i < length members → member ≡ get_or members i member → Narrowed table members first i given found
-    → fewer ≡ selected table (formula_of member) found → Narrowed table members first (i + 1) given fewer
-narrowed_more table members first i member given found fewer inside is h less n there =
-    ap (λ ns. has ns n) less ∙ has-filter (λ m. meets (trigrams_with table m) member) found n
-    ∙ ap (λ b. b && meets (trigrams_with table n) member) (h n there)
-    ∙ and_assoc (first_meets (trigrams_with table n) (slice_get members first)) (list_all (meets (trigrams_with table n)) (take i members))
-    (meets (trigrams_with table n) member)
-    ∙ ap (λ b. first_meets (trigrams_with table n) (slice_get members first) && b)
-    (ap (λ q. list_all (meets (trigrams_with table n)) (take i members) && meets (trigrams_with table n) q) is
-    ∙ sym (list_all_more (meets (trigrams_with table n)) members i member inside))
+pub narrowed_more : {X : Type 0} (test : ℕ → X → Bool) (members : List X) (first i : ℕ) (member : X) (given found fewer : List ℕ)
+    → i < length members → member ≡ get_or members i member → Narrowed test members first i given found
+    → fewer ≡ filter (λ m. test m member) found → Narrowed test members first (i + 1) given fewer
+narrowed_more test members first i member given found fewer inside is h less n there =
+    ap (λ ns. has ns n) less ∙ has-filter (λ m. test m member) found n
+    ∙ ap (λ b. b && test n member) (h n there)
+    ∙ and_assoc (first_passes (test n) (slice_get members first)) (list_all (test n) (take i members)) (test n member)
+    ∙ ap (λ b. first_passes (test n) (slice_get members first) && b)
+    (ap (λ q. list_all (test n) (take i members) && test n q) is ∙ sym (list_all_more (test n) members i member inside))
 
 absorbed : (a b : Bool) → (a && b) ≡ (a && (b && a))
 absorbed true true = refl
@@ -165,16 +162,16 @@ absorbed true false = refl
 absorbed false b = refl
 
 -- the first member is skipped at its own place
-some_meet-first : (set : TrigramSet) (members : List Query) (i : ℕ) (member : Query) → i < length members
-    → some_meet set members i i ≡ some_meet set members i (i + 1)
-some_meet-first set members i member inside =
+some_pass-first : {X : Type 0} (test : X → Bool) (members : List X) (i : ℕ) (member : X) → i < length members
+    → some_pass test members i i ≡ some_pass test members i (i + 1)
+some_pass-first test members i member inside =
     let there : slice_get members i ≡ Some (get_or members i member) = slice_get-get_or members i member inside in
-    rw (there, list_all_more (meets set) members i member inside) (absorbed (meets set (get_or members i member)) (list_all (meets set) (take i members)))
+    rw (there, list_all_more test members i member inside) (absorbed (test (get_or members i member)) (list_all test (take i members)))
 
-pub narrowed_passed : (table : List NumberSet) (members : List Query) (first i : ℕ) (member : Query) (given found : List ℕ) → i ≡ first
-    → i < length members → Narrowed table members first i given found → Narrowed table members first (i + 1) given found
-narrowed_passed table members first i member given found is inside h n there =
-    h n there ∙ rw (← is) (some_meet-first (trigrams_with table n) members i member inside)
+pub narrowed_passed : {X : Type 0} (test : ℕ → X → Bool) (members : List X) (first i : ℕ) (member : X) (given found : List ℕ) → i ≡ first
+    → i < length members → Narrowed test members first i given found → Narrowed test members first (i + 1) given found
+narrowed_passed test members first i member given found is inside h n there =
+    h n there ∙ rw (← is) (some_pass-first (test n) members i member inside)
 
 implied : (a b : Bool) → (a ≡ false → b ≡ false) → (a && b) ≡ b
 implied true b h = refl
@@ -184,67 +181,97 @@ and_false : (a : Bool) → (a && false) ≡ false
 and_false true = refl
 and_false false = refl
 
--- if the first member isn't met, not all are
-first_of_all : (members : List Query) (first : ℕ) (set : TrigramSet) → first_meets set (slice_get members first) ≡ false → list_all (meets set) members ≡ false
-first_of_all [] first set fails = absurd (false≢true (sym fails))
-first_of_all (q ∷ members) zero set fails = rw fails refl
-first_of_all (q ∷ members) (suc first) set fails = rw (first_of_all members first set fails) (and_false (meets set q))
+-- if the first member does not pass, not all do
+first_of_all : {X : Type 0} (test : X → Bool) (members : List X) (first : ℕ) → first_passes test (slice_get members first) ≡ false
+    → list_all test members ≡ false
+first_of_all test [] first fails = absurd (false≢true (sym fails))
+first_of_all test (q ∷ members) zero fails = rw fails refl
+first_of_all test (q ∷ members) (suc first) fails = rw (first_of_all test members first fails) (and_false (test q))
 
--- nor if those before place i aren't all met
-some_of_all : (members : List Query) (i : ℕ) (set : TrigramSet) → list_all (meets set) (take i members) ≡ false → list_all (meets set) members ≡ false
-some_of_all [] zero set fails = fails
-some_of_all [] (suc i) set fails = fails
-some_of_all (q ∷ members) zero set fails = absurd (false≢true (sym fails))
-some_of_all (q ∷ members) (suc i) set fails = cases (meets set q) refl (some_of_all members i set)
+-- nor if those before place i do not all pass
+some_of_all : {X : Type 0} (test : X → Bool) (members : List X) (i : ℕ) → list_all test (take i members) ≡ false → list_all test members ≡ false
+some_of_all test [] zero fails = fails
+some_of_all test [] (suc i) fails = fails
+some_of_all test (q ∷ members) zero fails = absurd (false≢true (sym fails))
+some_of_all test (q ∷ members) (suc i) fails = cases (test q) refl (some_of_all test members i)
   where
-    cases : (b : Bool) → meets set q ≡ b → (list_all (meets set) (take i members) ≡ false → list_all (meets set) members ≡ false)
-        → (meets set q && list_all (meets set) members) ≡ false
+    cases : (b : Bool) → test q ≡ b → (list_all test (take i members) ≡ false → list_all test members ≡ false)
+        → (test q && list_all test members) ≡ false
     cases true e later = rw e (later (rw e at fails))
     cases false e later = rw e refl
 
-pub narrowed_ends : (table : List NumberSet) (members : List Query) (first i : ℕ) (given found : List ℕ) → length members ≤ i
-    → Narrowed table members first i given found → Finds table (all_of (formulas_of (map formula_of members))) given found
-narrowed_ends table members first i given found end h n there =
+pub narrowed_ends : {X : Type 0} (test : ℕ → X → Bool) (members : List X) (first i : ℕ) (given found : List ℕ) → length members ≤ i
+    → Narrowed test members first i given found → (n : ℕ) → has given n ≡ true → has found n ≡ list_all (test n) members
+narrowed_ends test members first i given found end h n there =
     h n there
-    ∙ ap (λ qs. first_meets (trigrams_with table n) (slice_get members first) && list_all (meets (trigrams_with table n)) qs) (take_all i members end)
-    ∙ implied (first_meets (trigrams_with table n) (slice_get members first)) (list_all (meets (trigrams_with table n)) members)
-    (first_of_all members first (trigrams_with table n))
-    ∙ sym (all_met-list members (trigrams_with table n))
+    ∙ ap (λ qs. first_passes (test n) (slice_get members first) && list_all (test n) qs) (take_all i members end)
+    ∙ implied (first_passes (test n) (slice_get members first)) (list_all (test n) members) (first_of_all (test n) members first)
 
 -- once no numbers are left, the other members can take none away
-pub narrowed_to_none : (table : List NumberSet) (members : List Query) (first i : ℕ) (given found : List ℕ) → found ≡ []
-    → Narrowed table members first i given found → Finds table (all_of (formulas_of (map formula_of members))) given found
-narrowed_to_none table members first i given found none h n there =
-    let fails : some_meet (trigrams_with table n) members first i ≡ false = sym (h n there) ∙ ap (λ ns. has ns n) none in
-    ap (λ ns. has ns n) none
-    ∙ sym
-    (all_met-list members (trigrams_with table n)
-    ∙ either (first_meets (trigrams_with table n) (slice_get members first)) refl fails)
+pub narrowed_to_none : {X : Type 0} (test : ℕ → X → Bool) (members : List X) (first i : ℕ) (given found : List ℕ) → found ≡ []
+    → Narrowed test members first i given found → (n : ℕ) → has given n ≡ true → has found n ≡ list_all (test n) members
+narrowed_to_none test members first i given found none h n there =
+    let fails : some_pass (test n) members first i ≡ false = sym (h n there) ∙ ap (λ ns. has ns n) none in
+    ap (λ ns. has ns n) none ∙ sym (either (first_passes (test n) (slice_get members first)) refl fails)
   where
-    either : (b : Bool) → first_meets (trigrams_with table n) (slice_get members first) ≡ b
-        → some_meet (trigrams_with table n) members first i ≡ false → list_all (meets (trigrams_with table n)) members ≡ false
-    either true e fails = some_of_all members i (trigrams_with table n) (rw e at fails)
-    either false e fails = first_of_all members first (trigrams_with table n) e
+    either : (b : Bool) → first_passes (test n) (slice_get members first) ≡ b → some_pass (test n) members first i ≡ false
+        → list_all (test n) members ≡ false
+    either true e fails = some_of_all (test n) members i (rw e at fails)
+    either false e fails = first_of_all (test n) members first e
 
 -- ---- one member
 
--- Of the given numbers, exactly those that meet a member before place i are in a list.
-abbrev pub Joined : List NumberSet → List Query → ℕ → List ℕ → List ListValue → Type 0
-Joined table members i given lists =
-    (n : ℕ) → has given n ≡ true → list_any (λ list. has list.members n) lists ≡ list_any (meets (trigrams_with table n)) (take i members)
+-- Of the given numbers, exactly those are in a list with which a member before place i passes the test.
+abbrev pub Joined : {X : Type 0} → (ℕ → X → Bool) → List X → ℕ → List ℕ → List ListValue → Type 0
+Joined test members i given lists =
+    (n : ℕ) → has given n ≡ true → list_any (λ list. has list.members n) lists ≡ list_any (test n) (take i members)
 
-pub joined_more : (table : List NumberSet) (members : List Query) (i : ℕ) (member : Query) (given : List ℕ) (lists : List ListValue)
-    (next : ListValue) → i < length members → member ≡ get_or members i member → Joined table members i given lists
-    → Finds table (formula_of member) given next.members → Joined table members (i + 1) given (lists ++ next ∷ [])
-joined_more table members i member given lists next inside is h found n there =
+pub joined_more : {X : Type 0} (test : ℕ → X → Bool) (members : List X) (i : ℕ) (member : X) (given : List ℕ) (lists : List ListValue)
+    (next : ListValue) → i < length members → member ≡ get_or members i member → Joined test members i given lists
+    → ((n : ℕ) → has given n ≡ true → has next.members n ≡ test n member) → Joined test members (i + 1) given (lists ++ next ∷ [])
+joined_more test members i member given lists next inside is h found n there =
     list_any-append (λ list. has list.members n) lists (next ∷ [])
     ∙ ap (λ b. list_any (λ list. has list.members n) lists || b) (or-false (has next.members n))
     ∙ ap (λ b. b || has next.members n) (h n there)
-    ∙ ap (λ b. list_any (meets (trigrams_with table n)) (take i members) || b) (found n there ∙ ap (meets (trigrams_with table n)) is)
-    ∙ sym (list_any_more (meets (trigrams_with table n)) members i member inside)
+    ∙ ap (λ b. list_any (test n) (take i members) || b) (found n there ∙ ap (test n) is)
+    ∙ sym (list_any_more (test n) members i member inside)
 
-pub joined_ends : (table : List NumberSet) (members : List Query) (i : ℕ) (given found : List ℕ) (lists : List ListValue)
-    → length members ≤ i → Joined table members i given lists → ((n : ℕ) → has found n ≡ list_any (λ list. has list.members n) lists)
+pub joined_ends : {X : Type 0} (test : ℕ → X → Bool) (members : List X) (i : ℕ) (given found : List ℕ) (lists : List ListValue)
+    → length members ≤ i → Joined test members i given lists → ((n : ℕ) → has found n ≡ list_any (λ list. has list.members n) lists)
+    → (n : ℕ) → has given n ≡ true → has found n ≡ list_any (test n) members
+joined_ends test members i given found lists end h union n there =
+    union n ∙ h n there ∙ ap (list_any (test n)) (take_all i members end)
+
+-- ---- members that are queries, and texts
+
+-- the number meets the query
+abbrev pub is_met_by : List NumberSet → ℕ → Query → Bool
+is_met_by table n q = meets (trigrams_with table n) q
+
+pub finds_all : (table : List NumberSet) (members : List Query) (given found : List ℕ)
+    → ((n : ℕ) → has given n ≡ true → has found n ≡ list_all (is_met_by table n) members)
+    → Finds table (all_of (formulas_of (map formula_of members))) given found
+finds_all table members given found h n there = h n there ∙ sym (all_met-list members (trigrams_with table n))
+
+pub finds_any : (table : List NumberSet) (members : List Query) (given found : List ℕ)
+    → ((n : ℕ) → has given n ≡ true → has found n ≡ list_any (is_met_by table n) members)
     → Finds table (one_of (formulas_of (map formula_of members))) given found
-joined_ends table members i given found lists end h union n there =
-    union n ∙ h n there ∙ ap (list_any (meets (trigrams_with table n))) (take_all i members end) ∙ sym (one_met-list members (trigrams_with table n))
+finds_any table members given found h n there = h n there ∙ sym (one_met-list members (trigrams_with table n))
+
+-- the number has all trigrams of the text
+abbrev pub has_text_of : List NumberSet → ℕ → Vec ℕ Global → Bool
+has_text_of table n text = has_all_trigrams text.items (trigrams_with table n)
+
+any_text : (set : TrigramSet) (vecs : List (Vec ℕ Global)) → list_any (λ text. has_all_trigrams text.items set) vecs ≡ has_all_of_one (texts_of vecs) set
+any_text set [] = refl
+any_text set (text ∷ vecs) = ap (λ b. has_all_trigrams text.items set || b) (any_text set vecs)
+
+pub finds_texts : (table : List NumberSet) (vecs : List (Vec ℕ Global)) (several : Texts) (given found : List ℕ) → texts_of vecs ≡ several
+    → ((n : ℕ) → has given n ≡ true → has found n ≡ list_any (has_text_of table n) vecs) → Finds table (texts several) given found
+unfolding is_met
+finds_texts table vecs several given found same h n there =
+    h n there ∙ any_text (trigrams_with table n) vecs ∙ ap (λ ts. has_all_of_one ts (trigrams_with table n)) same
+
+pub found-Pairs : (table : List NumberSet) (pairs : Box Pairs Global) (given found : List ℕ) → Finds table (texts (texts_in pairs.value)) given found
+    → Finds table (formula_of (query.Pairs pairs)) given found
+found-Pairs table pairs given found h = rw (formula_of-Pairs pairs) h

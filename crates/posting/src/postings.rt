@@ -1,10 +1,12 @@
 //! The sets of all trigrams.
 
-ghost use Rattle.std.specs.Prelude.{◌≡◌, ◌≢◌, ℕ, ◌<◌, ◌≤◌, ◌||◌, ◌==◌, false, [], ◌∷◌, filter, map, IfOk, IfSome, IfNone, OnOk};
-ghost use Rattle.query.specs.Query.{formula_of, formulas_of, all_of, one_of};
+ghost use Rattle.std.specs.Prelude.{◌≡◌, ◌≢◌, ℕ, ◌<◌, ◌≤◌, ◌||◌, ◌==◌, false, [], ◌∷◌, filter, map, IfOk, IfSome, IfNone, OnOk, IsTrue};
+ghost use Rattle.std.specs.List.{list_all};
+ghost use Rattle.query.specs.Query.{formula_of, formulas_of, texts, all_of, one_of};
+ghost use Rattle.query.specs.Pairs.{texts_in};
 ghost use Rattle.posting.specs.ListValue.{has, without};
 ghost use Rattle.posting.specs.Postings.{slot_limit, set_of, holds, IsPrepared, IsAbsent, AllDiffer};
-ghost use Rattle.posting.specs.Postings.{SameSets, KeepsRoom, AddsNumber, WithdrawsNumber, GivesBack, selected};
+ghost use Rattle.posting.specs.Postings.{SameSets, KeepsRoom, AddsNumber, WithdrawsNumber, GivesBack, selected, trigrams_with};
 ghost use Rattle.posting.specs.Private.Pages.{StandsFor};
 ghost use Rattle.posting.specs.Private.Sets.{members_of};
 ghost use Rattle.posting.specs.Private.Selection.{Finds};
@@ -13,7 +15,7 @@ use crate::list::{List, union_of};
 use crate::owned::{Owned, add_list, drop_list, give_back, make_first};
 use crate::pages::{Pages, SLOT_LIMIT, Slot};
 use crate::trigrams::Trigrams;
-use query::{Query, Trigram};
+use query::{Pairs, Query, Trigram, trigrams_in_turn};
 use std::alloc::{AllocError, Global};
 use std::marker::Model;
 
@@ -198,6 +200,90 @@ impl Postings {
         }
     }
 
+    /// The numbers of `within` whose trigrams have this one.
+    fn narrow_by(&self, alloc: Global, trigram: Trigram, within: &List) -> Result<List, AllocError>
+        ensures { IfOk result (λ chosen. chosen.members ≡ filter (has (set_of self.now trigram).members) within.now.members) }
+    {
+        match self.set(trigram) {
+            Set::Empty => Ok(List::new(alloc)),
+            Set::One(number) => only(alloc, number, within),
+            Set::List(list) => within.intersect(list),
+        }
+    }
+
+    /// The numbers of `within` whose trigrams have this one, and perhaps numbers outside `within`.
+    fn collect_by(&self, alloc: Global, trigram: Trigram, within: &List) -> Result<List, AllocError>
+        ensures { IfOk result (λ found. (n : ℕ) → IsTrue (has within.now.members n)
+            → has found.members n ≡ has (set_of self.now trigram).members n) }
+    {
+        match self.set(trigram) {
+            Set::Empty => Ok(List::new(alloc)),
+            Set::One(number) => Ok(List::one(alloc, number)),
+            Set::List(list) => list.shortened(within),
+        }
+    }
+
+    /// The numbers of `within` whose trigrams have all of these, and perhaps numbers outside `within`. The trigram that
+    /// the fewest numbers have comes first.
+    fn collect_all_by(
+        &self,
+        alloc: Global,
+        trigrams: &[Trigram],
+        within: &List,
+    ) -> Result<List, AllocError>
+        ensures { IfOk result (λ found. (n : ℕ) → IsTrue (has within.now.members n)
+            → has found.members n ≡ list_all (trigrams_with self.now n) trigrams.now) }
+    {
+        let (first, _) = self.rarest(trigrams);
+        let mut found = match trigrams.get(first) {
+            Some(trigram) => self.collect_by(alloc, *trigram, within)?,
+            None => within.copy()?,
+        };
+        for trigram in trigrams {
+            if found.is_empty() {
+                return Ok(found);
+            }
+            found = self.narrow_by(alloc, *trigram, &found)?;
+        }
+        Ok(found)
+    }
+
+    /// The place of the trigram that the fewest numbers have (the first such), and how many have it.
+    fn rarest(&self, trigrams: &[Trigram]) -> (usize, usize) {
+        let mut first = 0;
+        let mut fewest = usize::MAX;
+        for (i, trigram) in trigrams.iter().enumerate() {
+            let size = self.size_by(*trigram);
+            if size < fewest {
+                first = i;
+                fewest = size;
+            }
+        }
+        (first, fewest)
+    }
+
+    /// How many numbers have the trigram.
+    fn size_by(&self, trigram: Trigram) -> usize {
+        match self.set(trigram) {
+            Set::Empty => 0,
+            Set::One(_) => 1,
+            Set::List(list) => list.size(),
+        }
+    }
+
+    /// The numbers of `within` whose trigrams have all those of one of the texts, and perhaps numbers outside `within`.
+    fn collect_texts(&self, alloc: Global, pairs: &Pairs, within: &List) -> Result<List, AllocError>
+        ensures { IfOk result (λ found. Finds self.now (texts (texts_in pairs.now)) within.now.members found.members) }
+    {
+        let texts = pairs.texts(alloc)?;
+        let mut lists = Vec::new(alloc);
+        for text in &texts {
+            let trigrams = trigrams_in_turn(alloc, text.as_slice())?;
+            lists.push(self.collect_all_by(alloc, trigrams.as_slice(), within)?)?;
+        }
+        union_of(alloc, &lists)
+    }
+
     /// The numbers of `within` that meet the query.
     #[cycle(narrow)]
     fn narrow(&self, alloc: Global, query: &Query, within: &List) -> Result<List, AllocError>
@@ -206,11 +292,7 @@ impl Postings {
     {
         match query {
             Query::Any => within.copy(),
-            Query::Has(trigram) => match self.set(*trigram) {
-                Set::Empty => Ok(List::new(alloc)),
-                Set::One(number) => only(alloc, number, within),
-                Set::List(list) => within.intersect(list),
-            },
+            Query::Has(trigram) => self.narrow_by(alloc, *trigram, within),
             _ => within.intersect(&self.collect(alloc, query, within)?),
         }
     }
@@ -224,11 +306,8 @@ impl Postings {
         match query {
             Query::Any => within.copy(),
             Query::None => Ok(List::new(alloc)),
-            Query::Has(trigram) => match self.set(*trigram) {
-                Set::Empty => Ok(List::new(alloc)),
-                Set::One(number) => Ok(List::one(alloc, number)),
-                Set::List(list) => list.shortened(within),
-            },
+            Query::Has(trigram) => self.collect_by(alloc, *trigram, within),
+            Query::Pairs(pairs) => self.collect_texts(alloc, pairs, within),
             Query::And(members) => self.collect_all(alloc, members, within),
             Query::Or(members) => self.collect_any(alloc, members, within),
         }
@@ -245,7 +324,7 @@ impl Postings {
         ensures { IfOk result (λ found. Finds self.now (all_of (formulas_of (map formula_of members.now)))
             within.now.members found.members) }
     {
-        let (first, _) = self.fewest(members);
+        let (first, _) = self.fewest(alloc, members)?;
         let mut found = match members.get(first) {
             Some(member) => self.collect(alloc, member, within)?,
             None => within.copy()?,
@@ -280,45 +359,53 @@ impl Postings {
 
     /// At most this many numbers meet the query.
     #[cycle(most)]
-    fn most(&self, query: &Query) -> usize {
+    fn most(&self, alloc: Global, query: &Query) -> Result<usize, AllocError> {
         match query {
-            Query::Any => usize::MAX,
-            Query::None => 0,
-            Query::Has(trigram) => match self.set(*trigram) {
-                Set::Empty => 0,
-                Set::One(_) => 1,
-                Set::List(list) => list.size(),
-            },
+            Query::Any => Ok(usize::MAX),
+            Query::None => Ok(0),
+            Query::Has(trigram) => Ok(self.size_by(*trigram)),
+            Query::Pairs(pairs) => self.most_of_texts(alloc, pairs),
             Query::And(members) => {
-                let (_, most) = self.fewest(members);
-                most
+                let (_, most) = self.fewest(alloc, members)?;
+                Ok(most)
             }
-            Query::Or(members) => self.most_of_all(members),
+            Query::Or(members) => self.most_of_all(alloc, members),
         }
     }
 
     /// The place of the member that the fewest numbers can meet (the first such), and how many can meet it at most.
     #[cycle(most)]
-    fn fewest(&self, members: &[Query]) -> (usize, usize) {
+    fn fewest(&self, alloc: Global, members: &[Query]) -> Result<(usize, usize), AllocError> {
         let mut first = 0;
         let mut fewest = usize::MAX;
         for (i, member) in members.iter().enumerate() {
-            let most = self.most(member);
+            let most = self.most(alloc, member)?;
             if most < fewest {
                 first = i;
                 fewest = most;
             }
         }
-        (first, fewest)
+        Ok((first, fewest))
     }
 
     #[cycle(most)]
-    fn most_of_all(&self, members: &[Query]) -> usize {
+    fn most_of_all(&self, alloc: Global, members: &[Query]) -> Result<usize, AllocError> {
         let mut sum: usize = 0;
         for member in members {
-            sum = sum.saturating_add(self.most(member));
+            sum = sum.saturating_add(self.most(alloc, member)?);
         }
-        sum
+        Ok(sum)
+    }
+
+    fn most_of_texts(&self, alloc: Global, pairs: &Pairs) -> Result<usize, AllocError> {
+        let texts = pairs.texts(alloc)?;
+        let mut sum: usize = 0;
+        for text in &texts {
+            let trigrams = trigrams_in_turn(alloc, text.as_slice())?;
+            let (_, most) = self.rarest(trigrams.as_slice());
+            sum = sum.saturating_add(most);
+        }
+        Ok(sum)
     }
 }
 

@@ -3,3 +3,5 @@ pub mod BodyLemmas
 pub mod PlaceLemmas
 pub mod OrderLemmas
 pub mod QueryLemmas
+pub mod TextLemmas
+pub mod PairLemmas

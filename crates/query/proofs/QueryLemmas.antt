@@ -8,10 +8,11 @@ use Rattle.query.specs.declared.query.Query.TheVariants as query
 use Rattle.query.specs.declared.query.Connective.{Connective}
 use Rattle.query.specs.declared.query.Connective.TheVariants.{And, Or}
 use Rattle.query.specs.Trigrams.{TrigramSet}
+use Rattle.query.specs.Texts.{Texts}
 use Rattle.query.proofs.Forms.{formula_of-And, formula_of-Or}
 use Rattle.std.proofs.Math.Bool.{and_assoc, or_assoc}
 use Rattle.std.proofs.lemmas.Bool.{true≢false}
-use Rattle.query.specs.Query.{Formula, Formulas, always, never, has, all_of, one_of, none, more, formulas_of, formula_of, is_met}
+use Rattle.query.specs.Query.{Formula, Formulas, always, never, has, texts, all_of, one_of, none, more, formulas_of, formula_of, is_met}
 use Rattle.query.specs.Query.{are_all_met, is_one_met, joined, HasTwo, IsPlain, IsReduced, AreReducedParts, IsJoin, IsSimplification}
 use Rattle.query.specs.Private.Joining.{are_met, is_of, idle, constant_of, AreMembersOf, HasTakenIn, IsCompound, AddsNothing}
 
@@ -28,6 +29,7 @@ unfolding IsReduced
 reduced_from_plain always e p = cc
 reduced_from_plain never e p = cc
 reduced_from_plain (has g) e p = tt
+reduced_from_plain (texts ts) e p = tt
 reduced_from_plain (all_of ms) e p = p
 reduced_from_plain (one_of ms) e p = p
 
@@ -36,6 +38,7 @@ unfolding IsReduced
 plain_from_reduced always r = absurd r
 plain_from_reduced never r = absurd r
 plain_from_reduced (has g) r = tt
+plain_from_reduced (texts ts) r = tt
 plain_from_reduced (all_of ms) r = r
 plain_from_reduced (one_of ms) r = r
 
@@ -44,6 +47,7 @@ unfolding is_met
 met_constant always b set e = cc
 met_constant never b set e = cc
 met_constant (has g) b set e = cc
+met_constant (texts ts) b set e = cc
 met_constant (all_of ms) b set e = cc
 met_constant (one_of ms) b set e = cc
 
@@ -163,6 +167,10 @@ pub not_of_has : (k : Connective) (g : ℕ) → is_of k (has g) ≡ true → ⊥
 not_of_has And g of = true≢false (sym of)
 not_of_has Or g of = true≢false (sym of)
 
+pub not_of_texts : (k : Connective) (ts : Texts) → is_of k (texts ts) ≡ true → ⊥
+not_of_texts And ts of = true≢false (sym of)
+not_of_texts Or ts of = true≢false (sym of)
+
 -- The invariant of a loop that takes in further members: the members so far and those left over mean the same as the old and the further ones.
 pub record IsTakingIn (k : Connective) (old further new rest : List Formula) : Type 0 where
   pub parts : AreReducedParts (is_of k) (formulas_of new)
@@ -279,6 +287,7 @@ plain_constant : (f : Formula) (b : Bool) → constant_of f ≡ Some b → IsPla
 plain_constant always b e = tt
 plain_constant never b e = tt
 plain_constant (has g) b e = cc
+plain_constant (texts ts) b e = cc
 plain_constant (all_of ms) b e = cc
 plain_constant (one_of ms) b e = cc
 

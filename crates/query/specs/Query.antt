@@ -6,12 +6,15 @@ use Rattle.query.specs.declared.query.Query.TheFolds.{fold-Query}
 use Rattle.query.specs.declared.query.Connective.{Connective}
 use Rattle.query.specs.declared.query.Connective.TheVariants.{And, Or}
 use Rattle.query.specs.Trigrams.{TrigramSet}
+use Rattle.query.specs.Texts.{Texts, has_all_of_one}
+use Rattle.query.specs.Pairs.{texts_in}
 
 mutual
   pub data Formula : Type 0 where
     always : Formula
     never : Formula
     has : ℕ → Formula
+    texts : Texts → Formula
     all_of : Formulas → Formula
     one_of : Formulas → Formula
 
@@ -28,6 +31,7 @@ abbrev pub formula_step : Query-F Formula → Formula
 formula_step layer.Any = always
 formula_step layer.None = never
 formula_step (layer.Has trigram) = has trigram
+formula_step (layer.Pairs pairs) = texts (texts_in pairs.value)
 formula_step (layer.And members) = all_of (formulas_of members.items)
 formula_step (layer.Or members) = one_of (formulas_of members.items)
 
@@ -41,6 +45,7 @@ unfoldable mutual
   is_met always set = true
   is_met never set = false
   is_met (has trigram) set = set trigram
+  is_met (texts several) set = has_all_of_one several set
   is_met (all_of members) set = are_all_met members set
   is_met (one_of members) set = is_one_met members set
 
@@ -72,6 +77,7 @@ unfoldable mutual
   IsReduced always = ⊥
   IsReduced never = ⊥
   IsReduced (has trigram) = Unit {0}
+  IsReduced (texts several) = Unit {0}
   IsReduced (all_of members) = HasTwo members × AreReducedParts is_all_of members
   IsReduced (one_of members) = HasTwo members × AreReducedParts is_one_of members
 
@@ -85,6 +91,7 @@ abbrev pub IsPlain : Formula → Type 0
 IsPlain always = Unit {0}
 IsPlain never = Unit {0}
 IsPlain (has trigram) = Unit {0}
+IsPlain (texts several) = Unit {0}
 IsPlain (all_of members) = IsReduced (all_of members)
 IsPlain (one_of members) = IsReduced (one_of members)
 

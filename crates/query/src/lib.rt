@@ -5,8 +5,12 @@
 mod body;
 mod number;
 mod order;
+mod pairs;
 mod query;
+mod texts;
 
 pub use body::trigrams_of;
 pub use number::Trigram;
+pub use pairs::Pairs;
 pub use query::{Connective, Query, join, simplify};
+pub use texts::{are_same_texts, joined, joined_texts, query_of_joins, trigrams_in_turn};

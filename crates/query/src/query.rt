@@ -5,6 +5,7 @@ ghost use Rattle.query.specs.Query.{formula_of, formulas_of, IsPlain, IsReduced,
 ghost use Rattle.query.specs.Private.Joining.{is_of, idle, constant_of, AreMembersOf, HasTakenIn, IsCompound, AddsNothing};
 
 use crate::number::Trigram;
+use crate::pairs::Pairs;
 use std::alloc::{AllocError, Global};
 
 /// A condition on a set of trigrams.
@@ -20,6 +21,8 @@ pub enum Query {
     None,
     /// The set has this trigram.
     Has(Trigram),
+    /// The set has all trigrams of one of these texts.
+    Pairs(Box<Pairs>),
     /// The set meets each of these; with no members it is met by every set.
     And(Vec<Query>),
     /// The set meets at least one of these; with no members it is met by no set.
@@ -47,6 +50,7 @@ fn is_same(left: &Query, right: &Query) -> bool
         (Query::Any, Query::Any) => true,
         (Query::None, Query::None) => true,
         (Query::Has(one), Query::Has(other)) => one.number() == other.number(),
+        (Query::Pairs(one), Query::Pairs(other)) => one.is_same(other),
         (Query::And(ones), Query::And(others)) => are_same(ones.as_slice(), others.as_slice()),
         (Query::Or(ones), Query::Or(others)) => are_same(ones.as_slice(), others.as_slice()),
         _ => false,
@@ -91,6 +95,7 @@ fn simplified(alloc: Global, query: &Query) -> Result<Query, AllocError>
         Query::Any => Ok(Query::Any),
         Query::None => Ok(Query::None),
         Query::Has(trigram) => Ok(Query::Has(*trigram)),
+        Query::Pairs(pairs) => Ok(Query::Pairs(Box::new(alloc, pairs.copy(alloc)?)?)),
         Query::And(members) => all_simplified(alloc, Connective::And, members.as_slice()),
         Query::Or(members) => all_simplified(alloc, Connective::Or, members.as_slice()),
     }
@@ -170,6 +175,7 @@ fn constant_of(query: &Query) -> Option<bool>
         Query::Any => Some(true),
         Query::None => Some(false),
         Query::Has(_) => None,
+        Query::Pairs(_) => None,
         Query::And(_) => None,
         Query::Or(_) => None,
     }
@@ -183,6 +189,7 @@ fn is_of(connective: Connective, query: &Query) -> bool
         Query::Any => false,
         Query::None => false,
         Query::Has(_) => false,
+        Query::Pairs(_) => false,
         Query::And(_) => idle(connective),
         Query::Or(_) => !idle(connective),
     }
@@ -194,9 +201,7 @@ fn members_of(alloc: Global, connective: Connective, query: Query) -> Result<Vec
     ensures { IfOk result (λ members. AreMembersOf connective (formula_of query) (map formula_of members.items)) }
 {
     if !is_of(connective, &query) {
-        let mut members = Vec::new(alloc);
-        members.push(query)?;
-        return Ok(members);
+        return only(alloc, query);
     }
     match query {
         Query::And(members) => Ok(members),
@@ -204,7 +209,17 @@ fn members_of(alloc: Global, connective: Connective, query: Query) -> Result<Vec
         Query::Any => Ok(Vec::new(alloc)),
         Query::None => Ok(Vec::new(alloc)),
         Query::Has(_) => Ok(Vec::new(alloc)),
+        Query::Pairs(pairs) => only(alloc, Query::Pairs(pairs)),
     }
+}
+
+/// One query alone.
+fn only(alloc: Global, query: Query) -> Result<Vec<Query>, AllocError>
+    ensures { IfOk result (λ members. members.items ≡ query ∷ []) }
+{
+    let mut members = Vec::new(alloc);
+    members.push(query)?;
+    Ok(members)
 }
 
 /// Adds further members.
@@ -329,6 +344,7 @@ fn mark_of(query: &Query) -> u64 {
         Query::Any => 1,
         Query::None => 2,
         Query::Has(trigram) => mixed(3, trigram.number() as u64),
+        Query::Pairs(pairs) => mark_of_bytes(6, pairs.bytes()),
         Query::And(members) => mark_of_all(4, members.as_slice()),
         Query::Or(members) => mark_of_all(5, members.as_slice()),
     }
@@ -339,6 +355,15 @@ fn mark_of_all(start: u64, members: &[Query]) -> u64 {
     let mut mark = start;
     for member in members {
         mark = mixed(mark, mark_of(member));
+    }
+    mark
+}
+
+/// Some of the bytes are enough: the marks of other queries with the same ones may be the same.
+fn mark_of_bytes(start: u64, bytes: &[u8]) -> u64 {
+    let mut mark = mixed(start, bytes.len() as u64);
+    for byte in bytes.iter().step_by(7) {
+        mark = mixed(mark, *byte as u64);
     }
     mark
 }

@@ -11,7 +11,7 @@ use Rattle.ere.specs.ByteSet.{has}
 use Rattle.ere.specs.Tree.{Tree, Trees, form, trees_of}
 use Rattle.ere.specs.Tree as tree
 use Rattle.trigram.specs.declared.analysis.Analysis as program
-use Rattle.trigram.specs.declared.analysis.Analysis.TheVariants.{Loose as loose_ends}
+use Rattle.trigram.specs.declared.analysis.Analysis.TheVariants.{Known as known_texts, Loose as loose_ends}
 use Rattle.trigram.specs.declared.analysis.Ends.{Ends}
 use Rattle.std.specs.declared.alloc.Global.{Global}
 use Rattle.std.specs.declared.vec.Vec.{Vec}
@@ -19,9 +19,10 @@ use Rattle.query.specs.declared.query.Query.TheVariants as query
 use Rattle.query.proofs.Forms.{formula_of-Any}
 use Rattle.query.specs.Trigrams.{TrigramSet}
 use Rattle.query.specs.Query.{formula_of, is_met}
-use Rattle.trigram.specs.Texts.{Texts, has_text, union, joins, has_all_of_one, ending, kept_ends}
+use Rattle.trigram.specs.Texts.{Texts, has_text, union, joins, joined_texts, has_all_of_one, ending, kept_ends}
+use Rattle.trigram.proofs.JoinLemmas.{has_all_of_one-distinct, settle_distinct_prefixes, settle_distinct_suffixes, loosen_distinct}
 use Rattle.trigram.specs.Analysis.{SetTest, Analysis, known, loose, just_empty, either, both, copies_of, repeated, bytes_in, one_byte}
-use Rattle.trigram.specs.Analysis.{analysis_of, both_all, either_all, settle_loose, optional, is_nullable, prefixes_of, suffixes_of}
+use Rattle.trigram.specs.Analysis.{analysis_of, both_all, either_all, settle_loose, loosen, are_kept, optional, is_nullable, prefixes_of, suffixes_of}
 use Rattle.trigram.specs.Private.Values.{texts_of, shown_analysis, ends_analysis, without_condition, ArePlain, StandFor, EndsStandFor}
 
 pub loose_same : (n : Bool) (p q s t : Texts) (c d : SetTest) → p ≡ q → s ≡ t → ((set : TrigramSet) → c set ≡ d set) → loose n p s c ≡ loose n q t d
@@ -335,38 +336,54 @@ and_true true = refl
 and_true false = refl
 
 pub known_before_stands : (texts p s q t : Texts) (n m : Bool) (c : SetTest) (ends : Ends) → m ≡ (has_text texts [] && n)
-    → q ≡ joins texts p → t ≡ (if n then union s texts else s) → EndsStandFor (settle_loose m q t c) ends
+    → q ≡ joined_texts texts p → t ≡ (if n then union s texts else s) → EndsStandFor (settle_loose m q t c) ends
     → EndsStandFor (both (known texts) (loose n p s c)) ends
 known_before_stands texts p s q t n m c ends nullable prefixes suffixes h = record {
   plain = h.plain;
   is =
       h.is
-      ∙ settle_same m (has_text texts [] && n) q (joins texts p) t (if n then union s texts else s) c (λ set. true && (c set && true))
-      nullable prefixes suffixes (λ set. sym (and_true (c set)));
+      ∙ settle_same m (has_text texts [] && n) q (joined_texts texts p) t (if n then union s texts else s) c (λ set. true && (c set && true))
+      nullable prefixes suffixes (λ set. sym (and_true (c set)))
+      ∙ settle_distinct_prefixes (has_text texts [] && n) (joined_texts texts p) (if n then union s texts else s) (λ set. true && (c set && true));
 }
 
 pub known_after_stands : (texts p s q t : Texts) (n m : Bool) (c : SetTest) (ends : Ends) → m ≡ (n && has_text texts [])
-    → q ≡ (if n then union p texts else p) → t ≡ joins s texts → EndsStandFor (settle_loose m q t c) ends
+    → q ≡ (if n then union p texts else p) → t ≡ joined_texts s texts → EndsStandFor (settle_loose m q t c) ends
     → EndsStandFor (both (loose n p s c) (known texts)) ends
 known_after_stands texts p s q t n m c ends nullable prefixes suffixes h = record {
   plain = h.plain;
   is =
       h.is
-      ∙ settle_same m (n && has_text texts []) q (if n then union p texts else p) t (joins s texts) c (λ set. c set && (true && true))
-      nullable prefixes suffixes (λ set. sym (and_true (c set)));
+      ∙ settle_same m (n && has_text texts []) q (if n then union p texts else p) t (joined_texts s texts) c (λ set. c set && (true && true))
+      nullable prefixes suffixes (λ set. sym (and_true (c set)))
+      ∙ settle_distinct_suffixes (n && has_text texts []) (if n then union p texts else p) (joined_texts s texts) (λ set. c set && (true && true));
 }
 
 pub both_loose_stands : (n m k : Bool) (p s q t u v : Texts) (c d e : SetTest) (ends : Ends) → k ≡ (n && m)
     → u ≡ (if n then union p q else p) → v ≡ (if m then union t s else t)
-    → ((set : TrigramSet) → e set ≡ (c set && (d set && has_all_of_one (joins s q) set))) → EndsStandFor (settle_loose k u v e) ends
+    → ((set : TrigramSet) → e set ≡ (c set && (d set && has_all_of_one (joined_texts s q) set))) → EndsStandFor (settle_loose k u v e) ends
     → EndsStandFor (both (loose n p s c) (loose m q t d)) ends
 both_loose_stands n m k p s q t u v c d e ends nullable prefixes suffixes conditions h = record {
   plain = h.plain;
   is =
       h.is
       ∙ settle_same k (n && m) u (if n then union p q else p) v (if m then union t s else t) e
-      (λ set. c set && (d set && has_all_of_one (joins s q) set)) nullable prefixes suffixes conditions;
+      (λ set. c set && (d set && has_all_of_one (joins s q) set)) nullable prefixes suffixes
+      (λ set. conditions set ∙ ap (λ b. c set && (d set && b)) (sym (has_all_of_one-distinct (joined_texts s q) set)));
 }
+
+-- known texts whose joins are not kept
+pub both_known_stands : (left right whole : Texts) (ends : Ends) → are_kept (joins left right) ≡ false → whole ≡ joined_texts left right
+    → EndsStandFor (loosen (known whole)) ends → StandFor (both (known left) (known right)) (loose_ends ends)
+both_known_stands left right whole ends not_kept same h = record {
+  plain = h.plain;
+  is = h.is ∙ ap (λ ts. loosen (known ts)) same ∙ loosen_distinct (joined_texts left right) ∙ rw not_kept refl;
+}
+
+-- and whose joins are kept
+pub both_kept_stands : (left right : Texts) (whole : Vec (Vec ℕ Global) Global) → are_kept (joins left right) ≡ true
+    → texts_of whole.items ≡ joins left right → StandFor (both (known left) (known right)) (known_texts whole)
+both_kept_stands left right whole kept same = record { plain = tt; is = ap known same ∙ rw kept refl }
 
 pub stands_same : (a b : Analysis) (analysis : program.Analysis) → a ≡ b → StandFor a analysis → StandFor b analysis
 stands_same a b analysis same h = record { plain = h.plain; is = h.is ∙ same }

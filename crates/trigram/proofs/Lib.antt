@@ -1,7 +1,7 @@
 pub mod TextsLemmas
 pub mod AnalysisLemmas
 pub mod MemberLemmas
-pub mod DistinctLemmas
+pub mod JoinLemmas
 pub mod CoverLemmas
 pub mod ExactLemmas
 pub mod LawLemmas

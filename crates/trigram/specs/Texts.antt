@@ -1,12 +1,9 @@
 -- Sets of texts. A set is a list, and only its members matter: each set that is made has
 -- each text once, in the order of first appearance.
 use Rattle.std.specs.Prelude.{ℕ, ◌-◌, Bool, not, ◌&&◌, nat_lt, nat_le, List, [], ◌∷◌, ◌++◌, length, map, filter, drop, if◌then◌else◌}
-use Rattle.std.specs.List.{list_any, flat_map}
+use Rattle.std.specs.List.{list_any}
 use Rattle.std.specs.Str.{bytes_eq}
-use Rattle.query.specs.Trigrams.{TrigramSet, has_all_trigrams}
-
-abbrev pub Texts : Type 0
-Texts = List (List ℕ)
+pub use Rattle.query.specs.Texts.{Texts, joined_texts, has_all_of_one}
 
 abbrev pub has_text : Texts → List ℕ → Bool
 has_text texts text = list_any (λ other. bytes_eq other text) texts
@@ -28,11 +25,7 @@ union left right = distinct (left ++ right)
 
 -- every text of the first, followed by every text of the second
 abbrev pub joins : Texts → Texts → Texts
-joins left right = distinct (flat_map (λ prefix. map (λ suffix. prefix ++ suffix) right) left)
-
--- whether all trigrams of one of the texts are in the set
-abbrev pub has_all_of_one : Texts → TrigramSet → Bool
-has_all_of_one texts set = list_any (λ text. has_all_trigrams text set) texts
+joins left right = distinct (joined_texts left right)
 
 -- the last bytes of a text, or the whole text if it is shorter
 abbrev pub ending : ℕ → List ℕ → List ℕ

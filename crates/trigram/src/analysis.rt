@@ -1,21 +1,21 @@
 //! The analysis of a pattern into the condition that every document with a matching line meets.
 
-ghost use Rattle.std.specs.Prelude.{◌≡◌, IfOk, IsTrue, map, ◌∷◌, [], None, Some, if◌then◌else◌};
+ghost use Rattle.std.specs.Prelude.{◌≡◌, IfOk, IfSome, IfNone, IsTrue, true, false, map, ◌∷◌, [], None, Some, if◌then◌else◌};
 ghost use Rattle.ere.specs.Limits.{IsWithinLimits};
 ghost use Rattle.ere.specs.Tree.{form, trees_of};
 ghost use Rattle.ere.specs.Tree as tree;
 ghost use Rattle.query.specs.Query.{formula_of, is_met, IsPlain, IsPlainFor};
-ghost use Rattle.trigram.specs.Texts.{union};
+ghost use Rattle.trigram.specs.Texts.{union, joins, has_all_of_one};
 ghost use Rattle.trigram.specs.Private.Values.{texts_of, shown_analysis, ends_analysis, without_condition, ArePlain, StandFor, EndsStandFor};
 ghost use Rattle.trigram.specs.Analysis.{just_empty, anything, settle_loose, settle_known, are_kept, loosen, either, both};
 ghost use Rattle.trigram.specs.Analysis.{copies_of, optional, repeated, bytes_in, one_byte, analysis_of, condition, known};
 
 use crate::texts::{
-    MOST_TEXTS, Side, are_same_texts, copied_texts, has_text, joins, kept_ends, query_of_texts,
+    MOST_TEXTS, Side, copied_texts, few_joins, has_text, just_empty, kept_ends, query_of_texts,
     union,
 };
 use ere::{ByteSet, Ere};
-use query::{Connective, Query, join};
+use query::{Connective, Query, are_same_texts, join, joined_texts, query_of_joins};
 use std::alloc::{AllocError, Global};
 
 /// The length of the longest text that is kept whole, in bytes.
@@ -72,16 +72,16 @@ fn condition_of(ends: Ends) -> Query
     condition
 }
 
-fn just_empty(alloc: Global) -> Result<Vec<Vec<u8>>, AllocError>
-    ensures { IfOk result (λ texts. texts_of texts.items ≡ just_empty) }
-{
-    let mut texts = Vec::new(alloc);
-    texts.push(Vec::new(alloc))?;
-    Ok(texts)
-}
-
-fn settle_loose(alloc: Global, ends: Ends) -> Result<Ends, AllocError>
-    requires { IsPlain (formula_of ends.condition) }
+/// Settles loose ends, with queries for the trigrams of their prefixes and of their suffixes.
+fn settled(
+    alloc: Global,
+    ends: Ends,
+    at_prefix: Query,
+    at_suffix: Query,
+) -> Result<Ends, AllocError>
+    requires plain { IsPlain (formula_of ends.condition) }
+    requires prefix { IsPlainFor (has_all_of_one (texts_of ends.prefixes.items)) (formula_of at_prefix) }
+    requires suffix { IsPlainFor (has_all_of_one (texts_of ends.suffixes.items)) (formula_of at_suffix) }
     ensures { IfOk result (EndsStandFor
         (settle_loose ends.nullable (texts_of ends.prefixes.items) (texts_of ends.suffixes.items) (is_met (formula_of ends.condition)))) }
 {
@@ -91,8 +91,6 @@ fn settle_loose(alloc: Global, ends: Ends) -> Result<Ends, AllocError>
         suffixes,
         condition,
     } = ends;
-    let at_prefix = query_of_texts(alloc, prefixes.as_slice())?;
-    let at_suffix = query_of_texts(alloc, suffixes.as_slice())?;
     let at_ends = join(alloc, Connective::And, at_prefix, at_suffix)?;
     let condition = join(alloc, Connective::And, condition, at_ends)?;
     let prefixes = kept_ends(alloc, Side::Prefix, prefixes.as_slice())?;
@@ -105,14 +103,33 @@ fn settle_loose(alloc: Global, ends: Ends) -> Result<Ends, AllocError>
     })
 }
 
+fn settle_loose(alloc: Global, ends: Ends) -> Result<Ends, AllocError>
+    requires { IsPlain (formula_of ends.condition) }
+    ensures { IfOk result (EndsStandFor
+        (settle_loose ends.nullable (texts_of ends.prefixes.items) (texts_of ends.suffixes.items) (is_met (formula_of ends.condition)))) }
+{
+    let at_prefix = query_of_texts(alloc, ends.prefixes.as_slice())?;
+    let at_suffix = query_of_texts(alloc, ends.suffixes.as_slice())?;
+    settled(alloc, ends, at_prefix, at_suffix)
+}
+
 fn loosen_known(alloc: Global, texts: Vec<Vec<u8>>) -> Result<Ends, AllocError>
+    ensures { IfOk result (EndsStandFor (loosen (known (texts_of texts.items)))) }
+{
+    let condition = query_of_texts(alloc, texts.as_slice())?;
+    loosened(alloc, texts, condition)
+}
+
+/// Loosens known texts, with a query for their trigrams.
+fn loosened(alloc: Global, texts: Vec<Vec<u8>>, condition: Query) -> Result<Ends, AllocError>
+    requires { IsPlainFor (has_all_of_one (texts_of texts.items)) (formula_of condition) }
     ensures { IfOk result (EndsStandFor (loosen (known (texts_of texts.items)))) }
 {
     Ok(Ends {
         nullable: has_text(texts.as_slice(), &[]),
         prefixes: kept_ends(alloc, Side::Prefix, texts.as_slice())?,
         suffixes: kept_ends(alloc, Side::Suffix, texts.as_slice())?,
-        condition: query_of_texts(alloc, texts.as_slice())?,
+        condition,
     })
 }
 
@@ -194,16 +211,50 @@ fn both(alloc: Global, left: Analysis, right: Analysis) -> Result<Analysis, Allo
 {
     match left {
         Analysis::Known(prefixes) => match right {
-            Analysis::Known(suffixes) => {
-                let texts = joins(alloc, prefixes.as_slice(), suffixes.as_slice())?;
-                settle_known(alloc, texts)
-            }
+            Analysis::Known(suffixes) => both_known(alloc, prefixes, suffixes),
             Analysis::Loose(ends) => Ok(Analysis::Loose(known_before(alloc, prefixes, ends)?)),
         },
         Analysis::Loose(ends) => match right {
             Analysis::Known(suffixes) => Ok(Analysis::Loose(known_after(alloc, ends, suffixes)?)),
             Analysis::Loose(others) => Ok(Analysis::Loose(both_loose(alloc, ends, others)?)),
         },
+    }
+}
+
+fn both_known(
+    alloc: Global,
+    left: Vec<Vec<u8>>,
+    right: Vec<Vec<u8>>,
+) -> Result<Analysis, AllocError>
+    ensures { IfOk result (StandFor (both (known (texts_of left.items)) (known (texts_of right.items)))) }
+{
+    if let Some(texts) = kept_joins(alloc, left.as_slice(), right.as_slice())? {
+        return Ok(Analysis::Known(texts));
+    }
+    let condition = query_of_joins(alloc, left.as_slice(), right.as_slice())?;
+    let texts = joined_texts(alloc, left.as_slice(), right.as_slice())?;
+    Ok(Analysis::Loose(loosened(alloc, texts, condition)?))
+}
+
+/// The joins of known texts, if they are kept whole.
+fn kept_joins(
+    alloc: Global,
+    left: &[Vec<u8>],
+    right: &[Vec<u8>],
+) -> Result<Option<Vec<Vec<u8>>>, AllocError>
+    ensures some { IfOk result (λ o. IfSome o (λ texts. texts_of texts.items ≡ joins (texts_of left.now) (texts_of right.now))) }
+    ensures kept { IfOk result (λ o. IfSome o (λ texts. are_kept (joins (texts_of left.now) (texts_of right.now)) ≡ true)) }
+    ensures none { IfOk result (λ o. IfNone o (are_kept (joins (texts_of left.now) (texts_of right.now)) ≡ false)) }
+{
+    match few_joins(alloc, left, right)? {
+        None => Ok(None),
+        Some(texts) => {
+            if are_kept(texts.as_slice()) {
+                Ok(Some(texts))
+            } else {
+                Ok(None)
+            }
+        }
     }
 }
 
@@ -218,17 +269,17 @@ fn known_before(alloc: Global, texts: Vec<Vec<u8>>, ends: Ends) -> Result<Ends, 
         condition,
     } = ends;
     let all_nullable = has_text(texts.as_slice(), &[]) & nullable;
-    let prefixes = joins(alloc, texts.as_slice(), prefixes.as_slice())?;
+    let at_prefix = query_of_joins(alloc, texts.as_slice(), prefixes.as_slice())?;
+    let prefixes = joined_texts(alloc, texts.as_slice(), prefixes.as_slice())?;
     let suffixes = widened(alloc, nullable, suffixes, texts)?;
-    settle_loose(
-        alloc,
-        Ends {
-            nullable: all_nullable,
-            prefixes,
-            suffixes,
-            condition,
-        },
-    )
+    let at_suffix = query_of_texts(alloc, suffixes.as_slice())?;
+    let whole = Ends {
+        nullable: all_nullable,
+        prefixes,
+        suffixes,
+        condition,
+    };
+    settled(alloc, whole, at_prefix, at_suffix)
 }
 
 fn known_after(alloc: Global, ends: Ends, texts: Vec<Vec<u8>>) -> Result<Ends, AllocError>
@@ -242,17 +293,17 @@ fn known_after(alloc: Global, ends: Ends, texts: Vec<Vec<u8>>) -> Result<Ends, A
         condition,
     } = ends;
     let all_nullable = nullable & has_text(texts.as_slice(), &[]);
-    let suffixes = joins(alloc, suffixes.as_slice(), texts.as_slice())?;
+    let at_suffix = query_of_joins(alloc, suffixes.as_slice(), texts.as_slice())?;
+    let suffixes = joined_texts(alloc, suffixes.as_slice(), texts.as_slice())?;
     let prefixes = widened(alloc, nullable, prefixes, texts)?;
-    settle_loose(
-        alloc,
-        Ends {
-            nullable: all_nullable,
-            prefixes,
-            suffixes,
-            condition,
-        },
-    )
+    let at_prefix = query_of_texts(alloc, prefixes.as_slice())?;
+    let whole = Ends {
+        nullable: all_nullable,
+        prefixes,
+        suffixes,
+        condition,
+    };
+    settled(alloc, whole, at_prefix, at_suffix)
 }
 
 fn both_loose(alloc: Global, left: Ends, right: Ends) -> Result<Ends, AllocError>
@@ -272,8 +323,7 @@ fn both_loose(alloc: Global, left: Ends, right: Ends) -> Result<Ends, AllocError
         suffixes: right_suffixes,
         condition: right_condition,
     } = right;
-    let border = joins(alloc, left_suffixes.as_slice(), right_prefixes.as_slice())?;
-    let across = query_of_texts(alloc, border.as_slice())?;
+    let across = query_of_joins(alloc, left_suffixes.as_slice(), right_prefixes.as_slice())?;
     let after = join(alloc, Connective::And, right_condition, across)?;
     let condition = join(alloc, Connective::And, left_condition, after)?;
     let prefixes = widened(alloc, left_nullable, left_prefixes, right_prefixes)?;

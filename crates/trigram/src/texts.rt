@@ -2,12 +2,13 @@
 
 ghost use Rattle.std.specs.Prelude.{◌≡◌, ◌≤◌, ◌<◌, ◌++◌, IfOk, IfSome, IfNone, OnOk, IsTrue, length, map, flat_map};
 ghost use Rattle.std.specs.Str.{bytes_eq};
-ghost use Rattle.query.specs.Trigrams.{has_all_trigrams};
+ghost use Rattle.query.specs.Texts.{texts_of, has_all_of_one};
 ghost use Rattle.query.specs.Query.{formula_of, IsPlainFor};
-ghost use Rattle.trigram.specs.Texts.{has_text, with_text, with_texts, union, joins, kept_ends, cuts, shortest, has_shorter_end, has_all_of_one};
-ghost use Rattle.trigram.specs.Private.Values.{texts_of, cut_at, AreDistinct};
+ghost use Rattle.trigram.specs.Texts.{has_text, with_text, with_texts, union, joins, kept_ends, cuts, shortest, has_shorter_end};
+ghost use Rattle.trigram.specs.Private.Values.{cut_at};
+ghost use Rattle.trigram.specs.Analysis.{just_empty};
 
-use query::{Connective, Query, Trigram, join};
+use query::{Query, joined, query_of_joins};
 use std::alloc::{AllocError, Global};
 
 /// The greatest number of texts that are kept.
@@ -106,91 +107,24 @@ pub(crate) fn copied_texts(alloc: Global, texts: &[Vec<u8>]) -> Result<Vec<Vec<u
     Ok(copies)
 }
 
-/// Whether the sets have equal texts in the same order.
-#[cycle(are_same_texts)]
-pub(crate) fn are_same_texts(texts: &[Vec<u8>], others: &[Vec<u8>]) -> bool
-    ensures { IsTrue result → texts_of texts.now ≡ texts_of others.now }
-{
-    match (texts.split_first(), others.split_first()) {
-        (None, None) => true,
-        (Some((text, rest)), Some((other, rest_of_others))) => {
-            text == other && are_same_texts(rest, rest_of_others)
-        }
-        _ => false,
-    }
-}
-
-/// Every text of the first set, followed by every text of the second.
+/// Every text of the first set, followed by every text of the second, if these are at most 16 different texts.
 #[tactic(auto, unfolding(crate::specs::Texts::with_texts))]
-pub(crate) fn joins(
+pub(crate) fn few_joins(
     alloc: Global,
     left: &[Vec<u8>],
     right: &[Vec<u8>],
-) -> Result<Vec<Vec<u8>>, AllocError>
-    ensures { IfOk result (λ whole. texts_of whole.items ≡ joins (texts_of left.now) (texts_of right.now)) }
+) -> Result<Option<Vec<Vec<u8>>>, AllocError>
+    ensures some { IfOk result (λ o. IfSome o (λ whole. texts_of whole.items ≡ joins (texts_of left.now) (texts_of right.now))) }
+    ensures none { IfOk result (λ o. IfNone o (MOST_TEXTS < length (joins (texts_of left.now) (texts_of right.now)))) }
 {
-    if are_all_different(left, right) {
-        return all_joins(alloc, left, right);
-    }
     let mut whole = Vec::new(alloc);
     for prefix in left {
         add_joins(alloc, &mut whole, prefix.as_slice(), right)?;
-    }
-    Ok(whole)
-}
-
-/// Whether it is clear that no two joins are equal, because neither set is empty, and the texts of each set all
-/// differ and have the same length. After a `false`, the joins may still all differ.
-#[tactic(auto, using(crate::proofs::DistinctLemmas::joins_of_distinct))]
-fn are_all_different(left: &[Vec<u8>], right: &[Vec<u8>]) -> bool
-    ensures { IsTrue result → joins (texts_of left.now) (texts_of right.now)
-        ≡ flat_map (λ prefix. map (λ suffix. prefix ++ suffix) (texts_of right.now)) (texts_of left.now) }
-{
-    let Some(prefix) = left.first() else {
-        return false;
-    };
-    let Some(suffix) = right.first() else {
-        return false;
-    };
-    are_distinct(left, prefix.len()) && are_distinct(right, suffix.len())
-}
-
-/// Whether the texts are all different, and of this length.
-#[cycle(are_distinct)]
-fn are_distinct(texts: &[Vec<u8>], size: usize) -> bool
-    ensures { IsTrue result → AreDistinct size (texts_of texts.now) }
-{
-    match texts.split_first() {
-        None => true,
-        Some((text, rest)) => {
-            text.len() == size && !has_text(rest, text.as_slice()) && are_distinct(rest, size)
+        if whole.len() > MOST_TEXTS {
+            return Ok(None);
         }
     }
-}
-
-/// The joins, each added without comparing it with the others.
-fn all_joins(alloc: Global, left: &[Vec<u8>], right: &[Vec<u8>]) -> Result<Vec<Vec<u8>>, AllocError>
-    ensures { IfOk result (λ whole. texts_of whole.items ≡ flat_map (λ prefix. map (λ suffix. prefix ++ suffix) (texts_of right.now)) (texts_of left.now)) }
-{
-    let mut whole = Vec::new(alloc);
-    for prefix in left {
-        push_joins(alloc, &mut whole, prefix.as_slice(), right)?;
-    }
-    Ok(whole)
-}
-
-fn push_joins(
-    alloc: Global,
-    whole: &mut Vec<Vec<u8>>,
-    prefix: &[u8],
-    suffixes: &[Vec<u8>],
-) -> Result<(), AllocError>
-    ensures { OnOk result (texts_of whole.new.items ≡ texts_of whole.old.items ++ map (λ suffix. prefix.now ++ suffix) (texts_of suffixes.now)) }
-{
-    for suffix in suffixes {
-        whole.push(joined(alloc, prefix, suffix.as_slice())?)?;
-    }
-    Ok(())
+    Ok(Some(whole))
 }
 
 #[tactic(auto, unfolding(crate::specs::Texts::with_texts))]
@@ -206,15 +140,6 @@ fn add_joins(
         add(whole, joined(alloc, prefix, suffix.as_slice())?)?;
     }
     Ok(())
-}
-
-fn joined(alloc: Global, prefix: &[u8], suffix: &[u8]) -> Result<Vec<u8>, AllocError>
-    ensures { IfOk result (λ text. text.items ≡ prefix.now ++ suffix.now) }
-{
-    let mut text = Vec::with_capacity(alloc, prefix.len().saturating_add(suffix.len()))?;
-    text.extend_from_slice(prefix)?;
-    text.extend_from_slice(suffix)?;
-    Ok(text)
 }
 
 /// The ends of the texts that are kept at one side. Each text is cut to 2, 1 or 0 bytes, the greatest of these that
@@ -313,21 +238,15 @@ fn has_shorter_end(side: Side, text: &[u8], texts: &[Vec<u8>]) -> bool
 pub(crate) fn query_of_texts(alloc: Global, texts: &[Vec<u8>]) -> Result<Query, AllocError>
     ensures { IfOk result (λ query. IsPlainFor (has_all_of_one (texts_of texts.now)) (formula_of query)) }
 {
-    let mut query = Query::None;
-    for text in texts {
-        let next = query_of_text(alloc, text.as_slice())?;
-        query = join(alloc, Connective::Or, query, next)?;
-    }
-    Ok(query)
+    let nothing = just_empty(alloc)?;
+    query_of_joins(alloc, texts, nothing.as_slice())
 }
 
-fn query_of_text(alloc: Global, text: &[u8]) -> Result<Query, AllocError>
-    ensures { IfOk result (λ query. IsPlainFor (has_all_trigrams text.now) (formula_of query)) }
+/// The set of the empty text.
+pub(crate) fn just_empty(alloc: Global) -> Result<Vec<Vec<u8>>, AllocError>
+    ensures { IfOk result (λ texts. texts_of texts.items ≡ just_empty) }
 {
-    let mut query = Query::Any;
-    for i in 0..text.len().saturating_sub(2) {
-        let trigram = Trigram::of([text[i], text[i + 1], text[i + 2]]);
-        query = join(alloc, Connective::And, query, Query::Has(trigram))?;
-    }
-    Ok(query)
+    let mut texts = Vec::new(alloc);
+    texts.push(Vec::new(alloc))?;
+    Ok(texts)
 }

@@ -1,24 +1,14 @@
 -- What the values of the program's analysis mean: sets of texts, and what is known about words.
-use Rattle.std.specs.Prelude.{◌≡◌, ℕ, false, true, List, [], ◌∷◌, length, map, take}
-use Rattle.std.specs.declared.alloc.Global.{Global}
-use Rattle.std.specs.declared.vec.Vec.{Vec}
+use Rattle.std.specs.Prelude.{◌≡◌, ℕ, false, true, List, [], ◌∷◌, length, take}
+pub use Rattle.query.specs.Texts.{texts_of}
 use Rattle.query.specs.Query.{formula_of, is_met, IsPlain}
 use Rattle.trigram.specs.declared.analysis.Ends.{Ends}
 use Rattle.trigram.specs.declared.analysis.Analysis as program
 use Rattle.trigram.specs.declared.analysis.Analysis.TheVariants.{Known, Loose}
 use Rattle.trigram.specs.declared.texts.Side.{Side}
 use Rattle.trigram.specs.declared.texts.Side.TheVariants.{Prefix, Suffix}
-use Rattle.trigram.specs.Texts.{Cut, ending, has_text}
+use Rattle.trigram.specs.Texts.{Cut, ending}
 use Rattle.trigram.specs.Analysis.{Analysis, known, loose}
-
--- the texts of a program's set
-abbrev pub texts_of : List (Vec ℕ Global) → List (List ℕ)
-texts_of texts = map (λ text. text.items) texts
-
--- the texts are all different, and of this length
-abbrev pub AreDistinct : ℕ → List (List ℕ) → Type 0
-AreDistinct size [] = Unit {0}
-AreDistinct size (text ∷ texts) = (length text ≡ size) × (has_text texts text ≡ false) × AreDistinct size texts
 
 -- the cut at one end
 abbrev pub cut_at : Side → Cut

@@ -1,8 +1,9 @@
 use Rattle.std.proofs.Common.{Some, ◌+◌, ◌∷◌, map, drop, ap, sym, ◌∙◌}
 use Rattle.std.proofs.lemmas.List.{drop_more, drop_all}
 use Rattle.std.proofs.lemmas.Result.{IfOk-weaker}
-use Rattle.query.proofs.Forms.{formula_of-Any, formula_of-None, formula_of-Has, formula_of-And, formula_of-Or}
-use Rattle.query.specs.Query.{formula_of, always, never, has}
+use Rattle.query.proofs.Forms.{formula_of-Any, formula_of-None, formula_of-Has, formula_of-Pairs, formula_of-And, formula_of-Or}
+use Rattle.query.specs.Pairs.{texts_in}
+use Rattle.query.specs.Query.{formula_of, always, never, has, texts}
 use Rattle.query.proofs.QueryLemmas.{simple_itself, simple_all, simple_one, IsJoinedSoFar-none, IsJoinedSoFar-more, IsJoinedSoFar-all}
 use Rattle.query.proofs.query.+simplified.Goals as goal
 
@@ -48,3 +49,9 @@ pub all_simplified-returns : goal.all_simplified-returns
 all_simplified-returns t c =
     let rest = ap (map formula_of) (drop_all c.loop-member.member-index c.args.members.now c.loop-member-test.false) in
     IsJoinedSoFar-all c.args.connective (map formula_of c.args.members.now) (formula_of c.loop-member.whole) (rw rest at c.loop-member.invariant)
+
+pub simplified-returns-in_ok-new-in-Pairs : goal.simplified-returns-in_ok-new-in-Pairs
+simplified-returns-in_ok-new-in-Pairs t c =
+    let is = formula_of-Pairs c.in_ok-new-in-Pairs.field-0
+    ∙ ap texts (ap texts_in c.in_ok-new-in-Pairs.ensures.ok ∙ c.in_ok-copy-in-Pairs.ensures ∙ ap texts_in c.deref.ensures) in
+    rw (c.in-Pairs.is, formula_of-Pairs c.in-Pairs.pairs, is) (simple_itself (texts (texts_in c.in-Pairs.pairs.value)) tt)

@@ -1,8 +1,10 @@
 use Rattle.std.proofs.Common.{◌≡◌, ℕ, false, not, map, ap, refl, ◌∙◌}
-use Rattle.query.proofs.Forms.{formula_of-Any, formula_of-None, formula_of-Has, formula_of-And, formula_of-Or}
+use Rattle.query.proofs.Forms.{formula_of-Any, formula_of-None, formula_of-Has, formula_of-Pairs, formula_of-And, formula_of-Or}
 use Rattle.query.specs.declared.query.Connective.{Connective}
 use Rattle.query.specs.declared.query.Connective.TheVariants.{And, Or}
-use Rattle.query.specs.Query.{Formulas, always, never, has, all_of, one_of, formula_of, formulas_of}
+use Rattle.query.specs.Texts.{Texts}
+use Rattle.query.specs.Pairs.{texts_in}
+use Rattle.query.specs.Query.{Formulas, always, never, has, texts, all_of, one_of, formula_of, formulas_of}
 use Rattle.query.specs.Private.Joining.{is_of, idle}
 use Rattle.query.proofs.query.is_of.Goals as goal
 
@@ -17,6 +19,10 @@ not_never Or = refl
 not_has : (k : Connective) (g : ℕ) → false ≡ is_of k (has g)
 not_has And g = refl
 not_has Or g = refl
+
+not_texts : (k : Connective) (ts : Texts) → false ≡ is_of k (texts ts)
+not_texts And ts = refl
+not_texts Or ts = refl
 
 of_all : (k : Connective) (ms : Formulas) → idle k ≡ is_of k (all_of ms)
 of_all And ms = refl
@@ -34,6 +40,9 @@ returns-in-None c = rw (c.in-None.is, formula_of-None) (not_never c.args.connect
 
 pub returns-in-Has : goal.returns-in-Has
 returns-in-Has c = rw (c.in-Has.is, formula_of-Has c.in-Has.field-0) (not_has c.args.connective c.in-Has.field-0)
+
+pub returns-in-Pairs : goal.returns-in-Pairs
+returns-in-Pairs c = rw (c.in-Pairs.is, formula_of-Pairs c.in-Pairs.field-0) (not_texts c.args.connective (texts_in c.in-Pairs.field-0.value))
 
 pub returns-in-And : goal.returns-in-And
 returns-in-And c =

@@ -7,35 +7,28 @@ use Rattle.std.specs.List.{list_any}
 use Rattle.posting.specs.ListValue.{has}
 use Rattle.posting.specs.Postings.{selected}
 use Rattle.posting.specs.Private.Selection.{Finds}
-use Rattle.posting.proofs.Selection.{chosen-Any, chosen-Has, chosen-Has_empty, narrowed_by_found, found-Any, found-None, found-Has}
+use Rattle.posting.proofs.Selection.{chosen-Any, chosen-Has, narrowed_by_found, found-Any, found-None, found-Has}
 use Rattle.posting.proofs.Selection.{found-And, found-Or, narrowed_more, narrowed_passed, narrowed_ends, narrowed_to_none, joined_ends}
+use Rattle.posting.proofs.Selection.{is_met_by, finds_all, finds_any, found-Pairs}
 use Rattle.posting.proofs.postings.Postings.+narrow.Goals as goal
 use Rattle.posting.proofs.postings.Postings.+narrow.Goals.{collect_all-then-i-first+in_ok-found, collect_all-else-i-first}
 
 pub narrow-returns-in-Any : goal.narrow-returns-in-Any
 narrow-returns-in-Any t c = rw (c.in-Any.is, chosen-Any c.args.self.now c.args.within.now.members) (assumption)
 
-pub narrow-returns-in-Empty : goal.narrow-returns-in-Empty
-narrow-returns-in-Empty t c =
-    rw (c.in-Has.is, chosen-Has_empty c.args.self.now c.in-Has.trigram c.args.within.now.members (sym c.in-Empty.ensures)) c.new.ensures
-
-pub narrow-returns-in-One : goal.narrow-returns-in-One
-narrow-returns-in-One t c =
-    rw (c.in-Has.is, chosen-Has c.args.self.now c.in-Has.trigram c.args.within.now.members, ← c.in-One.ensures) c.only.ensures
-
-pub narrow-returns-in-List : goal.narrow-returns-in-List
-narrow-returns-in-List t c =
-    rw (c.in-Has.is, chosen-Has c.args.self.now c.in-Has.trigram c.args.within.now.members, ← c.in-List.ensures) (assumption)
+pub narrow-returns-in-Has : goal.narrow-returns-in-Has
+narrow-returns-in-Has t c =
+    rw (c.in-Has.is, chosen-Has c.args.self.now c.in-Has.trigram c.args.within.now.members) c.narrow_by.ensures
 
 pub narrow-returns-in_ok-collect-in_default : goal.narrow-returns-in_ok-collect-in_default
 narrow-returns-in_ok-collect-in_default t c =
     let table = c.args.self.now in
     let asked = c.args.within.now.members in
     let found = c.in_ok-collect-in_default.field-0.members in
-    IfOk-weaker c.intersect-in_default-2.result (λ chosen. chosen.members ≡ filter (has found) asked)
+    IfOk-weaker c.intersect-in_default.result (λ chosen. chosen.members ≡ filter (has found) asked)
     (λ chosen. chosen.members ≡ selected table (formula_of c.args.query.now) asked)
     (λ v e. e ∙ narrowed_by_found table (formula_of c.args.query.now) asked found c.in_ok-collect-in_default.ensures)
-    c.intersect-in_default-2.ensures
+    c.intersect-in_default.ensures
 
 pub collect-returns-in-Any : goal.collect-returns-in-Any
 collect-returns-in-Any t c =
@@ -47,25 +40,20 @@ collect-returns-in-Any t c =
 pub collect-returns-in-None : goal.collect-returns-in-None
 collect-returns-in-None t c = rw c.in-None.is (found-None c.args.self.now c.args.within.now.members c.new.result.members c.new.ensures)
 
-pub collect-returns-in-Empty : goal.collect-returns-in-Empty
-collect-returns-in-Empty t c =
-    rw c.in-Has.is
-    (found-Has c.args.self.now c.in-Has.trigram c.args.within.now.members c.new-in-Empty.result.members
-    (λ n there. rw (c.new-in-Empty.ensures, ← c.in-Empty.ensures) refl))
-
-pub collect-returns-in-One : goal.collect-returns-in-One
-collect-returns-in-One t c =
-    rw c.in-Has.is
-    (found-Has c.args.self.now c.in-Has.trigram c.args.within.now.members c.one.result.members
-    (λ n there. ap (λ ns. has ns n) (c.one.ensures.members ∙ c.in-One.ensures)))
-
-pub collect-returns-in-List : goal.collect-returns-in-List
-collect-returns-in-List t c =
+pub collect-returns-in-Has : goal.collect-returns-in-Has
+collect-returns-in-Has t c =
     let asked = c.args.within.now.members in
     rw c.in-Has.is
-    (IfOk-weaker c.shortened.result (λ set. (n : ℕ) → has asked n ≡ true → has set.members n ≡ has c.in-List.list.now.members n)
-    (λ set. Finds c.args.self.now (formula_of (query.Has c.in-Has.trigram)) asked set.members)
-    (λ v same. found-Has c.args.self.now c.in-Has.trigram asked v.members (rw c.in-List.ensures at same)) c.shortened.ensures)
+    (IfOk-weaker c.collect_by.result _ _ (λ v same. found-Has c.args.self.now c.in-Has.trigram asked v.members same) c.collect_by.ensures)
+
+pub collect-returns-in-Pairs : goal.collect-returns-in-Pairs
+collect-returns-in-Pairs t c =
+    let asked = c.args.within.now.members in
+    rw c.in-Pairs.is
+    (IfOk-weaker c.collect_texts.result _ _
+    (λ v found.
+    found-Pairs c.args.self.now c.in-Pairs.pairs asked v.members
+    (rw c.deref.ensures at found)) c.collect_texts.ensures)
 
 pub collect-returns-in-And : goal.collect-returns-in-And
 collect-returns-in-And t c =
@@ -74,7 +62,7 @@ collect-returns-in-And t c =
     (IfOk-weaker c.collect_all.result
     (λ set. Finds c.args.self.now (all_of (formulas_of (map formula_of c.in-And.members.items))) asked set.members)
     (λ set. Finds c.args.self.now (formula_of (query.And c.in-And.members)) asked set.members)
-    (λ v found. found-And c.args.self.now c.in-And.members asked v.members found) (rw c.deref.ensures.value at c.collect_all.ensures))
+    (λ v found. found-And c.args.self.now c.in-And.members asked v.members found) (rw c.deref-in-And.ensures.value at c.collect_all.ensures))
 
 pub collect-returns-in-Or : goal.collect-returns-in-Or
 collect-returns-in-Or t c =
@@ -87,27 +75,29 @@ collect-returns-in-Or t c =
 
 pub collect_all-returns-then-is_empty : goal.collect_all-returns-then-is_empty
 collect_all-returns-then-is_empty t c =
-    narrowed_to_none c.args.self.now c.args.members.now c.fewest-first.result.0 c.loop-i.i c.args.within.now.members c.loop-i.found.members
-    (c.is_empty.ensures.empty.0 c.if-is_empty.true) c.loop-i.invariant
+    finds_all c.args.self.now c.args.members.now c.args.within.now.members c.loop-i.found.members
+    (narrowed_to_none (is_met_by c.args.self.now) c.args.members.now c.in_ok-first.first c.loop-i.i c.args.within.now.members c.loop-i.found.members
+    (c.is_empty.ensures.empty.0 c.if-is_empty.true) c.loop-i.invariant)
 
 pub collect_all-loop-i-preserved : goal.collect_all-loop-i-preserved
 collect_all-loop-i-preserved t c =
     elim c.if-i-first.branch [
       | collect_all-then-i-first+in_ok-found w ↦
           rw w.found-is
-          (narrowed_more c.args.self.now c.args.members.now c.fewest-first.result.0 c.loop-i.i c.index-members-i.result
+          (narrowed_more (is_met_by c.args.self.now) c.args.members.now c.in_ok-first.first c.loop-i.i c.index-members-i.result
           c.args.within.now.members c.loop-i.found.members w.in_ok-found.found.members c.loop-i-test.true c.index-members-i.is
           c.loop-i.invariant w.in_ok-found.ensures)
       | collect_all-else-i-first w ↦
           rw w.found-is
-          (narrowed_passed c.args.self.now c.args.members.now c.fewest-first.result.0 c.loop-i.i c.index-members-i.result
+          (narrowed_passed (is_met_by c.args.self.now) c.args.members.now c.in_ok-first.first c.loop-i.i c.index-members-i.result
           c.args.within.now.members c.loop-i.found.members w.if-i-first.false c.loop-i-test.true c.loop-i.invariant)
     ]
 
 pub collect_all-returns : goal.collect_all-returns
 collect_all-returns t c =
-    narrowed_ends c.args.self.now c.args.members.now c.fewest-first.result.0 c.loop-i.i c.args.within.now.members c.loop-i.found.members
-    c.loop-i-test.false c.loop-i.invariant
+    finds_all c.args.self.now c.args.members.now c.args.within.now.members c.loop-i.found.members
+    (narrowed_ends (is_met_by c.args.self.now) c.args.members.now c.in_ok-first.first c.loop-i.i c.args.within.now.members c.loop-i.found.members
+    c.loop-i-test.false c.loop-i.invariant)
 
 pub collect_any-returns : goal.collect_any-returns
 collect_any-returns t c =
@@ -116,6 +106,7 @@ collect_any-returns t c =
     IfOk-weaker c.union_of.result (λ all. (n : ℕ) → has all.members n ≡ list_any (λ set. has set.members n) lists)
     (λ found. Finds c.args.self.now (one_of (formulas_of (map formula_of c.args.members.now))) asked found.members)
     (λ v union.
-    joined_ends c.args.self.now c.args.members.now c.loop-member.member-index asked v.members lists c.loop-member-test.false
-    c.loop-member.invariant union)
+    finds_any c.args.self.now c.args.members.now asked v.members
+    (joined_ends (is_met_by c.args.self.now) c.args.members.now c.loop-member.member-index asked v.members lists c.loop-member-test.false
+    c.loop-member.invariant union))
     (rw c.deref.ensures.value at c.union_of.ensures)

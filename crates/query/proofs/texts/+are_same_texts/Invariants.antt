@@ -1,5 +1,5 @@
 use Rattle.std.proofs.Common.{length}
-use Rattle.trigram.proofs.texts.+are_same_texts.Given as goal
+use Rattle.query.proofs.texts.+are_same_texts.Given as goal
 
 abbrev pub decreases-are_same_texts : goal.decreases-are_same_texts
 decreases-are_same_texts l = length l.texts.now

@@ -1,6 +1,6 @@
 use Rattle.std.proofs.Common.{◌≡◌, ◌++◌, map, drop}
-use Rattle.trigram.specs.Private.Values.{texts_of}
-use Rattle.trigram.proofs.texts.push_joins.Given as goal
+use Rattle.query.specs.Texts.{texts_of}
+use Rattle.query.proofs.texts.push_joins.Given as goal
 
 abbrev pub invariant-loop-suffix : goal.invariant-loop-suffix
 invariant-loop-suffix l =

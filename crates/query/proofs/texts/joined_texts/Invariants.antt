@@ -1,7 +1,7 @@
 use Rattle.std.proofs.Common.{◌≡◌, ◌++◌, map, drop}
 use Rattle.std.specs.List.{flat_map}
-use Rattle.trigram.specs.Private.Values.{texts_of}
-use Rattle.trigram.proofs.texts.all_joins.Given as goal
+use Rattle.query.specs.Texts.{texts_of}
+use Rattle.query.proofs.texts.joined_texts.Given as goal
 
 abbrev pub invariant-loop-prefix : goal.invariant-loop-prefix
 invariant-loop-prefix l =
