@@ -31,6 +31,7 @@ impl Simulation {
 
     /// A stand-in.
     pub fn matches(&mut self, line: &[u8]) -> bool
+        requires { (tree : Tree) × IsSimulationOf tree self.old }
         ensures same { (tree : Tree) → IsSimulationOf tree self.old → IsSimulationOf tree self.new }
         ensures found { (tree : Tree) → IsSimulationOf tree self.old → IsTrue result ↔ ContainsMatch tree line.now }
     {

@@ -23,3 +23,9 @@ pub returns-in-Simulation-clause-found : goal.returns-in-Simulation-clause-found
 returns-in-Simulation-clause-found c =
     c.matches-in-Simulation.ensures.found (form c.args.tree.now)
     (simulation_of (form c.args.tree.now) c.args.way.now c.in-Simulation.simulation c.in-Simulation.is c.requires.way)
+
+pub matches-requires-in-Simulation : goal.matches-requires-in-Simulation
+matches-requires-in-Simulation c = (
+  form c.args.tree.now,
+  simulation_of (form c.args.tree.now) c.args.way.now c.in-Simulation.simulation c.in-Simulation.is c.requires.way,
+)
