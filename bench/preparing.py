@@ -151,9 +151,8 @@ def piece(choose, depth):
     if kind < 0.3:
         return choose.choice(LETTERS)
     if kind < 0.5:
-        low = choose.randrange(33, 90)
-        low = low if chr(low) not in "-]^[\\" else 97
-        return "[%s-%s]" % (chr(low), chr(min(126, low + choose.choice([1, 1, 2, 3, 7, 15, 15, 16])))) if low + 16 not in (92, 93) else "[!-0]"
+        low, size = choose.choice("!$0Aaeh"), choose.choice([1, 1, 2, 3, 7, 15, 15, 16])
+        return "[%s-%s]" % (low, chr(ord(low) + size))
     if kind < 0.55:
         return choose.choice([".", "[^a]", "^", "$"])
     if kind < 0.75:
@@ -162,7 +161,8 @@ def piece(choose, depth):
         return choose.choice(LETTERS)
     inner = "".join(piece(choose, depth - 1) for _ in range(choose.randrange(1, 5)))
     if kind < 0.85:
-        inner = "|".join([inner] + ["".join(piece(choose, depth - 1) for _ in range(choose.randrange(0, 3))) for _ in range(choose.randrange(1, 4))])
+        others = ["".join(piece(choose, depth - 1) for _ in range(choose.randrange(3))) for _ in range(choose.randrange(1, 4))]
+        inner = "|".join([inner] + others)
     return "(%s)%s" % (inner, choose.choice(["", "", "*", "+", "?", "{2}", "{3}", "{4,}", "{2,}", "{2,3}", "{255}"]))
 
 

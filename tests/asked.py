@@ -93,7 +93,8 @@ def analysis_of(tree):
         return Known(texts) if len(texts) <= MOST_TEXTS else Loose(False, {b""}, {b""}, [])
     elif isinstance(tree, Cat):
         # A text is as many members as it has bytes.
-        parts = [analysis_of(part) for tree in tree.trees for part in ([Text(bytes([byte])) for byte in tree.bytes] if isinstance(tree, Text) else [tree])]
+        members = [[Text(bytes([byte])) for byte in part.bytes] if isinstance(part, Text) else [part] for part in tree.trees]
+        parts = [analysis_of(member) for part in members for member in part]
     else:
         parts = [analysis_of(tree.tree)] * tree.count
     whole = parts[0]

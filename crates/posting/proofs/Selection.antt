@@ -23,7 +23,7 @@ use Rattle.posting.specs.ListValue.{ListValue, has}
 use Rattle.posting.specs.Postings.{NumberSet, set_of, trigrams_with, selected}
 use Rattle.posting.specs.Private.Selection.{Finds}
 use Rattle.posting.proofs.SetLemmas.{has-filter, or-false}
-use Rattle.posting.proofs.Members.{filter_all, filter_none}
+use Rattle.posting.proofs.Members.{filter_all}
 
 -- the numbers of a list for which the set of their trigrams passes a test
 abbrev pub chosen_by : (TrigramSet → Bool) → List NumberSet → List ℕ → List ℕ

@@ -1,7 +1,7 @@
 -- Queries for texts.
 use Rattle.std.proofs.Common.{◌≡◌, ℕ, zero, suc, ◌+◌, ◌<◌, ◌≤◌, Bool, true, false, ◌&&◌, ◌||◌, List, [], ◌∷◌, ◌++◌, length, map, drop, get_or}
 use Rattle.std.proofs.Common.{refl, sym, ap, ◌∙◌, arith, length-append}
-use Rattle.std.specs.List.{flat_map, list_all}
+use Rattle.std.specs.List.{list_all}
 use Rattle.std.specs.declared.alloc.Global.{Global}
 use Rattle.std.specs.declared.boxed.Box.{Box}
 use Rattle.std.specs.declared.vec.Vec.{Vec}
@@ -14,7 +14,7 @@ use Rattle.query.specs.declared.query.Query.TheVariants as query
 use Rattle.query.specs.Trigrams.{TrigramSet, trigram_of, holds_front, has_all_trigrams}
 use Rattle.query.specs.Texts.{Texts, texts_of, joined_texts, has_all_of_one}
 use Rattle.query.specs.Pairs.{texts_in}
-use Rattle.query.specs.Query.{Formula, always, never, has, formula_of, is_met, IsPlain, IsJoin, IsPlainFor}
+use Rattle.query.specs.Query.{Formula, always, has, formula_of, is_met, IsPlain, IsJoin, IsPlainFor}
 use Rattle.query.proofs.Forms.{formula_of-Any, formula_of-None, formula_of-Pairs}
 
 -- The invariant of a loop that makes a query: the query so far and what is left over are together the whole test.

@@ -88,8 +88,9 @@ impl Pairs {
     pub(crate) fn is_same(&self, other: &Pairs) -> bool
         ensures { IsTrue result → texts_in self.now ≡ texts_in other.now }
     {
-        // The bytes differ most often.
-        self.bytes == other.bytes
+        // Most that differ do so in their last byte.
+        self.bytes.last() == other.bytes.last()
+            && self.bytes == other.bytes
             && self.lefts == other.lefts
             && self.rights == other.rights
             && self.lengths == other.lengths

@@ -1,14 +1,14 @@
 -- Texts that come twice in a list: what is kept of the list is what is kept of its set.
-use Rattle.std.proofs.Common.{◌≡◌, ℕ, ◌+◌, ◌<◌, Bool, true, false, cond, ◌&&◌, nat_le, List, [], ◌∷◌, ◌++◌, length, map, take, refl, sym, ap, ◌∙◌, arith}
+use Rattle.std.proofs.Common.{◌≡◌, ℕ, ◌<◌, Bool, true, false, cond, ◌&&◌, nat_le, List, [], ◌∷◌, ◌++◌, length, map, take, refl, sym, ap, ◌∙◌, arith}
 use Rattle.std.proofs.Common.{if◌then◌else◌}
 use Rattle.std.proofs.lemmas.List.{map-append}
 use Rattle.std.proofs.lemmas.Bool.Decides.{nat_tests}
 use mathlib.Core.Path.{fun_ext}
 use Rattle.query.specs.Trigrams.{TrigramSet, has_all_trigrams}
-use Rattle.query.specs.Texts.{Texts, joined_texts, has_all_of_one}
-use Rattle.trigram.specs.Texts.{Cut, has_text, with_text, with_texts, distinct, joins, ending, cuts, shortest, kept_ends}
+use Rattle.query.specs.Texts.{Texts, has_all_of_one}
+use Rattle.trigram.specs.Texts.{Cut, has_text, with_text, with_texts, distinct, ending, cuts, shortest, kept_ends}
 use Rattle.trigram.specs.Analysis.{SetTest, known, loose, settle_loose, loosen, are_kept}
-use Rattle.trigram.proofs.MemberLemmas.{IsIn, IsIn-has_text, has_text-IsIn, IsIn-map, IsIn-distinct, IsIn-from_distinct, list_any-IsIn, IsIn-list_any}
+use Rattle.trigram.proofs.MemberLemmas.{IsIn-has_text, has_text-IsIn, IsIn-map, IsIn-distinct, IsIn-from_distinct, list_any-IsIn, IsIn-list_any}
 use Rattle.trigram.proofs.TextsLemmas.{with_texts-nil, with_texts-cons, with_texts-append}
 
 same_test : (a b : Bool) → (a ≡ true → b ≡ true) → (b ≡ true → a ≡ true) → a ≡ b

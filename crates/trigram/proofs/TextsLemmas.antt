@@ -1,14 +1,13 @@
 -- Sets of texts: one more text of a list, and the trigrams of all.
-use Rattle.std.proofs.Common.{◌≡◌, ℕ, ◌+◌, ◌<◌, ◌≤◌, Bool, true, false, cond, ◌&&◌, ◌||◌, List, [], ◌∷◌, ◌++◌, length, map, drop, get_or}
+use Rattle.std.proofs.Common.{◌≡◌, ℕ, ◌+◌, ◌<◌, ◌≤◌, Bool, true, false, cond, List, [], ◌∷◌, ◌++◌, length, map, drop, get_or}
 use Rattle.std.proofs.Common.{refl, sym, ap, ◌∙◌, arith}
 use Rattle.std.specs.declared.alloc.Global.{Global}
 use Rattle.std.specs.declared.vec.Vec.{Vec}
 use Rattle.std.proofs.Math.Nat.{le_trans}
 use Rattle.std.proofs.lemmas.List.{drop_more, drop_all, length-append}
 use Rattle.std.proofs.lemmas.List.{append-nil}
-use Rattle.query.specs.Trigrams.{TrigramSet, has_all_trigrams}
 use Rattle.query.specs.Texts.{Texts, texts_of, joined_texts, has_all_of_one}
-use Rattle.query.specs.Query.{Formula, is_met, IsPlainFor}
+use Rattle.query.specs.Query.{Formula, IsPlainFor}
 use Rattle.trigram.specs.Texts.{has_text, with_text, with_texts}
 
 pub next_text : (texts : List (Vec ℕ Global)) (i : ℕ) (x : Vec ℕ Global) → i < length texts → x ≡ get_or texts i x

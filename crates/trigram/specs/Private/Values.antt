@@ -1,5 +1,5 @@
 -- What the values of the program's analysis mean: sets of texts, and what is known about words.
-use Rattle.std.specs.Prelude.{◌≡◌, ℕ, false, true, List, [], ◌∷◌, length, take}
+use Rattle.std.specs.Prelude.{◌≡◌, true, take}
 pub use Rattle.query.specs.Texts.{texts_of}
 use Rattle.query.specs.Query.{formula_of, is_met, IsPlain}
 use Rattle.trigram.specs.declared.analysis.Ends.{Ends}

@@ -1,10 +1,8 @@
-use Rattle.std.proofs.Common.{◌≡◌, length, ap, ◌∙◌, arith}
+use Rattle.std.proofs.Common.{ap, ◌∙◌, arith}
 use Rattle.std.proofs.lemmas.Bool.Decides.{nat_tests}
-use Rattle.std.proofs.lemmas.Result.{IfOk-weaker}
 use Rattle.query.specs.Texts.{texts_of, joined_texts}
 use Rattle.query.specs.Pairs.{texts_in}
-use Rattle.query.specs.Query.{formula_of}
-use Rattle.query.proofs.TextLemmas.{plain_none_left, plain_none_right, plain_any, plain_one, plain_pairs}
+use Rattle.query.proofs.TextLemmas.{plain_none_left, plain_none_right, plain_any, plain_pairs}
 use Rattle.query.proofs.texts.query_of_joins.Goals as goal
 use Rattle.query.proofs.texts.query_of_joins.Goals.{then-is_empty-via-then-is_empty, then-is_empty-via-else-is_empty+then-is_empty-2}
 

@@ -1,4 +1,4 @@
-use Rattle.std.proofs.Common.{◌≡◌, ◌+◌, ◌&&◌, ◌∷◌, [], ◌++◌, drop, ap, sym, ◌∙◌, arith, length-drop}
+use Rattle.std.proofs.Common.{◌+◌, ◌&&◌, drop, ap, sym, ◌∙◌, arith, length-drop}
 use Rattle.std.specs.List.{list_all}
 use Rattle.query.specs.Trigrams.{has_all_trigrams}
 use Rattle.query.proofs.TextLemmas.{trigrams_step, short_text, all_pushed, all_in_turn}

@@ -1,5 +1,4 @@
 use Rattle.std.proofs.Common.{arith}
-use Rattle.std.proofs.lemmas.Result.{IfOk-weaker}
 use Rattle.query.specs.Texts.{texts_of}
 use Rattle.query.specs.Query.{formula_of}
 use Rattle.trigram.proofs.TextsLemmas.{plain_for_same}

@@ -1,4 +1,4 @@
-use Rattle.std.proofs.Common.{◌≡◌, ◌≤◌, ◌++◌, map, drop, length}
+use Rattle.std.proofs.Common.{◌≡◌, drop}
 use Rattle.query.specs.Texts.{texts_of, joined_texts}
 use Rattle.trigram.specs.Texts.{with_texts, joins}
 use Rattle.trigram.proofs.texts.few_joins.Given as goal

@@ -1,7 +1,7 @@
-use Rattle.std.proofs.Common.{◌≡◌, [], ◌∷◌, ap, ◌∙◌}
+use Rattle.std.proofs.Common.{◌≡◌, ap, ◌∙◌}
 use Rattle.std.proofs.lemmas.Result.{IfOk-weaker}
-use Rattle.query.specs.Texts.{Texts, texts_of, joined_texts, has_all_of_one}
-use Rattle.query.specs.Query.{formula_of, IsPlainFor}
+use Rattle.query.specs.Texts.{texts_of, joined_texts}
+use Rattle.query.specs.Query.{formula_of}
 use Rattle.trigram.proofs.TextsLemmas.{joined_with_empty, plain_for_same}
 use Rattle.trigram.proofs.texts.query_of_texts.Goals as goal
 

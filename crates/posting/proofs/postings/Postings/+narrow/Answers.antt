@@ -1,4 +1,4 @@
-use Rattle.std.proofs.Common.{◌≡◌, ℕ, true, ◌∙◌, filter, refl, sym, ap}
+use Rattle.std.proofs.Common.{◌≡◌, ℕ, ◌∙◌, filter}
 use Rattle.std.proofs.lemmas.Result.{IfOk-weaker}
 use Rattle.query.specs.declared.query.Query.TheVariants as query
 use Rattle.query.specs.Query.{formula_of, formulas_of, all_of, one_of}

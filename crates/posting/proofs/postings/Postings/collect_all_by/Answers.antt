@@ -1,5 +1,5 @@
 use Rattle.posting.specs.Postings.{trigrams_with}
-use Rattle.posting.proofs.Selection.{narrowed_from_first, narrowed_from_all, narrowed_more, narrowed_ends, narrowed_to_none}
+use Rattle.posting.proofs.Selection.{narrowed_more, narrowed_ends, narrowed_to_none}
 use Rattle.posting.proofs.postings.Postings.collect_all_by.Goals as goal
 
 pub returns-then-is_empty : goal.returns-then-is_empty

@@ -1,4 +1,4 @@
-use Rattle.std.proofs.Common.{◌≡◌, ap, sym, ◌∙◌, refl, filter, []}
+use Rattle.std.proofs.Common.{ap, sym, ◌∙◌, refl, filter, []}
 use Rattle.posting.specs.ListValue.{has}
 use Rattle.posting.proofs.Members.{filter_none}
 use Rattle.posting.proofs.postings.Postings.narrow_by.Goals as goal

@@ -1,8 +1,8 @@
-use Rattle.std.proofs.Common.{◌≡◌, ◌++◌, map, take, drop, ap, refl, sym, ◌∙◌, arith, length}
-use Rattle.std.proofs.lemmas.List.{append-nil, length-map}
-use Rattle.query.specs.Texts.{texts_of, joined_texts}
+use Rattle.std.proofs.Common.{◌++◌, map, ap, sym, ◌∙◌, length}
+use Rattle.std.proofs.lemmas.List.{length-map}
+use Rattle.query.specs.Texts.{texts_of}
 use Rattle.query.specs.Pairs.{cut_texts}
-use Rattle.query.proofs.PairLemmas.{parts_again, cut_again, joins_again, joins_twice, bytes_of}
+use Rattle.query.proofs.PairLemmas.{parts_again, joins_again, joins_twice, bytes_of}
 use Rattle.query.proofs.pairs.Pairs.of.Goals as goal
 use Rattle.query.proofs.pairs.Pairs.of.Goals.{then-not-are_same_texts+in_ok-add_parts-2, else-not-are_same_texts}
 

@@ -1,4 +1,4 @@
-use Rattle.std.proofs.Common.{◌≡◌, ℕ, refl, ◌+◌, ◌∷◌, [], ◌++◌, map, take, drop, ap, sym, ◌∙◌, arith, get_or}
+use Rattle.std.proofs.Common.{ℕ, refl, ◌+◌, ◌∷◌, [], ◌++◌, drop, ap, sym, ◌∙◌, arith, get_or}
 use Rattle.std.proofs.lemmas.List.{map_push, append_assoc, append-nil}
 use Rattle.std.specs.declared.alloc.Global.{Global}
 use Rattle.std.specs.declared.vec.Vec.{Vec}

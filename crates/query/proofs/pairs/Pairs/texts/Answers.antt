@@ -1,4 +1,4 @@
-use Rattle.std.proofs.Common.{◌≡◌, map, take, drop, ap, sym, ◌∙◌, arith, length}
+use Rattle.std.proofs.Common.{take, drop, ap, ◌∙◌, arith}
 use Rattle.std.proofs.lemmas.Result.{IfOk-weaker}
 use Rattle.query.specs.Texts.{texts_of, joined_texts}
 use Rattle.query.specs.Pairs.{parts_of}
