@@ -13,8 +13,7 @@ name pattern, the search is refused.
 
 Finally, large requests are refused and small ones are not. It is then known which item gets no memory, and so what must
 be written: a put, a load or a search with no room is refused with its line or number, and the next item is carried out.
-A script with no room ends the run. In a session, so does a line with no room, or the text of an answer. As many runs go on at
-once as there are processors.
+A script with no room ends the run. In a session, so does a line with no room. As many runs go on at once as there are processors.
 
 Usage: tests/refused/refused_runs.py   The last line counts: N passed, M failed.
 """
@@ -71,11 +70,13 @@ NO_ROOM, OLD_LEFT = b"line 4 refused: out of memory\n", b"search 1 version 1 lin
 NO_ROOM_AGAIN, NOTHING_NEW = b"line 100009 refused: out of memory\n", b"search 2 version 1 lines 0\n"
 NEW_LAST, BAD_LINE = b"search 2 version 2 lines 1\na:100000:last line\n", b"line 200014 refused: bad line\n"
 
-# A line and an answer for whose texts a session has no room, after an answer.
+# A line for whose text a session has no room, and an answer for whose text its reader has none, after an answer.
 ANSWERED = b"put a 3\nold\npublish\nsearch old\nsync\n"
 LONG_LINE = ANSWERED + b"#" * len(LONG) + b"\nsearch old\n"
 WIDE_LINE = b"x" * 16_000
 WIDE_ANSWER = ANSWERED + b"".join(b"put w%d 16000\n%s\n" % (number, WIDE_LINE) for number in range(60)) + b"publish\nsearch x\nsync\nsearch old\n"
+WIDE_NAMES = sorted(b"w%d" % number for number in range(60))
+WIDE_TEXT = b"search 2 version 61 lines 60\n" + b"".join(b"%s:1:%s\n" % (name, WIDE_LINE) for name in WIDE_NAMES)
 
 # Searches of MANY, of which the second and the third have many hits.
 MANY_HITS = b"put m %d\n%s\npublish\nsearch y\nsync\nsearch x\nsync\nsearch x\nsync\nsearch y\n" % (len(MANY), MANY)
@@ -167,13 +168,13 @@ def runs_of_no_room(folder):
         yield "long puts", LONG_PUTS, words, 1, (2, no_room_once, b"")
         yield "long puts", LONG_PUTS, words, EVERY, (2, no_room, b"")
         yield "a long line", LONG_LINE, words, EVERY, (2, OLD_LEFT, NO_MEMORY)
-        yield "a wide answer", WIDE_ANSWER, words, EVERY, (2, OLD_LEFT, NO_MEMORY)
     for words in NO_READERS, TWO_READERS:
         yield "a long script", LONG_PUTS, words, EVERY, (2, b"", NO_MEMORY)
     for words in NO_READERS, TWO_READERS, SESSION, READING:
         yield "a long load", loads, words, EVERY, (2, NO_ROOM + OLD_LEFT, b"")
         yield "many hits", MANY_HITS, words, EVERY, (2, FEW_FIRST + SECOND_REFUSED + THIRD_REFUSED + FEW_LAST, b"")
-    # the reader that is refused leaves its search to reader 0
+    # the reader that is refused, here the text of the first lines, leaves its search to reader 0, which needs no large request
+    yield "a wide answer", WIDE_ANSWER, READING, EVERY, (0, OLD_LEFT + WIDE_TEXT + b"search 3 version 61 lines 1\na:1:old\n", b"")
     for words in TWO_READERS, READING:
         yield "many hits", MANY_HITS, words, 1, (0, FEW_FIRST + SECOND + THIRD + FEW_LAST, b"")
 

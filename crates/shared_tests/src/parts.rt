@@ -1,7 +1,7 @@
 //! A large search finds in several parts what it finds in one.
 
 use crate::fixtures::{one_reading, prepared, put};
-use search::Watch;
+use search::{Watch, append_lines};
 use shared::{Answer, Desk, Prepared, Reading};
 use std::alloc::Global;
 use std::process::Abort;
@@ -32,10 +32,10 @@ fn lines_of_all_parts_are_found_in_order(rt: HostRuntime) {
     let (mut desk, mut reading) = one_reading(&rt, rt.alloc(), 100);
     assert!(&rt; put_all(rt.alloc(), &mut desk).is_some() && desk.publish(&rt).is_ok());
     let last = prepared(rt.alloc(), b"^22000$").expect(&rt, "a pattern");
-    for most in [1, 2, 3, 5, 16] {
+    for (most, ahead) in [(1, 0), (1, 100), (2, 100), (3, 30), (5, 0), (16, 1_000_000)] {
         assert!(&rt;
-            finds_last_lines(&rt, rt.alloc(), &mut reading, &last, most),
-            "of {most}"
+            finds_last_lines(&rt, rt.alloc(), &mut reading, &last, most, ahead),
+            "of {most}, {ahead} bytes ahead"
         );
     }
     assert!(&rt; is_called_off(&rt, rt.alloc(), &mut reading, &last));
@@ -55,19 +55,20 @@ fn put_all(alloc: Global, desk: &mut Desk) -> Option<()> {
     Some(())
 }
 
-/// Whether the search in up to so many parts finds the last line of each document, in the order of names.
+/// Whether the search in up to so many parts finds the last line of each document, in the order of names, and has their text.
 fn finds_last_lines<R: Threads + Sync>(
     rt: &R,
     alloc: Global,
     reading: &mut Reading,
     prepared: &Prepared,
     most: usize,
+    ahead: usize,
 ) -> bool {
     let Ok(taken) = reading.take(alloc, prepared) else {
         return false;
     };
-    match taken.answer_by(rt, alloc, most, Wanted { is_wanted: true }) {
-        Ok(answer) => has_last_lines(&answer),
+    match taken.answer_by(rt, alloc, most, ahead, Wanted { is_wanted: true }) {
+        Ok(answer) => has_last_lines(&answer) && has_text(alloc, &answer),
         Err(_) => false,
     }
 }
@@ -86,6 +87,20 @@ fn has_last_lines(answer: &Answer) -> bool {
     number == DOCUMENTS
 }
 
+/// Whether the text of the parts is a line for each document.
+fn has_text(alloc: Global, answer: &Answer) -> bool {
+    let mut text = Vec::new(alloc);
+    for part in answer.parts() {
+        let (formed, others) = part.text();
+        if text.extend_from_slice(formed).is_err() || append_lines(&mut text, others).is_err() {
+            return false;
+        }
+    }
+    text.len() == 14 * DOCUMENTS as usize
+        && text.starts_with(b"a:22000:22000\nb:22000:22000\n".as_slice())
+        && text.ends_with(b"s:22000:22000\nt:22000:22000\n".as_slice())
+}
+
 /// Whether the search is given up if no answer is wanted.
 fn is_called_off<R: Threads + Sync>(
     rt: &R,
@@ -95,7 +110,7 @@ fn is_called_off<R: Threads + Sync>(
 ) -> bool {
     match reading.take(alloc, prepared) {
         Ok(taken) => taken
-            .answer_by(rt, alloc, 4, Wanted { is_wanted: false })
+            .answer_by(rt, alloc, 4, 100, Wanted { is_wanted: false })
             .is_err(),
         Err(_) => false,
     }

@@ -3,5 +3,5 @@ use Rattle.program.proofs.response.run_script.Goals as goal
 
 pub returns-clause-failed : goal.returns-clause-failed
 returns-clause-failed g c =
-    not_written c.in-Ok.script.items c.in-Ok-run.transcript.entries.items c.in-Err-written.ensures.fault c.in-Ok.ensures.script
-    (rw c.deref.ensures.value at c.in-Ok-run.ensures.legal) c.in-Err-written.ensures.err
+    not_written c.in-Ok.script.items c.in-Ok-run.transcript.entries.items c.in-Err-write_text.ensures.fault c.in-Ok.ensures.script
+    (rw c.deref.ensures.value at c.in-Ok-run.ensures.legal) c.in-Err-write_text.ensures.err
