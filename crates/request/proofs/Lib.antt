@@ -1,0 +1,5 @@
+mod ListLemmas
+mod NameLemmas
+mod SettingLemmas
+mod Refusals
+mod OptionLemmas

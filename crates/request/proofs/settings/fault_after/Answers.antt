@@ -1,0 +1,64 @@
+use Rattle.std.proofs.Common.{◌≡◌, ◌+◌, true, false, refl, sym, ◌∙◌, ap, arith, get_or}
+use Rattle.std.proofs.lemmas.List.Elements.{All-more}
+use Rattle.std.proofs.lemmas.List.Sums.{count_by_more_no, count_by_more_yes}
+use Rattle.request.specs.Names.{clashes, is_same}
+use Rattle.request.proofs.NameLemmas.{free_if_other, free_if_repeatable, same_name, same_itself}
+use Rattle.request.proofs.OptionLemmas.{filler}
+use Rattle.request.proofs.SettingLemmas.{free_of_all, some_shown}
+use Rattle.request.proofs.settings.fault_after.Goals as goal
+use Rattle.request.proofs.settings.fault_after.Goals.{then-is+else-not-is_repeatable, else-is+else-excludes}
+
+pub returns-then-not-is_repeatable : goal.returns-then-not-is_repeatable
+returns-then-not-is_repeatable c = λ text named. (
+  named,
+  sym c.if-not-is_repeatable.ensures,
+  some_shown c.args.earlier.now c.loop-setting.setting-index filler c.args.name c.loop-setting-test.true (same_name _ _ (sym c.if-is.ensures)),
+)
+
+pub returns-then-excludes : goal.returns-then-excludes
+returns-then-excludes c = λ text named.
+    let here = get_or c.args.earlier.now c.loop-setting.setting-index filler in (
+      named,
+      λ same.
+          let test : is_same here.name c.args.name ≡ true = ap (λ n. is_same n c.args.name) same ∙ same_itself c.args.name in
+          let no : false ≡ true = c.if-is.ensures ∙ test in
+          absurd (cc no),
+      sym c.if-excludes.ensures,
+      some_shown c.args.earlier.now c.loop-setting.setting-index filler here.name c.loop-setting-test.true refl,
+    )
+
+pub loop-setting-preserved : goal.loop-setting-preserved
+loop-setting-preserved c =
+    let settings = c.args.earlier.now in
+    let at = c.loop-setting.setting-index in
+    let inside = c.loop-setting-test.true in
+    let here = get_or settings at filler in
+    elim c.if-is.branch [
+      | then-is+else-not-is_repeatable w ↦
+          let same : is_same here.name c.args.name ≡ true = sym c.is.ensures ∙ w.if-is.true in
+          record {
+            together =
+                All-more (λ s. clashes s.name c.args.name ≡ false) settings at filler inside c.loop-setting.invariant.together
+                (free_if_repeatable here.name c.args.name same (sym w.is_repeatable.ensures ∙ w.if-not-is_repeatable.false));
+            counted =
+                w.times-is ∙ ap (λ n. n + 1) c.loop-setting.invariant.counted
+                ∙ sym (count_by_more_yes (λ s. is_same s.name c.args.name) settings at filler inside same);
+            few = omega (arith, w.times-is, c.loop-setting.invariant.few);
+          }
+      | else-is+else-excludes w ↦
+          let other : is_same here.name c.args.name ≡ false = sym c.is.ensures ∙ w.if-is.false in
+          record {
+            together =
+                All-more (λ s. clashes s.name c.args.name ≡ false) settings at filler inside c.loop-setting.invariant.together
+                (free_if_other here.name c.args.name other (sym w.excludes.ensures ∙ w.if-excludes.false));
+            counted =
+                w.times-is ∙ c.loop-setting.invariant.counted
+                ∙ sym (count_by_more_no (λ s. is_same s.name c.args.name) settings at filler inside other);
+            few = omega (arith, w.times-is, c.loop-setting.invariant.few);
+          }
+    ]
+
+pub returns : goal.returns
+returns c =
+    free_of_all c.args.earlier.now c.args.name c.loop-setting.setting-index c.loop-setting.times c.loop-setting-test.false
+    c.loop-setting.invariant.together c.loop-setting.invariant.counted c.if-times-ge-MAX_TIMES.false

@@ -1,0 +1,50 @@
+-- Why a `find` is refused: the first fault from the left.
+use Rattle.std.specs.Prelude.{◌≡◌, ◌≢◌, ℕ, ◌≤◌, ◌<◌, IsTrue, IsFalse, List, [], ◌++◌, Some, None, codes, ◌⊎◌}
+use Rattle.std.specs.List.{All, Any}
+use Rattle.request.specs.Names.{clashes, excludes, is_repeatable, option_named, range_text, takes, text_of}
+use Rattle.request.specs.Settings.{Setting, SpellsSettings, IsAllowed, SpellsNumber, count_of, greatest_times}
+use Rattle.request.specs.Words.{after_word, first_word}
+use Rattle.request.specs.declared.fault.FindFault.{FindFault}
+use Rattle.request.specs.declared.fault.FindFault.TheVariants.{BadOption, Twice, TooOften, NeedsNumber, Exclude, NoSeparator, OutOfMemory}
+use Rattle.request.specs.declared.names.OptionName.{OptionName}
+use Rattle.request.specs.declared.names.Takes.TheVariants.{Word, Number}
+
+-- how a fault reads
+abbrev pub reason_of : FindFault → List ℕ
+reason_of (BadOption word) = codes "bad option " ++ word.now
+reason_of (Twice name) = codes "option " ++ text_of name ++ codes " twice"
+reason_of (TooOften name) = codes "option " ++ text_of name ++ codes " over 16 times"
+reason_of (NeedsNumber name) = codes "option " ++ text_of name ++ codes " needs a number from " ++ range_text name
+reason_of (Exclude earlier name) = text_of earlier ++ codes " and " ++ text_of name ++ codes " exclude each other"
+reason_of NoSeparator = codes "no -- before the pattern"
+reason_of OutOfMemory = codes "out of memory"
+
+-- The option can follow the settings.
+pub record IsFree (name : OptionName) (settings : List Setting) : Type 0 where
+  pub together : All (λ earlier. IsFalse (clashes earlier.name name)) settings
+  pub few : count_of name settings < greatest_times
+
+abbrev pub IsNamed : List ℕ → OptionName → Type 0
+IsNamed text name = option_named (first_word text) ≡ Some name
+
+-- The fault is at the front of this text, which comes after these settings. Memory can run out anywhere.
+abbrev pub IsFaultAt : List Setting → List ℕ → FindFault → Type 0
+IsFaultAt settings text (BadOption word) =
+    (text ≢ []) × (first_word text ≢ codes "--") × (option_named (first_word text) ≡ None) × (word.now ≡ first_word text)
+IsFaultAt settings text (Twice name) = IsNamed text name × IsFalse (is_repeatable name) × Any (λ setting. setting.name ≡ name) settings
+IsFaultAt settings text (Exclude earlier name) =
+    IsNamed text name × (earlier ≢ name) × IsTrue (excludes earlier name) × Any (λ setting. setting.name ≡ earlier) settings
+IsFaultAt settings text (TooOften name) = IsNamed text name × (greatest_times ≤ count_of name settings)
+IsFaultAt settings text (NeedsNumber name) =
+    IsNamed text name × IsFree name settings × (least greatest : ℕ) × (takes name ≡ Number least greatest)
+    × ((n : ℕ) → SpellsNumber (first_word (after_word text)) n → least ≤ n → n ≤ greatest → ⊥)
+IsFaultAt settings text NoSeparator = (text ≡ []) ⊎ ((name : OptionName) × IsNamed text name × IsFree name settings × (takes name ≡ Word) × (after_word text ≡ []))
+IsFaultAt settings text OutOfMemory = Unit {0}
+
+-- The fault is the first one: what comes before it are settings that go together.
+pub record IsFirstFault (text : List ℕ) (fault : FindFault) : Type 0 where
+  pub settings : List Setting
+  pub rest : List ℕ
+  pub before : SpellsSettings text rest settings
+  pub allowed : IsAllowed settings
+  pub here : IsFaultAt settings rest fault

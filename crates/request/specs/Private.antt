@@ -1,0 +1,2 @@
+-- What only the contracts of private functions cite. A clause can cite only `pub` modules.
+pub mod Kept

@@ -1,0 +1,22 @@
+-- The options of a find without their places in memory.
+use Rattle.std.specs.Prelude.{map}
+use Rattle.request.specs.Find.{NameTest, Options}
+use Rattle.request.specs.declared.options.FindOptions.{FindOptions}
+use Rattle.request.specs.declared.options.NameTest as program
+
+abbrev pub shown_test : program.NameTest → NameTest
+shown_test test = record { pattern = test.pattern.now; wanted = test.wanted }
+
+abbrev pub shown_options : FindOptions → Options
+shown_options options = record {
+  case = options.case;
+  literal = options.literal;
+  whole_words = options.whole_words;
+  whole_lines = options.whole_lines;
+  invert = options.invert;
+  names = map shown_test options.names.items;
+  name_case = options.name_case;
+  limit = options.limit;
+  view = options.view;
+  zero = options.zero;
+}

@@ -1,0 +1,173 @@
+//! The names of the options.
+
+ghost use Rattle.std.specs.Prelude.{◌≡◌};
+ghost use Rattle.request.specs.Names.{clashes, excludes, is_mark, is_repeatable, is_same, is_view, option_named, takes, text_of};
+
+/// The options of a `find`.
+#[derive(Clone, Copy, Debug, PartialEq, Eq)]
+pub enum OptionName {
+    /// `-i`: case is ignored in the pattern.
+    IgnoreCase,
+    /// `-F`: the pattern is a text.
+    Literal,
+    /// `-w`: only matches count that are whole words.
+    WholeWords,
+    /// `-x`: only matches count that are whole lines.
+    WholeLines,
+    /// `-v`: the lines that contain no match are found.
+    Invert,
+    /// `-n ERE`: only documents whose names match count.
+    Named,
+    /// `-N ERE`: only documents whose names do not match count.
+    NotNamed,
+    /// `-I`: case is ignored in the patterns of names.
+    IgnoreNameCase,
+    /// `-m N`: at most N lines, or names, are shown.
+    Limit,
+    /// `-l`: names alone are shown.
+    Names,
+    /// `-c`: names are shown with how many of their lines are found.
+    Counts,
+    /// `-q`: only the header is shown.
+    Header,
+    /// `-C N`: N lines before and after each line are shown with it.
+    Context,
+    /// `--column`: for each line, where its first match is.
+    Column,
+    /// `--spans`: for each line, where its matches are.
+    Spans,
+    /// `-Z`: a zero byte comes after each name.
+    Zero,
+}
+
+/// All options.
+const ALL: [OptionName; 16] = [
+    OptionName::IgnoreCase,
+    OptionName::Literal,
+    OptionName::WholeWords,
+    OptionName::WholeLines,
+    OptionName::Invert,
+    OptionName::Named,
+    OptionName::NotNamed,
+    OptionName::IgnoreNameCase,
+    OptionName::Limit,
+    OptionName::Names,
+    OptionName::Counts,
+    OptionName::Header,
+    OptionName::Context,
+    OptionName::Column,
+    OptionName::Spans,
+    OptionName::Zero,
+];
+
+/// What follows the word of an option.
+#[derive(Clone, Copy, Debug)]
+pub enum Takes {
+    /// Nothing that belongs to it.
+    Nothing,
+    /// A word.
+    Word,
+    /// A number from the first to the second.
+    Number(u32, u32),
+}
+
+/// The option of a word, if it is one's.
+pub fn option_named(word: &[u8]) -> Option<OptionName>
+    ensures { result ≡ option_named word.now }
+{
+    ALL.iter()
+        .copied()
+        .find(|name| name.text().as_bytes() == word)
+}
+
+impl OptionName {
+    /// The word of the option, such as `-i`.
+    pub fn text(self) -> &'static str
+        ensures { result.now ≡ text_of self }
+    {
+        match self {
+            OptionName::IgnoreCase => "-i",
+            OptionName::Literal => "-F",
+            OptionName::WholeWords => "-w",
+            OptionName::WholeLines => "-x",
+            OptionName::Invert => "-v",
+            OptionName::Named => "-n",
+            OptionName::NotNamed => "-N",
+            OptionName::IgnoreNameCase => "-I",
+            OptionName::Limit => "-m",
+            OptionName::Names => "-l",
+            OptionName::Counts => "-c",
+            OptionName::Header => "-q",
+            OptionName::Context => "-C",
+            OptionName::Column => "--column",
+            OptionName::Spans => "--spans",
+            OptionName::Zero => "-Z",
+        }
+    }
+
+    /// What follows the word of the option.
+    pub fn takes(self) -> Takes
+        ensures { result ≡ takes self }
+    {
+        match self {
+            OptionName::Named => Takes::Word,
+            OptionName::NotNamed => Takes::Word,
+            OptionName::Limit => Takes::Number(1, u32::MAX),
+            OptionName::Context => Takes::Number(0, 1000),
+            _ => Takes::Nothing,
+        }
+    }
+
+    /// Whether both are the same option.
+    pub fn is(self, other: OptionName) -> bool
+        ensures { result ≡ is_same self other }
+    {
+        self.text().as_bytes() == other.text().as_bytes()
+    }
+
+    /// Whether the option can be there more than once.
+    pub fn is_repeatable(self) -> bool
+        ensures { result ≡ is_repeatable self }
+    {
+        match self {
+            OptionName::Named => true,
+            OptionName::NotNamed => true,
+            _ => false,
+        }
+    }
+
+    /// Whether the two options exclude each other.
+    pub fn excludes(self, other: OptionName) -> bool
+        ensures { result ≡ excludes self other }
+    {
+        (self.is_view() && other.is_view())
+            || (self.is_mark() && other.is(OptionName::Invert))
+            || (self.is(OptionName::Invert) && other.is_mark())
+    }
+
+    /// Whether the option says what is written for each line or document that is found.
+    fn is_view(self) -> bool
+        ensures { result ≡ is_view self }
+    {
+        match self {
+            OptionName::Names => true,
+            OptionName::Counts => true,
+            OptionName::Header => true,
+            OptionName::Context => true,
+            OptionName::Column => true,
+            OptionName::Spans => true,
+            _ => false,
+        }
+    }
+
+    /// Whether the option shows where in a line a match is.
+    fn is_mark(self) -> bool
+        ensures { result ≡ is_mark self }
+    {
+        match self {
+            OptionName::Column => true,
+            OptionName::Spans => true,
+            _ => false,
+        }
+    }
+}

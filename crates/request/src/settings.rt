@@ -1,0 +1,136 @@
+//! The settings before the pattern, each an option and what follows it.
+
+ghost use Rattle.std.specs.Prelude.{◌≡◌, ◌≢◌, ◌≤◌, ◌<◌, ℕ, IfErr, IfOk, List, MatchOption, codes, length};
+ghost use Rattle.request.specs.Faults.{IsFaultAt, IsFree, IsNamed};
+ghost use Rattle.request.specs.Names.{takes};
+ghost use Rattle.request.specs.Private.Kept.{shown_argument, shown_setting, shown_settings};
+ghost use Rattle.request.specs.Settings.{Setting as Spelled, SpellsArgument, SpellsSetting};
+ghost use Rattle.request.specs.Words.{after_word, first_word};
+
+use crate::fault::FindFault;
+use crate::names::{OptionName, Takes, option_named};
+use crate::words::{cut_word, number_in};
+
+/// What follows an option.
+#[derive(Clone, Copy, Debug)]
+pub enum Argument<'t> {
+    /// Nothing that belongs to it.
+    Nothing,
+    /// A word.
+    Text(&'t [u8]),
+    /// A number.
+    Number(u32),
+}
+
+/// An option and what follows it.
+#[derive(Clone, Copy, Debug)]
+pub struct Setting<'t> {
+    /// The option.
+    pub name: OptionName,
+    /// What follows it.
+    pub argument: Argument<'t>,
+}
+
+/// How often an option that can be repeated can be there.
+const MAX_TIMES: usize = 16;
+
+/// A setting, and the text after it.
+#[derive(Clone, Copy, Debug)]
+pub struct Taken<'t> {
+    /// The setting.
+    pub setting: Setting<'t>,
+    /// The text after it.
+    pub rest: &'t [u8],
+}
+
+/// Takes the setting at the front of a text, which comes after these settings.
+pub fn take_setting<'t>(earlier: &[Setting<'t>], text: &'t [u8]) -> Result<Taken<'t>, FindFault<'t>>
+    requires { first_word text.now ≢ codes "--" }
+    ensures ok { IfOk result (λ taken. SpellsSetting text.now taken.rest.now (shown_setting taken.setting)) }
+    ensures free { IfOk result (λ taken. IsFree taken.setting.name (shown_settings earlier.now)) }
+    ensures shorter { IfOk result (λ taken. length taken.rest.now < length text.now) }
+    ensures err { IfErr result (IsFaultAt (shown_settings earlier.now) text.now) }
+{
+    if text.is_empty() {
+        return Err(FindFault::NoSeparator);
+    }
+    let cut = cut_word(text);
+    let Some(name) = option_named(cut.word) else {
+        return Err(FindFault::BadOption(cut.word));
+    };
+    if let Some(fault) = fault_after(earlier, name) {
+        return Err(fault);
+    }
+    let followed = take_argument(name, cut.after)?;
+    Ok(Taken {
+        setting: Setting {
+            name,
+            argument: followed.argument,
+        },
+        rest: followed.rest,
+    })
+}
+
+/// Why the option cannot follow these settings.
+fn fault_after<'t>(earlier: &[Setting<'t>], name: OptionName) -> Option<FindFault<'t>>
+    ensures { MatchOption result (IsFree name (shown_settings earlier.now))
+        (λ fault. (text : List ℕ) → IsNamed text name → IsFaultAt (shown_settings earlier.now) text fault) }
+{
+    let mut times = 0;
+    for setting in earlier {
+        if setting.name.is(name) {
+            if !name.is_repeatable() {
+                return Some(FindFault::Twice(name));
+            }
+            times += 1;
+        } else if setting.name.excludes(name) {
+            return Some(FindFault::Exclude(setting.name, name));
+        }
+    }
+    if times >= MAX_TIMES {
+        return Some(FindFault::TooOften(name));
+    }
+    None
+}
+
+/// What follows an option, and the text after that.
+#[derive(Clone, Copy, Debug)]
+struct Followed<'t> {
+    argument: Argument<'t>,
+    rest: &'t [u8],
+}
+
+/// Takes what follows the option from the text after its word.
+fn take_argument(name: OptionName, text: &[u8]) -> Result<Followed<'_>, FindFault<'_>>
+    ensures ok { IfOk result (λ followed. SpellsArgument (takes name) text.now followed.rest.now (shown_argument followed.argument)) }
+    ensures shorter { IfOk result (λ followed. length followed.rest.now ≤ length text.now) }
+    ensures err { IfErr result (λ fault. (settings : List Spelled) (whole : List ℕ) → IsNamed whole name → after_word whole ≡ text.now
+        → IsFree name settings → IsFaultAt settings whole fault) }
+{
+    match name.takes() {
+        Takes::Nothing => Ok(Followed {
+            argument: Argument::Nothing,
+            rest: text,
+        }),
+        Takes::Word => {
+            if text.is_empty() {
+                return Err(FindFault::NoSeparator);
+            }
+            let cut = cut_word(text);
+            Ok(Followed {
+                argument: Argument::Text(cut.word),
+                rest: cut.after,
+            })
+        }
+        Takes::Number(least, greatest) => {
+            let cut = cut_word(text);
+            match number_in(cut.word, least, greatest) {
+                Some(number) => Ok(Followed {
+                    argument: Argument::Number(number),
+                    rest: cut.after,
+                }),
+                None => Err(FindFault::NeedsNumber(name)),
+            }
+        }
+    }
+}
