@@ -1,6 +1,0 @@
-//! A stand-in.
-#![tactic(auto)]
-
-mod simulation;
-
-pub use simulation::Simulation;
