@@ -1,0 +1,4 @@
+pub mod Shapes
+pub mod Tests
+pub mod Forward
+pub mod Steps

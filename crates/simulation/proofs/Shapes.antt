@@ -1,0 +1,39 @@
+-- The plain data of each variant: the equations of `shape`.
+use Rattle.std.specs.Prelude.{◌≡◌, ℕ, Bool, List}
+use Rattle.std.proofs.Common.{sym, ap, ◌∙◌}
+use Rattle.std.specs.declared.alloc.Global.{Global}
+use Rattle.std.specs.declared.boxed.Box.{Box}
+use Rattle.simulation.specs.declared.part.Gaps.{Gaps}
+use Rattle.simulation.specs.declared.part.Counts.{Counts}
+use Rattle.simulation.specs.declared.part.Part.{Part}
+use Rattle.simulation.specs.declared.part.Part.TheOpen as layer
+use Rattle.simulation.specs.declared.part.Part.TheVariants.{Nothing, Set, Both, Either, Loop, Times}
+use Rattle.simulation.specs.declared.part.Part.TheVariants.{rolls-Nothing, rolls-Set, rolls-Both, rolls-Either, rolls-Loop, rolls-Times}
+use Rattle.simulation.specs.declared.part.Part.TheFolds.{fold-roll-Part}
+use Rattle.simulation.specs.Parts.{Shape, nothing, set, both, either, loop, times, shape, shape_step}
+
+pub shape-Nothing : shape Nothing ≡ nothing
+unfolding shape
+shape-Nothing = ap shape (sym rolls-Nothing) ∙ fold-roll-Part Shape shape_step layer.Nothing
+
+pub shape-Set : (members : List Bool) → shape (Set members) ≡ set members
+unfolding shape
+shape-Set members = ap shape (sym (rolls-Set members)) ∙ fold-roll-Part Shape shape_step (layer.Set members)
+
+pub shape-Both : (left right : Box Part Global) (cells : ℕ) (before after : Gaps)
+    → shape (Both left right cells before after) ≡ both (shape left.value) (shape right.value) cells before after
+unfolding shape
+shape-Both left right cells before after =
+    ap shape (sym (rolls-Both left right cells before after)) ∙ fold-roll-Part Shape shape_step (layer.Both left right cells before after)
+
+pub shape-Either : (left right : Box Part Global) (cells : ℕ) → shape (Either left right cells) ≡ either (shape left.value) (shape right.value) cells
+unfolding shape
+shape-Either left right cells = ap shape (sym (rolls-Either left right cells)) ∙ fold-roll-Part Shape shape_step (layer.Either left right cells)
+
+pub shape-Loop : (body : Box Part Global) → shape (Loop body) ≡ loop (shape body.value)
+unfolding shape
+shape-Loop body = ap shape (sym (rolls-Loop body)) ∙ fold-roll-Part Shape shape_step (layer.Loop body)
+
+pub shape-Times : (body : Box Part Global) (counts : Counts) → shape (Times body counts) ≡ times (shape body.value) counts
+unfolding shape
+shape-Times body counts = ap shape (sym (rolls-Times body counts)) ∙ fold-roll-Part Shape shape_step (layer.Times body counts)

@@ -1,0 +1,5 @@
+//! Whether a line contains a match of an extended regular expression, in a bounted time for each byte.
+#![tactic(auto)]
+
+pub mod part;
+pub mod step;

@@ -1,0 +1,54 @@
+//! The parts that the simulation steps through.
+
+ghost use Rattle.std.specs.Prelude.{◌≡◌, ◌<◌, length};
+ghost use Rattle.simulation.specs.Parts.{is_gap};
+
+use ere::ByteSet;
+
+/// Where a part has the empty word, in a line that is not empty.
+#[derive(Clone, Copy, Debug, PartialEq, Eq)]
+pub struct Gaps {
+    /// At the line's start.
+    pub start: bool,
+    /// Between two bytes of the line.
+    pub inside: bool,
+    /// At the line's end.
+    pub end: bool,
+}
+
+/// How often the body of `Part::Times` is read.
+#[derive(Clone, Copy, Debug, PartialEq, Eq)]
+pub struct Counts {
+    /// The least number of words.
+    pub least: usize,
+    /// The copies of the body: the greatest number of words, or the least if there is no greatest.
+    pub copies: usize,
+    /// Whether there is no greatest number.
+    pub unbounded: bool,
+    /// Where the body has the empty word, so that fewer words than the least are enough.
+    pub gaps: Gaps,
+}
+
+/// A part of the tree, made ready for the simulation. It has words that are not empty only.
+#[derive(Drop)]
+pub enum Part {
+    /// No word.
+    Nothing,
+    /// One byte of the set.
+    Set(ByteSet),
+    /// A word of one part and then a word of another. The number is the weight of the first.
+    Both(Box<Part>, Box<Part>, usize, Gaps, Gaps),
+    /// A word of either part. The number is the weight of the first.
+    Either(Box<Part>, Box<Part>, usize),
+    /// One word or more, one after the other.
+    Loop(Box<Part>),
+    /// A number of words, one after the other.
+    Times(Box<Part>, Counts),
+}
+
+/// Whether the empty word is there at a position of the line.
+pub(crate) fn is_gap(gaps: Gaps, line: &[u8], at: usize) -> bool
+    ensures { result ≡ is_gap gaps line.now at }
+{
+    gaps.inside || gaps.start && at == 0 || gaps.end && at == line.len()
+}
