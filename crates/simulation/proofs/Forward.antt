@@ -24,44 +24,44 @@ pub reads_forward : (line : List ℕ) (part : Shape) (from to : ℕ) → Reads l
 unfolding Reads
 reads_forward line nothing from to h = absurd h
 reads_forward line (set members) from to h = let next = h.0 in omega arith
-reads_forward line (both left right cells before after) from to (inl h) =
+reads_forward line (both left right sizes before after) from to (inl h) =
     let one = reads_forward line left from h.0 h.1 in
     let two = reads_forward line right h.0 to h.2 in
     omega arith
-reads_forward line (both left right cells before after) from to (inr (inl h)) = reads_forward line right from to h.1
-reads_forward line (both left right cells before after) from to (inr (inr h)) = reads_forward line left from to h.0
-reads_forward line (either left right cells) from to (inl h) = reads_forward line left from to h
-reads_forward line (either left right cells) from to (inr h) = reads_forward line right from to h
+reads_forward line (both left right sizes before after) from to (inr (inl h)) = reads_forward line right from to h.1
+reads_forward line (both left right sizes before after) from to (inr (inr h)) = reads_forward line left from to h.0
+reads_forward line (either left right sizess) from to (inl h) = reads_forward line left from to h
+reads_forward line (either left right sizess) from to (inr h) = reads_forward line right from to h
 reads_forward line (loop body) from to h = chain_forward (Reads line body) (λ a b r. reads_forward line body a b r) h.0 from to h.1
 reads_forward line (times body counts) from to h = chain_forward (Reads line body) (λ a b r. reads_forward line body a b r) h.0 from to h.1
 
 pub chain_on : (line : List ℕ) (part : Shape) (count from to : ℕ) → Chain (Reads line part) count from to → from ≤ to
 chain_on line part count from to h = chain_not_back (Reads line part) (λ a b r. reads_forward line part a b r) count from to h
 
-pub pending_forward : (line : List ℕ) (here : ℕ) (part : Shape) (copies : ℕ) (cells : List Bool) (copy to : ℕ)
+pub pending_forward : (line : List ℕ) (here : ℕ) (part : Shape) (copies : ℕ) (cells : List ℕ) (copy to : ℕ)
     → Pending line here part copies cells copy to → here ≤ to
 unfolding Pending
 pending_forward line here nothing copies cells copy to h = absurd h
 pending_forward line here (set members) copies cells copy to h = let same = h.1 in omega arith
-pending_forward line here (both left right size before after) copies cells copy to (inl (middle, p, inl r)) =
-    let one = pending_forward line here left copies (first_of copies size cells) copy middle p in
+pending_forward line here (both left right sizes before after) copies cells copy to (inl (middle, p, inl r)) =
+    let one = pending_forward line here left copies (first_of sizes cells) copy middle p in
     let two = reads_forward line right middle to r in
     omega arith
-pending_forward line here (both left right size before after) copies cells copy to (inl (middle, p, inr r)) =
-    let one = pending_forward line here left copies (first_of copies size cells) copy middle p in
+pending_forward line here (both left right sizes before after) copies cells copy to (inl (middle, p, inr r)) =
+    let one = pending_forward line here left copies (first_of sizes cells) copy middle p in
     let two = r.0 in
     omega arith
-pending_forward line here (both left right size before after) copies cells copy to (inr p) =
-    pending_forward line here right copies (second_of copies size cells) copy to p
-pending_forward line here (either left right size) copies cells copy to (inl p) = pending_forward line here left copies (first_of copies size cells) copy to p
-pending_forward line here (either left right size) copies cells copy to (inr p) =
-    pending_forward line here right copies (second_of copies size cells) copy to p
+pending_forward line here (both left right sizes before after) copies cells copy to (inr p) =
+    pending_forward line here right copies (second_of sizes cells) copy to p
+pending_forward line here (either left right sizes) copies cells copy to (inl p) = pending_forward line here left copies (first_of sizes cells) copy to p
+pending_forward line here (either left right sizes) copies cells copy to (inr p) =
+    pending_forward line here right copies (second_of sizes cells) copy to p
 pending_forward line here (loop body) copies cells copy to (middle, more, p, r) =
     let one = pending_forward line here body copies cells copy middle p in
     let two = chain_on line body more middle to r in
     omega arith
 pending_forward line here (times body counts) copies cells copy to (turn, middle, more, inside, p, r, fits, enough) =
-    let one = pending_forward line here body (counts.copies * copies) (drop copies cells) (turn * copies + copy) middle p in
+    let one = pending_forward line here body (counts.copies * counts.stride) (drop counts.own cells) (turn * counts.stride + copy) middle p in
     let two = chain_on line body more middle to r in
     omega arith
 

@@ -2,3 +2,4 @@ pub mod Shapes
 pub mod Tests
 pub mod Forward
 pub mod Steps
+pub mod Words

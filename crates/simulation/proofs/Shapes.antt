@@ -5,6 +5,7 @@ use Rattle.std.specs.declared.alloc.Global.{Global}
 use Rattle.std.specs.declared.boxed.Box.{Box}
 use Rattle.simulation.specs.declared.part.Gaps.{Gaps}
 use Rattle.simulation.specs.declared.part.Counts.{Counts}
+use Rattle.simulation.specs.declared.part.Sizes.{Sizes}
 use Rattle.simulation.specs.declared.part.Part.{Part}
 use Rattle.simulation.specs.declared.part.Part.TheOpen as layer
 use Rattle.simulation.specs.declared.part.Part.TheVariants.{Nothing, Set, Both, Either, Loop, Times}
@@ -20,15 +21,15 @@ pub shape-Set : (members : List Bool) → shape (Set members) ≡ set members
 unfolding shape
 shape-Set members = ap shape (sym (rolls-Set members)) ∙ fold-roll-Part Shape shape_step (layer.Set members)
 
-pub shape-Both : (left right : Box Part Global) (cells : ℕ) (before after : Gaps)
-    → shape (Both left right cells before after) ≡ both (shape left.value) (shape right.value) cells before after
+pub shape-Both : (left right : Box Part Global) (sizes : Sizes) (before after : Gaps)
+    → shape (Both left right sizes before after) ≡ both (shape left.value) (shape right.value) sizes before after
 unfolding shape
-shape-Both left right cells before after =
-    ap shape (sym (rolls-Both left right cells before after)) ∙ fold-roll-Part Shape shape_step (layer.Both left right cells before after)
+shape-Both left right sizes before after =
+    ap shape (sym (rolls-Both left right sizes before after)) ∙ fold-roll-Part Shape shape_step (layer.Both left right sizes before after)
 
-pub shape-Either : (left right : Box Part Global) (cells : ℕ) → shape (Either left right cells) ≡ either (shape left.value) (shape right.value) cells
+pub shape-Either : (left right : Box Part Global) (sizes : Sizes) → shape (Either left right sizes) ≡ either (shape left.value) (shape right.value) sizes
 unfolding shape
-shape-Either left right cells = ap shape (sym (rolls-Either left right cells)) ∙ fold-roll-Part Shape shape_step (layer.Either left right cells)
+shape-Either left right sizes = ap shape (sym (rolls-Either left right sizes)) ∙ fold-roll-Part Shape shape_step (layer.Either left right sizes)
 
 pub shape-Loop : (body : Box Part Global) → shape (Loop body) ≡ loop (shape body.value)
 unfolding shape

@@ -4,6 +4,7 @@ use Rattle.std.proofs.Common.{refl, sym, subst, ap, ◌∙◌, arith}
 use Rattle.ere.specs.ByteSet.{has}
 use Rattle.simulation.specs.declared.part.Gaps.{Gaps}
 use Rattle.simulation.specs.declared.part.Counts.{Counts}
+use Rattle.simulation.specs.declared.part.Sizes.{Sizes}
 use Rattle.simulation.specs.Parts.{Shape, nothing, set, both, either, loop, times, is_gap, Chain, Reads, Fits, Suffices}
 use Rattle.simulation.specs.Pending.{at, first_of, second_of, Pending, Tells, IsKept, Advances}
 use Rattle.simulation.proofs.Tests.{or_cases, or_left, or_right, and_left, and_right, and_both}
@@ -13,13 +14,13 @@ use Rattle.matcher.proofs.Bits.{false≢true}
 use Rattle.std.proofs.lemmas.Nat.{mul-add-lt}
 
 -- What the first cells of a part say is kept.
-pub told : (line : List ℕ) (here : ℕ) (part : Shape) (copies : ℕ) (cells : List Bool) → IsKept line here part copies cells
+pub told : (line : List ℕ) (here : ℕ) (part : Shape) (copies : ℕ) (cells : List ℕ) → IsKept line here part copies cells
     → Tells line here part copies cells
 unfolding IsKept Pending Chain
 told line here nothing copies cells h = h
 told line here (set members) copies cells h = h
-told line here (both left right size before after) copies cells h = h.0
-told line here (either left right size) copies cells h = h.0
+told line here (both left right sizes before after) copies cells h = h.0
+told line here (either left right sizes) copies cells h = h.0
 told line here (loop body) copies cells h =
     let inner = told line here body copies cells h in
     record {
@@ -32,24 +33,24 @@ told line here (loop body) copies cells h =
     }
 told line here (times body counts) copies cells h = h.0
 
-pub both_advances : (line : List ℕ) (here : ℕ) (left right : Shape) (size : ℕ) (before after : Gaps) (copies : ℕ)
-    (entered cells next entered_left entered_right : List Bool)
-    → Advances line here left copies entered_left (first_of copies size cells) (first_of copies size next)
-    → Advances line here right copies entered_right (second_of copies size cells) (second_of copies size next)
-    → IsKept line here (both left right size before after) copies cells
+pub both_advances : (line : List ℕ) (here : ℕ) (left right : Shape) (sizes : Sizes) (before after : Gaps) (copies : ℕ)
+    (entered cells next entered_left entered_right : List ℕ)
+    → Advances line here left copies entered_left (first_of sizes cells) (first_of sizes next)
+    → Advances line here right copies entered_right (second_of sizes cells) (second_of sizes next)
+    → IsKept line here (both left right sizes before after) copies cells
     → ((k : ℕ) → k < copies → at entered_left k ≡ at entered k)
-    → ((k : ℕ) → k < copies → at entered_right k ≡ (at (first_of copies size cells) k || (is_gap before line here && at entered k)))
-    → ((k : ℕ) → k < copies → at next k ≡ (at (second_of copies size next) k || (is_gap after line (suc here) && at (first_of copies size next) k)))
-    → Advances line here (both left right size before after) copies entered cells next
+    → ((k : ℕ) → k < copies → at entered_right k ≡ (at (first_of sizes cells) k || (is_gap before line here && at entered k)))
+    → ((k : ℕ) → k < copies → at next k ≡ (at (second_of sizes next) k || (is_gap after line (suc here) && at (first_of sizes next) k)))
+    → Advances line here (both left right sizes before after) copies entered cells next
 unfolding Pending Reads IsKept
-both_advances line here left right size before after copies entered cells next entered_left entered_right one two kept given_left given_right own =
+both_advances line here left right sizes before after copies entered cells next entered_left entered_right one two kept given_left given_right own =
     record { sound = sound; goes_on = goes_on; begins = begins; kept = (tells, one.kept, two.kept) }
   where
     whole : Shape
-    whole = both left right size before after
+    whole = both left right sizes before after
 
-    old_left : List Bool
-    old_left = first_of copies size cells
+    old_left : List ℕ
+    old_left = first_of sizes cells
 
     left_told : Tells line here left copies old_left
     left_told = told line here left copies old_left kept.1
@@ -112,11 +113,11 @@ both_advances line here left right size before after copies entered cells next e
     tells : Tells line (suc here) whole copies next
     tells = record { set = tells_set; pending = tells_pending }
       where
-        new_left : List Bool
-        new_left = first_of copies size next
+        new_left : List ℕ
+        new_left = first_of sizes next
 
-        new_right : List Bool
-        new_right = second_of copies size next
+        new_right : List ℕ
+        new_right = second_of sizes next
 
         gap : Bool
         gap = is_gap after line (suc here)
@@ -144,7 +145,7 @@ both_advances line here left right size before after copies entered cells next e
         tells_pending k low (inr p) =
             own k low ∙ or_left (at new_right k) (gap && at new_left k) ((told line (suc here) right copies new_right two.kept).pending k low p)
 
-pub nothing_advances : (line : List ℕ) (here copies : ℕ) (entered cells next : List Bool) → ((k : ℕ) → k < copies → at next k ≡ false)
+pub nothing_advances : (line : List ℕ) (here copies : ℕ) (entered cells next : List ℕ) → ((k : ℕ) → k < copies → at next k ≡ false)
     → Advances line here nothing copies entered cells next
 unfolding Pending Reads IsKept
 nothing_advances line here copies entered cells next none = record {
@@ -154,7 +155,7 @@ nothing_advances line here copies entered cells next none = record {
   kept = record { set = λ k low is. absurd (false≢true (sym (none k low) ∙ is)); pending = λ k low p. absurd p };
 }
 
-pub set_advances : (line : List ℕ) (here : ℕ) (members : List Bool) (copies : ℕ) (entered cells next : List Bool) → here < length line
+pub set_advances : (line : List ℕ) (here : ℕ) (members : List Bool) (copies : ℕ) (entered cells next : List ℕ) → here < length line
     → ((k : ℕ) → k < copies → at next k ≡ (has members (get_or line here 0) && at entered k))
     → Advances line here (set members) copies entered cells next
 unfolding Pending Reads IsKept
@@ -168,24 +169,24 @@ set_advances line here members copies entered cells next inside own = record {
   kept = record { set = λ k low is. (is, refl); pending = λ k low p. p.0 };
 }
 
-pub either_advances : (line : List ℕ) (here : ℕ) (left right : Shape) (size copies : ℕ) (entered cells next entered_left entered_right : List Bool)
-    → Advances line here left copies entered_left (first_of copies size cells) (first_of copies size next)
-    → Advances line here right copies entered_right (second_of copies size cells) (second_of copies size next)
+pub either_advances : (line : List ℕ) (here : ℕ) (left right : Shape) (sizes : Sizes) (copies : ℕ) (entered cells next entered_left entered_right : List ℕ)
+    → Advances line here left copies entered_left (first_of sizes cells) (first_of sizes next)
+    → Advances line here right copies entered_right (second_of sizes cells) (second_of sizes next)
     → ((k : ℕ) → k < copies → at entered_left k ≡ at entered k) → ((k : ℕ) → k < copies → at entered_right k ≡ at entered k)
-    → ((k : ℕ) → k < copies → at next k ≡ (at (first_of copies size next) k || at (second_of copies size next) k))
-    → Advances line here (either left right size) copies entered cells next
+    → ((k : ℕ) → k < copies → at next k ≡ (at (first_of sizes next) k || at (second_of sizes next) k))
+    → Advances line here (either left right sizes) copies entered cells next
 unfolding Pending Reads IsKept
-either_advances line here left right size copies entered cells next entered_left entered_right one two given_left given_right own =
+either_advances line here left right sizes copies entered cells next entered_left entered_right one two given_left given_right own =
     record { sound = sound; goes_on = goes_on; begins = begins; kept = (record { set = tells_set; pending = tells_pending }, one.kept, two.kept) }
   where
     whole : Shape
-    whole = either left right size
+    whole = either left right sizes
 
-    new_left : List Bool
-    new_left = first_of copies size next
+    new_left : List ℕ
+    new_left = first_of sizes next
 
-    new_right : List Bool
-    new_right = second_of copies size next
+    new_right : List ℕ
+    new_right = second_of sizes next
 
     sound : (k to : ℕ) → k < copies → Pending line (suc here) whole copies next k to
         → Pending line here whole copies cells k to ⊎ (IsTrue (at entered k) × Reads line whole here to)
@@ -215,7 +216,7 @@ either_advances line here left right size copies entered cells next entered_left
     tells_pending k low (inr p) =
         own k low ∙ or_right (at new_left k) (at new_right k) ((told line (suc here) right copies new_right two.kept).pending k low p)
 
-pub loop_advances : (line : List ℕ) (here : ℕ) (body : Shape) (copies : ℕ) (entered cells next entered_body : List Bool)
+pub loop_advances : (line : List ℕ) (here : ℕ) (body : Shape) (copies : ℕ) (entered cells next entered_body : List ℕ)
     → Advances line here body copies entered_body cells next → IsKept line here body copies cells
     → ((k : ℕ) → k < copies → at entered_body k ≡ (at entered k || at cells k))
     → Advances line here (loop body) copies entered cells next
@@ -262,29 +263,29 @@ fits_fewer : (counts : Counts) (fewer words : ℕ) → fewer ≤ words → Fits 
 fits_fewer counts fewer words less (inl free) = inl free
 fits_fewer counts fewer words less (inr within) = let small : fewer ≤ counts.copies = omega arith in inr small
 
-pub times_advances : (line : List ℕ) (here : ℕ) (body : Shape) (counts : Counts) (copies : ℕ) (entered cells next entered_body : List Bool) (lowest : ℕ)
-    → Advances line here body (counts.copies * copies) entered_body (drop copies cells) (drop copies next)
-    → IsKept line here (times body counts) copies cells → 0 < counts.copies → counts.least ≤ counts.copies
+pub times_advances : (line : List ℕ) (here : ℕ) (body : Shape) (counts : Counts) (copies : ℕ) (entered cells next entered_body : List ℕ) (lowest : ℕ)
+    → Advances line here body (counts.copies * counts.stride) entered_body (drop counts.own cells) (drop counts.own next)
+    → IsKept line here (times body counts) copies cells → copies ≤ counts.stride → 0 < counts.copies → counts.least ≤ counts.copies
     → ((turn k : ℕ) → turn < counts.copies → k < copies
-    → IsTrue (at entered_body (turn * copies + k)) ↔ Enters counts copies (is_gap counts.gaps line here) entered (drop copies cells) turn k)
+    → IsTrue (at entered_body (turn * counts.stride + k)) ↔ Enters counts (is_gap counts.gaps line here) entered (drop counts.own cells) turn k)
     → ((turn : ℕ) → (lowest ≤ turn) ↔ Suffices line counts (suc turn) (suc here))
-    → ((k : ℕ) → k < copies → IsTrue (at next k) ↔ AnyTurn lowest counts.copies copies (drop copies next) k)
+    → ((k : ℕ) → k < copies → IsTrue (at next k) ↔ AnyTurn counts lowest (drop counts.own next) k)
     → Advances line here (times body counts) copies entered cells next
 unfolding Pending Reads IsKept Chain
-times_advances line here body counts copies entered cells next entered_body lowest one kept some ordered given enough own =
+times_advances line here body counts copies entered cells next entered_body lowest one kept wide some ordered given enough own =
     record { sound = sound; goes_on = goes_on; begins = begins; kept = (record { set = tells_set; pending = tells_pending }, one.kept) }
   where
     whole : Shape
     whole = times body counts
 
     all : ℕ
-    all = counts.copies * copies
+    all = counts.copies * counts.stride
 
-    old : List Bool
-    old = drop copies cells
+    old : List ℕ
+    old = drop counts.own cells
 
-    new : List Bool
-    new = drop copies next
+    new : List ℕ
+    new = drop counts.own next
 
     tells : Tells line here body all old
     tells = told line here body all old kept.1
@@ -292,18 +293,18 @@ times_advances line here body counts copies entered cells next entered_body lowe
     tells_next : Tells line (suc here) body all new
     tells_next = told line (suc here) body all new one.kept
 
-    place : (turn k : ℕ) → turn < counts.copies → k < copies → turn * copies + k < all
-    place turn k inside low = omega (arith, mul-add-lt turn copies k counts.copies inside low)
+    place : (turn k : ℕ) → turn < counts.copies → k < copies → turn * counts.stride + k < all
+    place turn k inside low = omega (arith, mul-add-lt turn counts.stride k counts.copies inside (omega arith))
 
     sound : (k to : ℕ) → k < copies → Pending line (suc here) whole copies next k to
         → Pending line here whole copies cells k to ⊎ (IsTrue (at entered k) × Reads line whole here to)
     sound k to low (turn, middle, more, inside, p, c, fits, suffices) =
-        elim (one.sound (turn * copies + k) middle (place turn k inside low) p) [
+        elim (one.sound (turn * counts.stride + k) middle (place turn k inside low) p) [
           inl before ↦ inl (turn, middle, more, inside, before, c, fits, suffices)
         | inr now ↦ began ((given turn k inside low).0 now.0) now.1
         ]
       where
-        began : Enters counts copies (is_gap counts.gaps line here) entered old turn k → Reads line body here middle
+        began : Enters counts (is_gap counts.gaps line here) entered old turn k → Reads line body here middle
             → Pending line here whole copies cells k to ⊎ (IsTrue (at entered k) × Reads line whole here to)
         began (enters.first e is) r =
             inr (is, (more, (middle, r, c), fits_fewer counts (suc more) (turn + suc more) (omega arith) fits,
@@ -312,40 +313,40 @@ times_advances line here body counts copies entered cells next entered_body lowe
         began (enters.next before e is) r =
             let same : turn + suc more ≡ before + suc (suc more) = omega arith in
             let earlier : before < counts.copies = omega arith in
-            inl (before, here, suc more, earlier, tells.set (before * copies + k) (place before k earlier low) is, (middle, r, c),
+            inl (before, here, suc more, earlier, tells.set (before * counts.stride + k) (place before k earlier low) is, (middle, r, c),
             subst (λ n. Fits counts n) same fits, subst (λ n. Suffices line counts n to) same suffices)
         began (enters.again free e is) r =
             let reached : counts.least ≤ turn + suc (suc more) = omega arith in
-            inl (turn, here, suc more, inside, tells.set (turn * copies + k) (place turn k inside low) is, (middle, r, c), inl free, inl reached)
+            inl (turn, here, suc more, inside, tells.set (turn * counts.stride + k) (place turn k inside low) is, (middle, r, c), inl free, inl reached)
 
     goes_on : (k to : ℕ) → k < copies → here < to → Pending line here whole copies cells k to → Pending line (suc here) whole copies next k to
     goes_on k to low on (turn, middle, zero, inside, p, c, fits, suffices) =
-        (turn, middle, zero, inside, one.goes_on (turn * copies + k) middle (place turn k inside low) (let same = c in omega arith) p, c, fits, suffices)
+        (turn, middle, zero, inside, one.goes_on (turn * counts.stride + k) middle (place turn k inside low) (let same = c in omega arith) p, c, fits, suffices)
     goes_on k to low on (turn, middle, suc more, inside, p, (after, r, c), fits, suffices) =
-        elim (at_or_past here middle (pending_forward line here body all old (turn * copies + k) middle p)) [
+        elim (at_or_past here middle (pending_forward line here body all old (turn * counts.stride + k) middle p)) [
           inl same ↦
-            last (tells.pending (turn * copies + k) (place turn k inside low) (subst (λ n. Pending line here body all old (turn * copies + k) n) (sym same) p))
+            last (tells.pending (turn * counts.stride + k) (place turn k inside low) (subst (λ n. Pending line here body all old (turn * counts.stride + k) n) (sym same) p))
             (subst (λ n. Reads line body n after) (sym same) r) (at_or_past (suc turn) counts.copies inside) fits
         | inr past ↦
-            (turn, middle, suc more, inside, one.goes_on (turn * copies + k) middle (place turn k inside low) past p, (after, r, c), fits, suffices)
+            (turn, middle, suc more, inside, one.goes_on (turn * counts.stride + k) middle (place turn k inside low) past p, (after, r, c), fits, suffices)
         ]
       where
-        last : IsTrue (at old (turn * copies + k)) → Reads line body here after → (suc turn ≡ counts.copies) ⊎ (suc turn < counts.copies)
+        last : IsTrue (at old (turn * counts.stride + k)) → Reads line body here after → (suc turn ≡ counts.copies) ⊎ (suc turn < counts.copies)
             → Fits counts (turn + suc (suc more)) → Pending line (suc here) whole copies next k to
         last is r (inr further) fits =
             let same : turn + suc (suc more) ≡ suc turn + suc more = omega arith in
             (suc turn, after, more, further,
-            one.begins (suc turn * copies + k) after (place (suc turn) k further low) ((given (suc turn) k further low).1 (enters.next turn refl is)) r, c,
+            one.begins (suc turn * counts.stride + k) after (place (suc turn) k further low) ((given (suc turn) k further low).1 (enters.next turn refl is)) r, c,
             subst (λ n. Fits counts n) same fits, subst (λ n. Suffices line counts n to) same suffices)
         last is r (inl end) (inl free) =
             let reached : counts.least ≤ turn + suc more = omega arith in
             (turn, after, more, inside,
-            one.begins (turn * copies + k) after (place turn k inside low) ((given turn k inside low).1 (enters.again free end is)) r, c, inl free, inl reached)
+            one.begins (turn * counts.stride + k) after (place turn k inside low) ((given turn k inside low).1 (enters.again free end is)) r, c, inl free, inl reached)
         last is r (inl end) (inr within) = absurd (omega arith)
 
     begins : (k to : ℕ) → k < copies → IsTrue (at entered k) → Reads line whole here to → Pending line (suc here) whole copies next k to
     begins k to low is (more, (middle, r, c), fits, inr suffices) =
-        (0, middle, more, some, one.begins (0 * copies + k) middle (place 0 k some low) ((given 0 k some low).1 (enters.first refl is)) r, c,
+        (0, middle, more, some, one.begins (0 * counts.stride + k) middle (place 0 k some low) ((given 0 k some low).1 (enters.first refl is)) r, c,
         subst (λ n. Fits counts n) (let same : suc more ≡ 0 + suc more = omega arith in same) fits,
         subst (λ n. Suffices line counts n to) (let same : suc more ≡ 0 + suc more = omega arith in same) suffices)
     begins k to low is (more, (middle, r, c), fits, inl gap) =
@@ -356,11 +357,11 @@ times_advances line here body counts copies entered cells next entered_body lowe
             let few : (counts.copies - suc more) + suc more ≤ counts.copies = omega arith in
             let reached : counts.least ≤ (counts.copies - suc more) + suc more = omega arith in
             (counts.copies - suc more, middle, more, inside,
-            one.begins ((counts.copies - suc more) * copies + k) middle (place (counts.copies - suc more) k inside low)
+            one.begins ((counts.copies - suc more) * counts.stride + k) middle (place (counts.copies - suc more) k inside low)
             ((given (counts.copies - suc more) k inside low).1 (enters.empties gap is)) r, c, inr few, inl reached))
         | inr beyond ↦
             (let reached : counts.least ≤ 0 + suc more = omega arith in
-            (0, middle, more, some, one.begins (0 * copies + k) middle (place 0 k some low) ((given 0 k some low).1 (enters.first refl is)) r, c,
+            (0, middle, more, some, one.begins (0 * counts.stride + k) middle (place 0 k some low) ((given 0 k some low).1 (enters.first refl is)) r, c,
             subst (λ n. Fits counts n) (let same : suc more ≡ 0 + suc more = omega arith in same) fits, inl reached))
         ]
 
@@ -369,16 +370,16 @@ times_advances line here body counts copies entered cells next entered_body lowe
         let found = (own k low).0 is in
         let few : found.0 + suc 0 ≤ counts.copies = let inside = found.2 in omega arith in
         let same : suc found.0 ≡ found.0 + suc 0 = omega arith in
-        (found.0, suc here, 0, found.2, tells_next.set (found.0 * copies + k) (place found.0 k found.2 low) found.3, refl, inr few,
+        (found.0, suc here, 0, found.2, tells_next.set (found.0 * counts.stride + k) (place found.0 k found.2 low) found.3, refl, inr few,
         subst (λ n. Suffices line counts n (suc here)) same ((enough found.0).0 found.1))
 
     tells_pending : (k : ℕ) → k < copies → Pending line (suc here) whole copies next k (suc here) → IsTrue (at next k)
     tells_pending k low (turn, middle, more, inside, p, c, fits, suffices) =
-        let on = pending_forward line (suc here) body all new (turn * copies + k) middle p in
+        let on = pending_forward line (suc here) body all new (turn * counts.stride + k) middle p in
         let none = stays line body more middle (suc here) on c in
         let stay : middle ≡ suc here = subst (λ n. Chain (Reads line body) n middle (suc here)) none c in
         let same : turn + suc more ≡ suc turn = omega arith in
         (own k low).1
         (turn, (enough turn).1 (subst (λ n. Suffices line counts n (suc here)) same suffices), inside,
-        tells_next.pending (turn * copies + k) (place turn k inside low)
-        (subst (λ n. Pending line (suc here) body all new (turn * copies + k) n) stay p))
+        tells_next.pending (turn * counts.stride + k) (place turn k inside low)
+        (subst (λ n. Pending line (suc here) body all new (turn * counts.stride + k) n) stay p))

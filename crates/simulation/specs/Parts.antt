@@ -5,6 +5,7 @@ use Rattle.ere.specs.ByteSet.{has}
 use Rattle.matcher.specs.Spans.{Relation}
 use Rattle.simulation.specs.declared.part.Gaps.{Gaps}
 use Rattle.simulation.specs.declared.part.Counts.{Counts}
+use Rattle.simulation.specs.declared.part.Sizes.{Sizes}
 use Rattle.simulation.specs.declared.part.Part.{Part, Part-F}
 use Rattle.simulation.specs.declared.part.Part.TheOpen as layer
 use Rattle.simulation.specs.declared.part.Part.TheFolds.{fold-Part}
@@ -13,8 +14,8 @@ use Rattle.simulation.specs.declared.part.Part.TheFolds.{fold-Part}
 pub data Shape : Type 0 where
   nothing : Shape
   set : List Bool → Shape
-  both : Shape → Shape → ℕ → Gaps → Gaps → Shape
-  either : Shape → Shape → ℕ → Shape
+  both : Shape → Shape → Sizes → Gaps → Gaps → Shape
+  either : Shape → Shape → Sizes → Shape
   loop : Shape → Shape
   times : Shape → Counts → Shape
 
@@ -22,8 +23,8 @@ pub data Shape : Type 0 where
 abbrev pub shape_step : Part-F Shape → Shape
 shape_step layer.Nothing = nothing
 shape_step (layer.Set members) = set members
-shape_step (layer.Both left right cells before after) = both left.value right.value cells before after
-shape_step (layer.Either left right cells) = either left.value right.value cells
+shape_step (layer.Both left right sizes before after) = both left.value right.value sizes before after
+shape_step (layer.Either left right sizes) = either left.value right.value sizes
 shape_step (layer.Loop body) = loop body.value
 shape_step (layer.Times body counts) = times body.value counts
 
@@ -51,29 +52,12 @@ Suffices line counts words to = (counts.least ≤ words) ⊎ IsTrue (is_gap coun
 unfoldable pub Reads : List ℕ → Shape → ℕ → ℕ → Type 0
 Reads line nothing from to = ⊥
 Reads line (set members) from to = (to ≡ suc from) × (from < length line) × IsTrue (has members (slice_index line from))
-Reads line (both left right cells before after) from to =
+Reads line (both left right sizes before after) from to =
     ((middle : ℕ) × Reads line left from middle × Reads line right middle to)
     ⊎ ((IsTrue (is_gap before line from) × Reads line right from to) ⊎ (Reads line left from to × IsTrue (is_gap after line to)))
-Reads line (either left right cells) from to = Reads line left from to ⊎ Reads line right from to
+Reads line (either left right sizes) from to = Reads line left from to ⊎ Reads line right from to
 Reads line (loop body) from to = (more : ℕ) × Chain (Reads line body) (suc more) from to
 Reads line (times body counts) from to =
     (more : ℕ) × Chain (Reads line body) (suc more) from to × Fits counts (suc more)
     × (IsTrue (is_gap counts.gaps line from) ⊎ Suffices line counts (suc more) to)
 
--- the number of cells for each copy of a part
-unfoldable pub weight : Shape → ℕ
-weight nothing = 1
-weight (set members) = 1
-weight (both left right cells before after) = 1 + (weight left + weight right)
-weight (either left right cells) = 1 + (weight left + weight right)
-weight (loop body) = weight body
-weight (times body counts) = 1 + counts.copies * weight body
-
--- The numbers that a part keeps are right.
-unfoldable pub IsWhole : Shape → Type 0
-IsWhole nothing = Unit {0}
-IsWhole (set members) = Unit {0}
-IsWhole (both left right cells before after) = (cells ≡ weight left) × IsWhole left × IsWhole right
-IsWhole (either left right cells) = (cells ≡ weight left) × IsWhole left × IsWhole right
-IsWhole (loop body) = IsWhole body
-IsWhole (times body counts) = (0 < counts.copies) × (counts.least ≤ counts.copies) × IsWhole body

@@ -1,5 +1,6 @@
 //! Whether a line contains a match of an extended regular expression, in a bounted time for each byte.
 #![tactic(auto)]
 
+pub mod cells;
 pub mod part;
 pub mod step;

@@ -16,6 +16,15 @@ pub struct Gaps {
     pub end: bool,
 }
 
+/// Where the cells of two members lie, after those of the part itself.
+#[derive(Clone, Copy, Debug, PartialEq, Eq)]
+pub struct Sizes {
+    /// The number of the part's own cells.
+    pub own: usize,
+    /// The number of cells of the first member.
+    pub first: usize,
+}
+
 /// How often the body of `Part::Times` is read.
 #[derive(Clone, Copy, Debug, PartialEq, Eq)]
 pub struct Counts {
@@ -27,6 +36,10 @@ pub struct Counts {
     pub unbounded: bool,
     /// Where the body has the empty word, so that fewer words than the least are enough.
     pub gaps: Gaps,
+    /// The number of the part's own cells.
+    pub own: usize,
+    /// How far apart two copies of the body are that stand for one copy of the part.
+    pub stride: usize,
 }
 
 /// A part of the tree, made ready for the simulation. It has words that are not empty only.
@@ -36,10 +49,10 @@ pub enum Part {
     Nothing,
     /// One byte of the set.
     Set(ByteSet),
-    /// A word of one part and then a word of another. The number is the weight of the first.
-    Both(Box<Part>, Box<Part>, usize, Gaps, Gaps),
-    /// A word of either part. The number is the weight of the first.
-    Either(Box<Part>, Box<Part>, usize),
+    /// A word of one part and then a word of another. Either can be left out where it has the empty word.
+    Both(Box<Part>, Box<Part>, Sizes, Gaps, Gaps),
+    /// A word of either part.
+    Either(Box<Part>, Box<Part>, Sizes),
     /// One word or more, one after the other.
     Loop(Box<Part>),
     /// A number of words, one after the other.
