@@ -32,7 +32,7 @@ reads_forward line (both left right sizes before after) from to (inr (inl h)) = 
 reads_forward line (both left right sizes before after) from to (inr (inr h)) = reads_forward line left from to h.0
 reads_forward line (either left right sizess) from to (inl h) = reads_forward line left from to h
 reads_forward line (either left right sizess) from to (inr h) = reads_forward line right from to h
-reads_forward line (loop body) from to h = chain_forward (Reads line body) (λ a b r. reads_forward line body a b r) h.0 from to h.1
+reads_forward line (loop body own) from to h = chain_forward (Reads line body) (λ a b r. reads_forward line body a b r) h.0 from to h.1
 reads_forward line (times body counts) from to h = chain_forward (Reads line body) (λ a b r. reads_forward line body a b r) h.0 from to h.1
 
 pub chain_on : (line : List ℕ) (part : Shape) (count from to : ℕ) → Chain (Reads line part) count from to → from ≤ to
@@ -56,7 +56,7 @@ pending_forward line here (both left right sizes before after) copies cells copy
 pending_forward line here (either left right sizes) copies cells copy to (inl p) = pending_forward line here left copies (first_of sizes cells) copy to p
 pending_forward line here (either left right sizes) copies cells copy to (inr p) =
     pending_forward line here right copies (second_of sizes cells) copy to p
-pending_forward line here (loop body) copies cells copy to (middle, more, p, r) =
+pending_forward line here (loop body own) copies cells copy to (middle, more, p, r) =
     let one = pending_forward line here body copies cells copy middle p in
     let two = chain_on line body more middle to r in
     omega arith

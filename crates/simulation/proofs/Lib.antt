@@ -3,3 +3,4 @@ pub mod Tests
 pub mod Forward
 pub mod Steps
 pub mod Words
+pub mod Cuts

@@ -31,9 +31,9 @@ pub shape-Either : (left right : Box Part Global) (sizes : Sizes) → shape (Eit
 unfolding shape
 shape-Either left right sizes = ap shape (sym (rolls-Either left right sizes)) ∙ fold-roll-Part Shape shape_step (layer.Either left right sizes)
 
-pub shape-Loop : (body : Box Part Global) → shape (Loop body) ≡ loop (shape body.value)
+pub shape-Loop : (body : Box Part Global) (own : ℕ) → shape (Loop body own) ≡ loop (shape body.value) own
 unfolding shape
-shape-Loop body = ap shape (sym (rolls-Loop body)) ∙ fold-roll-Part Shape shape_step (layer.Loop body)
+shape-Loop body own = ap shape (sym (rolls-Loop body own)) ∙ fold-roll-Part Shape shape_step (layer.Loop body own)
 
 pub shape-Times : (body : Box Part Global) (counts : Counts) → shape (Times body counts) ≡ times (shape body.value) counts
 unfolding shape

@@ -21,7 +21,7 @@ told line here nothing copies cells h = h
 told line here (set members) copies cells h = h
 told line here (both left right sizes before after) copies cells h = h.0
 told line here (either left right sizes) copies cells h = h.0
-told line here (loop body) copies cells h =
+told line here (loop body own) copies cells h =
     let inner = told line here body copies cells h in
     record {
       set = λ k low is. (here, 0, inner.set k low is, refl);
@@ -216,16 +216,16 @@ either_advances line here left right sizes copies entered cells next entered_lef
     tells_pending k low (inr p) =
         own k low ∙ or_right (at new_left k) (at new_right k) ((told line (suc here) right copies new_right two.kept).pending k low p)
 
-pub loop_advances : (line : List ℕ) (here : ℕ) (body : Shape) (copies : ℕ) (entered cells next entered_body : List ℕ)
+pub loop_advances : (line : List ℕ) (here : ℕ) (body : Shape) (own copies : ℕ) (entered cells next entered_body : List ℕ)
     → Advances line here body copies entered_body cells next → IsKept line here body copies cells
     → ((k : ℕ) → k < copies → at entered_body k ≡ (at entered k || at cells k))
-    → Advances line here (loop body) copies entered cells next
+    → Advances line here (loop body own) copies entered cells next
 unfolding Pending Reads IsKept Chain
-loop_advances line here body copies entered cells next entered_body one kept given =
+loop_advances line here body own copies entered cells next entered_body one kept given =
     record { sound = sound; goes_on = goes_on; begins = begins; kept = one.kept }
   where
     whole : Shape
-    whole = loop body
+    whole = loop body own
 
     tells : Tells line here body copies cells
     tells = told line here body copies cells kept

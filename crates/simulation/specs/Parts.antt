@@ -16,7 +16,7 @@ pub data Shape : Type 0 where
   set : List Bool → Shape
   both : Shape → Shape → Sizes → Gaps → Gaps → Shape
   either : Shape → Shape → Sizes → Shape
-  loop : Shape → Shape
+  loop : Shape → ℕ → Shape
   times : Shape → Counts → Shape
 
 -- one layer of a part, with the plain data of its members
@@ -25,7 +25,7 @@ shape_step layer.Nothing = nothing
 shape_step (layer.Set members) = set members
 shape_step (layer.Both left right sizes before after) = both left.value right.value sizes before after
 shape_step (layer.Either left right sizes) = either left.value right.value sizes
-shape_step (layer.Loop body) = loop body.value
+shape_step (layer.Loop body own) = loop body.value own
 shape_step (layer.Times body counts) = times body.value counts
 
 -- the plain data of a part
@@ -56,7 +56,7 @@ Reads line (both left right sizes before after) from to =
     ((middle : ℕ) × Reads line left from middle × Reads line right middle to)
     ⊎ ((IsTrue (is_gap before line from) × Reads line right from to) ⊎ (Reads line left from to × IsTrue (is_gap after line to)))
 Reads line (either left right sizes) from to = Reads line left from to ⊎ Reads line right from to
-Reads line (loop body) from to = (more : ℕ) × Chain (Reads line body) (suc more) from to
+Reads line (loop body own) from to = (more : ℕ) × Chain (Reads line body) (suc more) from to
 Reads line (times body counts) from to =
     (more : ℕ) × Chain (Reads line body) (suc more) from to × Fits counts (suc more)
     × (IsTrue (is_gap counts.gaps line from) ⊎ Suffices line counts (suc more) to)

@@ -32,7 +32,7 @@ Pending line here (both left right sizes before after) copies cells copy to =
     ⊎ Pending line here right copies (second_of sizes cells) copy to
 Pending line here (either left right sizes) copies cells copy to =
     Pending line here left copies (first_of sizes cells) copy to ⊎ Pending line here right copies (second_of sizes cells) copy to
-Pending line here (loop body) copies cells copy to =
+Pending line here (loop body own) copies cells copy to =
     (middle : ℕ) × (more : ℕ) × Pending line here body copies cells copy middle × Chain (Reads line body) more middle to
 Pending line here (times body counts) copies cells copy to =
     (turn : ℕ) × (middle : ℕ) × (more : ℕ) × (turn < counts.copies)
@@ -53,7 +53,7 @@ IsKept line here (both left right sizes before after) copies cells =
 IsKept line here (either left right sizes) copies cells =
     Tells line here (either left right sizes) copies cells
     × IsKept line here left copies (first_of sizes cells) × IsKept line here right copies (second_of sizes cells)
-IsKept line here (loop body) copies cells = IsKept line here body copies cells
+IsKept line here (loop body own) copies cells = IsKept line here body copies cells
 IsKept line here (times body counts) copies cells =
     Tells line here (times body counts) copies cells × IsKept line here body (counts.copies * counts.stride) (drop counts.own cells)
 
@@ -92,6 +92,7 @@ pub data IsNarrow (stride : ℕ) : Type 0 where
 
 -- Some copies fit into a stride, and no stride lies in a word in part.
 pub record IsStride (copies stride : ℕ) : Type 0 where
+  pub some : 0 < copies
   pub fits : copies ≤ stride
   pub even : IsNarrow stride ⊎ (stride ≡ 64 * words_for copies)
 
@@ -101,7 +102,7 @@ size_of nothing copies = words_for copies
 size_of (set members) copies = words_for copies
 size_of (both left right sizes before after) copies = words_for copies + (size_of left copies + size_of right copies)
 size_of (either left right sizes) copies = words_for copies + (size_of left copies + size_of right copies)
-size_of (loop body) copies = size_of body copies
+size_of (loop body own) copies = size_of body copies
 size_of (times body counts) copies = words_for copies + size_of body (counts.copies * counts.stride)
 
 -- The numbers that a part keeps are those of this many copies.
@@ -112,10 +113,10 @@ IsWhole (both left right sizes before after) copies =
     (sizes.own ≡ words_for copies) × (sizes.first ≡ size_of left copies) × IsWhole left copies × IsWhole right copies
 IsWhole (either left right sizes) copies =
     (sizes.own ≡ words_for copies) × (sizes.first ≡ size_of left copies) × IsWhole left copies × IsWhole right copies
-IsWhole (loop body) copies = IsWhole body copies
+IsWhole (loop body own) copies = (own ≡ words_for copies) × IsWhole body copies
 IsWhole (times body counts) copies =
-    (counts.own ≡ words_for copies) × IsStride copies counts.stride × (0 < counts.copies) × (counts.least ≤ counts.copies)
-    × IsWhole body (counts.copies * counts.stride)
+    (counts.own ≡ words_for copies) × IsStride copies counts.stride × (counts.all ≡ counts.copies * counts.stride) × (0 < counts.copies)
+    × (counts.least ≤ counts.copies) × IsWhole body (counts.copies * counts.stride)
 
 -- The cells are those of this many copies of the part at a position of the line, and there is as much room for what begins.
 pub record IsReady (line : List ℕ) (here : ℕ) (part : Shape) (copies : ℕ) (entered cells : List ℕ) : Type 0 where

@@ -1,6 +1,6 @@
 //! Cells: one truth value for each copy of a part, in words of 64 bits.
 
-ghost use Rattle.std.specs.Prelude.{◌≡◌, ℕ, suc, ◌+◌, ◌-◌, ◌*◌, ◌/◌, ◌%◌, ◌<◌, ◌≤◌, ◌↔◌, ◌&&◌, ◌||◌, if◌then◌else◌, nat_lt, nat_le, IsTrue, length, slice_index};
+ghost use Rattle.std.specs.Prelude.{◌≡◌, ℕ, suc, ◌+◌, ◌-◌, ◌*◌, ◌/◌, ◌%◌, ◌<◌, ◌≤◌, ◌↔◌, ◌&&◌, ◌||◌, ◌⊎◌, if◌then◌else◌, nat_lt, nat_le, IsTrue, length, slice_index};
 ghost use Rattle.ere.specs.Bits.{has_bit};
 ghost use Rattle.simulation.specs.Parts.{Suffices, is_gap};
 ghost use Rattle.simulation.specs.Pending.{at, room, AnyTurn, Enters, IsStride, IsNarrow};
@@ -71,11 +71,12 @@ pub(crate) fn add(more: &[u64], to: &mut [u64], words: usize)
 /// What begins in each copy of the body.
 #[tactic(none)]
 pub(crate) fn begin_turns(counts: Counts, gap: bool, entered: &[u64], read: &[u64], out: &mut [u64])
-    requires some { 0 < counts.copies }
+    requires some { (0 < counts.copies) × (0 < counts.stride) }
+    requires all { counts.all ≡ counts.copies * counts.stride }
+    requires stride { IsNarrow counts.stride ⊎ (counts.stride ≡ room entered.now) }
     requires entered { counts.stride ≤ room entered.now }
-    requires read { counts.copies * counts.stride ≤ room read.now }
-    requires out { counts.copies * counts.stride ≤ room out.old }
-    requires stride { IsNarrow counts.stride }
+    requires read { counts.all ≤ room read.now }
+    requires out { counts.all ≤ room out.old }
     ensures { (turn k : ℕ) → turn < counts.copies → k < counts.stride → IsTrue (at out.new (turn * counts.stride + k)) ↔ Enters counts gap entered.now read.now turn k }
 {
 }
@@ -83,8 +84,11 @@ pub(crate) fn begin_turns(counts: Counts, gap: bool, entered: &[u64], read: &[u6
 /// What some turn from the lowest on has read.
 #[tactic(none)]
 pub(crate) fn any_turn(counts: Counts, lowest: usize, read: &[u64], own: &mut [u64])
+    requires some { (0 < counts.copies) × (0 < counts.stride) }
+    requires all { counts.all ≡ counts.copies * counts.stride }
+    requires stride { IsNarrow counts.stride ⊎ (counts.stride ≡ room own.old) }
     requires own { counts.stride ≤ room own.old }
-    requires read { counts.copies * counts.stride ≤ room read.now }
+    requires read { counts.all ≤ room read.now }
     ensures { (k : ℕ) → k < counts.stride → IsTrue (at own.new k) ↔ AnyTurn counts lowest read.now k }
 {
 }

@@ -40,6 +40,8 @@ pub struct Counts {
     pub own: usize,
     /// How far apart two copies of the body are that stand for one copy of the part.
     pub stride: usize,
+    /// The copies of the body, with all that the stride leaves unused.
+    pub all: usize,
 }
 
 /// A part of the tree, made ready for the simulation. It has words that are not empty only.
@@ -53,8 +55,8 @@ pub enum Part {
     Both(Box<Part>, Box<Part>, Sizes, Gaps, Gaps),
     /// A word of either part.
     Either(Box<Part>, Box<Part>, Sizes),
-    /// One word or more, one after the other.
-    Loop(Box<Part>),
+    /// One word or more, one after the other. The number is that of the part's own cells.
+    Loop(Box<Part>, usize),
     /// A number of words, one after the other.
     Times(Box<Part>, Counts),
 }
