@@ -375,3 +375,21 @@ times_stepped line here next body counts copies entered cells read given_own giv
     to_given turn k low (enters.empties g is) = enters.empties (gap_is ∙ g) (own_given k low ∙ is)
     to_given turn k low (enters.next before e is) = enters.next before e (subst (λ v. IsTrue (at v (before * counts.stride + k))) (sym read_is) is)
     to_given turn k low (enters.again free e is) = enters.again free e (subst (λ v. IsTrue (at v (turn * counts.stride + k))) (sym read_is) is)
+
+pub set_long : (line : List ℕ) (here : ℕ) (members : List Bool) (copies : ℕ) (entered cells : List ℕ) → IsReady line here (set members) copies entered cells
+    → length entered ≡ words_for copies
+unfolding size_of
+set_long line here members copies entered cells ready = ready.entered_all
+
+pub set_cells_long : (line : List ℕ) (here : ℕ) (members : List Bool) (copies : ℕ) (entered cells : List ℕ)
+    → IsReady line here (set members) copies entered cells → length cells ≡ words_for copies
+unfolding size_of
+set_cells_long line here members copies entered cells ready = ready.cells_all
+
+pub even_in : (copies stride own : ℕ) (cells : List ℕ) → own ≡ words_for copies → length cells ≡ own → IsStride copies stride
+    → IsNarrow stride ⊎ (stride ≡ room cells)
+even_in copies stride own cells own_is long is = go is.even
+  where
+    go : IsNarrow stride ⊎ (stride ≡ 64 * words_for copies) → IsNarrow stride ⊎ (stride ≡ room cells)
+    go (inl small) = inl small
+    go (inr e) = let same : stride ≡ room cells = omega arith in inr same

@@ -4,3 +4,4 @@ pub mod Forward
 pub mod Steps
 pub mod Words
 pub mod Cuts
+pub mod Ranks

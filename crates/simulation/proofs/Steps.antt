@@ -6,11 +6,11 @@ use Rattle.simulation.specs.declared.part.Gaps.{Gaps}
 use Rattle.simulation.specs.declared.part.Counts.{Counts}
 use Rattle.simulation.specs.declared.part.Sizes.{Sizes}
 use Rattle.simulation.specs.Parts.{Shape, nothing, set, both, either, loop, times, is_gap, Chain, Reads, Fits, Suffices}
-use Rattle.simulation.specs.Pending.{at, first_of, second_of, Pending, Tells, IsKept, Advances}
+use Rattle.simulation.specs.Pending.{at, first_of, second_of, Pending, Tells, IsKept, IsReady, Advances}
 use Rattle.simulation.proofs.Tests.{or_cases, or_left, or_right, and_left, and_right, and_both}
 use Rattle.simulation.specs.Pending.{Enters, Enters as enters, AnyTurn}
 use Rattle.simulation.proofs.Forward.{reads_forward, chain_on, pending_forward, stays, at_or_past, le_or_lt}
-use Rattle.matcher.proofs.Bits.{false≢true}
+use Rattle.matcher.proofs.Bits.{false≢true, is_false}
 use Rattle.std.proofs.lemmas.Nat.{mul-add-lt}
 
 -- What the first cells of a part say is kept.
@@ -383,3 +383,10 @@ times_advances line here body counts copies entered cells next entered_body lowe
         (turn, (enough turn).1 (subst (λ n. Suffices line counts n (suc here)) same suffices), inside,
         tells_next.pending (turn * counts.stride + k) (place turn k inside low)
         (subst (λ n. Pending line (suc here) body all new (turn * counts.stride + k) n) stay p))
+
+-- A part with no word stays as it is.
+pub nothing_stepped : (line : List ℕ) (here copies : ℕ) (entered cells : List ℕ) → IsReady line here nothing copies entered cells
+    → Advances line here nothing copies entered cells cells
+unfolding IsKept Pending
+nothing_stepped line here copies entered cells ready =
+    nothing_advances line here copies entered cells cells (λ k low. is_false (at cells k) (λ is. ready.kept.set k low is))

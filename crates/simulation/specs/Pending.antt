@@ -125,3 +125,12 @@ pub record IsReady (line : List ℕ) (here : ℕ) (part : Shape) (copies : ℕ) 
   pub entered_all : length entered ≡ size_of part copies
   pub cells_all : length cells ≡ size_of part copies
   pub kept : IsKept line here part copies cells
+
+-- A number that is greater than those of a part's members, by two.
+unfoldable pub rank : Shape → ℕ
+rank nothing = 1
+rank (set members) = 1
+rank (both left right sizes before after) = rank left + rank right + 2
+rank (either left right sizes) = rank left + rank right + 2
+rank (loop body own) = rank body + 2
+rank (times body counts) = rank body + 2
