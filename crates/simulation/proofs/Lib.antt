@@ -5,3 +5,4 @@ pub mod Steps
 pub mod Words
 pub mod Cuts
 pub mod Ranks
+pub mod Packing

@@ -1,3 +1,4 @@
 pub mod Parts
 pub mod Pending
 pub mod Private
+pub mod Packing

@@ -1,6 +1,6 @@
 -- The words of a part by positions of a line, which is not empty. No word is empty: where a part of a tree has the
 -- empty word is said by gaps, next to the parts that they join.
-use Rattle.std.specs.Prelude.{◌≡◌, ℕ, zero, suc, ◌+◌, ◌*◌, ◌<◌, ◌≤◌, Bool, ◌&&◌, ◌||◌, ◌==◌, IsTrue, List, length, slice_index, ◌⊎◌}
+use Rattle.std.specs.Prelude.{◌≡◌, ℕ, zero, suc, ◌+◌, ◌*◌, ◌<◌, ◌≤◌, Bool, if◌then◌else◌, ◌==◌, IsTrue, List, length, slice_index, ◌⊎◌}
 use Rattle.ere.specs.ByteSet.{has}
 use Rattle.matcher.specs.Spans.{Relation}
 use Rattle.simulation.specs.declared.part.Gaps.{Gaps}
@@ -34,7 +34,8 @@ shape = fold-Part Shape shape_step
 
 -- whether the empty word is there at a position of the line
 abbrev pub is_gap : Gaps → List ℕ → ℕ → Bool
-is_gap gaps line at = gaps.inside || ((gaps.start && at == 0) || (gaps.end && at == length line))
+is_gap gaps line at =
+    if at == 0 then (if length line == 0 then gaps.alone else gaps.start) else (if at == length line then gaps.end else gaps.inside)
 
 -- `count` words of a relation, one after the other
 unfoldable pub Chain : Relation → ℕ → Relation

@@ -5,14 +5,16 @@ ghost use Rattle.simulation.specs.Parts.{is_gap};
 
 use ere::ByteSet;
 
-/// Where a part has the empty word, in a line that is not empty.
+/// Where a tree has the empty word.
 #[derive(Clone, Copy, Debug, PartialEq, Eq)]
 pub struct Gaps {
-    /// At the line's start.
+    /// In an empty line.
+    pub alone: bool,
+    /// At the start of a line that is not empty.
     pub start: bool,
-    /// Between two bytes of the line.
+    /// Between two bytes of a line.
     pub inside: bool,
-    /// At the line's end.
+    /// At the end of a line that is not empty.
     pub end: bool,
 }
 
@@ -65,5 +67,11 @@ pub enum Part {
 pub(crate) fn is_gap(gaps: Gaps, line: &[u8], at: usize) -> bool
     ensures { result ≡ is_gap gaps line.now at }
 {
-    gaps.inside || gaps.start && at == 0 || gaps.end && at == line.len()
+    if at == 0 {
+        if line.is_empty() { gaps.alone } else { gaps.start }
+    } else if at == line.len() {
+        gaps.end
+    } else {
+        gaps.inside
+    }
 }

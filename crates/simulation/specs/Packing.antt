@@ -1,0 +1,49 @@
+-- Which part stands for a tree.
+use Rattle.std.specs.Prelude.{ℕ, ◌≤◌, ◌<◌, Bool, true, false, ◌&&◌, ◌||◌, if◌then◌else◌, ◌==◌, IsTrue, List, ◌⊎◌}
+use Rattle.ere.specs.Tree.{Tree, Trees}
+use Rattle.matcher.specs.Spans.{Relation, Spans, SpansEach, SpansSome}
+use Rattle.simulation.specs.declared.part.Gaps.{Gaps}
+use Rattle.simulation.specs.Parts.{Shape, Reads, is_gap}
+
+-- The words of the part and the gaps together are the words that a relation has in each line.
+pub record IsPacked (words : List ℕ → Relation) (part : Shape) (gaps : Gaps) : Type 0 where
+  pub forward : (line : List ℕ) (from to : ℕ) → words line from to → from ≤ to
+  pub sound : (line : List ℕ) (from to : ℕ) → Reads line part from to → words line from to
+  pub complete : (line : List ℕ) (from to : ℕ) → from < to → words line from to → Reads line part from to
+  pub empty : (line : List ℕ) (at : ℕ) → IsTrue (is_gap gaps line at) → words line at at
+  pub gap : (line : List ℕ) (at : ℕ) → words line at at → IsTrue (is_gap gaps line at)
+  pub steady : IsTrue gaps.inside → IsTrue gaps.start × IsTrue gaps.end
+
+-- The part and the gaps stand for a tree.
+abbrev pub StandsFor : Tree → Shape → Gaps → Type 0
+StandsFor tree part gaps = IsPacked (λ line. Spans line tree) part gaps
+
+-- They stand for a word of each tree, one after the other.
+abbrev pub StandsForEach : Trees → Shape → Gaps → Type 0
+StandsForEach trees part gaps = IsPacked (λ line. SpansEach line trees) part gaps
+
+-- They stand for a word of one of the trees.
+abbrev pub StandsForSome : Trees → Shape → Gaps → Type 0
+StandsForSome trees part gaps = IsPacked (λ line. SpansSome line trees) part gaps
+
+-- the empty word nowhere
+abbrev pub nowhere : Gaps
+nowhere = record { alone = false; start = false; inside = false; end = false }
+
+-- the empty word everywhere
+abbrev pub everywhere : Gaps
+everywhere = record { alone = true; start = true; inside = true; end = true }
+
+-- where both have the empty word
+abbrev pub gaps_of_both : Gaps → Gaps → Gaps
+gaps_of_both one two =
+    record { alone = one.alone && two.alone; start = one.start && two.start; inside = one.inside && two.inside; end = one.end && two.end }
+
+-- where either has it
+abbrev pub gaps_of_either : Gaps → Gaps → Gaps
+gaps_of_either one two =
+    record { alone = one.alone || two.alone; start = one.start || two.start; inside = one.inside || two.inside; end = one.end || two.end }
+
+-- where a number of words can all be empty
+abbrev pub gaps_of_times : ℕ → Gaps → Gaps
+gaps_of_times least gaps = if least == 0 then everywhere else gaps
