@@ -6,3 +6,5 @@ pub mod Words
 pub mod Cuts
 pub mod Ranks
 pub mod Packing
+pub mod Repeats
+pub mod Building

@@ -184,14 +184,23 @@ both_steady one two first second h =
     let b = second (and_right one.inside two.inside h) in
     (and_both one.start two.start a.0 b.0, and_both one.end two.end a.1 b.1)
 
-pub both_packed : (one two : List ℕ → Relation) (left right : Shape) (before after : Gaps) (sizes : Sizes) → IsPacked one left before → IsPacked two right after
-    → IsPacked (Then one two) (both left right sizes before after) (gaps_of_both before after)
-unfolding Reads
-both_packed one two left right before after sizes first second = record {
+-- what two parts read, one after the other
+abbrev pub ReadsBoth : List ℕ → Shape → Shape → Gaps → Gaps → Relation
+ReadsBoth line left right before after from to =
+    ((middle : ℕ) × Reads line left from middle × Reads line right middle to)
+    ⊎ ((IsTrue (is_gap before line from) × Reads line right from to) ⊎ (Reads line left from to × IsTrue (is_gap after line to)))
+
+-- Some part has the nonempty words of two, one after the other.
+pub both_packed : (one two : List ℕ → Relation) (left right whole : Shape) (before after : Gaps)
+    → ((line : List ℕ) (from to : ℕ) → Reads line whole from to → ReadsBoth line left right before after from to)
+    → ((line : List ℕ) (from to : ℕ) → ReadsBoth line left right before after from to → Reads line whole from to)
+    → IsPacked one left before → IsPacked two right after → IsPacked (Then one two) whole (gaps_of_both before after)
+both_packed one two left right whole before after of_whole to_whole first second = record {
   forward = λ line from to h. let a = first.forward line from h.0 h.1 in let b = second.forward line h.0 to h.2 in omega arith;
-  sound = λ line from to r. sound line from to r;
+  sound = λ line from to r. sound line from to (of_whole line from to r);
   complete = λ line from to past h.
-      complete line from to h.0 past (at_or_past from h.0 (first.forward line from h.0 h.1)) (at_or_past h.0 to (second.forward line h.0 to h.2)) h.1 h.2;
+      to_whole line from to
+      (complete line from to h.0 past (at_or_past from h.0 (first.forward line from h.0 h.1)) (at_or_past h.0 to (second.forward line h.0 to h.2)) h.1 h.2);
   empty = λ line at h.
       let both_there = sym (gap_both before after line at) ∙ h in
       (at, first.empty line at (and_left (is_gap before line at) (is_gap after line at) both_there),
@@ -206,16 +215,13 @@ both_packed one two left right before after sizes first second = record {
   steady = both_steady before after first.steady second.steady;
 }
   where
-    whole : Shape
-    whole = both left right sizes before after
-
-    sound : (line : List ℕ) (from to : ℕ) → Reads line whole from to → Then one two line from to
+    sound : (line : List ℕ) (from to : ℕ) → ReadsBoth line left right before after from to → Then one two line from to
     sound line from to (inl (middle, r, s)) = (middle, first.sound line from middle r, second.sound line middle to s)
     sound line from to (inr (inl (g, s))) = (from, first.empty line from g, second.sound line from to s)
     sound line from to (inr (inr (r, g))) = (to, first.sound line from to r, second.empty line to g)
 
     complete : (line : List ℕ) (from to middle : ℕ) → from < to → (from ≡ middle) ⊎ (from < middle) → (middle ≡ to) ⊎ (middle < to) → one line from middle
-        → two line middle to → Reads line whole from to
+        → two line middle to → ReadsBoth line left right before after from to
     complete line from to middle past (inl a) (inl b) h g = absurd (omega arith)
     complete line from to middle past (inl a) (inr b) h g =
         inr (inl (first.gap line from (subst (λ n. one line from n) (sym a) h),

@@ -1,9 +1,11 @@
 -- Which part stands for a tree.
-use Rattle.std.specs.Prelude.{ℕ, ◌≤◌, ◌<◌, Bool, true, false, ◌&&◌, ◌||◌, if◌then◌else◌, ◌==◌, IsTrue, List, ◌⊎◌}
+use Rattle.std.specs.Prelude.{◌≡◌, ℕ, ◌≤◌, ◌<◌, Bool, true, false, ◌&&◌, ◌||◌, if◌then◌else◌, ◌==◌, IsTrue, List, ◌⊎◌, Option, IfSome, IfNone}
 use Rattle.ere.specs.Tree.{Tree, Trees}
 use Rattle.matcher.specs.Spans.{Relation, Spans, SpansEach, SpansSome}
 use Rattle.simulation.specs.declared.part.Gaps.{Gaps}
-use Rattle.simulation.specs.Parts.{Shape, Reads, is_gap}
+use Rattle.simulation.specs.declared.pack.Packed.{Packed}
+use Rattle.simulation.specs.Parts.{Shape, shape, Reads, is_gap}
+use Rattle.simulation.specs.Pending.{IsWhole, size_of}
 
 -- The words of the part and the gaps together are the words that a relation has in each line.
 pub record IsPacked (words : List ℕ → Relation) (part : Shape) (gaps : Gaps) : Type 0 where
@@ -34,6 +36,10 @@ nowhere = record { alone = false; start = false; inside = false; end = false }
 abbrev pub everywhere : Gaps
 everywhere = record { alone = true; start = true; inside = true; end = true }
 
+-- the empty word at the line's start or end
+abbrev pub only_at : Bool → Bool → Gaps
+only_at start end = record { alone = start || end; start = start; inside = false; end = end }
+
 -- where both have the empty word
 abbrev pub gaps_of_both : Gaps → Gaps → Gaps
 gaps_of_both one two =
@@ -47,3 +53,24 @@ gaps_of_either one two =
 -- where a number of words can all be empty
 abbrev pub gaps_of_times : ℕ → Gaps → Gaps
 gaps_of_times least gaps = if least == 0 then everywhere else gaps
+
+-- The part stands for a relation's words, and is made for this many copies, which take this many words of cells.
+pub record IsPartFor (words : List ℕ → Relation) (part : Shape) (gaps : Gaps) (copies size : ℕ) : Type 0 where
+  pub packed : IsPacked words part gaps
+  pub whole : IsWhole part copies
+  pub sized : size_of part copies ≡ size
+
+-- the same for a part that is built
+abbrev pub IsTreePart : Tree → Packed → ℕ → Type 0
+IsTreePart tree built copies = IsPartFor (λ line. Spans line tree) (shape built.part) built.gaps copies built.size
+
+abbrev pub IsEachPart : Trees → Packed → ℕ → Type 0
+IsEachPart trees built copies = IsPartFor (λ line. SpansEach line trees) (shape built.part) built.gaps copies built.size
+
+abbrev pub IsSomePart : Trees → Packed → ℕ → Type 0
+IsSomePart trees built copies = IsPartFor (λ line. SpansSome line trees) (shape built.part) built.gaps copies built.size
+
+-- A number of words takes this many turns: the greatest, or the least if there is no greatest.
+pub record IsTurns (least : ℕ) (greatest : Option ℕ) (turns : ℕ) : Type 0 where
+  pub bounded : IfSome greatest (λ most. (most ≡ turns) × (least ≤ turns))
+  pub unbounded : IfNone greatest (turns ≡ least)

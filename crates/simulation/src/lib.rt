@@ -1,6 +1,7 @@
-//! Whether a line contains a match of an extended regular expression, in a bounted time for each byte.
+//! Whether a line contains a match of an extended regular expression, in a bounded time for each byte.
 #![tactic(auto)]
 
 pub mod cells;
+pub mod pack;
 pub mod part;
 pub mod step;
