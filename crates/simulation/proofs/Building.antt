@@ -15,9 +15,15 @@ use Rattle.simulation.proofs.Tests.{or_cases, or_left, or_right, and_left, and_r
 use Rattle.simulation.proofs.Forward.{reads_forward, chain_on, at_or_past, le_or_lt}
 use Rattle.matcher.proofs.Bits.{false≢true}
 use Rattle.simulation.proofs.Packing.{gap_everywhere, gap_both}
-use Rattle.std.proofs.Common.{is_none, IfNone}
+use Rattle.std.proofs.Common.{◌^◌, ◌∷◌, drop, is_none, is_some, map, not, rules, Err, IfNone, IfOk, Ok, Result, SomeIff}
+use Rattle.std.proofs.lemmas.List.{at_drop_more, at_drop_all}
+use Rattle.ere.specs.declared.tree.Ere.{Ere}
+use Rattle.ere.specs.Tree.{form, trees_of}
 use Rattle.simulation.specs.Pending.{IsStride, IsWhole, size_of, words_for}
-use Rattle.simulation.specs.Packing.{IsPartFor, IsTurns}
+use Rattle.simulation.specs.declared.pack.Packed.{Packed}
+use Rattle.simulation.specs.Parts.{shape}
+use Rattle.simulation.specs.Packing.{IsEachPart, IsPartFor, IsSomePart, IsTreePart, IsTurns}
+use Rattle.simulation.proofs.Packing.{each_none_packed, some_none_packed}
 use Rattle.simulation.proofs.Packing.{Then, Or, ReadsBoth, both_packed, either_packed, gap_nowhere}
 use Rattle.simulation.proofs.Repeats.{IsEnough, AtMost, repeat_packed, reads_inside, chain_inside}
 
@@ -299,3 +305,71 @@ zero_packed body least low = record {
     stays : (line : List ℕ) (from to count : ℕ) → count ≤ 0 → Steps (Spans line body) count from to → from ≡ to
     stays line from to zero short h = h
     stays line from to (suc count) short h = absurd (omega arith)
+
+-- A checked sum that is there is the sum.
+pub sum_is : (answer : Option ℕ) (sum one two : ℕ) → answer ≡ Some sum → SomeIff answer (one + two < 2 ^ 64) (one + two) → sum ≡ one + two
+sum_is answer sum one two is h = search (rules, is, h)
+
+-- The trees of the members from one on are that member's and those after it.
+pub forms_back : (members : List Ere) (i : ℕ) (x : Ere) → 0 < i → i ≤ length members → x ≡ get_or members (i - 1) x
+    → trees_of (map form (drop (i - 1) members)) ≡ more (form x) (trees_of (map form (drop i members)))
+forms_back members i x above within read =
+    let same : i - 1 + 1 ≡ i = omega arith in
+    at_drop_more (λ rest. trees_of (map form rest)) members (i - 1) x (omega arith)
+    ∙ ap (λ k. trees_of (map form (get_or members (i - 1) x ∷ drop k members))) same
+    ∙ ap (λ y. more (form y) (trees_of (map form (drop i members)))) (sym read)
+
+pub forms_end : (members : List Ere) (i : ℕ) → length members ≤ i → trees_of (map form (drop i members)) ≡ none
+forms_end members i past = at_drop_all (λ rest. trees_of (map form rest)) members i past
+
+pub none_is : {X : Type 0} (o : Option X) (r : Bool) → is_some o ≡ not r → r ≡ is_none o
+none_is None true h = refl
+none_is None false h = absurd (false≢true h)
+none_is (Some x) true h = absurd (false≢true (sym h))
+none_is (Some x) false h = refl
+
+pub cat_part : (trees : Trees) (built : Packed) (copies : ℕ) → IsEachPart trees built copies → IsTreePart (cat trees) built copies
+unfolding Spans
+cat_part trees built copies h = h
+
+pub alt_part : (trees : Trees) (built : Packed) (copies : ℕ) → IsSomePart trees built copies → IsTreePart (alt trees) built copies
+unfolding Spans
+alt_part trees built copies h = h
+
+pub each_start : (members : List Ere) (i : ℕ) (built : Packed) (copies : ℕ) → length members ≤ i → shape built.part ≡ nothing → built.gaps ≡ everywhere
+    → built.size ≡ words_for copies → IsEachPart (trees_of (map form (drop i members))) built copies
+each_start members i built copies past part_is gaps_is size_is =
+    subst (λ trees. IsEachPart trees built copies) (sym (forms_end members i past))
+    (as_part _ nothing _ _ _ copies _ _ part_is gaps_is size_is (nothing_part (λ line. SpansEach line none) everywhere copies each_none_packed))
+
+pub some_start : (members : List Ere) (i : ℕ) (built : Packed) (copies : ℕ) → length members ≤ i → shape built.part ≡ nothing → built.gaps ≡ nowhere
+    → built.size ≡ words_for copies → IsSomePart (trees_of (map form (drop i members))) built copies
+some_start members i built copies past part_is gaps_is size_is =
+    subst (λ trees. IsSomePart trees built copies) (sym (forms_end members i past))
+    (as_part _ nothing _ _ _ copies _ _ part_is gaps_is size_is (nothing_part (λ line. SpansSome line none) nowhere copies some_none_packed))
+
+pub each_more : (members : List Ere) (i : ℕ) (member : Ere) (one rest joined : Packed) (copies : ℕ) → 0 < i → i ≤ length members
+    → member ≡ get_or members (i - 1) member → IsTreePart (form member) one copies → IsEachPart (trees_of (map form (drop i members))) rest copies
+    → ((tree : Tree) (trees : Trees) → IsTreePart tree one copies → IsEachPart trees rest copies → IsEachPart (more tree trees) joined copies)
+    → IsEachPart (trees_of (map form (drop (i - 1) members))) joined copies
+each_more members i member one rest joined copies above within read first others join =
+    subst (λ trees. IsEachPart trees joined copies) (sym (forms_back members i member above within read))
+    (join (form member) (trees_of (map form (drop i members))) first others)
+
+pub some_more : (members : List Ere) (i : ℕ) (member : Ere) (one rest joined : Packed) (copies : ℕ) → 0 < i → i ≤ length members
+    → member ≡ get_or members (i - 1) member → IsTreePart (form member) one copies → IsSomePart (trees_of (map form (drop i members))) rest copies
+    → ((tree : Tree) (trees : Trees) → IsTreePart tree one copies → IsSomePart trees rest copies → IsSomePart (more tree trees) joined copies)
+    → IsSomePart (trees_of (map form (drop (i - 1) members))) joined copies
+some_more members i member one rest joined copies above within read first others join =
+    subst (λ trees. IsSomePart trees joined copies) (sym (forms_back members i member above within read))
+    (join (form member) (trees_of (map form (drop i members))) first others)
+
+pub cat_result : {E : Type 0} (trees : Trees) (copies : ℕ) (r : Result Packed E) → IfOk r (λ built. IsEachPart trees built copies)
+    → IfOk r (λ built. IsTreePart (cat trees) built copies)
+cat_result trees copies (Ok built) h = cat_part trees built copies h
+cat_result trees copies (Err e) h = tt
+
+pub alt_result : {E : Type 0} (trees : Trees) (copies : ℕ) (r : Result Packed E) → IfOk r (λ built. IsSomePart trees built copies)
+    → IfOk r (λ built. IsTreePart (alt trees) built copies)
+alt_result trees copies (Ok built) h = alt_part trees built copies h
+alt_result trees copies (Err e) h = tt

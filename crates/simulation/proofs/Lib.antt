@@ -8,3 +8,4 @@ pub mod Ranks
 pub mod Packing
 pub mod Repeats
 pub mod Building
+pub mod Lines

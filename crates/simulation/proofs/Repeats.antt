@@ -145,7 +145,7 @@ at_most_fewer None fewer words less h = h
 at_most_fewer (Some most) fewer words less h = let small : fewer ≤ most = omega arith in small
 
 -- A gap between two positions of a line that is not at one of them is inside.
-gap_between : (gaps : Gaps) (line : List ℕ) (from at to : ℕ) → from ≤ at → at ≤ to → to ≤ length line → IsTrue (is_gap gaps line at)
+pub gap_between : (gaps : Gaps) (line : List ℕ) (from at to : ℕ) → from ≤ at → at ≤ to → to ≤ length line → IsTrue (is_gap gaps line at)
     → IsTrue gaps.inside ⊎ (IsTrue (is_gap gaps line from) ⊎ IsTrue (is_gap gaps line to))
 gap_between gaps line from at to low high inside h = go (at_or_past from at low) (at_or_past at to high)
   where

@@ -2,3 +2,4 @@ pub mod Parts
 pub mod Pending
 pub mod Private
 pub mod Packing
+pub mod Simulations
