@@ -1,28 +1,40 @@
 -- A line that is read byte by byte.
 use Rattle.std.proofs.Common.{◌≡◌, ◌≢◌, ℕ, zero, suc, ◌+◌, ◌-◌, ◌*◌, ◌/◌, ◌%◌, ◌<◌, ◌≤◌, Bool, true, false, ◌==◌, if◌then◌else◌, IsTrue, List, [], ◌∷◌, length, get_or, take, drop, ◌⊎◌, ◌↔◌, inl, inr}
-use Rattle.std.proofs.Common.{refl, sym, subst, ap, ◌∙◌, arith, nat_lt}
+use Rattle.std.proofs.Common.{refl, sym, subst, ap, ◌∙◌, arith, nat_lt, bit_and}
+use Rattle.std.proofs.Common.{set as set_word, ◌||◌}
+use Rattle.std.proofs.Math.Nat.{div-one}
+use Rattle.ere.proofs.Bits.{tests_bit}
 use Rattle.std.proofs.lemmas.Bool.Decides.{nat_tests}
 use Rattle.std.proofs.lemmas.List.{get_or-drop, get_or-take, get_or_past, length-take}
 use Rattle.ere.specs.Tree.{Tree}
 use Rattle.ere.specs.Language.{ContainsMatch}
 use Rattle.matcher.specs.Spans.{Spans}
-use Rattle.matcher.proofs.Bits.{false≢true, empty_word}
+use Rattle.matcher.proofs.Bits.{false≢true, empty_word, position_in, position_set_same}
 use Rattle.matcher.proofs.Meaning.{hit_of_spans, spans_of_hit}
 use Rattle.simulation.specs.declared.part.Gaps.{Gaps}
 use Rattle.simulation.specs.Parts.{Shape, nothing, set, both, either, loop, times, is_gap, Chain, Reads}
-use Rattle.simulation.specs.Pending.{at, first_of, second_of, Pending, Tells, IsKept, Advances}
+use Rattle.simulation.specs.Pending.{at, first_of, second_of, Pending, Tells, IsKept, IsReady, IsWhole, Advances, size_of}
 use Rattle.simulation.specs.Packing.{IsPacked}
 use Rattle.simulation.specs.Private.Reading.{AreClear, HasWord, IsReadTo}
+use Rattle.simulation.proofs.Cuts.{own_fit}
 use Rattle.simulation.proofs.Steps.{told}
+use Rattle.simulation.proofs.Tests.{or_cases, or_left, or_right}
 use Rattle.simulation.proofs.Repeats.{gap_between, reads_inside}
 use Rattle.simulation.proofs.Forward.{reads_forward, at_or_past}
+
+pub clear_all : (cells : List ℕ) → ((k : ℕ) → k < length cells → get_or cells k 0 ≡ 0) → AreClear cells
+clear_all cells low i = go (nat_lt i (length cells)) refl
+  where
+    go : (t : Bool) → nat_lt i (length cells) ≡ t → get_or cells i 0 ≡ 0
+    go true e = let inside : i < length cells = grind (arith, nat_tests) in low i inside
+    go false e = let past : length cells ≤ i = grind (arith, nat_tests) in get_or_past cells i 0 past
 
 clear_take : (n : ℕ) (cells : List ℕ) → AreClear cells → AreClear (take n cells)
 clear_take n cells clear i = go (nat_lt i n) refl
   where
     go : (t : Bool) → nat_lt i n ≡ t → get_or (take n cells) i 0 ≡ 0
     go true e = let low : i < n = grind (arith, nat_tests) in get_or-take n cells i 0 low ∙ clear i
-    go false e = get_or_past (take n cells) i 0 (omega (arith, length-take n cells, grind (arith, nat_tests)))
+    go false e = let past : n ≤ i = grind (arith, nat_tests) in get_or_past (take n cells) i 0 (omega (arith, length-take n cells))
 
 clear_drop : (n : ℕ) (cells : List ℕ) → AreClear cells → AreClear (drop n cells)
 clear_drop n cells clear i = get_or-drop n cells i 0 ∙ clear (n + i)
@@ -167,3 +179,48 @@ match_of_word line tree part gaps packed word =
     let past = reads_forward line part word.0 word.1 word.2 in
     let inside = reads_inside line part word.0 word.1 word.2 in
     hit_of_spans line tree word.0 word.1 (omega arith) (packed.sound line word.0 word.1 word.2)
+
+-- The first cell of some words.
+pub first_set : (cells : List ℕ) → 0 < length cells → IsTrue (at (set_word cells 0 1) 0)
+first_set cells some =
+    let low : 0 < 64 = omega arith in
+    position_set_same cells 0 1 0 some low
+
+pub first_is : (cells : List ℕ) → (bit_and (get_or cells 0 0) 1 == 1) ≡ at cells 0
+first_is cells =
+    let low : 0 < 64 = omega arith in
+    ap (λ n. bit_and n 1 == 1) (sym (div-one (get_or cells 0 0))) ∙ tests_bit (get_or cells 0 0) 0 ∙ sym (position_in cells 0 0 low)
+
+pub ready_to_read : (line : List ℕ) (here : ℕ) (part : Shape) (entered cells : List ℕ) → IsWhole part 1 → here < length line → length entered ≡ size_of part 1
+    → length cells ≡ size_of part 1 → IsReadTo line here part cells → IsReady line here part 1 entered cells
+ready_to_read line here part entered cells whole inside entered_all cells_all before =
+    record { whole = whole; inside = inside; entered_all = entered_all; cells_all = cells_all; kept = before.kept }
+
+pub found_after_gap : (line : List ℕ) (tree : Tree) (part : Shape) (gaps : Gaps) → IsPacked (λ line. Spans line tree) part gaps
+    → IsTrue (is_gap gaps line 0 || is_gap gaps line (length line)) → ContainsMatch tree line
+found_after_gap line tree part gaps packed h =
+    elim (or_cases (is_gap gaps line 0) (is_gap gaps line (length line)) h) [
+      inl g ↦ match_of_gap line tree part gaps 0 packed (omega arith) g
+    | inr g ↦ match_of_gap line tree part gaps (length line) packed (omega arith) g
+    ]
+
+pub found_by_word : (line : List ℕ) (tree : Tree) (part : Shape) (gaps : Gaps) (there found : Bool) → IsPacked (λ line. Spans line tree) part gaps
+    → there ≡ (is_gap gaps line 0 || is_gap gaps line (length line)) → there ≡ false → IsTrue found ↔ HasWord line part
+    → IsTrue found ↔ ContainsMatch tree line
+found_by_word line tree part gaps there found packed there_is none word = (
+  λ is. match_of_word line tree part gaps packed (word.0 is),
+  λ hit.
+    elim (match_to line tree part gaps packed hit) [
+      inl ends ↦
+        absurd (false≢true (sym none ∙ there_is
+        ∙ elim ends [
+          inl g ↦ or_left (is_gap gaps line 0) (is_gap gaps line (length line)) g
+        | inr g ↦ or_right (is_gap gaps line 0) (is_gap gaps line (length line)) g
+        ]))
+    | inr has ↦ word.1 has
+    ],
+)
+
+-- Some cell is there for one copy.
+pub some_cell : (part : Shape) (cells : List ℕ) → length cells ≡ size_of part 1 → 0 < length cells
+some_cell part cells long = let fit : 1 ≤ size_of part 1 = own_fit part 1 in omega arith

@@ -1,8 +1,8 @@
 //! The simulation of a tree.
 
-ghost use Rattle.std.specs.Prelude.{◌≡◌, ℕ, ◌<◌, ◌≤◌, ◌↔◌, IsTrue, length};
-ghost use Rattle.simulation.specs.Parts.{shape};
-ghost use Rattle.simulation.specs.Pending.{IsWhole, size_of};
+ghost use Rattle.std.specs.Prelude.{◌≡◌, ℕ, ◌<◌, ◌≤◌, ◌↔◌, ◌||◌, IsTrue, length};
+ghost use Rattle.simulation.specs.Parts.{is_gap, shape};
+ghost use Rattle.simulation.specs.Pending.{at, IsWhole, size_of};
 ghost use Rattle.simulation.specs.Private.Reading.{AreClear, HasWord};
 
 use crate::pack::pack;
@@ -58,7 +58,7 @@ impl Simulation {
         ensures same { (tree : Tree) → IsSimulationOf tree self.old → IsSimulationOf tree self.new }
         ensures found { (tree : Tree) → IsSimulationOf tree self.old → IsTrue result ↔ ContainsMatch tree line.now }
     {
-        if is_gap(self.gaps, line, 0) || is_gap(self.gaps, line, line.len()) {
+        if has_gap(self.gaps, line) {
             return true;
         }
         has_word(&self.part, line, &mut self.entered, &mut self.cells)
@@ -74,20 +74,43 @@ fn has_word(part: &Part, line: &[u8], entered: &mut [u64], cells: &mut [u64]) ->
 {
     clear(cells);
     for here in 0..line.len() {
-        entered[0] = 1;
+        begin(entered);
         step(part, 1, line, here, entered, cells);
-        if cells[0] & 1 == 1 {
+        if is_read(cells) {
             return true;
         }
     }
     false
 }
 
+/// Whether the empty word is at the line's start or its end.
+fn has_gap(gaps: Gaps, line: &[u8]) -> bool
+    ensures { result ≡ (is_gap gaps line.now 0 || is_gap gaps line.now (length line.now)) }
+{
+    is_gap(gaps, line, 0) || is_gap(gaps, line, line.len())
+}
+
+/// Sets the cell of the first copy.
+fn begin(entered: &mut [u64])
+    requires { 0 < length entered.old }
+    ensures { IsTrue (at entered.new 0) }
+{
+    entered[0] = 1;
+}
+
+/// Whether the cell of the first copy is set.
+fn is_read(cells: &[u64]) -> bool
+    requires { 0 < length cells.now }
+    ensures { result ≡ at cells.now 0 }
+{
+    cells[0] & 1 == 1
+}
+
 /// Clears all cells.
 fn clear(cells: &mut [u64])
     ensures { AreClear cells.new }
 {
-    for word in cells.iter_mut() {
-        *word = 0;
+    for i in 0..cells.len() {
+        cells[i] = 0;
     }
 }
