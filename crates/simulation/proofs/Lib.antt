@@ -9,3 +9,4 @@ pub mod Packing
 pub mod Repeats
 pub mod Building
 pub mod Lines
+pub mod Moving

@@ -1,11 +1,8 @@
 //! Cells: one truth value for each copy of a part, in words of 64 bits.
 
-ghost use Rattle.std.specs.Prelude.{◌≡◌, ℕ, suc, ◌+◌, ◌-◌, ◌*◌, ◌/◌, ◌%◌, ◌<◌, ◌≤◌, ◌↔◌, ◌&&◌, ◌||◌, ◌⊎◌, if◌then◌else◌, nat_lt, nat_le, IsTrue, length, slice_index};
+ghost use Rattle.std.specs.Prelude.{◌≡◌, ℕ, ◌*◌, ◌<◌, ◌≤◌, ◌&&◌, ◌||◌, length};
 ghost use Rattle.ere.specs.Bits.{has_bit};
-ghost use Rattle.simulation.specs.Parts.{Suffices, is_gap};
-ghost use Rattle.simulation.specs.Pending.{at, room, AnyTurn, Enters, IsStride, IsNarrow};
-
-use crate::part::{Counts, is_gap};
+ghost use Rattle.simulation.specs.Pending.{at, room};
 
 /// How many cells a word holds.
 pub(crate) const BITS: usize = 64;
@@ -18,7 +15,7 @@ fn word_if(held: bool, word: u64) -> u64
 }
 
 /// The bits of either word.
-fn either(left: u64, right: u64) -> u64
+pub(crate) fn either(left: u64, right: u64) -> u64
     ensures { (bit : ℕ) → has_bit result bit ≡ (has_bit left bit || has_bit right bit) }
 {
     left | right
@@ -65,41 +62,5 @@ pub(crate) fn add(more: &[u64], to: &mut [u64], words: usize)
 {
     for i in 0..words {
         to[i] = either(to[i], more[i]);
-    }
-}
-
-/// What begins in each copy of the body.
-#[tactic(none)]
-pub(crate) fn begin_turns(counts: Counts, gap: bool, entered: &[u64], read: &[u64], out: &mut [u64])
-    requires some { (0 < counts.copies) × (0 < counts.stride) }
-    requires all { counts.all ≡ counts.copies * counts.stride }
-    requires stride { IsNarrow counts.stride ⊎ (counts.stride ≡ room entered.now) }
-    requires entered { counts.stride ≤ room entered.now }
-    requires read { counts.all ≤ room read.now }
-    requires out { counts.all ≤ room out.old }
-    ensures { (turn k : ℕ) → turn < counts.copies → k < counts.stride → IsTrue (at out.new (turn * counts.stride + k)) ↔ Enters counts gap entered.now read.now turn k }
-{
-}
-
-/// What some turn from the lowest on has read.
-#[tactic(none)]
-pub(crate) fn any_turn(counts: Counts, lowest: usize, read: &[u64], own: &mut [u64])
-    requires some { (0 < counts.copies) × (0 < counts.stride) }
-    requires all { counts.all ≡ counts.copies * counts.stride }
-    requires stride { IsNarrow counts.stride ⊎ (counts.stride ≡ room own.old) }
-    requires own { counts.stride ≤ room own.old }
-    requires read { counts.all ≤ room read.now }
-    ensures { (k : ℕ) → k < counts.stride → IsTrue (at own.new k) ↔ AnyTurn counts lowest read.now k }
-{
-}
-
-/// The lowest turn that is enough.
-pub(crate) fn lowest_turn(counts: Counts, line: &[u8], here: usize) -> usize
-    ensures { (turn : ℕ) → (result ≤ turn) ↔ Suffices line.now counts (suc turn) here }
-{
-    if is_gap(counts.gaps, line, here) {
-        0
-    } else {
-        counts.least.saturating_sub(1)
     }
 }

@@ -5,6 +5,7 @@ mod cells;
 mod pack;
 mod part;
 mod step;
+mod turns;
 mod simulation;
 
 pub use simulation::Simulation;

@@ -4,8 +4,9 @@ ghost use Rattle.std.specs.Prelude.{◌≡◌, ℕ, suc, ◌+◌, ◌*◌, ◌<�
 ghost use Rattle.simulation.specs.Parts.{shape, set, both, either, loop, times};
 ghost use Rattle.simulation.specs.Pending.{Advances, IsReady, words_for};
 
-use crate::cells::{add, any_turn, begin_turns, copy, either_if, keep_if, lowest_turn};
+use crate::cells::{add, copy, either_if, keep_if};
 use crate::part::{Counts, Gaps, Part, Sizes, is_gap};
+use crate::turns::{any_turn, begin_turns, lowest_turn};
 use ere::ByteSet;
 
 /// Reads the byte after a position of the line.

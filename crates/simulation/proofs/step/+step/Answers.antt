@@ -218,10 +218,10 @@ step_times-begin_turns-requires-clause-entered t c =
     let ready = cuts.of_times _ _ _ _ _ _ _ c.requires in
     omega (arith, (cuts.times_fits _ _ _ _ _ _ _ ready).0)
 
-pub step_times-begin_turns-requires-clause-read : goal.step_times-begin_turns-requires-clause-read
-step_times-begin_turns-requires-clause-read t c = 
+pub step_times-begin_turns-requires-clause-same : goal.step_times-begin_turns-requires-clause-same
+step_times-begin_turns-requires-clause-same t c =
     let ready = cuts.of_times _ _ _ _ _ _ _ c.requires in
-    omega (arith, (cuts.times_fits _ _ _ _ _ _ _ ready).2)
+    omega (arith, ready.entered_all, ready.cells_all)
 
 pub step_times-begin_turns-requires-clause-out : goal.step_times-begin_turns-requires-clause-out
 step_times-begin_turns-requires-clause-out t c = 
