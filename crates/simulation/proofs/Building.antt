@@ -88,17 +88,17 @@ pub times_part : (body : Tree) (part : Shape) (gaps : Gaps) (least : ℕ) (great
 unfolding Reads IsWhole size_of
 times_part body part gaps least greatest turns copies stride all size own total counts strides all_is some turned own_is total_is least_is copies_is free_is gaps_is
     counts_own counts_stride counts_all one = record {
-  packed = repeat_packed body part (times part counts) gaps least greatest (ordered greatest refl) one.packed of_whole to_whole;
-  whole = (
-    counts_own ∙ own_is,
-    subst (IsStride copies) (sym counts_stride) strides,
-    counts_all ∙ all_is ∙ sym turning,
-    (let turning_once : 0 < counts.copies = omega arith in turning_once),
-    least_low gaps.inside refl,
-    subst (IsWhole part) (sym body_copies) one.whole,
-  );
-  sized = ap (λ n. words_for copies + n) (ap (size_of part) body_copies ∙ one.sized) ∙ ap (λ n. n + size) (sym own_is) ∙ sym total_is;
-}
+      packed = repeat_packed body part (times part counts) gaps least greatest (ordered greatest refl) one.packed of_whole to_whole;
+      whole = (
+        counts_own ∙ own_is,
+        subst (IsStride copies) (sym counts_stride) strides,
+        counts_all ∙ all_is ∙ sym turning,
+        (let turning_once : 0 < counts.copies = omega arith in turning_once),
+        least_low gaps.inside refl,
+        subst (IsWhole part) (sym body_copies) one.whole,
+      );
+      sized = ap (λ n. words_for copies + n) (ap (size_of part) body_copies ∙ one.sized) ∙ ap (λ n. n + size) (sym own_is) ∙ sym total_is;
+    }
   where
     turning : counts.copies * counts.stride ≡ turns * stride
     turning = ap (λ n. n * counts.stride) copies_is ∙ ap (λ n. turns * n) counts_stride

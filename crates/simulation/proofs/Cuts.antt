@@ -149,14 +149,14 @@ both_stepped line here next left right sizes before after copies entered cells o
     ready.kept
     (λ k low. to_first k (omega (arith, wide k low)) ∙ own_given k low)
     (λ k low.
-        to_second k (wide k low) ∙ ap (λ v. at v k || (gap && at given_own k)) cut.first_is
-        ∙ ap (λ t. at (first_of sizes cells) k || (t && at given_own k)) gap_is
-        ∙ ap (λ t. at (first_of sizes cells) k || (is_gap before line here && t)) (own_given k low))
+    to_second k (wide k low) ∙ ap (λ v. at v k || (gap && at given_own k)) cut.first_is
+    ∙ ap (λ t. at (first_of sizes cells) k || (t && at given_own k)) gap_is
+    ∙ ap (λ t. at (first_of sizes cells) k || (is_gap before line here && t)) (own_given k low))
     (λ k low.
-        at_front own' (first' ++ second') k (omega (arith, wide k low)) ∙ result k (wide k low)
-        ∙ ap (λ v. at v k || (gap_next && at first' k)) (sym second_new)
-        ∙ ap (λ t. at new_second k || (t && at first' k)) (gap_next_is ∙ ap (is_gap after line) next_is)
-        ∙ ap (λ v. at new_second k || (is_gap after line (suc here) && at v k)) (sym first_new))
+    at_front own' (first' ++ second') k (omega (arith, wide k low)) ∙ result k (wide k low)
+    ∙ ap (λ v. at v k || (gap_next && at first' k)) (sym second_new)
+    ∙ ap (λ t. at new_second k || (t && at first' k)) (gap_next_is ∙ ap (is_gap after line) next_is)
+    ∙ ap (λ v. at new_second k || (is_gap after line (suc here) && at v k)) (sym first_new))
   where
     parts : AreReady line here left right sizes copies entered cells
     parts = of_both line here left right sizes before after copies entered cells ready
@@ -198,8 +198,8 @@ either_stepped line here left right sizes copies entered cells own first second 
     (λ k low. to_first k (omega (arith, wide k low)) ∙ own_given k low)
     (λ k low. to_second k (omega (arith, wide k low)) ∙ own_given k low)
     (λ k low.
-        at_front own' (first' ++ second') k (omega (arith, wide k low)) ∙ result k (wide k low)
-        ∙ ap (λ v. at first' k || at v k) (sym second_new) ∙ ap (λ v. at v k || at new_second k) (sym first_new))
+    at_front own' (first' ++ second') k (omega (arith, wide k low)) ∙ result k (wide k low)
+    ∙ ap (λ v. at first' k || at v k) (sym second_new) ∙ ap (λ v. at v k || at new_second k) (sym first_new))
   where
     parts : AreReady line here left right sizes copies entered cells
     parts = of_either line here left right sizes copies entered cells ready
@@ -335,17 +335,19 @@ times_stepped line here next body counts copies entered cells read given_own giv
     (subst (λ v. Advances line here body (counts.copies * counts.stride) given read v) (sym read_new)
     (subst (λ n. Advances line here body n given read read') parts.all one)))
     ready.kept parts.stride.fits parts.some parts.ordered
-    (λ turn k inside low.
-        (λ is. from_given turn k low ((to_body turn k inside (wide k low)).0 is),
-        λ e. (to_body turn k inside (wide k low)).1 (to_given turn k low e)))
+    (λ turn k inside low. (
+      λ is. from_given turn k low ((to_body turn k inside (wide k low)).0 is),
+      λ e. (to_body turn k inside (wide k low)).1 (to_given turn k low e),
+    ))
     (λ turn. subst (λ n. (lowest ≤ turn) ↔ Suffices line counts (suc turn) n) next_is (enough turn))
-    (λ k low.
-        (λ is.
-        subst (λ v. AnyTurn counts lowest v k) (sym read_new)
-        ((result k (wide k low)).0 (sym (at_front own' read' k (omega (arith, in_own k low))) ∙ is)),
-        λ any.
-        at_front own' read' k (omega (arith, in_own k low))
-        ∙ (result k (wide k low)).1 (subst (λ v. AnyTurn counts lowest v k) read_new any)))
+    (λ k low. (
+      λ is.
+          subst (λ v. AnyTurn counts lowest v k) (sym read_new)
+          ((result k (wide k low)).0 (sym (at_front own' read' k (omega (arith, in_own k low))) ∙ is)),
+      λ any.
+          at_front own' read' k (omega (arith, in_own k low))
+          ∙ (result k (wide k low)).1 (subst (λ v. AnyTurn counts lowest v k) read_new any),
+    ))
   where
     parts : IsTimesReady line here body counts copies entered cells
     parts = of_times line here body counts copies entered cells ready

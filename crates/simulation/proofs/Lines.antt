@@ -107,8 +107,8 @@ read_more line here next part entered cells read next_is before step is unset = 
     begun : (from to : ℕ) → from < suc here → suc here < to → Reads line part from to → Pending line (suc here) part 1 read 0 to
     begun from to under over r =
         elim (at_or_past from here (let down : from ≤ here = omega arith in down)) [
-          inl same ↦ step.begins 0 to low is (subst (λ n. Reads line part n to) same r)
-        | inr past ↦ (let on : here < to = omega arith in step.goes_on 0 to low on (before.begun from to past on r))
+          | inl same ↦ step.begins 0 to low is (subst (λ n. Reads line part n to) same r)
+          | inr past ↦ (let on : here < to = omega arith in step.goes_on 0 to low on (before.begun from to past on r))
         ]
 
     ended : Pending line (suc here) part 1 read 0 (suc here) → ⊥
@@ -118,15 +118,15 @@ read_more line here next part entered cells read next_is before step is unset = 
     none from to under r =
         let forward = reads_forward line part from to r in
         elim (at_or_past to (suc here) under) [
-          inl same ↦
-            elim (at_or_past from here (let down : from ≤ here = omega arith in down)) [
-              inl there ↦
-                ended (step.begins 0 (suc here) low is (subst (λ n. Reads line part n (suc here)) there (subst (λ n. Reads line part from n) same r)))
-            | inr past ↦
-                (let on : here < suc here = omega arith in
-                ended (step.goes_on 0 (suc here) low on (before.begun from (suc here) past on (subst (λ n. Reads line part from n) same r))))
-            ]
-        | inr past ↦ before.none from to (omega arith) r
+          | inl same ↦
+              elim (at_or_past from here (let down : from ≤ here = omega arith in down)) [
+                | inl there ↦
+                    ended (step.begins 0 (suc here) low is (subst (λ n. Reads line part n (suc here)) there (subst (λ n. Reads line part from n) same r)))
+                | inr past ↦
+                    (let on : here < suc here = omega arith in
+                    ended (step.goes_on 0 (suc here) low on (before.begun from (suc here) past on (subst (λ n. Reads line part from n) same r))))
+              ]
+          | inr past ↦ before.none from to (omega arith) r
         ]
 
 pub found_word : (line : List ℕ) (here : ℕ) (part : Shape) (entered cells read : List ℕ) → IsReadTo line here part cells
@@ -134,8 +134,8 @@ pub found_word : (line : List ℕ) (here : ℕ) (part : Shape) (entered cells re
 found_word line here part entered cells read before step set_there =
     let low : 0 < 1 = omega arith in
     elim (step.sound 0 (suc here) low ((told line (suc here) part 1 read step.kept).set 0 low set_there)) [
-      inl old ↦ before.sound (suc here) old
-    | inr new ↦ (here, suc here, new.1)
+      | inl old ↦ before.sound (suc here) old
+      | inr new ↦ (here, suc here, new.1)
     ]
 
 pub no_word : (line : List ℕ) (here : ℕ) (part : Shape) (cells : List ℕ) → IsReadTo line here part cells → length line ≤ here → HasWord line part → ⊥
@@ -148,8 +148,8 @@ gap_at_ends : (gaps : Gaps) (line : List ℕ) (place : ℕ) → (IsTrue gaps.ins
     → IsTrue (is_gap gaps line place) → IsTrue (is_gap gaps line 0) ⊎ IsTrue (is_gap gaps line (length line))
 gap_at_ends gaps line place steady low h =
     elim (gap_between gaps line 0 place (length line) (omega arith) low (omega arith) h) [
-      inl inside ↦ start (steady inside).0 (length line == 0) refl
-    | inr ends ↦ ends
+      | inl inside ↦ start (steady inside).0 (length line == 0) refl
+      | inr ends ↦ ends
     ]
   where
     start : IsTrue gaps.start → (none_long : Bool) → (length line == 0) ≡ none_long → IsTrue (is_gap gaps line 0) ⊎ IsTrue (is_gap gaps line (length line))
@@ -164,9 +164,9 @@ pub match_to : (line : List ℕ) (tree : Tree) (part : Shape) (gaps : Gaps) → 
 match_to line tree part gaps packed hit =
     let spans = spans_of_hit line tree hit in
     elim (at_or_past spans.0 spans.1 (packed.forward line spans.0 spans.1 spans.3)) [
-      inl same ↦
-        inl (gap_at_ends gaps line spans.0 packed.steady spans.2 (packed.gap line spans.0 (subst (λ n. Spans line tree spans.0 n) (sym same) spans.3)))
-    | inr past ↦ inr (spans.0, spans.1, packed.complete line spans.0 spans.1 past spans.3)
+      | inl same ↦
+          inl (gap_at_ends gaps line spans.0 packed.steady spans.2 (packed.gap line spans.0 (subst (λ n. Spans line tree spans.0 n) (sym same) spans.3)))
+      | inr past ↦ inr (spans.0, spans.1, packed.complete line spans.0 spans.1 past spans.3)
     ]
 
 pub match_of_gap : (line : List ℕ) (tree : Tree) (part : Shape) (gaps : Gaps) (place : ℕ) → IsPacked (λ line. Spans line tree) part gaps → place ≤ length line
@@ -200,8 +200,8 @@ pub found_after_gap : (line : List ℕ) (tree : Tree) (part : Shape) (gaps : Gap
     → IsTrue (is_gap gaps line 0 || is_gap gaps line (length line)) → ContainsMatch tree line
 found_after_gap line tree part gaps packed h =
     elim (or_cases (is_gap gaps line 0) (is_gap gaps line (length line)) h) [
-      inl g ↦ match_of_gap line tree part gaps 0 packed (omega arith) g
-    | inr g ↦ match_of_gap line tree part gaps (length line) packed (omega arith) g
+      | inl g ↦ match_of_gap line tree part gaps 0 packed (omega arith) g
+      | inr g ↦ match_of_gap line tree part gaps (length line) packed (omega arith) g
     ]
 
 pub found_by_word : (line : List ℕ) (tree : Tree) (part : Shape) (gaps : Gaps) (there found : Bool) → IsPacked (λ line. Spans line tree) part gaps
@@ -210,15 +210,15 @@ pub found_by_word : (line : List ℕ) (tree : Tree) (part : Shape) (gaps : Gaps)
 found_by_word line tree part gaps there found packed there_is none word = (
   λ is. match_of_word line tree part gaps packed (word.0 is),
   λ hit.
-    elim (match_to line tree part gaps packed hit) [
-      inl ends ↦
-        absurd (false≢true (sym none ∙ there_is
-        ∙ elim ends [
-          inl g ↦ or_left (is_gap gaps line 0) (is_gap gaps line (length line)) g
-        | inr g ↦ or_right (is_gap gaps line 0) (is_gap gaps line (length line)) g
-        ]))
-    | inr has ↦ word.1 has
-    ],
+      elim (match_to line tree part gaps packed hit) [
+        | inl ends ↦
+            absurd (false≢true (sym none ∙ there_is
+            ∙ elim ends [
+              | inl g ↦ or_left (is_gap gaps line 0) (is_gap gaps line (length line)) g
+              | inr g ↦ or_right (is_gap gaps line 0) (is_gap gaps line (length line)) g
+            ]))
+        | inr has ↦ word.1 has
+      ],
 )
 
 -- Some cell is there for one copy.

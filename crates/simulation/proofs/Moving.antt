@@ -154,9 +154,9 @@ pub wide_more : (entered read out : List ℕ) (i : ℕ) → length entered ≤ i
 wide_more entered read out i past inside before =
     written_more out i (get_or read (i - length entered) 0) (shifted (room entered) entered read) inside before
     (λ b bit.
-        let above : room entered ≤ i * 64 + b = omega arith in
-        let same : (i - length entered) * 64 + b ≡ i * 64 + b - room entered = omega arith in
-        word_is read (i - length entered) b bit ∙ ap (at read) same ∙ sym (shifted_high (room entered) entered read (i * 64 + b) above))
+    let above : room entered ≤ i * 64 + b = omega arith in
+    let same : (i - length entered) * 64 + b ≡ i * 64 + b - room entered = omega arith in
+    word_is read (i - length entered) b bit ∙ ap (at read) same ∙ sym (shifted_high (room entered) entered read (i * 64 + b) above))
 
 pub from_first : (from : ℕ) (more to : List ℕ) → AreChanged to to (from / 64) (λ k. at to k || (nat_le from k && at more k))
 from_first from more to = record {
@@ -174,8 +174,8 @@ pub from_more : (from : ℕ) (more before to : List ℕ) (i word both : ℕ) →
 from_more from more before to i word both inside changed word_bits both_bits =
     changed_more before to i both (λ k. at before k || (nat_le from k && at more k)) inside changed
     (λ b bit.
-        both_bits b ∙ ap (λ t. t || has_bit word b) (word_is to i b bit ∙ changed.rest (i * 64 + b) (omega arith))
-        ∙ ap (λ t. at before (i * 64 + b) || t) (word_bits b bit))
+    both_bits b ∙ ap (λ t. t || has_bit word b) (word_is to i b bit ∙ changed.rest (i * 64 + b) (omega arith))
+    ∙ ap (λ t. at before (i * 64 + b) || t) (word_bits b bit))
 
 pub from_last : (from : ℕ) (more before to : List ℕ) (i : ℕ) → length to ≤ i → AreChanged before to i (λ k. at before k || (nat_le from k && at more k))
     → (k : ℕ) → k < room to → at to k ≡ (at before k || (nat_le from k && at more k))
@@ -312,29 +312,29 @@ begun_turns counts gap entered read out some all_is each turn k inside low = (th
     last_turn : counts.all - counts.stride ≤ place → suc turn ≡ counts.copies
     last_turn high =
         elim (at_or_past (suc turn) counts.copies inside) [
-          inl same ↦ same
-        | inr past ↦
-            (let bound : (suc turn) * counts.stride + counts.stride ≤ counts.copies * counts.stride = turns_below (suc turn) counts.copies counts.stride past in
-            absurd (omega arith))
+          | inl same ↦ same
+          | inr past ↦
+              (let bound : (suc turn) * counts.stride + counts.stride ≤ counts.copies * counts.stride = turns_below (suc turn) counts.copies counts.stride past in
+              absurd (omega arith))
         ]
 
     there : IsTrue (at out place) → Enters counts gap entered read turn k
     there is =
         elim (or_cases (moved || last) (gap && repeated counts.stride entered place) (sym (each place within) ∙ is)) [
-          inl a ↦
-            elim (or_cases moved last a) [
-              inl m ↦ from_moved (nat_lt place counts.stride) refl m
-            | inr l ↦
-                (let rest = and_right counts.unbounded (nat_le (counts.all - counts.stride) place && at read place) l in
-                let high : counts.all - counts.stride ≤ place =
-                le_of (counts.all - counts.stride) place (and_left (nat_le (counts.all - counts.stride) place) (at read place) rest) in
-                enters.again (and_left counts.unbounded (nat_le (counts.all - counts.stride) place && at read place) l) (last_turn high)
-                (and_right (nat_le (counts.all - counts.stride) place) (at read place) rest))
-            ]
-        | inr g ↦
-            (let rest = and_right gap (repeated counts.stride entered place) g in
-            enters.empties (and_left gap (repeated counts.stride entered place) g)
-            (ap (at entered) (sym (mod-mul-add turn counts.stride k low)) ∙ and_right (nat_le counts.stride place) (at entered (place % counts.stride)) rest))
+          | inl a ↦
+              elim (or_cases moved last a) [
+                | inl m ↦ from_moved (nat_lt place counts.stride) refl m
+                | inr l ↦
+                    (let rest = and_right counts.unbounded (nat_le (counts.all - counts.stride) place && at read place) l in
+                    let high : counts.all - counts.stride ≤ place =
+                    le_of (counts.all - counts.stride) place (and_left (nat_le (counts.all - counts.stride) place) (at read place) rest) in
+                    enters.again (and_left counts.unbounded (nat_le (counts.all - counts.stride) place && at read place) l) (last_turn high)
+                    (and_right (nat_le (counts.all - counts.stride) place) (at read place) rest))
+              ]
+          | inr g ↦
+              (let rest = and_right gap (repeated counts.stride entered place) g in
+              enters.empties (and_left gap (repeated counts.stride entered place) g)
+              (ap (at entered) (sym (mod-mul-add turn counts.stride k low)) ∙ and_right (nat_le counts.stride place) (at entered (place % counts.stride)) rest))
         ]
 
     given : (a b : Bool) → IsTrue a ⊎ IsTrue b → IsTrue (a || b)
@@ -345,14 +345,15 @@ begun_turns counts gap entered read out some all_is each turn k inside low = (th
         → IsTrue ((moved || last) || (gap && repeated counts.stride entered place))
     spread g is true e =
         or_right (moved || last) (gap && repeated counts.stride entered place)
-            (and_both gap (repeated counts.stride entered place) g
-            (and_both (nat_le counts.stride place) (at entered (place % counts.stride)) e (ap (at entered) (mod-mul-add turn counts.stride k low) ∙ is)))
+        (and_both gap (repeated counts.stride entered place) g
+        (and_both (nat_le counts.stride place) (at entered (place % counts.stride)) e (ap (at entered) (mod-mul-add turn counts.stride k low) ∙ is)))
     spread g is false e =
-            let below : place < counts.stride = not_le_of counts.stride place e in
-            let zero_is : turn ≡ 0 = first_turn turn refl below in
-            let same : place ≡ k = ap (λ n. n * counts.stride + k) zero_is ∙ omega arith in
-            or_left (moved || last) (gap && repeated counts.stride entered place)
-            (or_left moved last (shifted_low counts.stride entered read place below ∙ ap (at entered) same ∙ is))
+        let below : place < counts.stride = not_le_of counts.stride place e in
+        let zero_is : turn ≡ 0 = first_turn turn refl below in
+        let same : place ≡ k = ap (λ n. n * counts.stride + k) zero_is ∙ omega arith in
+        or_left (moved || last) (gap && repeated counts.stride entered place)
+        (or_left moved last (shifted_low counts.stride entered read place below ∙ ap (at entered) same ∙ is))
+
     back : Enters counts gap entered read turn k → IsTrue (at out place)
     back (enters.first e is) =
         let same : place ≡ k = ap (λ n. n * counts.stride + k) e ∙ omega arith in
@@ -416,28 +417,32 @@ before_more counts lowest turn cells k held one both low so_far one_is both_is =
     there : IsTrue both → AnyBefore counts lowest (turn + 1) cells k
     there h =
         elim (or_cases held one (sym both_is ∙ h)) [
-          inl a ↦ (let any = so_far.0 a in let below : any.0 < turn + 1 = (let under = any.2 in omega arith) in (any.0, any.1, below, any.3))
-        | inr b ↦ (let below : turn < turn + 1 = omega arith in (turn, low, below, sym one_is ∙ b))
+          | inl a ↦ (let any = so_far.0 a in let below : any.0 < turn + 1 = (let under = any.2 in omega arith) in (any.0, any.1, below, any.3))
+          | inr b ↦ (let below : turn < turn + 1 = omega arith in (turn, low, below, sym one_is ∙ b))
         ]
 
     back : AnyBefore counts lowest (turn + 1) cells k → IsTrue both
     back (before, high, under, is) =
         elim (at_or_past before turn (let up : before ≤ turn = omega arith in up)) [
-          inl same ↦ both_is ∙ or_right held one (one_is ∙ ap (λ n. at cells (n * counts.stride + k)) (sym same) ∙ is)
-        | inr past ↦ both_is ∙ or_left held one (so_far.1 (before, high, past, is))
+          | inl same ↦ both_is ∙ or_right held one (one_is ∙ ap (λ n. at cells (n * counts.stride + k)) (sym same) ∙ is)
+          | inr past ↦ both_is ∙ or_left held one (so_far.1 (before, high, past, is))
         ]
 
 pub before_all : (counts : Counts) (lowest turn : ℕ) (cells : List ℕ) (k : ℕ) (held : Bool) → counts.copies ≤ turn → (lowest ≤ counts.copies → turn ≤ counts.copies)
     → (counts.copies < lowest → turn ≤ lowest) → IsTrue held ↔ AnyBefore counts lowest turn cells k → IsTrue held ↔ AnyTurn counts lowest cells k
 before_all counts lowest turn cells k held reached within past so_far = (
   λ h.
-    (let any = so_far.0 h in
-    let low = any.1 in
-    let under = any.2 in
-    (any.0, any.1, elim (le_or_lt lowest counts.copies) [
-      inl a ↦ (let up = within a in let below : any.0 < counts.copies = omega arith in below)
-    | inr b ↦ (let up = past b in absurd (omega arith))
-    ], any.3)),
+      (let any = so_far.0 h in
+      let low = any.1 in
+      let under = any.2 in (
+        any.0,
+        any.1,
+        elim (le_or_lt lowest counts.copies) [
+          | inl a ↦ (let up = within a in let below : any.0 < counts.copies = omega arith in below)
+          | inr b ↦ (let up = past b in absurd (omega arith))
+        ],
+        any.3,
+      )),
   λ any. so_far.1 (any.0, any.1, (let under = any.2 in let below : any.0 < turn = omega arith in below), any.3),
 )
 
@@ -510,9 +515,9 @@ pub at_more : (from : ℕ) (more before to : List ℕ) (i both : ℕ) → i < le
 at_more from more before to i both inside changed both_bits =
     changed_more before to i both (λ k. at before k || at more (64 * from + k)) inside changed
     (λ b bit.
-        let same : (from + i) * 64 + b ≡ 64 * from + (i * 64 + b) = omega arith in
-        both_bits b ∙ ap (λ t. t || has_bit (get_or more (from + i) 0) b) (word_is to i b bit ∙ changed.rest (i * 64 + b) (omega arith))
-        ∙ ap (λ t. at before (i * 64 + b) || t) (word_is more (from + i) b bit ∙ ap (at more) same))
+    let same : (from + i) * 64 + b ≡ 64 * from + (i * 64 + b) = omega arith in
+    both_bits b ∙ ap (λ t. t || has_bit (get_or more (from + i) 0) b) (word_is to i b bit ∙ changed.rest (i * 64 + b) (omega arith))
+    ∙ ap (λ t. at before (i * 64 + b) || t) (word_is more (from + i) b bit ∙ ap (at more) same))
 
 -- The words of a turn of a wide stride.
 pub wide_turn : (turn turns stride all words : ℕ) (read : List ℕ) → turn < turns → all ≡ turns * stride → stride ≡ 64 * words → all ≤ room read

@@ -202,9 +202,11 @@ both_packed one two left right whole before after of_whole to_whole first second
       to_whole line from to
       (complete line from to h.0 past (at_or_past from h.0 (first.forward line from h.0 h.1)) (at_or_past h.0 to (second.forward line h.0 to h.2)) h.1 h.2);
   empty = λ line at h.
-      let both_there = sym (gap_both before after line at) ∙ h in
-      (at, first.empty line at (and_left (is_gap before line at) (is_gap after line at) both_there),
-      second.empty line at (and_right (is_gap before line at) (is_gap after line at) both_there));
+      let both_there = sym (gap_both before after line at) ∙ h in (
+        at,
+        first.empty line at (and_left (is_gap before line at) (is_gap after line at) both_there),
+        second.empty line at (and_right (is_gap before line at) (is_gap after line at) both_there),
+      );
   gap = λ line at h.
       let a = first.forward line at h.0 h.1 in
       let b = second.forward line h.0 at h.2 in
@@ -224,8 +226,10 @@ both_packed one two left right whole before after of_whole to_whole first second
         → two line middle to → ReadsBoth line left right before after from to
     complete line from to middle past (inl a) (inl b) h g = absurd (omega arith)
     complete line from to middle past (inl a) (inr b) h g =
-        inr (inl (first.gap line from (subst (λ n. one line from n) (sym a) h),
-        subst (λ n. Reads line right n to) (sym a) (second.complete line middle to b g)))
+        inr (inl (
+          first.gap line from (subst (λ n. one line from n) (sym a) h),
+          subst (λ n. Reads line right n to) (sym a) (second.complete line middle to b g),
+        ))
     complete line from to middle past (inr a) (inl b) h g =
         inr (inr (subst (λ n. Reads line left from n) b (first.complete line from middle a h), second.gap line to (subst (λ n. two line n to) b g)))
     complete line from to middle past (inr a) (inr b) h g = inl (middle, first.complete line from middle a h, second.complete line middle to b g)
@@ -238,8 +242,8 @@ either_steady : (one two : Gaps) → (IsTrue one.inside → IsTrue one.start × 
     → IsTrue (one.inside || two.inside) → IsTrue (one.start || two.start) × IsTrue (one.end || two.end)
 either_steady one two first second h =
     elim (or_cases one.inside two.inside h) [
-      inl a ↦ (or_left one.start two.start (first a).0, or_left one.end two.end (first a).1)
-    | inr b ↦ (or_right one.start two.start (second b).0, or_right one.end two.end (second b).1)
+      | inl a ↦ (or_left one.start two.start (first a).0, or_left one.end two.end (first a).1)
+      | inr b ↦ (or_right one.start two.start (second b).0, or_right one.end two.end (second b).1)
     ]
 
 -- Some part has the nonempty words of either.
@@ -254,14 +258,14 @@ either_packed one two left right whole before after of_whole to_whole first seco
       to_whole line from to (elim h [ inl a ↦ inl (first.complete line from to past a) | inr b ↦ inr (second.complete line from to past b) ]);
   empty = λ line at h.
       elim (or_cases (is_gap before line at) (is_gap after line at) (sym (gap_either before after line at) ∙ h)) [
-        inl a ↦ inl (first.empty line at a)
-      | inr b ↦ inr (second.empty line at b)
+        | inl a ↦ inl (first.empty line at a)
+        | inr b ↦ inr (second.empty line at b)
       ];
   gap = λ line at h.
       gap_either before after line at
       ∙ elim h [
-        inl a ↦ or_left (is_gap before line at) (is_gap after line at) (first.gap line at a)
-      | inr b ↦ or_right (is_gap before line at) (is_gap after line at) (second.gap line at b)
+        | inl a ↦ or_left (is_gap before line at) (is_gap after line at) (first.gap line at a)
+        | inr b ↦ or_right (is_gap before line at) (is_gap after line at) (second.gap line at b)
       ];
   steady = either_steady before after first.steady second.steady;
 }

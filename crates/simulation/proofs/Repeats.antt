@@ -110,8 +110,8 @@ thinned few relation forward into (suc count) from to past (middle, h, r) =
           chain = chain_longer few (suc inner.extra) from middle to inner.chain (into middle to b r);
           fewer = omega arith;
           left_out = elim inner.left_out [
-            inl e ↦ inl (ap suc e)
-          | inr s ↦ inr (s.0, s.1, (let mid = s.2 in let on : s.0 ≤ to = omega arith in on), s.3)
+            | inl e ↦ inl (ap suc e)
+            | inr s ↦ inr (s.0, s.1, (let mid = s.2 in let on : s.0 ≤ to = omega arith in on), s.3)
           ];
         }
 
@@ -184,17 +184,25 @@ repeat_packed body part whole gaps least greatest ordered inner of_whole to_whol
     padded line from to words chain fits (inr short) (inl enough) = absurd (omega arith)
     padded line from to words chain fits (inr short) (inr (inl g)) =
         let same : (least - suc words) + suc words ≡ least = omega arith in
-        let all : least ≤ least = omega arith in
-        (least, all, ordered, subst (λ n. Steps (Spans line body) n from to) same
-        (steps_join (Spans line body) (least - suc words) (suc words) from from to (steps_padded (Spans line body) (least - suc words) from (inner.empty line from g))
-        (steps_of_chain (Reads line part) (Spans line body) (inner.sound line) (suc words) from to chain)))
+        let all : least ≤ least = omega arith in (
+          least,
+          all,
+          ordered,
+          subst (λ n. Steps (Spans line body) n from to) same
+              (steps_join (Spans line body) (least - suc words) (suc words) from from to (steps_padded (Spans line body) (least - suc words) from (inner.empty line from g))
+              (steps_of_chain (Reads line part) (Spans line body) (inner.sound line) (suc words) from to chain)),
+        )
     padded line from to words chain fits (inr short) (inr (inr g)) =
         let same : suc words + (least - suc words) ≡ least = omega arith in
-        let all : least ≤ least = omega arith in
-        (least, all, ordered, subst (λ n. Steps (Spans line body) n from to) same
-        (steps_join (Spans line body) (suc words) (least - suc words) from to to
-        (steps_of_chain (Reads line part) (Spans line body) (inner.sound line) (suc words) from to chain)
-        (steps_padded (Spans line body) (least - suc words) to (inner.empty line to g))))
+        let all : least ≤ least = omega arith in (
+          least,
+          all,
+          ordered,
+          subst (λ n. Steps (Spans line body) n from to) same
+              (steps_join (Spans line body) (suc words) (least - suc words) from to to
+              (steps_of_chain (Reads line part) (Spans line body) (inner.sound line) (suc words) from to chain)
+              (steps_padded (Spans line body) (least - suc words) to (inner.empty line to g))),
+        )
 
     sound : (line : List ℕ) (from to : ℕ) → Reads line whole from to
         → (count : ℕ) × (least ≤ count) × AtMost greatest count × Steps (Spans line body) count from to
@@ -208,12 +216,12 @@ repeat_packed body part whole gaps least greatest ordered inner of_whole to_whol
         let thin = thinned (Reads line part) (Spans line body) (inner.forward line) (λ a b less s. inner.complete line a b less s) count from to past steps in
         to_whole line from to thin.extra thin.chain (at_most_fewer greatest (suc thin.extra) count thin.fewer fits)
         (elim thin.left_out [
-          inl e ↦ (let reached : least ≤ suc thin.extra = omega arith in inr (inl reached))
-        | inr s ↦
-            elim (gap_between gaps line from s.0 to s.1 s.2 (chain_inside line part (λ a b r. reads_inside line part a b r) thin.extra from to thin.chain) (inner.gap line s.0 s.3)) [
-              inl i ↦ inl i
-            | inr g ↦ inr (inr g)
-            ]
+          | inl e ↦ (let reached : least ≤ suc thin.extra = omega arith in inr (inl reached))
+          | inr s ↦
+              elim (gap_between gaps line from s.0 to s.1 s.2 (chain_inside line part (λ a b r. reads_inside line part a b r) thin.extra from to thin.chain) (inner.gap line s.0 s.3)) [
+                | inl i ↦ inl i
+                | inr g ↦ inr (inr g)
+              ]
         ])
 
     empty_words : (n : ℕ) (none_least : Bool) → (n == 0) ≡ none_least → AtMost greatest n → (line : List ℕ) (at : ℕ)

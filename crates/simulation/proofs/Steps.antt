@@ -60,8 +60,8 @@ both_advances line here left right sizes before after copies entered cells next 
         → Pending line here left copies old_left k here ⊎ (IsTrue (is_gap before line here) × IsTrue (at entered k))
     at_right k low is =
         elim (or_cases (at old_left k) (is_gap before line here && at entered k) (sym (given_right k low) ∙ is)) [
-          inl h ↦ inl (left_told.set k low h)
-        | inr h ↦ inr (and_left (is_gap before line here) (at entered k) h, and_right (is_gap before line here) (at entered k) h)
+          | inl h ↦ inl (left_told.set k low h)
+          | inr h ↦ inr (and_left (is_gap before line here) (at entered k) h, and_right (is_gap before line here) (at entered k) h)
         ]
 
     right_from_left : (k : ℕ) → k < copies → Pending line here left copies old_left k here → IsTrue (at entered_right k)
@@ -75,30 +75,30 @@ both_advances line here left right sizes before after copies entered cells next 
         → Pending line here whole copies cells k to ⊎ (IsTrue (at entered k) × Reads line whole here to)
     sound k to low (inl (middle, p, x)) =
         elim (one.sound k middle low p) [
-          inl old ↦ inl (inl (middle, old, x))
-        | inr new ↦
-            elim x [
-              inl r ↦ inr (sym (given_left k low) ∙ new.0, inl (middle, new.1, r))
-            | inr e ↦ inr (sym (given_left k low) ∙ new.0, inr (inr (subst (λ n. Reads line left here n) e.0 new.1, e.1)))
-            ]
+          | inl old ↦ inl (inl (middle, old, x))
+          | inr new ↦
+              elim x [
+                | inl r ↦ inr (sym (given_left k low) ∙ new.0, inl (middle, new.1, r))
+                | inr e ↦ inr (sym (given_left k low) ∙ new.0, inr (inr (subst (λ n. Reads line left here n) e.0 new.1, e.1)))
+              ]
         ]
     sound k to low (inr p) =
         elim (two.sound k to low p) [
-          inl old ↦ inl (inr old)
-        | inr new ↦
-            elim (at_right k low new.0) [
-              inl q ↦ inl (inl (here, q, inl new.1))
-            | inr g ↦ inr (g.1, inr (inl (g.0, new.1)))
-            ]
+          | inl old ↦ inl (inr old)
+          | inr new ↦
+              elim (at_right k low new.0) [
+                | inl q ↦ inl (inl (here, q, inl new.1))
+                | inr g ↦ inr (g.1, inr (inl (g.0, new.1)))
+              ]
         ]
 
     goes_on : (k to : ℕ) → k < copies → here < to → Pending line here whole copies cells k to → Pending line (suc here) whole copies next k to
     goes_on k to low on (inl (middle, p, inl r)) =
         elim (at_or_past here middle (pending_forward line here left copies old_left k middle p)) [
-          inl same ↦
-            inr (two.begins k to low (right_from_left k low (subst (λ n. Pending line here left copies old_left k n) (sym same) p))
-            (subst (λ n. Reads line right n to) (sym same) r))
-        | inr past ↦ inl (middle, one.goes_on k middle low past p, inl r)
+          | inl same ↦
+              inr (two.begins k to low (right_from_left k low (subst (λ n. Pending line here left copies old_left k n) (sym same) p))
+              (subst (λ n. Reads line right n to) (sym same) r))
+          | inr past ↦ inl (middle, one.goes_on k middle low past p, inl r)
         ]
     goes_on k to low on (inl (middle, p, inr e)) =
         let past : here < middle = let same = e.0 in omega arith in
@@ -125,10 +125,13 @@ both_advances line here left right sizes before after copies entered cells next 
         tells_set : (k : ℕ) → k < copies → IsTrue (at next k) → Pending line (suc here) whole copies next k (suc here)
         tells_set k low is =
             elim (or_cases (at new_right k) (gap && at new_left k) (sym (own k low) ∙ is)) [
-              inl h ↦ inr ((told line (suc here) right copies new_right two.kept).set k low h)
-            | inr h ↦
-                inl (suc here, (told line (suc here) left copies new_left one.kept).set k low (and_right gap (at new_left k) h),
-                inr (refl, and_left gap (at new_left k) h))
+              | inl h ↦ inr ((told line (suc here) right copies new_right two.kept).set k low h)
+              | inr h ↦
+                  inl (
+                    suc here,
+                    (told line (suc here) left copies new_left one.kept).set k low (and_right gap (at new_left k) h),
+                    inr (refl, and_left gap (at new_left k) h),
+                  )
             ]
 
         tells_pending : (k : ℕ) → k < copies → Pending line (suc here) whole copies next k (suc here) → IsTrue (at next k)
@@ -162,8 +165,10 @@ unfolding Pending Reads IsKept
 set_advances line here members copies entered cells next inside own = record {
   sound = λ k to low p.
       let both = sym (own k low) ∙ p.0 in
-      inr (and_right (has members (get_or line here 0)) (at entered k) both,
-      (p.1, inside, and_left (has members (get_or line here 0)) (at entered k) both));
+      inr (
+        and_right (has members (get_or line here 0)) (at entered k) both,
+        (p.1, inside, and_left (has members (get_or line here 0)) (at entered k) both),
+      );
   goes_on = λ k to low on p. let same = p.1 in absurd (omega arith);
   begins = λ k to low is r. (own k low ∙ and_both (has members (get_or line here 0)) (at entered k) r.2 is, r.0);
   kept = record { set = λ k low is. (is, refl); pending = λ k low p. p.0 };
@@ -206,8 +211,8 @@ either_advances line here left right sizes copies entered cells next entered_lef
     tells_set : (k : ℕ) → k < copies → IsTrue (at next k) → Pending line (suc here) whole copies next k (suc here)
     tells_set k low is =
         elim (or_cases (at new_left k) (at new_right k) (sym (own k low) ∙ is)) [
-          inl h ↦ inl ((told line (suc here) left copies new_left one.kept).set k low h)
-        | inr h ↦ inr ((told line (suc here) right copies new_right two.kept).set k low h)
+          | inl h ↦ inl ((told line (suc here) left copies new_left one.kept).set k low h)
+          | inr h ↦ inr ((told line (suc here) right copies new_right two.kept).set k low h)
         ]
 
     tells_pending : (k : ℕ) → k < copies → Pending line (suc here) whole copies next k (suc here) → IsTrue (at next k)
@@ -234,25 +239,28 @@ loop_advances line here body own copies entered cells next entered_body one kept
         → Pending line here whole copies cells k to ⊎ (IsTrue (at entered k) × Reads line whole here to)
     sound k to low (middle, more, p, c) =
         elim (one.sound k middle low p) [
-          inl old ↦ inl (middle, more, old, c)
-        | inr new ↦
-            elim (or_cases (at entered k) (at cells k) (sym (given k low) ∙ new.0)) [
-              inl is ↦ inr (is, (more, (middle, new.1, c)))
-            | inr is ↦ inl (here, suc more, tells.set k low is, (middle, new.1, c))
-            ]
+          | inl old ↦ inl (middle, more, old, c)
+          | inr new ↦
+              elim (or_cases (at entered k) (at cells k) (sym (given k low) ∙ new.0)) [
+                | inl is ↦ inr (is, (more, (middle, new.1, c)))
+                | inr is ↦ inl (here, suc more, tells.set k low is, (middle, new.1, c))
+              ]
         ]
 
     goes_on : (k to : ℕ) → k < copies → here < to → Pending line here whole copies cells k to → Pending line (suc here) whole copies next k to
     goes_on k to low on (middle, zero, p, c) = (middle, zero, one.goes_on k middle low (let same = c in omega arith) p, c)
     goes_on k to low on (middle, suc more, p, (next_middle, r, c)) =
         elim (at_or_past here middle (pending_forward line here body copies cells k middle p)) [
-          inl same ↦
-            (next_middle, more,
+          | inl same ↦ (
+            next_middle,
+            more,
             one.begins k next_middle low
-            (given k low ∙ or_right (at entered k) (at cells k)
-            (tells.pending k low (subst (λ n. Pending line here body copies cells k n) (sym same) p)))
-            (subst (λ n. Reads line body n next_middle) (sym same) r), c)
-        | inr past ↦ (middle, suc more, one.goes_on k middle low past p, (next_middle, r, c))
+                (given k low ∙ or_right (at entered k) (at cells k)
+                (tells.pending k low (subst (λ n. Pending line here body copies cells k n) (sym same) p)))
+                (subst (λ n. Reads line body n next_middle) (sym same) r),
+            c,
+          )
+          | inr past ↦ (middle, suc more, one.goes_on k middle low past p, (next_middle, r, c))
         ]
 
     begins : (k to : ℕ) → k < copies → IsTrue (at entered k) → Reads line whole here to → Pending line (suc here) whole copies next k to
@@ -300,21 +308,36 @@ times_advances line here body counts copies entered cells next entered_body lowe
         → Pending line here whole copies cells k to ⊎ (IsTrue (at entered k) × Reads line whole here to)
     sound k to low (turn, middle, more, inside, p, c, fits, suffices) =
         elim (one.sound (turn * counts.stride + k) middle (place turn k inside low) p) [
-          inl before ↦ inl (turn, middle, more, inside, before, c, fits, suffices)
-        | inr now ↦ began ((given turn k inside low).0 now.0) now.1
+          | inl before ↦ inl (turn, middle, more, inside, before, c, fits, suffices)
+          | inr now ↦ began ((given turn k inside low).0 now.0) now.1
         ]
       where
         began : Enters counts (is_gap counts.gaps line here) entered old turn k → Reads line body here middle
             → Pending line here whole copies cells k to ⊎ (IsTrue (at entered k) × Reads line whole here to)
         began (enters.first e is) r =
-            inr (is, (more, (middle, r, c), fits_fewer counts (suc more) (turn + suc more) (omega arith) fits,
-            inr (subst (λ n. Suffices line counts n to) (let same : turn + suc more ≡ suc more = omega arith in same) suffices)))
+            inr (
+              is,
+              (
+                more,
+                (middle, r, c),
+                fits_fewer counts (suc more) (turn + suc more) (omega arith) fits,
+                inr (subst (λ n. Suffices line counts n to) (let same : turn + suc more ≡ suc more = omega arith in same) suffices),
+              ),
+            )
         began (enters.empties gap is) r = inr (is, (more, (middle, r, c), fits_fewer counts (suc more) (turn + suc more) (omega arith) fits, inl gap))
         began (enters.next before e is) r =
             let same : turn + suc more ≡ before + suc (suc more) = omega arith in
             let earlier : before < counts.copies = omega arith in
-            inl (before, here, suc more, earlier, tells.set (before * counts.stride + k) (place before k earlier low) is, (middle, r, c),
-            subst (λ n. Fits counts n) same fits, subst (λ n. Suffices line counts n to) same suffices)
+            inl (
+              before,
+              here,
+              suc more,
+              earlier,
+              tells.set (before * counts.stride + k) (place before k earlier low) is,
+              (middle, r, c),
+              subst (λ n. Fits counts n) same fits,
+              subst (λ n. Suffices line counts n to) same suffices,
+            )
         began (enters.again free e is) r =
             let reached : counts.least ≤ turn + suc (suc more) = omega arith in
             inl (turn, here, suc more, inside, tells.set (turn * counts.stride + k) (place turn k inside low) is, (middle, r, c), inl free, inl reached)
@@ -324,54 +347,94 @@ times_advances line here body counts copies entered cells next entered_body lowe
         (turn, middle, zero, inside, one.goes_on (turn * counts.stride + k) middle (place turn k inside low) (let same = c in omega arith) p, c, fits, suffices)
     goes_on k to low on (turn, middle, suc more, inside, p, (after, r, c), fits, suffices) =
         elim (at_or_past here middle (pending_forward line here body all old (turn * counts.stride + k) middle p)) [
-          inl same ↦
-            last (tells.pending (turn * counts.stride + k) (place turn k inside low) (subst (λ n. Pending line here body all old (turn * counts.stride + k) n) (sym same) p))
-            (subst (λ n. Reads line body n after) (sym same) r) (at_or_past (suc turn) counts.copies inside) fits
-        | inr past ↦
-            (turn, middle, suc more, inside, one.goes_on (turn * counts.stride + k) middle (place turn k inside low) past p, (after, r, c), fits, suffices)
+          | inl same ↦
+              last (tells.pending (turn * counts.stride + k) (place turn k inside low) (subst (λ n. Pending line here body all old (turn * counts.stride + k) n) (sym same) p))
+              (subst (λ n. Reads line body n after) (sym same) r) (at_or_past (suc turn) counts.copies inside) fits
+          | inr past ↦
+              (turn, middle, suc more, inside, one.goes_on (turn * counts.stride + k) middle (place turn k inside low) past p, (after, r, c), fits, suffices)
         ]
       where
         last : IsTrue (at old (turn * counts.stride + k)) → Reads line body here after → (suc turn ≡ counts.copies) ⊎ (suc turn < counts.copies)
             → Fits counts (turn + suc (suc more)) → Pending line (suc here) whole copies next k to
         last is r (inr further) fits =
-            let same : turn + suc (suc more) ≡ suc turn + suc more = omega arith in
-            (suc turn, after, more, further,
-            one.begins (suc turn * counts.stride + k) after (place (suc turn) k further low) ((given (suc turn) k further low).1 (enters.next turn refl is)) r, c,
-            subst (λ n. Fits counts n) same fits, subst (λ n. Suffices line counts n to) same suffices)
+            let same : turn + suc (suc more) ≡ suc turn + suc more = omega arith in (
+              suc turn,
+              after,
+              more,
+              further,
+              one.begins (suc turn * counts.stride + k) after (place (suc turn) k further low) ((given (suc turn) k further low).1 (enters.next turn refl is)) r,
+              c,
+              subst (λ n. Fits counts n) same fits,
+              subst (λ n. Suffices line counts n to) same suffices,
+            )
         last is r (inl end) (inl free) =
-            let reached : counts.least ≤ turn + suc more = omega arith in
-            (turn, after, more, inside,
-            one.begins (turn * counts.stride + k) after (place turn k inside low) ((given turn k inside low).1 (enters.again free end is)) r, c, inl free, inl reached)
+            let reached : counts.least ≤ turn + suc more = omega arith in (
+              turn,
+              after,
+              more,
+              inside,
+              one.begins (turn * counts.stride + k) after (place turn k inside low) ((given turn k inside low).1 (enters.again free end is)) r,
+              c,
+              inl free,
+              inl reached,
+            )
         last is r (inl end) (inr within) = absurd (omega arith)
 
     begins : (k to : ℕ) → k < copies → IsTrue (at entered k) → Reads line whole here to → Pending line (suc here) whole copies next k to
-    begins k to low is (more, (middle, r, c), fits, inr suffices) =
-        (0, middle, more, some, one.begins (0 * counts.stride + k) middle (place 0 k some low) ((given 0 k some low).1 (enters.first refl is)) r, c,
-        subst (λ n. Fits counts n) (let same : suc more ≡ 0 + suc more = omega arith in same) fits,
-        subst (λ n. Suffices line counts n to) (let same : suc more ≡ 0 + suc more = omega arith in same) suffices)
+    begins k to low is (more, (middle, r, c), fits, inr suffices) = (
+      0,
+      middle,
+      more,
+      some,
+      one.begins (0 * counts.stride + k) middle (place 0 k some low) ((given 0 k some low).1 (enters.first refl is)) r,
+      c,
+      subst (λ n. Fits counts n) (let same : suc more ≡ 0 + suc more = omega arith in same) fits,
+      subst (λ n. Suffices line counts n to) (let same : suc more ≡ 0 + suc more = omega arith in same) suffices,
+    )
     begins k to low is (more, (middle, r, c), fits, inl gap) =
         elim (le_or_lt (suc more) counts.copies) [
-          inl within ↦
-            (let inside : counts.copies - suc more < counts.copies = omega arith in
-            let filled : (counts.copies - suc more) + suc more ≡ counts.copies = omega arith in
-            let few : (counts.copies - suc more) + suc more ≤ counts.copies = omega arith in
-            let reached : counts.least ≤ (counts.copies - suc more) + suc more = omega arith in
-            (counts.copies - suc more, middle, more, inside,
-            one.begins ((counts.copies - suc more) * counts.stride + k) middle (place (counts.copies - suc more) k inside low)
-            ((given (counts.copies - suc more) k inside low).1 (enters.empties gap is)) r, c, inr few, inl reached))
-        | inr beyond ↦
-            (let reached : counts.least ≤ 0 + suc more = omega arith in
-            (0, middle, more, some, one.begins (0 * counts.stride + k) middle (place 0 k some low) ((given 0 k some low).1 (enters.first refl is)) r, c,
-            subst (λ n. Fits counts n) (let same : suc more ≡ 0 + suc more = omega arith in same) fits, inl reached))
+          | inl within ↦
+              (let inside : counts.copies - suc more < counts.copies = omega arith in
+              let filled : (counts.copies - suc more) + suc more ≡ counts.copies = omega arith in
+              let few : (counts.copies - suc more) + suc more ≤ counts.copies = omega arith in
+              let reached : counts.least ≤ (counts.copies - suc more) + suc more = omega arith in (
+                counts.copies - suc more,
+                middle,
+                more,
+                inside,
+                one.begins ((counts.copies - suc more) * counts.stride + k) middle (place (counts.copies - suc more) k inside low)
+                    ((given (counts.copies - suc more) k inside low).1 (enters.empties gap is)) r,
+                c,
+                inr few,
+                inl reached,
+              ))
+          | inr beyond ↦
+              (let reached : counts.least ≤ 0 + suc more = omega arith in (
+                0,
+                middle,
+                more,
+                some,
+                one.begins (0 * counts.stride + k) middle (place 0 k some low) ((given 0 k some low).1 (enters.first refl is)) r,
+                c,
+                subst (λ n. Fits counts n) (let same : suc more ≡ 0 + suc more = omega arith in same) fits,
+                inl reached,
+              ))
         ]
 
     tells_set : (k : ℕ) → k < copies → IsTrue (at next k) → Pending line (suc here) whole copies next k (suc here)
     tells_set k low is =
         let found = (own k low).0 is in
         let few : found.0 + suc 0 ≤ counts.copies = let inside = found.2 in omega arith in
-        let same : suc found.0 ≡ found.0 + suc 0 = omega arith in
-        (found.0, suc here, 0, found.2, tells_next.set (found.0 * counts.stride + k) (place found.0 k found.2 low) found.3, refl, inr few,
-        subst (λ n. Suffices line counts n (suc here)) same ((enough found.0).0 found.1))
+        let same : suc found.0 ≡ found.0 + suc 0 = omega arith in (
+          found.0,
+          suc here,
+          0,
+          found.2,
+          tells_next.set (found.0 * counts.stride + k) (place found.0 k found.2 low) found.3,
+          refl,
+          inr few,
+          subst (λ n. Suffices line counts n (suc here)) same ((enough found.0).0 found.1),
+        )
 
     tells_pending : (k : ℕ) → k < copies → Pending line (suc here) whole copies next k (suc here) → IsTrue (at next k)
     tells_pending k low (turn, middle, more, inside, p, c, fits, suffices) =
@@ -379,10 +442,13 @@ times_advances line here body counts copies entered cells next entered_body lowe
         let none = stays line body more middle (suc here) on c in
         let stay : middle ≡ suc here = subst (λ n. Chain (Reads line body) n middle (suc here)) none c in
         let same : turn + suc more ≡ suc turn = omega arith in
-        (own k low).1
-        (turn, (enough turn).1 (subst (λ n. Suffices line counts n (suc here)) same suffices), inside,
-        tells_next.pending (turn * counts.stride + k) (place turn k inside low)
-        (subst (λ n. Pending line (suc here) body all new (turn * counts.stride + k) n) stay p))
+        (own k low).1 (
+          turn,
+          (enough turn).1 (subst (λ n. Suffices line counts n (suc here)) same suffices),
+          inside,
+          tells_next.pending (turn * counts.stride + k) (place turn k inside low)
+              (subst (λ n. Pending line (suc here) body all new (turn * counts.stride + k) n) stay p),
+        )
 
 -- A part with no word stays as it is.
 pub nothing_stepped : (line : List ℕ) (here copies : ℕ) (entered cells : List ℕ) → IsReady line here nothing copies entered cells

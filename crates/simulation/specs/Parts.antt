@@ -61,4 +61,3 @@ Reads line (loop body own) from to = (more : ℕ) × Chain (Reads line body) (su
 Reads line (times body counts) from to =
     (more : ℕ) × Chain (Reads line body) (suc more) from to × Fits counts (suc more)
     × (IsTrue (is_gap counts.gaps line from) ⊎ Suffices line counts (suc more) to)
-

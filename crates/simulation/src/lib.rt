@@ -4,8 +4,8 @@
 mod cells;
 mod pack;
 mod part;
+mod simulation;
 mod step;
 mod turns;
-mod simulation;
 
 pub use simulation::Simulation;

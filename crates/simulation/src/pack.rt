@@ -70,7 +70,13 @@ fn pack_some(alloc: Global, members: &[Ere], copies: usize) -> Result<Packed, Al
 
 /// The part for at least `least` words of the body and at most `greatest`.
 #[cycle(pack)]
-fn pack_repeat(alloc: Global, body: &Ere, least: u8, greatest: Option<u8>, copies: usize) -> Result<Packed, AllocError>
+fn pack_repeat(
+    alloc: Global,
+    body: &Ere,
+    least: u8,
+    greatest: Option<u8>,
+    copies: usize,
+) -> Result<Packed, AllocError>
     requires { 0 < copies }
     ensures { IfOk result (λ packed. IsTreePart (repeat (form body.now) least greatest) packed copies) }
 {
@@ -100,7 +106,14 @@ fn pack_repeat(alloc: Global, body: &Ere, least: u8, greatest: Option<u8>, copie
 
 /// The part for a number of words that takes more than one turn.
 #[cycle(pack)]
-fn pack_times(alloc: Global, body: &Ere, least: u8, greatest: Option<u8>, turns: u8, copies: usize) -> Result<Packed, AllocError>
+fn pack_times(
+    alloc: Global,
+    body: &Ere,
+    least: u8,
+    greatest: Option<u8>,
+    turns: u8,
+    copies: usize,
+) -> Result<Packed, AllocError>
     requires copies { 0 < copies }
     requires some { 1 < turns }
     requires counted { IsTurns least greatest turns }
@@ -117,7 +130,16 @@ fn pack_times(alloc: Global, body: &Ere, least: u8, greatest: Option<u8>, turns:
 }
 
 /// A number of words of a body that was packed for all copies.
-fn times(alloc: Global, body: Packed, least: u8, greatest: Option<u8>, turns: u8, copies: usize, stride: usize, all: usize) -> Result<Packed, AllocError>
+fn times(
+    alloc: Global,
+    body: Packed,
+    least: u8,
+    greatest: Option<u8>,
+    turns: u8,
+    copies: usize,
+    stride: usize,
+    all: usize,
+) -> Result<Packed, AllocError>
     requires stride { IsStride copies stride }
     requires all { all ≡ turns * stride }
     requires some { 1 < turns }
@@ -196,7 +218,10 @@ fn both(alloc: Global, first: Packed, second: Packed, copies: usize) -> Result<P
         return Err(AllocError);
     };
     let gaps = both_gaps(first.gaps, second.gaps);
-    let sizes = Sizes { own, first: first.size };
+    let sizes = Sizes {
+        own,
+        first: first.size,
+    };
     let left = Box::new(alloc, first.part)?;
     let right = Box::new(alloc, second.part)?;
     Ok(Packed {
@@ -212,7 +237,11 @@ fn either(alloc: Global, first: Packed, second: Packed, copies: usize) -> Result
 {
     let gaps = either_gaps(first.gaps, second.gaps);
     if is_nothing(&second.part) {
-        return Ok(Packed { part: first.part, size: first.size, gaps });
+        return Ok(Packed {
+            part: first.part,
+            size: first.size,
+            gaps,
+        });
     }
     let own = words_for(copies);
     let Some(members) = first.size.checked_add(second.size) else {
@@ -221,7 +250,10 @@ fn either(alloc: Global, first: Packed, second: Packed, copies: usize) -> Result
     let Some(size) = own.checked_add(members) else {
         return Err(AllocError);
     };
-    let sizes = Sizes { own, first: first.size };
+    let sizes = Sizes {
+        own,
+        first: first.size,
+    };
     let left = Box::new(alloc, first.part)?;
     let right = Box::new(alloc, second.part)?;
     Ok(Packed {

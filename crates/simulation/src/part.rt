@@ -68,7 +68,11 @@ pub(crate) fn is_gap(gaps: Gaps, line: &[u8], at: usize) -> bool
     ensures { result ≡ is_gap gaps line.now at }
 {
     if at == 0 {
-        if line.is_empty() { gaps.alone } else { gaps.start }
+        if line.is_empty() {
+            gaps.alone
+        } else {
+            gaps.start
+        }
     } else if at == line.len() {
         gaps.end
     } else {

@@ -11,7 +11,14 @@ use ere::ByteSet;
 
 /// Reads the byte after a position of the line.
 #[cycle(step)]
-pub(crate) fn step(part: &Part, copies: usize, line: &[u8], here: usize, entered: &mut [u64], cells: &mut [u64])
+pub(crate) fn step(
+    part: &Part,
+    copies: usize,
+    line: &[u8],
+    here: usize,
+    entered: &mut [u64],
+    cells: &mut [u64],
+)
     requires { IsReady line.now here (shape part.now) copies entered.old cells.old }
     ensures { Advances line.now here (shape part.now) copies entered.old cells.old cells.new }
 {
@@ -19,16 +26,27 @@ pub(crate) fn step(part: &Part, copies: usize, line: &[u8], here: usize, entered
         Part::Nothing => {}
         Part::Set(members) => step_set(members, copies, line, here, entered, cells),
         Part::Both(left, right, sizes, before, after) => {
-            step_both(left, right, *sizes, *before, *after, copies, line, here, entered, cells)
+            step_both(
+                left, right, *sizes, *before, *after, copies, line, here, entered, cells,
+            )
         }
-        Part::Either(left, right, sizes) => step_either(left, right, *sizes, copies, line, here, entered, cells),
+        Part::Either(left, right, sizes) => step_either(
+            left, right, *sizes, copies, line, here, entered, cells,
+        ),
         Part::Loop(body, own) => step_loop(body, *own, copies, line, here, entered, cells),
         Part::Times(body, counts) => step_times(body, *counts, copies, line, here, entered, cells),
     }
 }
 
 #[inline(always)]
-fn step_set(members: &ByteSet, copies: usize, line: &[u8], here: usize, entered: &[u64], cells: &mut [u64])
+fn step_set(
+    members: &ByteSet,
+    copies: usize,
+    line: &[u8],
+    here: usize,
+    entered: &[u64],
+    cells: &mut [u64],
+)
     requires inside { here < length line.now }
     requires entered { length entered.now ≡ words_for copies }
     requires cells { length cells.old ≡ words_for copies }
@@ -39,7 +57,18 @@ fn step_set(members: &ByteSet, copies: usize, line: &[u8], here: usize, entered:
 }
 
 #[cycle(step)]
-fn step_both(left: &Part, right: &Part, sizes: Sizes, before: Gaps, after: Gaps, copies: usize, line: &[u8], here: usize, entered: &mut [u64], cells: &mut [u64])
+fn step_both(
+    left: &Part,
+    right: &Part,
+    sizes: Sizes,
+    before: Gaps,
+    after: Gaps,
+    copies: usize,
+    line: &[u8],
+    here: usize,
+    entered: &mut [u64],
+    cells: &mut [u64],
+)
     requires { IsReady line.now here (both (shape left.now) (shape right.now) sizes before after) copies entered.old cells.old }
     ensures { Advances line.now here (both (shape left.now) (shape right.now) sizes before after) copies entered.old cells.old cells.new }
 {
@@ -48,14 +77,29 @@ fn step_both(left: &Part, right: &Part, sizes: Sizes, before: Gaps, after: Gaps,
     let (entered_own, entered_rest) = entered.split_at_mut(sizes.own);
     let (entered_first, entered_second) = entered_rest.split_at_mut(sizes.first);
     copy(entered_own, entered_first);
-    either_if(first, is_gap(before, line, here), entered_own, entered_second, sizes.own);
+    either_if(
+        first,
+        is_gap(before, line, here),
+        entered_own,
+        entered_second,
+        sizes.own,
+    );
     step(left, copies, line, here, entered_first, first);
     step(right, copies, line, here, entered_second, second);
     either_if(second, is_gap(after, line, here + 1), first, own, sizes.own);
 }
 
 #[cycle(step)]
-fn step_either(left: &Part, right: &Part, sizes: Sizes, copies: usize, line: &[u8], here: usize, entered: &mut [u64], cells: &mut [u64])
+fn step_either(
+    left: &Part,
+    right: &Part,
+    sizes: Sizes,
+    copies: usize,
+    line: &[u8],
+    here: usize,
+    entered: &mut [u64],
+    cells: &mut [u64],
+)
     requires { IsReady line.now here (either (shape left.now) (shape right.now) sizes) copies entered.old cells.old }
     ensures { Advances line.now here (either (shape left.now) (shape right.now) sizes) copies entered.old cells.old cells.new }
 {
@@ -71,7 +115,15 @@ fn step_either(left: &Part, right: &Part, sizes: Sizes, copies: usize, line: &[u
 }
 
 #[cycle(step)]
-fn step_loop(body: &Part, own: usize, copies: usize, line: &[u8], here: usize, entered: &mut [u64], cells: &mut [u64])
+fn step_loop(
+    body: &Part,
+    own: usize,
+    copies: usize,
+    line: &[u8],
+    here: usize,
+    entered: &mut [u64],
+    cells: &mut [u64],
+)
     requires { IsReady line.now here (loop (shape body.now) own) copies entered.old cells.old }
     ensures { Advances line.now here (loop (shape body.now) own) copies entered.old cells.old cells.new }
 {
@@ -80,13 +132,27 @@ fn step_loop(body: &Part, own: usize, copies: usize, line: &[u8], here: usize, e
 }
 
 #[cycle(step)]
-fn step_times(body: &Part, counts: Counts, copies: usize, line: &[u8], here: usize, entered: &mut [u64], cells: &mut [u64])
+fn step_times(
+    body: &Part,
+    counts: Counts,
+    copies: usize,
+    line: &[u8],
+    here: usize,
+    entered: &mut [u64],
+    cells: &mut [u64],
+)
     requires { IsReady line.now here (times (shape body.now) counts) copies entered.old cells.old }
     ensures { Advances line.now here (times (shape body.now) counts) copies entered.old cells.old cells.new }
 {
     let (own, read) = cells.split_at_mut(counts.own);
     let (entered_own, entered_body) = entered.split_at_mut(counts.own);
-    begin_turns(counts, is_gap(counts.gaps, line, here), entered_own, read, entered_body);
+    begin_turns(
+        counts,
+        is_gap(counts.gaps, line, here),
+        entered_own,
+        read,
+        entered_body,
+    );
     step(body, counts.all, line, here, entered_body, read);
     any_turn(counts, lowest_turn(counts, line, here + 1), read, own);
 }

@@ -87,7 +87,11 @@ fn word_from(words: &[u64], i: usize, from: usize) -> u64
     requires from { from / 64 ≤ i }
     ensures { (b : ℕ) → b < 64 → has_bit result b ≡ (nat_le from (i * 64 + b) && at words.now (i * 64 + b)) }
 {
-    if i == from / BITS { from_bit(words[i], from % BITS) } else { words[i] }
+    if i == from / BITS {
+        from_bit(words[i], from % BITS)
+    } else {
+        words[i]
+    }
 }
 
 /// Adds what is entered to every turn but the first, if `on`.

@@ -26,8 +26,8 @@ loop-here-preserved c =
 pub returns-then-is_read : goal.returns-then-is_read
 returns-then-is_read c = (
   λ is.
-    lines.found_word c.args.line.now c.loop-here.here (shape c.args.part.now) c.begin.new.entered c.loop-here.cells c.step.new.cells
-    c.loop-here.invariant c.step.ensures (sym c.is_read.ensures ∙ c.if-is_read.true),
+      lines.found_word c.args.line.now c.loop-here.here (shape c.args.part.now) c.begin.new.entered c.loop-here.cells c.step.new.cells
+      c.loop-here.invariant c.step.ensures (sym c.is_read.ensures ∙ c.if-is_read.true),
   λ word. refl,
 )
 

@@ -11,8 +11,8 @@ pub loop-turn-preserved : goal.loop-turn-preserved
 loop-turn-preserved c = (
   omega arith,
   λ k low.
-    moving.before_more c.args.counts c.args.lowest c.loop-turn.turn c.args.read.now k _ (has_bit c.turn_of.result k) _ (omega arith)
-    (c.loop-turn.invariant.1 k low) (c.turn_of.ensures k low) (c.either-found.ensures k),
+      moving.before_more c.args.counts c.args.lowest c.loop-turn.turn c.args.read.now k _ (has_bit c.turn_of.result k) _ (omega arith)
+      (c.loop-turn.invariant.1 k low) (c.turn_of.ensures k low) (c.either-found.ensures k),
 )
 
 pub returns : goal.returns

@@ -23,10 +23,10 @@ pub loop-turn-preserved : goal.loop-turn-preserved
 loop-turn-preserved c = (
   omega arith,
   λ k low.
-    moving.before_more c.args.counts c.args.lowest c.loop-turn.turn c.args.read.now k (at c.loop-turn.own k)
-    (at c.args.read.now (64 * (c.loop-turn.turn * length c.args.own.now) + k)) (at c.add_at.new.to k) (omega arith) (c.loop-turn.invariant.1 k low)
-    (moving.wide_cell c.loop-turn.turn c.args.counts.stride (length c.args.own.now) k c.args.read.now c.requires.stride)
-    (c.add_at.ensures k (omega (arith, c.requires.stride))),
+      moving.before_more c.args.counts c.args.lowest c.loop-turn.turn c.args.read.now k (at c.loop-turn.own k)
+      (at c.args.read.now (64 * (c.loop-turn.turn * length c.args.own.now) + k)) (at c.add_at.new.to k) (omega arith) (c.loop-turn.invariant.1 k low)
+      (moving.wide_cell c.loop-turn.turn c.args.counts.stride (length c.args.own.now) k c.args.read.now c.requires.stride)
+      (c.add_at.ensures k (omega (arith, c.requires.stride))),
 )
 
 pub returns : goal.returns

@@ -15,8 +15,8 @@ pub returns : goal.returns
 returns c =
     moving.begun_turns c.args.counts c.args.gap c.args.entered.now c.args.read.now c.add_repeated.new.to c.requires.some.1 c.requires.all
     (λ k low.
-        c.add_repeated.ensures k low
-        ∙ ap (λ t. t || (c.args.gap && repeated c.args.counts.stride c.args.entered.now k))
-        (c.add_from.ensures k (omega (arith, c.requires.out))
-        ∙ ap (λ t. t || (c.args.counts.unbounded && (nat_le (c.args.counts.all - c.args.counts.stride) k && at c.args.read.now k)))
-        (c.shift.ensures k (omega (arith, c.requires.out)))))
+    c.add_repeated.ensures k low
+    ∙ ap (λ t. t || (c.args.gap && repeated c.args.counts.stride c.args.entered.now k))
+    (c.add_from.ensures k (omega (arith, c.requires.out))
+    ∙ ap (λ t. t || (c.args.counts.unbounded && (nat_le (c.args.counts.all - c.args.counts.stride) k && at c.args.read.now k)))
+    (c.shift.ensures k (omega (arith, c.requires.out)))))

@@ -7,8 +7,12 @@ overflow_mul-from c = omega (arith, moving.turn_below c.args.turn c.args.counts.
 
 pub bounds-read-from : goal.bounds-read-from
 bounds-read-from c =
-    omega (arith, moving.turn_below c.args.turn c.args.counts.copies c.args.counts.stride c.args.counts.all c.requires.turn c.requires.all,
-    (moving.narrow_small c.args.counts.stride c.requires.stride).0, c.requires.read)
+    omega (
+      arith,
+      moving.turn_below c.args.turn c.args.counts.copies c.args.counts.stride c.args.counts.all c.requires.turn c.requires.all,
+      (moving.narrow_small c.args.counts.stride c.requires.stride).0,
+      c.requires.read,
+    )
 
 pub returns : goal.returns
 returns c = λ k low.

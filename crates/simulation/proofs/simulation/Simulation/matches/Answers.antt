@@ -6,8 +6,8 @@ use Rattle.simulation.proofs.simulation.Simulation.matches.Goals as goal
 pub returns-then-has_gap-clause-found : goal.returns-then-has_gap-clause-found
 returns-then-has_gap-clause-found c = λ tree is. (
   λ true_is.
-    lines.found_after_gap c.args.line.now tree (shape c.args.self.now.part) c.args.self.now.gaps is.part.packed
-    (sym c.has_gap.ensures ∙ c.if-has_gap.true),
+      lines.found_after_gap c.args.line.now tree (shape c.args.self.now.part) c.args.self.now.gaps is.part.packed
+      (sym c.has_gap.ensures ∙ c.if-has_gap.true),
   λ hit. refl,
 )
 
