@@ -1,0 +1,12 @@
+pub mod Shapes
+pub mod Tests
+pub mod Forward
+pub mod Steps
+pub mod Words
+pub mod Cuts
+pub mod Ranks
+pub mod Packing
+pub mod Repeats
+pub mod Building
+pub mod Lines
+pub mod Moving

@@ -1,0 +1,40 @@
+-- The plain data of each variant: the equations of `shape`.
+use Rattle.std.specs.Prelude.{◌≡◌, ℕ, Bool, List}
+use Rattle.std.proofs.Common.{sym, ap, ◌∙◌}
+use Rattle.std.specs.declared.alloc.Global.{Global}
+use Rattle.std.specs.declared.boxed.Box.{Box}
+use Rattle.simulation.specs.declared.part.Gaps.{Gaps}
+use Rattle.simulation.specs.declared.part.Counts.{Counts}
+use Rattle.simulation.specs.declared.part.Sizes.{Sizes}
+use Rattle.simulation.specs.declared.part.Part.{Part}
+use Rattle.simulation.specs.declared.part.Part.TheOpen as layer
+use Rattle.simulation.specs.declared.part.Part.TheVariants.{Nothing, Set, Both, Either, Loop, Times}
+use Rattle.simulation.specs.declared.part.Part.TheVariants.{rolls-Nothing, rolls-Set, rolls-Both, rolls-Either, rolls-Loop, rolls-Times}
+use Rattle.simulation.specs.declared.part.Part.TheFolds.{fold-roll-Part}
+use Rattle.simulation.specs.Parts.{Shape, nothing, set, both, either, loop, times, shape, shape_step}
+
+pub shape-Nothing : shape Nothing ≡ nothing
+unfolding shape
+shape-Nothing = ap shape (sym rolls-Nothing) ∙ fold-roll-Part Shape shape_step layer.Nothing
+
+pub shape-Set : (members : List Bool) → shape (Set members) ≡ set members
+unfolding shape
+shape-Set members = ap shape (sym (rolls-Set members)) ∙ fold-roll-Part Shape shape_step (layer.Set members)
+
+pub shape-Both : (left right : Box Part Global) (sizes : Sizes) (before after : Gaps)
+    → shape (Both left right sizes before after) ≡ both (shape left.value) (shape right.value) sizes before after
+unfolding shape
+shape-Both left right sizes before after =
+    ap shape (sym (rolls-Both left right sizes before after)) ∙ fold-roll-Part Shape shape_step (layer.Both left right sizes before after)
+
+pub shape-Either : (left right : Box Part Global) (sizes : Sizes) → shape (Either left right sizes) ≡ either (shape left.value) (shape right.value) sizes
+unfolding shape
+shape-Either left right sizes = ap shape (sym (rolls-Either left right sizes)) ∙ fold-roll-Part Shape shape_step (layer.Either left right sizes)
+
+pub shape-Loop : (body : Box Part Global) (own : ℕ) → shape (Loop body own) ≡ loop (shape body.value) own
+unfolding shape
+shape-Loop body own = ap shape (sym (rolls-Loop body own)) ∙ fold-roll-Part Shape shape_step (layer.Loop body own)
+
+pub shape-Times : (body : Box Part Global) (counts : Counts) → shape (Times body counts) ≡ times (shape body.value) counts
+unfolding shape
+shape-Times body counts = ap shape (sym (rolls-Times body counts)) ∙ fold-roll-Part Shape shape_step (layer.Times body counts)

@@ -1,0 +1,7 @@
+use Rattle.std.proofs.Common.{◌&&◌}
+use Rattle.simulation.specs.Pending.{at}
+use Rattle.simulation.specs.Private.Words.{AreWritten}
+use Rattle.simulation.proofs.cells.keep_if.Given as goal
+
+abbrev pub invariant-loop-i : goal.invariant-loop-i
+invariant-loop-i l = AreWritten l.to l.i (λ k. l.held && at l.from k)

@@ -1,0 +1,24 @@
+use Rattle.std.proofs.Common.{◌+◌, refl, ap, ◌∙◌}
+use Rattle.simulation.specs.declared.part.Sizes.{Sizes}
+use Rattle.simulation.specs.Parts.{shape, either}
+use Rattle.simulation.proofs.Shapes.{shape-Either}
+use Rattle.simulation.proofs.Building.{as_part, sum_is, either_part, only_part}
+use Rattle.simulation.proofs.pack.either.Goals as goal
+
+pub returns-then-is_nothing : goal.returns-then-is_nothing
+returns-then-is_nothing c = λ tree trees one two.
+    as_part _ (shape c.args.first.part) _ _ _ c.args.copies _ _ refl c.either_gaps-gaps.ensures refl
+    (only_part tree trees (shape c.args.first.part) (shape c.args.second.part) c.args.first.gaps c.args.second.gaps c.args.copies c.args.first.size
+    c.args.second.size (c.if-is_nothing.ensures refl) one two)
+
+pub returns : goal.returns
+returns c = λ tree trees one two.
+    let sizes : Sizes = record { own = c.words_for-own.result; first = c.args.first.size } in
+    as_part _ (either (shape c.args.first.part) (shape c.args.second.part) sizes) _ _ _ c.args.copies _ _
+    (shape-Either c.in_ok-left.left c.in_ok-right.right sizes
+    ∙ ap (λ p. either (shape p) (shape c.in_ok-right.right.value) sizes) c.in_ok-left.ensures.ok
+    ∙ ap (λ p. either (shape c.args.first.part) (shape p) sizes) c.in_ok-right.ensures.ok)
+    c.either_gaps-gaps.ensures refl
+    (either_part tree trees (shape c.args.first.part) (shape c.args.second.part) c.args.first.gaps c.args.second.gaps sizes c.args.copies
+    c.args.first.size c.args.second.size c.in-Some-checked_add.size c.words_for-own.ensures refl
+    (sum_is _ _ _ _ c.in-Some-checked_add.is c.checked_add-2.ensures ∙ ap (λ n. c.words_for-own.result + n) (sum_is _ _ _ _ c.in-Some.is c.checked_add.ensures)) one two)

@@ -1,0 +1,17 @@
+use Rattle.simulation.specs.Parts.{shape}
+use Rattle.std.proofs.Common.{sym, ◌∙◌, refl}
+use Rattle.simulation.proofs.Lines as lines
+use Rattle.simulation.proofs.simulation.Simulation.matches.Goals as goal
+
+pub returns-then-has_gap-clause-found : goal.returns-then-has_gap-clause-found
+returns-then-has_gap-clause-found c = λ tree is. (
+  λ true_is.
+      lines.found_after_gap c.args.line.now tree (shape c.args.self.now.part) c.args.self.now.gaps is.part.packed
+      (sym c.has_gap.ensures ∙ c.if-has_gap.true),
+  λ hit. refl,
+)
+
+pub returns-clause-found : goal.returns-clause-found
+returns-clause-found c = λ tree is.
+    lines.found_by_word c.args.line.now tree (shape c.args.self.now.part) c.args.self.now.gaps c.has_gap.result c.has_word.result is.part.packed
+    c.has_gap.ensures c.if-has_gap.false c.has_word.ensures

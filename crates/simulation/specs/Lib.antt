@@ -1,0 +1,5 @@
+pub mod Parts
+pub mod Pending
+pub mod Private
+pub mod Packing
+pub mod Simulations

@@ -1,0 +1,76 @@
+-- Which part stands for a tree.
+use Rattle.std.specs.Prelude.{◌≡◌, ℕ, ◌≤◌, ◌<◌, Bool, true, false, ◌&&◌, ◌||◌, if◌then◌else◌, ◌==◌, IsTrue, List, ◌⊎◌, Option, IfSome, IfNone}
+use Rattle.ere.specs.Tree.{Tree, Trees}
+use Rattle.matcher.specs.Spans.{Relation, Spans, SpansEach, SpansSome}
+use Rattle.simulation.specs.declared.part.Gaps.{Gaps}
+use Rattle.simulation.specs.declared.pack.Packed.{Packed}
+use Rattle.simulation.specs.Parts.{Shape, shape, Reads, is_gap}
+use Rattle.simulation.specs.Pending.{IsWhole, size_of}
+
+-- The words of the part and the gaps together are the words that a relation has in each line.
+pub record IsPacked (words : List ℕ → Relation) (part : Shape) (gaps : Gaps) : Type 0 where
+  pub forward : (line : List ℕ) (from to : ℕ) → words line from to → from ≤ to
+  pub sound : (line : List ℕ) (from to : ℕ) → Reads line part from to → words line from to
+  pub complete : (line : List ℕ) (from to : ℕ) → from < to → words line from to → Reads line part from to
+  pub empty : (line : List ℕ) (at : ℕ) → IsTrue (is_gap gaps line at) → words line at at
+  pub gap : (line : List ℕ) (at : ℕ) → words line at at → IsTrue (is_gap gaps line at)
+  pub steady : IsTrue gaps.inside → IsTrue gaps.start × IsTrue gaps.end
+
+-- The part and the gaps stand for a tree.
+abbrev pub StandsFor : Tree → Shape → Gaps → Type 0
+StandsFor tree part gaps = IsPacked (λ line. Spans line tree) part gaps
+
+-- They stand for a word of each tree, one after the other.
+abbrev pub StandsForEach : Trees → Shape → Gaps → Type 0
+StandsForEach trees part gaps = IsPacked (λ line. SpansEach line trees) part gaps
+
+-- They stand for a word of one of the trees.
+abbrev pub StandsForSome : Trees → Shape → Gaps → Type 0
+StandsForSome trees part gaps = IsPacked (λ line. SpansSome line trees) part gaps
+
+-- the empty word nowhere
+abbrev pub nowhere : Gaps
+nowhere = record { alone = false; start = false; inside = false; end = false }
+
+-- the empty word everywhere
+abbrev pub everywhere : Gaps
+everywhere = record { alone = true; start = true; inside = true; end = true }
+
+-- the empty word at the line's start or end
+abbrev pub only_at : Bool → Bool → Gaps
+only_at start end = record { alone = start || end; start = start; inside = false; end = end }
+
+-- where both have the empty word
+abbrev pub gaps_of_both : Gaps → Gaps → Gaps
+gaps_of_both one two =
+    record { alone = one.alone && two.alone; start = one.start && two.start; inside = one.inside && two.inside; end = one.end && two.end }
+
+-- where either has it
+abbrev pub gaps_of_either : Gaps → Gaps → Gaps
+gaps_of_either one two =
+    record { alone = one.alone || two.alone; start = one.start || two.start; inside = one.inside || two.inside; end = one.end || two.end }
+
+-- where a number of words can all be empty
+abbrev pub gaps_of_times : ℕ → Gaps → Gaps
+gaps_of_times least gaps = if least == 0 then everywhere else gaps
+
+-- The part stands for a relation's words, and is made for this many copies, which take this many words of cells.
+pub record IsPartFor (words : List ℕ → Relation) (part : Shape) (gaps : Gaps) (copies size : ℕ) : Type 0 where
+  pub packed : IsPacked words part gaps
+  pub whole : IsWhole part copies
+  pub sized : size_of part copies ≡ size
+
+-- the same for a part that is built
+abbrev pub IsTreePart : Tree → Packed → ℕ → Type 0
+IsTreePart tree built copies = IsPartFor (λ line. Spans line tree) (shape built.part) built.gaps copies built.size
+
+abbrev pub IsEachPart : Trees → Packed → ℕ → Type 0
+IsEachPart trees built copies = IsPartFor (λ line. SpansEach line trees) (shape built.part) built.gaps copies built.size
+
+abbrev pub IsSomePart : Trees → Packed → ℕ → Type 0
+IsSomePart trees built copies = IsPartFor (λ line. SpansSome line trees) (shape built.part) built.gaps copies built.size
+
+-- A number of words takes this many turns: the greatest, or the least if there is no greatest.
+pub record IsTurns (least : ℕ) (greatest : Option ℕ) (turns : ℕ) : Type 0 where
+  pub bounded : IfSome greatest (λ most. (most ≡ turns) × (least ≤ turns))
+  pub unbounded : IfNone greatest (turns ≡ least)

@@ -1,0 +1,63 @@
+-- The words of a part by positions of a line, which is not empty. No word is empty: where a part of a tree has the
+-- empty word is said by gaps, next to the parts that they join.
+use Rattle.std.specs.Prelude.{◌≡◌, ℕ, zero, suc, ◌+◌, ◌*◌, ◌<◌, ◌≤◌, Bool, if◌then◌else◌, ◌==◌, IsTrue, List, length, slice_index, ◌⊎◌}
+use Rattle.ere.specs.ByteSet.{has}
+use Rattle.matcher.specs.Spans.{Relation}
+use Rattle.simulation.specs.declared.part.Gaps.{Gaps}
+use Rattle.simulation.specs.declared.part.Counts.{Counts}
+use Rattle.simulation.specs.declared.part.Sizes.{Sizes}
+use Rattle.simulation.specs.declared.part.Part.{Part, Part-F}
+use Rattle.simulation.specs.declared.part.Part.TheOpen as layer
+use Rattle.simulation.specs.declared.part.Part.TheFolds.{fold-Part}
+
+-- a part as plain data, without its memory
+pub data Shape : Type 0 where
+  nothing : Shape
+  set : List Bool → Shape
+  both : Shape → Shape → Sizes → Gaps → Gaps → Shape
+  either : Shape → Shape → Sizes → Shape
+  loop : Shape → ℕ → Shape
+  times : Shape → Counts → Shape
+
+-- one layer of a part, with the plain data of its members
+abbrev pub shape_step : Part-F Shape → Shape
+shape_step layer.Nothing = nothing
+shape_step (layer.Set members) = set members
+shape_step (layer.Both left right sizes before after) = both left.value right.value sizes before after
+shape_step (layer.Either left right sizes) = either left.value right.value sizes
+shape_step (layer.Loop body own) = loop body.value own
+shape_step (layer.Times body counts) = times body.value counts
+
+-- the plain data of a part
+unfoldable pub shape : Part → Shape
+shape = fold-Part Shape shape_step
+
+-- whether the empty word is there at a position of the line
+abbrev pub is_gap : Gaps → List ℕ → ℕ → Bool
+is_gap gaps line at =
+    if at == 0 then (if length line == 0 then gaps.alone else gaps.start) else (if at == length line then gaps.end else gaps.inside)
+
+-- `count` words of a relation, one after the other
+unfoldable pub Chain : Relation → ℕ → Relation
+Chain relation zero from to = from ≡ to
+Chain relation (suc count) from to = (middle : ℕ) × relation from middle × Chain relation count middle to
+
+-- As many words are not too many.
+abbrev pub Fits : Counts → ℕ → Type 0
+Fits counts words = IsTrue counts.unbounded ⊎ (words ≤ counts.copies)
+
+-- As many words are enough: there are no fewer than the least, or the others are empty at one of the ends.
+abbrev pub Suffices : List ℕ → Counts → ℕ → ℕ → Type 0
+Suffices line counts words to = (counts.least ≤ words) ⊎ IsTrue (is_gap counts.gaps line to)
+
+unfoldable pub Reads : List ℕ → Shape → ℕ → ℕ → Type 0
+Reads line nothing from to = ⊥
+Reads line (set members) from to = (to ≡ suc from) × (from < length line) × IsTrue (has members (slice_index line from))
+Reads line (both left right sizes before after) from to =
+    ((middle : ℕ) × Reads line left from middle × Reads line right middle to)
+    ⊎ ((IsTrue (is_gap before line from) × Reads line right from to) ⊎ (Reads line left from to × IsTrue (is_gap after line to)))
+Reads line (either left right sizes) from to = Reads line left from to ⊎ Reads line right from to
+Reads line (loop body own) from to = (more : ℕ) × Chain (Reads line body) (suc more) from to
+Reads line (times body counts) from to =
+    (more : ℕ) × Chain (Reads line body) (suc more) from to × Fits counts (suc more)
+    × (IsTrue (is_gap counts.gaps line from) ⊎ Suffices line counts (suc more) to)

@@ -1,0 +1,81 @@
+//! The parts that the simulation steps through.
+
+ghost use Rattle.std.specs.Prelude.{◌≡◌, ◌<◌, length};
+ghost use Rattle.simulation.specs.Parts.{is_gap};
+
+use ere::ByteSet;
+
+/// Where a tree has the empty word.
+#[derive(Clone, Copy, Debug, PartialEq, Eq)]
+pub struct Gaps {
+    /// In an empty line.
+    pub alone: bool,
+    /// At the start of a line that is not empty.
+    pub start: bool,
+    /// Between two bytes of a line.
+    pub inside: bool,
+    /// At the end of a line that is not empty.
+    pub end: bool,
+}
+
+/// Where the cells of two members lie, after those of the part itself.
+#[derive(Clone, Copy, Debug, PartialEq, Eq)]
+pub struct Sizes {
+    /// The number of the part's own cells.
+    pub own: usize,
+    /// The number of cells of the first member.
+    pub first: usize,
+}
+
+/// How often the body of `Part::Times` is read.
+#[derive(Clone, Copy, Debug, PartialEq, Eq)]
+pub struct Counts {
+    /// The least number of words.
+    pub least: usize,
+    /// The copies of the body: the greatest number of words, or the least if there is no greatest.
+    pub copies: usize,
+    /// Whether there is no greatest number.
+    pub unbounded: bool,
+    /// Where the body has the empty word, so that fewer words than the least are enough.
+    pub gaps: Gaps,
+    /// The number of the part's own cells.
+    pub own: usize,
+    /// How far apart two copies of the body are that stand for one copy of the part.
+    pub stride: usize,
+    /// The copies of the body, with all that the stride leaves unused.
+    pub all: usize,
+}
+
+/// A part of the tree, made ready for the simulation. It has words that are not empty only.
+#[derive(Drop)]
+pub enum Part {
+    /// No word.
+    Nothing,
+    /// One byte of the set.
+    Set(ByteSet),
+    /// A word of one part and then a word of another. Either can be left out where it has the empty word.
+    Both(Box<Part>, Box<Part>, Sizes, Gaps, Gaps),
+    /// A word of either part.
+    Either(Box<Part>, Box<Part>, Sizes),
+    /// One word or more, one after the other. The number is that of the part's own cells.
+    Loop(Box<Part>, usize),
+    /// A number of words, one after the other.
+    Times(Box<Part>, Counts),
+}
+
+/// Whether the empty word is there at a position of the line.
+pub(crate) fn is_gap(gaps: Gaps, line: &[u8], at: usize) -> bool
+    ensures { result ≡ is_gap gaps line.now at }
+{
+    if at == 0 {
+        if line.is_empty() {
+            gaps.alone
+        } else {
+            gaps.start
+        }
+    } else if at == line.len() {
+        gaps.end
+    } else {
+        gaps.inside
+    }
+}

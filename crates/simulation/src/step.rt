@@ -1,0 +1,158 @@
+//! One byte of the line.
+
+ghost use Rattle.std.specs.Prelude.{◌≡◌, ℕ, suc, ◌+◌, ◌*◌, ◌<◌, ◌≤◌, length};
+ghost use Rattle.simulation.specs.Parts.{shape, set, both, either, loop, times};
+ghost use Rattle.simulation.specs.Pending.{Advances, IsReady, words_for};
+
+use crate::cells::{add, copy, either_if, keep_if};
+use crate::part::{Counts, Gaps, Part, Sizes, is_gap};
+use crate::turns::{any_turn, begin_turns, lowest_turn};
+use ere::ByteSet;
+
+/// Reads the byte after a position of the line.
+#[cycle(step)]
+pub(crate) fn step(
+    part: &Part,
+    copies: usize,
+    line: &[u8],
+    here: usize,
+    entered: &mut [u64],
+    cells: &mut [u64],
+)
+    requires { IsReady line.now here (shape part.now) copies entered.old cells.old }
+    ensures { Advances line.now here (shape part.now) copies entered.old cells.old cells.new }
+{
+    match part {
+        Part::Nothing => {}
+        Part::Set(members) => step_set(members, copies, line, here, entered, cells),
+        Part::Both(left, right, sizes, before, after) => {
+            step_both(
+                left, right, *sizes, *before, *after, copies, line, here, entered, cells,
+            )
+        }
+        Part::Either(left, right, sizes) => step_either(
+            left, right, *sizes, copies, line, here, entered, cells,
+        ),
+        Part::Loop(body, own) => step_loop(body, *own, copies, line, here, entered, cells),
+        Part::Times(body, counts) => step_times(body, *counts, copies, line, here, entered, cells),
+    }
+}
+
+#[inline(always)]
+fn step_set(
+    members: &ByteSet,
+    copies: usize,
+    line: &[u8],
+    here: usize,
+    entered: &[u64],
+    cells: &mut [u64],
+)
+    requires inside { here < length line.now }
+    requires entered { length entered.now ≡ words_for copies }
+    requires cells { length cells.old ≡ words_for copies }
+    ensures { Advances line.now here (set members.now) copies entered.now cells.old cells.new }
+{
+    let words = cells.len();
+    keep_if(members.has(line[here]), entered, cells, words);
+}
+
+#[cycle(step)]
+fn step_both(
+    left: &Part,
+    right: &Part,
+    sizes: Sizes,
+    before: Gaps,
+    after: Gaps,
+    copies: usize,
+    line: &[u8],
+    here: usize,
+    entered: &mut [u64],
+    cells: &mut [u64],
+)
+    requires { IsReady line.now here (both (shape left.now) (shape right.now) sizes before after) copies entered.old cells.old }
+    ensures { Advances line.now here (both (shape left.now) (shape right.now) sizes before after) copies entered.old cells.old cells.new }
+{
+    let (own, rest) = cells.split_at_mut(sizes.own);
+    let (first, second) = rest.split_at_mut(sizes.first);
+    let (entered_own, entered_rest) = entered.split_at_mut(sizes.own);
+    let (entered_first, entered_second) = entered_rest.split_at_mut(sizes.first);
+    copy(entered_own, entered_first);
+    either_if(
+        first,
+        is_gap(before, line, here),
+        entered_own,
+        entered_second,
+        sizes.own,
+    );
+    step(left, copies, line, here, entered_first, first);
+    step(right, copies, line, here, entered_second, second);
+    either_if(second, is_gap(after, line, here + 1), first, own, sizes.own);
+}
+
+#[cycle(step)]
+fn step_either(
+    left: &Part,
+    right: &Part,
+    sizes: Sizes,
+    copies: usize,
+    line: &[u8],
+    here: usize,
+    entered: &mut [u64],
+    cells: &mut [u64],
+)
+    requires { IsReady line.now here (either (shape left.now) (shape right.now) sizes) copies entered.old cells.old }
+    ensures { Advances line.now here (either (shape left.now) (shape right.now) sizes) copies entered.old cells.old cells.new }
+{
+    let (own, rest) = cells.split_at_mut(sizes.own);
+    let (first, second) = rest.split_at_mut(sizes.first);
+    let (entered_own, entered_rest) = entered.split_at_mut(sizes.own);
+    let (entered_first, entered_second) = entered_rest.split_at_mut(sizes.first);
+    copy(entered_own, entered_first);
+    copy(entered_own, entered_second);
+    step(left, copies, line, here, entered_first, first);
+    step(right, copies, line, here, entered_second, second);
+    either_if(first, true, second, own, sizes.own);
+}
+
+#[cycle(step)]
+fn step_loop(
+    body: &Part,
+    own: usize,
+    copies: usize,
+    line: &[u8],
+    here: usize,
+    entered: &mut [u64],
+    cells: &mut [u64],
+)
+    requires { IsReady line.now here (loop (shape body.now) own) copies entered.old cells.old }
+    ensures { Advances line.now here (loop (shape body.now) own) copies entered.old cells.old cells.new }
+{
+    add(cells, entered, own);
+    step(body, copies, line, here, entered, cells);
+}
+
+#[cycle(step)]
+fn step_times(
+    body: &Part,
+    counts: Counts,
+    copies: usize,
+    line: &[u8],
+    here: usize,
+    entered: &mut [u64],
+    cells: &mut [u64],
+)
+    requires { IsReady line.now here (times (shape body.now) counts) copies entered.old cells.old }
+    ensures { Advances line.now here (times (shape body.now) counts) copies entered.old cells.old cells.new }
+{
+    let (own, read) = cells.split_at_mut(counts.own);
+    let (entered_own, entered_body) = entered.split_at_mut(counts.own);
+    begin_turns(
+        counts,
+        is_gap(counts.gaps, line, here),
+        entered_own,
+        read,
+        entered_body,
+    );
+    step(body, counts.all, line, here, entered_body, read);
+    any_turn(counts, lowest_turn(counts, line, here + 1), read, own);
+}
