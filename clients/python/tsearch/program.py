@@ -1,0 +1,50 @@
+"""The program, and the words that start a session of it."""
+
+from __future__ import annotations
+
+import os
+import pathlib
+import shutil
+from collections.abc import Sequence
+
+from .errors import Error
+
+# The most puts, loads and removes that a session can be told to take: a client that stays does not want to be full.
+MOST_COMMANDS = 4_294_967_294
+
+
+def find_program() -> str:
+    """The path of the program: that of the variable TSEARCH; else the command `tsearch` on the PATH; else that of the repository in
+    which this package lies. Its first call compiles it, in some minutes. `Error` if there is none."""
+    named = os.environ.get("TSEARCH")
+    if named:
+        return named
+    on_path = shutil.which("tsearch")
+    if on_path:
+        return on_path
+    beside = pathlib.Path(__file__).resolve().parents[3] / "tsearch"
+    if beside.is_file() and os.access(beside, os.X_OK):
+        return str(beside)
+    raise Error("there is no program: set TSEARCH to its path")
+
+
+def command(
+    program: str | os.PathLike[str] | Sequence[str] | None = None,
+    *,
+    readers: int | None = None,
+    search_ms: int | None = None,
+    max_commands: int | None = MOST_COMMANDS,
+    stats: bool = False,
+) -> list[str]:
+    """The words that start a session. `program` is a path, or the words of a command to which the options are added."""
+    if program is None:
+        words = [find_program()]
+    elif isinstance(program, (str, os.PathLike)):
+        words = [os.fspath(program)]
+    else:
+        words = list(program)
+    words.append("--live")
+    for option, number in ("--readers", readers), ("--search-ms", search_ms), ("--max-commands", max_commands):
+        if number is not None:
+            words += [option, str(number)]
+    return words + ["--stats"] * stats
