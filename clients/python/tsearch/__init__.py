@@ -18,6 +18,7 @@ from .errors import (
     SearchRefused,
     TooSlow,
 )
+from .folder import Folder, LeftOut, Refreshed
 from .names import quote, unquote
 from .patterns import escape
 from .program import find_program
@@ -31,11 +32,14 @@ __all__ = [
     "Changes",
     "Ended",
     "Error",
+    "Folder",
     "Hit",
+    "LeftOut",
     "NotUnderstood",
     "PatternRefused",
     "PublishRefused",
     "Published",
+    "Refreshed",
     "Refused",
     "Search",
     "SearchRefused",
