@@ -14,18 +14,13 @@ MOST_COMMANDS = 4_294_967_294
 
 
 def find_program() -> str:
-    """The path of the program: that of the variable TSEARCH; else the command `tsearch` on the PATH; else that of the repository in
-    which this package lies. Its first call compiles it, in some minutes. `Error` if there is none."""
-    named = os.environ.get("TSEARCH")
-    if named:
-        return named
-    on_path = shutil.which("tsearch")
-    if on_path:
-        return on_path
+    """The path of the program: that of the variable TSEARCH; else that of the repository in which this package lies, whose first call
+    compiles it, in some minutes; else the command `tsearch` on the PATH. `Error` if there is none."""
     beside = pathlib.Path(__file__).resolve().parents[3] / "tsearch"
-    if beside.is_file() and os.access(beside, os.X_OK):
-        return str(beside)
-    raise Error("there is no program: set TSEARCH to its path")
+    found = os.environ.get("TSEARCH") or (str(beside) if beside.is_file() else shutil.which("tsearch"))
+    if not found:
+        raise Error("there is no program: set TSEARCH to its path")
+    return found
 
 
 def command(
