@@ -1,25 +1,29 @@
-"""A session for programs with asyncio. Any number of tasks of one loop share one; it needs the standard library alone."""
+"""A session and a folder for programs with asyncio. Any number of tasks of one loop share one; the standard library suffices."""
 
 from __future__ import annotations
 
 import asyncio
 import contextlib
+import itertools
 import os
 from asyncio import subprocess
-from collections.abc import AsyncIterator, Awaitable, Callable, Sequence
+from collections.abc import AsyncIterator, Awaitable, Callable, Iterator, Sequence
 from typing import Any
 
 from .answers import Answer, Published, Status
 from .core import Core, Query, Sent, SentSearch, ended_by, status_of, value_of
 from .errors import Ended, Error
+from .folder import Files, Progress, Refreshed, Step
 from .program import MOST_COMMANDS, command
 
-__all__ = ["Change", "Changes", "Search", "Session"]
+__all__ = ["Change", "Changes", "Folder", "Search", "Session"]
 
 # The program takes no item, not even a cancel, while 1,024 searches are open.
 MOST_OPEN = 512
 _BLOCK = 1 << 18
 _MESSAGE = 4_096
+# In bytes: so much of files is read ahead, and then sent.
+_BATCH = 1 << 21
 # In seconds: how long a program that has closed its output, or is killed, may take to end.
 _TO_END = 5.0
 
@@ -448,3 +452,101 @@ async def _published(connection: _Connection) -> Published:
     return published
 
 
+class Folder:
+    """Keeps the text files of a folder in a session, as `tsearch.Folder` does. A thread reads the files.
+
+    before_change: is awaited with the name of each document that is there and is about to be replaced or removed.
+    """
+
+    def __init__(
+        self,
+        session: Session,
+        root: str | bytes | os.PathLike[str] | os.PathLike[bytes] = ".",
+        *,
+        prefix: str | bytes = b"",
+        git: bool | None = None,
+        progress: Progress | None = None,
+        before_change: Callable[[bytes], Awaitable[object]] | None = None,
+    ) -> None:
+        self._session = session
+        self._files = Files(root, prefix, git)
+        self._progress = progress or (lambda done, of: None)
+        self._before_change = before_change
+        self._lock = asyncio.Lock()
+        self._is_pending = False
+
+    @property
+    def root(self) -> bytes:
+        """The absolute path of the folder."""
+        return self._files.root
+
+    @property
+    def left_out(self) -> dict[bytes, str]:
+        """What is not in the session now, by its path from the top of the folder, with the reason."""
+        return dict(self._files.left_out)
+
+    async def refresh(self) -> Refreshed:
+        """Looks through the folder, sends what has changed, and publishes it, as `tsearch.Folder.refresh` does."""
+        async with self._lock:
+            put, removed = await self._send(self._session, self._before_change)
+            published = None
+            if put or removed or self._is_pending:
+                published = await self._session.publish()
+                self._is_pending = False
+                published = await self._remove(published) or published
+            return Refreshed(put, removed, self._files.take_news(), published)
+
+    async def restart(self) -> Published | None:
+        """Starts the program again if it has ended, and sends all files. For a session with this folder alone."""
+        async with self._lock:
+            published = await self._session.restart(self._feed)
+            if published:
+                self._is_pending = False
+                await self._remove(published)
+            return published
+
+    async def find(self, pattern: str | bytes, **options: Any) -> Answer:
+        """A search of the session, with the arguments of `Session.find`, in the documents of this folder as they were last sent."""
+        return await self._session.find(pattern, **options)
+
+    async def _feed(self, changes: Changes) -> None:
+        self._files.forget()
+        await self._send(changes, None)
+
+    async def _send(self, changes: Changes, before_change: Callable[[bytes], Awaitable[object]] | None) -> tuple[int, int]:
+        put = removed = 0
+        steps, held = self._files.steps(), frozenset(self._files.held)
+        while batch := await asyncio.to_thread(_some_of, steps):
+            for name, body, done, of in batch:
+                self._is_pending = True
+                self._progress(done, of)
+                if before_change and name.removeprefix(self._files.prefix) in held:
+                    await before_change(name)
+                if body is None:
+                    await changes.remove(name)
+                    removed += 1
+                else:
+                    await changes.put(name, body)
+                    put += 1
+        if put or removed:
+            self._progress(put + removed, put + removed)
+        return put, removed
+
+    async def _remove(self, published: Published) -> Published | None:
+        """Removes documents whose new bodies were refused, so that the old ones are not found."""
+        stale = self._files.take_refusals(published.refused)
+        for name in stale:
+            await self._session.remove(name)
+        return await self._session.publish() if stale else None
+
+
+def _some_of(steps: Iterator[Step]) -> list[Step]:
+    """The next steps, of a few mebibytes at most."""
+    batch: list[Step] = []
+    size = 0
+    for step in itertools.islice(steps, 256):
+        batch.append(step)
+        size += len(step.body or b"")
+        if size > _BATCH:
+            break
+    return batch
