@@ -102,7 +102,7 @@ class Receiving(unittest.TestCase):
         self.assertEqual((type(removed.error), removed.error.name), (ChangeRefused, b"c d"))
         self.assertEqual([type(no_memory.error), type(slow.error)], [SearchRefused, TooSlow])
         self.assertTrue(bad_name.error.in_name)
-        self.assertEqual(last.value.refused, (removed.error,))
+        self.assertEqual(last.value.refused, ())
 
     def test_texts_cut_anywhere(self) -> None:
         for seed in range(200):
@@ -145,6 +145,14 @@ class Receiving(unittest.TestCase):
         core.cancel(fourth)
         core.receive(b"search 4 version 0 lines 1\na:1:x\n")
         self.assertIsInstance(fourth.error, Cancelled)
+
+    def test_a_status_leaves_refusals_to_the_publish(self) -> None:
+        core = Core()
+        put, status = core.put("a", b"\0")[0], core.status()[0]
+        core.receive(b"line 1 refused: full\nline 3 status version 0 documents 0 bytes 0 accepted 0 of 9 open 0\n")
+        _, second, _ = core.publish()
+        core.receive(b"line 5 status version 0 documents 0 bytes 0 accepted 0 of 9 open 0\n")
+        self.assertEqual((status.value.refused, second.value.refused), ((), (put.error,)))
 
     def test_a_refused_publish(self) -> None:
         core = Core()

@@ -156,6 +156,7 @@ class Refusals(unittest.TestCase):
     def test_of_changes(self) -> None:
         with tsearch.Session(max_commands=3) as session:
             changes = [session.put("a", "x"), session.put("b", b"\0"), session.put("c", "y" * 16_385), session.remove("d")]
+            session.status(SECONDS)
             published = session.publish()
             wanted = [(b"b", "byte 0 in body"), (b"c", "line too long"), (b"d", "no such file")]
             self.assertEqual([(one.name, one.reason) for one in published.refused], wanted)

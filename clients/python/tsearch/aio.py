@@ -170,6 +170,9 @@ class _Connection:
         self.ended = (lambda: type(fault)(*fault.args)) if fault else ended_by(status, message)
         self._tell(self.core.end(self.ended))
         self._writer.close()
+        with contextlib.suppress(OSError, TimeoutError):
+            async with asyncio.timeout(_TO_END):
+                await self._writer.wait_closed()
 
     async def _status(self, process: subprocess.Process) -> int:
         # The pipe is closed, so that it ends even if it still reads.

@@ -43,12 +43,14 @@ _OF_SEARCHES = {"cancelled": Cancelled, "too slow": TooSlow}
 class Sent:
     """An item that was sent, until it is settled and from then on. The face that waits for it sets `on_settled`."""
 
-    __slots__ = ("line", "name", "is_settled", "value", "error", "on_settled")
+    __slots__ = ("line", "name", "is_of_publish", "is_settled", "value", "error", "on_settled")
 
     def __init__(self, line: int, name: bytes | None = None) -> None:
         self.line = line
         # of a put, a load or a remove: the document's, as it was given
         self.name = name
+        # of a status: it follows a publish, and tells what was refused
+        self.is_of_publish = False
         self.is_settled = False
         self.value: object = None
         self.error: Error | None = None
@@ -153,6 +155,7 @@ class Core:
         """A publish and a status behind it, by which the publish and all before it are known to be carried out."""
         publish, first = self._item(None, [b"publish\n"])
         status, second = self._item(None, [b"status\n"])
+        status.is_of_publish = True
         return publish, status, first + second
 
     def status(self) -> tuple[Sent, list[bytes]]:
@@ -245,7 +248,9 @@ class Core:
         elif found := _STATUS.fullmatch(head):
             line, *numbers = map(int, found.groups())
             sent = self._item_at(line, head)
-            refused, self._refused = tuple(self._refused), []
+            refused = tuple(self._refused) if sent.is_of_publish else ()
+            if sent.is_of_publish:
+                self._refused.clear()
             self._settle(sent, Published(self._life, *numbers, refused=refused))
         elif found := _REFUSED_LINE.fullmatch(head):
             sent = self._item_at(int(found[1]), head)
