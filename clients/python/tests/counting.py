@@ -2,6 +2,7 @@
 
 from __future__ import annotations
 
+import logging
 import sys
 import unittest
 
@@ -36,12 +37,27 @@ class Counting(unittest.TestResult):
             print(f"FAILED {subtest.id()}: {found[-1][1]}", flush=True)
 
 
+class Complaints(logging.Handler):
+    """What asyncio complains of, such as an exception that nobody has taken. Each is a failure."""
+
+    def __init__(self) -> None:
+        super().__init__(logging.ERROR)
+        self.count = 0
+
+    def emit(self, record: logging.LogRecord) -> None:
+        self.count += 1
+        print(f"FAILED asyncio: {record.getMessage()} {record.exc_info}", flush=True)
+
+
 def main() -> None:
     assert helpers.PACKAGE.is_dir()
+    complaints = Complaints()
+    logging.getLogger("asyncio").addHandler(complaints)
+    logging.getLogger("asyncio").propagate = False
     suite = unittest.defaultTestLoader.loadTestsFromNames(sys.argv[1:])
     result = Counting()
     suite.run(result)
-    failed = len(result.failures) + len(result.errors)
+    failed = len(result.failures) + len(result.errors) + complaints.count
     print(f"{result.passed} passed, {failed} failed", flush=True)
     sys.exit(1 if failed else 0)
 

@@ -2,13 +2,16 @@
 
 from __future__ import annotations
 
+import contextlib
 import os
 import pathlib
 import random
 import re
+import signal
 import sys
 import textwrap
 import time
+from collections.abc import Iterator
 
 TESTS = pathlib.Path(__file__).resolve().parent
 PACKAGE = TESTS.parent
@@ -22,10 +25,12 @@ SECONDS = 60.0
 SLOW = r"x([ab]|a([ab]{250}){15}c|d$)*e|^end$"
 
 
-def slow_body(lines: int = 64, length: int = 16_000) -> bytes:
-    """Random lines, in which the slow pattern looks at each byte, and the one line that it finds."""
+def slow_documents(count: int = 100, length: int = 1_500) -> dict[str, bytes]:
+    """Documents of random lines, in which the slow pattern looks at each byte, and one line that it finds. A search that is cancelled
+    goes on with the document at which it is, so these are short."""
     source = random.Random(1)
-    return b"".join(b"x" + bytes(source.choices(b"ab", k=length - 2)) + b"\n" for _ in range(lines)) + b"end\n"
+    found = {f"slow/{number}": b"x" + bytes(source.choices(b"ab", k=length)) + b"\n" for number in range(count)}
+    return {**found, "slow/end": b"end\n"}
 
 
 def until(holds, seconds: float = SECONDS) -> None:
@@ -73,6 +78,17 @@ def hits_of(documents: dict[bytes, bytes], pattern: str, ignore_case: bool = Fal
         for number, line in enumerate(lines_of(documents[name]), 1)
         if compiled.search(line)
     ]
+
+
+@contextlib.contextmanager
+def stopped(pid: int) -> Iterator[None]:
+    """Stops a process for as long as the block lasts."""
+    os.kill(pid, signal.SIGSTOP)
+    try:
+        yield
+    finally:
+        with contextlib.suppress(ProcessLookupError):
+            os.kill(pid, signal.SIGCONT)
 
 
 def stand_in(code: str) -> list[str]:

@@ -6,7 +6,7 @@ import random
 import signal
 import unittest
 
-from helpers import SECONDS, SLOW, Model, hits_of, slow_body, stand_in
+from helpers import SECONDS, SLOW, Model, hits_of, slow_documents, stand_in, stopped
 
 import tsearch
 from tsearch import aio
@@ -42,7 +42,8 @@ class Sessions(unittest.IsolatedAsyncioTestCase):
         async with aio.Session.started() as session:
             for name, body in model.documents.items():
                 await session.put(name, body)
-            await session.put("slow", slow_body())
+            for name, body in slow_documents().items():
+                await session.put(name, body)
             await session.publish()
             source = random.Random(4)
 
@@ -51,11 +52,14 @@ class Sessions(unittest.IsolatedAsyncioTestCase):
                 self.assertEqual(answer.hits(), model.find(pattern))
 
             async with asyncio.timeout(SECONDS):
-                slow = [asyncio.create_task(session.find(SLOW, name="^slow$")) for _ in range(3)]
+                os.kill(session.pid, signal.SIGSTOP)
+                slow = [asyncio.create_task(session.find(SLOW, name="^slow")) for _ in range(3)]
                 tasks = [asyncio.create_task(search(source.choice(model.PATTERNS))) for _ in range(400)]
                 for task in slow + source.sample(tasks, 200):
                     await asyncio.sleep(source.choice([0, 0, 0.001]))
                     task.cancel()
+                    if task is slow[-1]:
+                        os.kill(session.pid, signal.SIGCONT)
                 outcomes = await asyncio.gather(*tasks, *slow, return_exceptions=True)
                 self.assertEqual([one for one in outcomes if one is not None and not isinstance(one, asyncio.CancelledError)], [])
                 self.assertGreaterEqual(sum(one is None for one in outcomes), 200)
@@ -65,14 +69,16 @@ class Sessions(unittest.IsolatedAsyncioTestCase):
 
     async def test_time(self) -> None:
         async with aio.Session.started() as session:
-            await session.put("slow", slow_body())
+            for name, body in slow_documents().items():
+                await session.put(name, body)
             await session.publish()
             for _ in range(4):
-                with self.assertRaises(TimeoutError):
-                    async with asyncio.timeout(0.2):
+                with stopped(session.pid), self.assertRaises(TimeoutError):
+                    async with asyncio.timeout(0.1):
                         await session.find(SLOW)
-            search = await session.begin(SLOW)
-            session.cancel(search)
+            with stopped(session.pid):
+                search = await session.begin(SLOW)
+                session.cancel(search)
             with self.assertRaises(tsearch.Cancelled):
                 await search
             async with asyncio.timeout(SECONDS):

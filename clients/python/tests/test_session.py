@@ -12,7 +12,7 @@ import threading
 import time
 import unittest
 
-from helpers import SECONDS, SLOW, Model, hits_of, slow_body, stand_in, until
+from helpers import SECONDS, SLOW, Model, hits_of, slow_documents, stand_in, stopped, until
 
 import tsearch
 
@@ -173,25 +173,17 @@ class Refusals(unittest.TestCase):
             session.restart(lambda new: [new.put(name, "z") for name in "abc"], only_if_ended=False)
             self.assertEqual((session.life, len(session.find("z")), session.find("z").life), (2, 3, 2))
 
-    def test_slow_searches(self) -> None:
-        with tsearch.Session(search_ms=200) as session:
-            session.put("slow", slow_body())
-            session.put("quick", "hello")
-            session.publish()
-            slow = session.begin(SLOW, name="^slow$")
-            self.assertEqual(len(session.find("hello", name="^quick$", timeout=SECONDS)), 1)
-            self.assertRaises(tsearch.TooSlow, slow.result, SECONDS)
-
 
 class Time(unittest.TestCase):
     def test_a_search_is_cancelled_after_its_time(self) -> None:
         with tsearch.Session() as session:
-            session.put("slow", slow_body())
+            for name, body in slow_documents().items():
+                session.put(name, body)
             session.publish()
             for _ in range(4):  # more than there are readers
                 began = time.monotonic()
-                with self.assertRaises(TimeoutError):
-                    session.find(SLOW, timeout=0.2)
+                with stopped(session.pid), self.assertRaises(TimeoutError):
+                    session.find(SLOW, timeout=0.1)
                 self.assertLess(time.monotonic() - began, SECONDS / 4)
             session.sync(SECONDS)
             self.assertEqual(session.status(SECONDS).open, 0)
@@ -199,14 +191,17 @@ class Time(unittest.TestCase):
 
     def test_cancel(self) -> None:
         with tsearch.Session() as session:
-            session.put("slow", slow_body())
+            for name, body in slow_documents().items():
+                session.put(name, body)
             session.publish()
-            searches = [session.begin(SLOW) for _ in range(5)]
-            with self.assertRaises(TimeoutError):
-                searches[0].result(0.05)
-            for search in searches:
-                session.cancel(search)
-                session.cancel(search)
+            with stopped(session.pid):
+                searches = [session.begin(SLOW) for _ in range(5)]
+                with self.assertRaises(TimeoutError):
+                    searches[0].result(0.05)
+                self.assertFalse(searches[0].done())
+                for search in searches:
+                    session.cancel(search)
+                    session.cancel(search)
             for search in searches:
                 self.assertRaises(tsearch.Cancelled, search.result, SECONDS)
             done = session.begin("^end$")
@@ -247,11 +242,11 @@ class Time(unittest.TestCase):
 
     def test_close(self) -> None:
         session = tsearch.Session()
-        session.put("slow", slow_body())
-        session.publish()
-        search = session.begin(SLOW)
+        session.status()
         began = time.monotonic()
-        self.assertEqual(session.close(0.3), -signal.SIGKILL)
+        with stopped(session.pid):
+            search = session.begin("x")
+            self.assertEqual(session.close(0.3), -signal.SIGKILL)
         self.assertLess(time.monotonic() - began, SECONDS / 2)
         self.assertRaises(tsearch.Ended, search.result, SECONDS)
         self.assertRaises(tsearch.Ended, session.find, "x")
@@ -311,8 +306,7 @@ class Ends(unittest.TestCase):
 
     def test_every_waiter_is_told(self) -> None:
         session = tsearch.Session()
-        session.put("slow", slow_body())
-        session.publish()
+        session.status()
         os.kill(session.pid, signal.SIGSTOP)
         calls = [session.status, lambda: session.find("x"), session.publish, session.sync, lambda: session.put("a", "b").wait()]
         told = []

@@ -497,6 +497,8 @@ class Folder:
                 published = await self._session.publish()
                 self._is_pending = False
                 published = await self._remove(published) or published
+            else:
+                await self._session.status()  # it may have ended
             return Refreshed(put, removed, self._files.take_news(), published)
 
     async def restart(self) -> Published | None:

@@ -229,6 +229,8 @@ class Folder:
             published = None
             if put or removed or self._is_pending:
                 published = self._publish()
+            else:
+                self._session.status()  # it may have ended
             return Refreshed(put, removed, self._files.take_news(), published)
 
     def restart(self) -> Published | None:
