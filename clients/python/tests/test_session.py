@@ -339,10 +339,19 @@ class Ends(unittest.TestCase):
                 session.restart(lambda changes: 1 / 0, only_if_ended=False)
             self.assertEqual((session.life, len(session.find("x"))), (1, 1))
             session.kill()
-            until(lambda: not os.path.exists(f"/proc/{session.pid}"))
             with self.assertRaises(ZeroDivisionError):
                 session.restart(lambda changes: 1 / 0)
             self.assertRaises(tsearch.Ended, session.find, "x")
+
+    def test_a_session_that_is_closed_stays_so(self) -> None:
+        session = tsearch.Session()
+        session.kill()
+        self.assertEqual(session.restart(lambda changes: changes.put("a", "x")).documents, 1)
+        # closed while it is fed
+        session.kill()
+        self.assertRaises(tsearch.Ended, session.restart, lambda changes: session.close())
+        self.assertRaises(tsearch.Ended, session.restart, print)
+        self.assertEqual(session.life, 2)
 
     def test_what_the_program_says_at_its_end(self) -> None:
         session = tsearch.Session([tsearch.find_program(), "--readers", "99"])

@@ -67,7 +67,7 @@ class _Connection:
         self._reader, self._writer = reader, writer
         self._turns = asyncio.Semaphore(most_open)
         self._draining = asyncio.Lock()
-        self._is_closing = False
+        self.is_closing = False
         self._message = b""
         self._messages = messages
         self._open: set[asyncio.Future[Any]] = set()
@@ -109,7 +109,7 @@ class _Connection:
 
     def cancel(self, search: SentSearch) -> None:
         """Sends a cancel, at once: a short item that waits for no room."""
-        if self.ended is None and not self._is_closing:
+        if self.ended is None and not self.is_closing:
             self._write(self.core.cancel(search))
 
     def open_futures(self) -> set[asyncio.Future[Any]]:
@@ -119,7 +119,7 @@ class _Connection:
     def _check_alive(self) -> None:
         if self.ended:
             raise self.ended()
-        if self._is_closing:
+        if self.is_closing:
             raise Ended(None)
 
     def _write(self, parts: list[bytes]) -> None:
@@ -134,7 +134,7 @@ class _Connection:
 
     async def close(self, timeout: float | None) -> int | None:
         """Closes the input, waits for the end, and ends the program itself if it does not come in time."""
-        self._is_closing = True
+        self.is_closing = True
         if self.ended is None:
             with contextlib.suppress(OSError, RuntimeError):
                 if self._writer.can_write_eof():
@@ -149,7 +149,7 @@ class _Connection:
 
     def kill(self) -> None:
         """Ends the program, or leaves the streams, at once."""
-        self._is_closing = True
+        self.is_closing = True
         if self.process is None:
             self._writer.transport.abort()
             self._reader.feed_eof()
@@ -288,6 +288,7 @@ class Session(Changes):
         super().__init__(connection)
         self._start = start
         self._restarting = asyncio.Lock()
+        self._is_closed = False
 
     @classmethod
     async def start(
@@ -403,12 +404,16 @@ class Session(Changes):
             raise ValueError("a session over streams cannot start a program")
         async with self._restarting:
             before = self._connection
-            if only_if_ended and before.ended is None:
+            if self._is_closed:
+                raise Ended(None)
+            if only_if_ended and before.ended is None and not before.is_closing:
                 return None
             connection = await self._start(before.life + 1)
             try:
                 await feed(Changes(connection))
                 published = await _published(connection)
+                if self._is_closed:
+                    raise Ended(None)
             except BaseException:
                 connection.kill()
                 raise
@@ -419,10 +424,11 @@ class Session(Changes):
     async def close(self, timeout: float | None = 10.0) -> int | None:
         """Ends the session: what was sent is carried out and answered first. A program that has not ended after so many seconds is
         killed. The status of the program, negative for a signal; None over streams. A second call does nothing."""
+        self._is_closed = True
         return await self._connection.close(timeout)
 
     def kill(self) -> None:
-        """Ends the program at once. Who waits for it gets `Ended`."""
+        """Ends the program at once. Who waits for it gets `Ended`. It can be started again."""
         self._connection.kill()
 
     async def __aenter__(self) -> Session:

@@ -97,7 +97,7 @@ class _Connection:
         self._reading, self._writing = reading, writing
         self._waiting: collections.deque[memoryview] = collections.deque()
         self._waiting_bytes = 0
-        self._is_closing = False
+        self.is_closing = False
         self._is_left = False
         self._message = b""
         self.ended: Callable[[], Error] | None = None
@@ -122,17 +122,17 @@ class _Connection:
     def cancel(self, search: SentSearch) -> None:
         """Sends a cancel, at once: a short item that waits for no room."""
         with self.lock:
-            if self.ended is None and not self._is_closing:
+            if self.ended is None and not self.is_closing:
                 self._write(self.core.cancel(search))
 
     def _check_alive(self) -> None:
         if self.ended:
             raise self.ended()
-        if self._is_closing:
+        if self.is_closing:
             raise Ended(None)
 
     def _has_room(self, is_search: bool) -> bool:
-        if self.ended is not None or self._is_closing:
+        if self.ended is not None or self.is_closing:
             return True
         return self._waiting_bytes <= MOST_WAITING and not (is_search and len(self.core.open_numbers) >= self._most_open)
 
@@ -173,7 +173,7 @@ class _Connection:
     def close(self, timeout: float | None) -> int | None:
         """Closes the input, waits for the end, and ends the program itself if it does not come in time."""
         with self.lock:
-            self._is_closing = True
+            self.is_closing = True
             self.room.notify_all()
             self._wake_thread()
         self._thread.join(timeout)
@@ -185,7 +185,7 @@ class _Connection:
     def kill(self) -> None:
         """Ends the program, or leaves the pipes, at once."""
         with self.lock:
-            self._is_closing = True
+            self.is_closing = True
             self._waiting.clear()
             self._waiting_bytes = 0
             self._is_left = True
@@ -282,7 +282,7 @@ class _Connection:
                 selector.register(self._writing, selectors.EVENT_WRITE)
             elif writes and not wants:
                 selector.unregister(self._writing)
-            if self._is_closing and not wants:
+            if self.is_closing and not wants:
                 self._close_writing()
         return wants
 
@@ -440,7 +440,7 @@ class Session(Changes):
             raise ValueError("most_open is 1 to 1,000")
         self._words: list[str] | None = command(program, readers=readers, search_ms=search_ms, max_commands=max_commands, stats=stats)
         self._messages, self._most_open = messages, most_open
-        self._restarting = threading.Lock()
+        self._restarting, self._swapping, self._is_closed = threading.Lock(), threading.Lock(), False
         super().__init__(self._start(1))
 
     @classmethod
@@ -450,7 +450,7 @@ class Session(Changes):
         session = cls.__new__(cls)
         session._words = None
         session._messages, session._most_open = None, most_open
-        session._restarting = threading.Lock()
+        session._restarting, session._swapping, session._is_closed = threading.Lock(), threading.Lock(), False
         descriptors = [os.dup(file if isinstance(file, int) else file.fileno()) for file in (reading, writing)]
         Changes.__init__(session, _Connection(*descriptors, None, 1, most_open, None))
         return session
@@ -577,32 +577,40 @@ class Session(Changes):
         `feed` raises is raised, and then nothing has changed.
 
         None if the program runs: another thread has started it again. With `only_if_ended=False` one that runs is replaced, as is
-        needed once it is full; it answers until then, and what was sent to it is answered.
+        needed once it is full; it answers until then, and what was sent to it is answered. `Ended` if the session was closed.
         """
         if self._words is None:
             raise ValueError("a session over pipes cannot start a program")
         with self._restarting:
             before = self._connection
-            if only_if_ended and not before.ended is not None:
+            if self._is_closed:
+                raise Ended(None)
+            if only_if_ended and before.ended is None and not before.is_closing:
                 return None
             connection = self._start(before.life + 1)
             try:
                 feed(Changes(connection))
                 published = _publish(connection, None)
+                with self._swapping:
+                    if self._is_closed:
+                        raise Ended(None)
+                    self._connection = connection
             except BaseException:
                 connection.kill()
                 raise
-            self._connection = connection
         before.close(None)
         return published
 
     def close(self, timeout: float | None = 10.0) -> int | None:
         """Ends the session: what was sent is carried out and answered first. A program that has not ended after so many seconds is
         killed. The status of the program, negative for a signal; None over pipes. A second call does nothing."""
-        return self._connection.close(timeout)
+        with self._swapping:
+            self._is_closed = True
+            connection = self._connection
+        return connection.close(timeout)
 
     def kill(self) -> None:
-        """Ends the program at once. Who waits for it gets `Ended`."""
+        """Ends the program at once. Who waits for it gets `Ended`. It can be started again."""
         self._connection.kill()
 
     def __enter__(self) -> Session:
