@@ -3,7 +3,7 @@
 import random
 import unittest
 
-from helpers import lines_of  # noqa: F401  the path of modules
+import helpers  # puts the package on the path of modules
 
 from tsearch.core import Core, Query, _after_line, ended_by, value_of
 from tsearch.errors import Cancelled, ChangeRefused, Ended, NotUnderstood, PatternRefused, PublishRefused, SearchRefused, TooSlow
@@ -189,3 +189,8 @@ class Receiving(unittest.TestCase):
             for lines in range(1, data.count(b"\n", at) + 1):
                 found = _after_line(data, at, lines)
                 self.assertEqual((data[at:found].count(b"\n"), data[found - 1 : found]), (lines, b"\n"))
+
+
+if __name__ == "__main__":
+    assert helpers.PACKAGE.is_dir()
+    unittest.main()

@@ -8,6 +8,7 @@ import signal
 import subprocess
 import tempfile
 import unittest
+import unittest.mock
 
 from helpers import SECONDS, hits_of, until
 
@@ -112,15 +113,25 @@ class Folders(unittest.TestCase):
         self.write("back", b"x\n")
         self.assertEqual((folder.refresh().put, folder.left_out), (1, {}))
 
-    @unittest.skipIf(os.geteuid() == 0, "a file that may not be read can be read by root")
     def test_a_file_that_may_not_be_read(self) -> None:
         self.write("a", b"x\n")
-        (self.top / "a").chmod(0)
+        self.write("b", b"x\n")
         folder = tsearch.Folder(self.session, self.top)
-        self.assertEqual(folder.refresh().left_out, [(b"a", "Permission denied")])
-        self.assertEqual(folder.refresh().left_out, [])
-        (self.top / "a").chmod(0o600)
-        self.assertEqual(folder.refresh().put, 1)
+        folder.refresh()
+        self.write("a", b"y\n")
+        open_file = os.open
+
+        def refuse(path: bytes, *words: int) -> int:
+            if path == os.fsencode(self.top / "a"):
+                raise PermissionError(13, "Permission denied")
+            return open_file(path, *words)
+
+        # root may read all
+        with unittest.mock.patch("tsearch.folder.os.open", refuse):
+            self.assertEqual(folder.refresh().left_out, [(b"a", "Permission denied")])
+            self.assertEqual(self.names(), {b"b"})
+            self.assertEqual(folder.refresh().left_out, [])
+        self.assertEqual((folder.refresh().put, self.names()), (1, {b"a", b"b"}))
 
     def test_a_refusal_by_the_program_removes_the_old_body(self) -> None:
         with tsearch.Session(max_commands=4) as session:

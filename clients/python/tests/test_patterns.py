@@ -8,7 +8,7 @@ import subprocess
 import unittest
 
 import helpers
-from helpers import SECONDS, slow_body
+from helpers import SECONDS
 
 import tsearch
 from tsearch.core import Query
@@ -186,7 +186,7 @@ class WhereLinesMatch(unittest.TestCase):
     def test_steps_are_bounded(self) -> None:
         spans = Spans(b"a([ab]{250}){15}b", steps=50_000)
         with self.assertRaises(Spent):
-            spans.of(slow_body(1).split(b"\n")[0])
+            spans.of(bytes(random.Random(1).choices(b"ab", k=16_000)))
         for pattern in b"(a", b"[a", b"[[:foo:]]":
             self.assertRaises(NotRead, Spans, pattern)
 

@@ -11,7 +11,7 @@ from collections.abc import AsyncIterator, Awaitable, Callable, Iterator, Sequen
 from typing import Any
 
 from .answers import Answer, Published, Status
-from .core import Core, Query, Sent, SentSearch, ended_by, status_of, value_of
+from .core import Core, Query, Sent, SentSearch, ended_by, ended_with, status_of, value_of
 from .errors import Ended, Error
 from .folder import Files, Progress, Refreshed, Step
 from .program import MOST_COMMANDS, command
@@ -167,7 +167,7 @@ class _Connection:
         status = None if self.process is None else await self._status(self.process)
         await asyncio.wait([self._errors], timeout=_TO_END)
         message = self._message.decode(errors="replace").strip()
-        self.ended = (lambda: type(fault)(*fault.args)) if fault else ended_by(status, message)
+        self.ended = ended_with(fault) if fault else ended_by(status, message)
         self._tell(self.core.end(self.ended))
         self._writer.close()
         with contextlib.suppress(OSError, TimeoutError):
@@ -389,7 +389,8 @@ class Session(Changes):
         errors are those of `tsearch.Session.find`."""
         search = await self.begin(pattern, name=name, ignore_case=ignore_case, literal=literal, word=word, line=line, limit=limit)
         try:
-            return await search
+            answer: Answer = await search
+            return answer
         except asyncio.CancelledError:
             search.cancel()
             raise

@@ -90,8 +90,9 @@ class Answer:
 
 @dataclass(frozen=True)
 class Status:
-    """What a session holds in this life of its program. `version`, `documents` and `bytes` are those of the last publish, with the bytes of all bodies together.
-    `accepted` of at most `most` puts, loads and removes are accepted, published or not. `open` searches have no entry yet."""
+    """What a session holds in this life of its program. `version`, `documents` and `bytes` are those of the last publish, with the
+    bytes of all bodies together. `accepted` of at most `most` puts, loads and removes are accepted, published or not. `open` searches
+    have no entry yet."""
 
     life: int
     version: int

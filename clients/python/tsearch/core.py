@@ -240,18 +240,20 @@ class Core:
 
     def _take_head(self, head: bytes) -> None:
         if found := _ANSWER.fullmatch(head):
-            self._begin_answer(*(None if word is None else int(word) for word in found.groups()))
+            number, version, lines = (int(word) for word in found.groups()[:3])
+            counted = [None if word is None else int(word) for word in found.groups()[3:]]
+            self._begin_answer(number, version, lines, *counted)
         elif found := _REFUSED_SEARCH.fullmatch(head):
-            number, in_name, reason, offset = found.groups()
-            search = self._entry(int(number))
+            in_name, reason, offset = found.groups()[1:]
+            search = self._entry(int(found[1]))
             self._settle(search, error=_error_of(search, in_name is not None, reason.decode(errors="replace"), offset))
         elif found := _STATUS.fullmatch(head):
-            line, *numbers = map(int, found.groups())
+            line, version, documents, size, accepted, most, open_now = map(int, found.groups())
             sent = self._item_at(line, head)
             refused = tuple(self._refused) if sent.is_of_publish else ()
             if sent.is_of_publish:
                 self._refused.clear()
-            self._settle(sent, Published(self._life, *numbers, refused=refused))
+            self._settle(sent, Published(self._life, version, documents, size, accepted, most, open_now, refused))
         elif found := _REFUSED_LINE.fullmatch(head):
             sent = self._item_at(int(found[1]), head)
             error = sent.refusal(found[2].decode(errors="replace"))
@@ -343,6 +345,11 @@ def status_of(published: object) -> Status:
     """A status without what was refused."""
     assert isinstance(published, Published)
     return Status(**{field.name: getattr(published, field.name) for field in dataclasses.fields(Status)})
+
+
+def ended_with(error: Error) -> Callable[[], Error]:
+    """What makes an error like this one for each who waits."""
+    return lambda: type(error)(*error.args)
 
 
 def ended_by(status: int | None, message: str) -> Callable[[], Error]:

@@ -17,7 +17,7 @@ from concurrent.futures import TimeoutError as FutureTimeoutError
 from typing import Any, Protocol
 
 from .answers import Answer, Published, Status
-from .core import Core, Query, Sent, SentSearch, ended_by, status_of, value_of
+from .core import Core, Query, Sent, SentSearch, ended_by, ended_with, status_of, value_of
 from .errors import Ended, Error
 from .program import MOST_COMMANDS, command
 
@@ -207,7 +207,7 @@ class _Connection:
         status = None if self.process is None else self._status()
         message = self._message.decode(errors="replace").strip()
         with self.lock:
-            self.ended = (lambda: type(fault)(*fault.args)) if fault else ended_by(status, message)
+            self.ended = ended_with(fault) if fault else ended_by(status, message)
             left = self.core.end(self.ended)
             self._waiting.clear()
             self._close_writing()
@@ -371,7 +371,8 @@ class Search:
 
     def result(self, timeout: float | None = None) -> Answer:
         """The answer. `TimeoutError` if it does not come in so many seconds; the search goes on then. Else the errors of `find`."""
-        return _result(self._future, _deadline(timeout))
+        answer: Answer = _result(self._future, _deadline(timeout))
+        return answer
 
 
 class Changes:
@@ -451,8 +452,8 @@ class Session(Changes):
         session._words = None
         session._messages, session._most_open = None, most_open
         session._restarting, session._swapping, session._is_closed = threading.Lock(), threading.Lock(), False
-        descriptors = [os.dup(file if isinstance(file, int) else file.fileno()) for file in (reading, writing)]
-        Changes.__init__(session, _Connection(*descriptors, None, 1, most_open, None))
+        here, there = (os.dup(file if isinstance(file, int) else file.fileno()) for file in (reading, writing))
+        Changes.__init__(session, _Connection(here, there, None, 1, most_open, None))
         return session
 
     def _start(self, life: int) -> _Connection:
@@ -529,7 +530,8 @@ class Session(Changes):
             sent, parts = core.find(query)
             return Search(connection, sent, _future_of(sent)), parts
 
-        return connection.send(make, deadline, is_search=True)
+        search: Search = connection.send(make, deadline, is_search=True)
+        return search
 
     def find(
         self,
@@ -561,7 +563,7 @@ class Session(Changes):
         query = Query.of(pattern, name, limit, ignore_case=ignore_case, literal=literal, word=word, line=line)
         search = self._begin(query, deadline)
         try:
-            return _result(search._future, deadline)
+            return search.result(_left(deadline))
         except BaseException:
             # as a timeout and Ctrl-C; there is nothing to cancel after a refusal
             search.cancel()
@@ -628,7 +630,7 @@ def _publish(connection: _Connection, deadline: float | None) -> Published:
         return (publish, _future_of(status)), parts
 
     publish, future = connection.send(make, deadline)
-    published = _result(future, deadline)
+    published: Published = _result(future, deadline)
     value_of(publish)  # settled before the status behind it
     return published
 

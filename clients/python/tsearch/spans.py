@@ -10,6 +10,7 @@ from __future__ import annotations
 
 import string
 from collections.abc import Callable
+from typing import Any
 
 _LINE_BYTES = frozenset(range(256)) - {0, 10}
 _CLASSES = {
@@ -32,7 +33,8 @@ _ENDLESS = -1
 _MOST_NODES = 50_000
 _MOST_STATES = 2_000
 
-Tree = tuple  # (kind, ..): a set of bytes, the parts of a sequence, the alternatives, a repeated tree with its counts, or an anchor
+# The kind, and then a set of bytes, the parts of a sequence, the alternatives, or a repeated tree with its counts; or an anchor alone.
+Tree = tuple[Any, ...]
 
 
 class NotRead(Exception):
@@ -291,7 +293,9 @@ class Spans:
     `NotRead` for a pattern that the program refuses, mostly, and for a very large one.
     """
 
-    def __init__(self, pattern: bytes, ignore_case: bool = False, word: bool = False, line: bool = False, steps: int | None = None) -> None:
+    def __init__(
+        self, pattern: bytes, ignore_case: bool = False, word: bool = False, line: bool = False, steps: int | None = None
+    ) -> None:
         try:
             tree = _Reader(pattern, ignore_case).read()
         except (ValueError, KeyError, IndexError) as error:

@@ -5,6 +5,7 @@ from __future__ import annotations
 import contextlib
 import os
 from collections.abc import Callable, Iterator
+from typing import Any
 
 _CHANGES = {"created", "modified", "moved", "deleted", "closed"}
 
@@ -26,7 +27,7 @@ def hints(roots: list[bytes], changed: Callable[[], None]) -> Iterator[bool]:
             if event.event_type in _CHANGES and f"{os.sep}.git{os.sep}" not in os.fsdecode(event.src_path):
                 changed()
 
-    observer = Observer()
+    observer: Any = Observer()  # type: ignore[no-untyped-call]
     try:
         for root in roots:
             observer.schedule(Handler(), os.fsdecode(root), recursive=True)

@@ -262,7 +262,8 @@ class Server:
                     break
                 rows = await asyncio.to_thread(_rows, hits[:left], marker)
                 left -= len(rows)
-                row = {"repository": repository.name, "name": _shown(name), "id": urllib.parse.quote(name, safe="/"), "hits": rows}
+                row: dict[str, object] = {"repository": repository.name, "name": _shown(name), "hits": rows}
+                row["id"] = urllib.parse.quote(name, safe="/")
                 await response.write(_json(row))
         count = sum(answer.count for _, answer in found)
         await response.write(_json({"lines": count, "shown": asked.limit - left, "seconds": round(time.monotonic() - began, 4)}))
