@@ -1,9 +1,10 @@
 #!/usr/bin/env python3
 """Runs the tests of clients/python on the built program, several modules at once.
 
-They need the Debian packages python3-aiohttp, python3-watchdog, python3-selenium, chromium and chromium-driver for the page, and for
-hints when files change; without one of them the tests of that part are left out, and named. The first Python that has the libraries
-runs them: that of the variable PYTHON, python3 on the PATH, or /usr/bin/python3, which has Debian's packages.
+They need the Debian packages python3-aiohttp, python3-selenium, chromium and chromium-driver for the page, python3-watchdog for hints
+when files change, and python3-distributed for clusters; without one of them the tests of that part are left out, and named. Of the
+Python of the variable PYTHON, python3 on the PATH and /usr/bin/python3, which has Debian's packages, the one with the most of these
+libraries runs them.
 
 Usage: tests/clients.py [--compiled] [MODULE..]   --compiled tests with the program that is compiled with checks. The last line
 counts: N passed, M failed.
@@ -21,27 +22,30 @@ from counted import Counted
 
 TESTS = TOP / "clients/python/tests"
 # The longest first, so that no processor waits for it.
-MODULES = ["test_aio", "test_session", "test_web", "test_browser", "test_terminal", "test_folder", "test_readme", "test_patterns", "test_core"]
-LIBRARIES = ["aiohttp", "selenium", "watchdog"]
+MODULES = ["test_cluster", "test_aio", "test_session", "test_web", "test_browser", "test_terminal", "test_folder", "test_readme", "test_patterns", "test_core"]
+LIBRARIES = ["aiohttp", "selenium", "watchdog", "distributed"]
 LEAST_VERSION = (3, 11)
 SECONDS = 170
 COUNTS = re.compile(r"(\d+) passed, (\d+) failed")
 
 
-def has_libraries(python, libraries):
-    code = f"import {', '.join(['sys', *libraries])}; sys.exit(sys.version_info < {LEAST_VERSION})"
-    return subprocess.run([python, "-c", code], capture_output=True, check=False).returncode == 0
+def libraries_of(python):
+    """How many of the libraries a Python has; -1 for one that is too old."""
+    code = f"""
+import sys
+from importlib.util import find_spec
+print(-1 if sys.version_info < {LEAST_VERSION} else sum(find_spec(name) is not None for name in {LIBRARIES}))
+"""
+    done = subprocess.run([python, "-c", code], capture_output=True, check=False)
+    return int(done.stdout) if done.returncode == 0 else -1
 
 
 def find_python():
-    """The Python that has the most: all libraries, or at least the version."""
+    """The first Python that has the most, or None."""
     found = [os.environ.get("PYTHON"), shutil.which("python3"), "/usr/bin/python3"]
-    pythons = [python for python in found if python and shutil.which(python)]
-    for libraries in LIBRARIES, LIBRARIES[:1], []:
-        for python in pythons:
-            if has_libraries(python, libraries):
-                return python
-    return None
+    pythons = {python: libraries_of(python) for python in found if python and shutil.which(python)}
+    most = max(pythons.values(), default=-1)
+    return None if most < 0 else next(python for python, count in pythons.items() if count == most)
 
 
 def run_module(python, program, module):

@@ -202,6 +202,25 @@ class Sessions(unittest.IsolatedAsyncioTestCase):
                 await session.restart(lambda changes: None)
             self.assertIsNone(await session.close())
 
+    async def test_what_is_sent_for_a_search_that_nobody_waits_for(self) -> None:
+        code = """
+            seen = [next(items) for _ in range(4)]
+            assert sorted(seen) == [b"cancel 1\\n", b"cancel 2\\n", b"search late\\n", b"search slow\\n"], seen
+            say(b"search 1 refused: cancelled\\nsearch 2 version 0 lines 1\\na:1:late\\n")
+            assert next(items) == b"search x\\n"
+            say(b"search 3 version 0 lines 0\\n")
+        """
+        session = await aio.Session.start(stand_in(code))
+        tasks = [asyncio.create_task(session.find(pattern)) for pattern in ("slow", "late")]
+        await asyncio.sleep(0.2)
+        for task in tasks:
+            task.cancel()
+        async with asyncio.timeout(SECONDS):
+            await asyncio.wait(tasks)
+            self.assertTrue(all(task.cancelled() for task in tasks))
+            self.assertEqual((await session.find("x")).hits(), [])
+            self.assertEqual(await session.close(SECONDS), 0)
+
     async def test_a_program_that_is_none(self) -> None:
         for code, error in (
             ("say(b'hello\\n'); time.sleep(60)", tsearch.NotUnderstood),

@@ -140,10 +140,12 @@ class Receiving(unittest.TestCase):
         third = core.find(Query.of("c"))[0]
         core.receive(b"search 3 version 0 lines 1\na:1:x\n")
         self.assertEqual((core.cancel(third), len(third.value)), ([], 1))
-        # an answer that comes in spite of the cancel is passed over
+        # an answer that comes in spite of the cancel is passed over, and not kept
         fourth = core.find(Query.of("d"))[0]
         core.cancel(fourth)
-        core.receive(b"search 4 version 0 lines 1\na:1:x\n")
+        core.receive(b"search 4 version 0 lines 2\na:1:x\n")
+        self.assertEqual((core._coming.keep, core._coming.parts), (0, []))
+        core.receive(b"a:2:x\n")
         self.assertIsInstance(fourth.error, Cancelled)
 
     def test_a_status_leaves_refusals_to_the_publish(self) -> None:

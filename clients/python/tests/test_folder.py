@@ -7,6 +7,8 @@ import shutil
 import signal
 import subprocess
 import tempfile
+import time
+import types
 import unittest
 import unittest.mock
 
@@ -86,14 +88,22 @@ class Folders(unittest.TestCase):
         """A file that is written again at once, with a body of the same length, has the same stamps. It is found all the same."""
         folder = tsearch.Folder(self.session, self.top)
         path = self.top / "a"
-        for number in range(40):
-            path.write_bytes(b"%04d\n" % number)
-            state = path.stat()
-            folder.refresh()
-            path.write_bytes(b"%04d\n" % (number + 5_000))
-            os.utime(path, ns=(state.st_atime_ns, state.st_mtime_ns))
-            folder.refresh()
-            self.assertEqual([hit.text for hit in self.session.find("")], [b"%04d" % (number + 5_000)])
+        read_state = os.lstat
+        for number in range(20):
+            now = time.time_ns()
+
+            def state_now(name: bytes, now: int = now) -> object:
+                state = read_state(name)
+                fields = {field: getattr(state, field) for field in ("st_mode", "st_size", "st_ino")}
+                return types.SimpleNamespace(st_mtime_ns=now, st_ctime_ns=now, **fields)
+
+            with unittest.mock.patch("tsearch.listing.os.lstat", state_now):
+                path.write_bytes(b"%04d\n" % number)
+                folder.refresh()
+                path.write_bytes(b"%04d\n" % (number + 5_000))
+                folder.refresh()
+                self.assertEqual([hit.text for hit in self.session.find("")], [b"%04d" % (number + 5_000)])
+                self.assertEqual(folder.refresh().put, 0)
 
     def test_kinds_that_change(self) -> None:
         folder = tsearch.Folder(self.session, self.top)
@@ -207,11 +217,13 @@ class Repositories(Folders):
         self.write(".gitignore", b"*.o\nbuild/\n")
         for name in "a.c", "a.o", "build/x", "sub/b.c", "sub/.gitignore", b"caf\xe9", "new\nline":
             self.write(name, b"c.c\n")
-        git(self.top, "add", "a.c", ".gitignore")
+        os.symlink("a.c", self.top / "link")
+        os.symlink("/etc", self.top / "folder-link")
+        git(self.top, "add", "a.c", ".gitignore", "link")
         self.write("a.c", b"changed\n")
         git(self.top, "add", "-f", "a.o")
         folder = tsearch.Folder(self.session, self.top)
-        folder.refresh()
+        self.assertEqual(folder.refresh().left_out, [])
         wanted = {b".gitignore", b"a.c", b"a.o", b"sub/b.c", b"sub/.gitignore", b"caf\xe9", b"new\nline"}
         self.assertEqual(self.names(), wanted)
         # of a folder below it, and of one that is ignored

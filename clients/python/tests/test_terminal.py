@@ -16,6 +16,10 @@ import unittest
 
 from helpers import PACKAGE, SECONDS, TOP
 
+import tsearch
+from tsearch import views
+from tsearch.answers import Answer
+
 TREE = {
     "a.txt": b"hello world\nsay foo\n\nfoo bar foo\nthe end\n",
     "sub/b.c": b"int foo(void)\n{\n  return FOO + foo_bar;\n}\n" * 5 + b"last line with foo",
@@ -191,6 +195,20 @@ class Terminal(unittest.TestCase):
             environment = {**os.environ, "PYTHONPATH": str(PACKAGE)}
             done = subprocess.run(["bash", "-c", line], capture_output=True, env=environment, timeout=SECONDS, check=False)
             self.assertEqual((done.stdout, done.stderr), (b"a:1:" + body, b""))
+
+    def test_views_are_of_one_version(self) -> None:
+        def answer(version: int, *lines: int) -> Answer:
+            return Answer(1, version, len(lines), len(lines), b"".join(b"a:%d:x\n" % line for line in lines))
+
+        versions = iter([3, 4, 4, 5, 6, 6])
+        hits = views.without_match(lambda pattern, name: answer(next(versions), 1, 2, 3), lambda: answer(next(versions), 2), None)
+        # 3 and 4, then 4 and 5, then 6 and 6
+        self.assertEqual([hit.line for hit in hits], [1, 3])
+        found = answer(7, 2)
+        groups = views.with_context(lambda pattern, name: answer(7, 1, 2, 3), found.hits(), (1, 7), 1, 0)
+        self.assertEqual([[row.hit.line for row in group] for group in groups], [[1, 2]])
+        with self.assertRaises(tsearch.Error):
+            list(views.with_context(lambda pattern, name: answer(8, 1, 2, 3), found.hits(), (1, 7), 1, 0))
 
     def test_the_example(self) -> None:
         command = [sys.executable, "-B", str(TOP / "examples/live_folder.py"), self.top]
