@@ -80,10 +80,25 @@ def hits_of(documents: dict[bytes, bytes], pattern: str, ignore_case: bool = Fal
     ]
 
 
+def state_of(pid: int) -> str:
+    """The state of a process, as in /proc; empty if there is none."""
+    try:
+        with open(f"/proc/{pid}/stat", encoding="utf-8", errors="replace") as file:
+            return file.read().rpartition(")")[2].split()[0]
+    except OSError:
+        return ""
+
+
+def stop(pid: int) -> None:
+    """Stops a process, and returns once it has stopped."""
+    os.kill(pid, signal.SIGSTOP)
+    until(lambda: state_of(pid) in ("T", "Z", ""))
+
+
 @contextlib.contextmanager
 def stopped(pid: int) -> Iterator[None]:
     """Stops a process for as long as the block lasts."""
-    os.kill(pid, signal.SIGSTOP)
+    stop(pid)
     try:
         yield
     finally:

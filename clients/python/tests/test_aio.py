@@ -6,7 +6,7 @@ import random
 import signal
 import unittest
 
-from helpers import SECONDS, SLOW, Model, hits_of, slow_documents, stand_in, stopped
+from helpers import SECONDS, SLOW, Model, hits_of, slow_documents, stand_in, stop, stopped
 
 import tsearch
 from tsearch import aio
@@ -52,7 +52,7 @@ class Sessions(unittest.IsolatedAsyncioTestCase):
                 self.assertEqual(answer.hits(), model.find(pattern))
 
             async with asyncio.timeout(SECONDS):
-                os.kill(session.pid, signal.SIGSTOP)
+                stop(session.pid)
                 slow = [asyncio.create_task(session.find(SLOW, name="^slow")) for _ in range(3)]
                 tasks = [asyncio.create_task(search(source.choice(model.PATTERNS))) for _ in range(400)]
                 for task in slow + source.sample(tasks, 200):
@@ -141,7 +141,7 @@ class Sessions(unittest.IsolatedAsyncioTestCase):
 
     async def test_every_waiter_is_told(self) -> None:
         session = await aio.Session.start()
-        os.kill(session.pid, signal.SIGSTOP)
+        stop(session.pid)
         calls = [session.status(), session.find("x"), session.publish(), session.put("a", b"x" * 1_000_000), session.find("y")]
         waiting = [asyncio.create_task(call) for call in calls]
         await asyncio.sleep(0.2)
@@ -159,7 +159,7 @@ class Sessions(unittest.IsolatedAsyncioTestCase):
     async def test_a_program_that_takes_nothing(self) -> None:
         async with aio.Session.started() as session:
             await session.status()
-            os.kill(session.pid, signal.SIGSTOP)
+            stop(session.pid)
             sent = 0
 
             async def put() -> None:
@@ -170,7 +170,7 @@ class Sessions(unittest.IsolatedAsyncioTestCase):
 
             task = asyncio.create_task(put())
             await asyncio.sleep(0.3)
-            self.assertLess(sent, 10)
+            self.assertLess(sent, 60)
             os.kill(session.pid, signal.SIGCONT)
             async with asyncio.timeout(SECONDS):
                 await task

@@ -43,7 +43,12 @@ class Page(unittest.TestCase):
 
     def setUp(self) -> None:
         self.browser.get_log("browser")
-        self.browser.get(self.server.address + "/")
+        self.open("/")
+
+    def open(self, path: str) -> None:
+        """Opens the page, and waits until it takes what is typed."""
+        self.browser.get(self.server.address + path)
+        self.wait(lambda: self.done() is not None)
 
     def wait(self, holds) -> None:
         from selenium.webdriver.support.ui import WebDriverWait
@@ -80,7 +85,7 @@ class Page(unittest.TestCase):
     def test_typing(self) -> None:
         """A search for each letter, of which the last one stands, however quickly they come."""
         for pause in 0, 0.03:
-            self.browser.get(self.server.address + "/")
+            self.open("/")
             self.type("int main", pause=pause)
             wanted = [("src/main.c", "1", "int main(void)"), ("src/main.c", "1", "int main(int count)")]
             self.assertEqual(self.shown(), wanted)

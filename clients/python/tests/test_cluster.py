@@ -3,12 +3,15 @@
 import asyncio
 import importlib.util
 import os
+import pathlib
 import random
+import re
 import signal
+import sys
 import tempfile
 import unittest
 
-from helpers import SECONDS, Model
+from helpers import PACKAGE, SECONDS, Model
 
 import tsearch
 
@@ -57,6 +60,18 @@ class Clusters(unittest.IsolatedAsyncioTestCase):
             with self.assertRaises(tsearch.ChangeRefused):
                 await cluster.put("", "x")
             self.assertEqual(cluster.heals, 0)
+
+    async def test_the_example_of_the_page(self) -> None:
+        text = (PACKAGE / "README.md").read_text(encoding="utf-8")
+        code, wanted = re.search(r"^```py\n(.*?)^```\n\n```output\n(.*?)^```", text, re.MULTILINE | re.DOTALL).groups()
+        with tempfile.TemporaryDirectory(ignore_cleanup_errors=True) as folder:
+            pathlib.Path(folder, "example.py").write_text(code, encoding="utf-8")
+            pipe = asyncio.subprocess.PIPE
+            environment = {**os.environ, "PYTHONPATH": str(PACKAGE)}
+            run = await asyncio.create_subprocess_exec(sys.executable, "-B", "example.py", cwd=folder, env=environment, stdout=pipe, stderr=pipe)
+            async with asyncio.timeout(SECONDS):
+                shown, _ = await run.communicate()
+        self.assertEqual((run.returncode, shown.decode()), (0, wanted))
 
     async def test_a_program_that_cannot_be_started(self) -> None:
         from tsearch.cluster import Cluster

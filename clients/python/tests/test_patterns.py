@@ -175,6 +175,8 @@ class WhereLinesMatch(unittest.TestCase):
             ("a|ab|abc", "abcab", ["abc", "ab"]),
             ("(a|ab)(c|bcd)", "abcd", ["abcd"]),
             ("^a|b$", "ab aab", ["a", "b"]),
+            ("^ab|a", "abxab", ["ab", "a"]),
+            ("ab$|a", "abxab", ["a", "ab"]),
             ("x*", "axxb", ["xx"]),
             ("(^a)*b", "ab", ["ab"]),
             ("[[:upper:]]+", "aBCd", ["BC"]),

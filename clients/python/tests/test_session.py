@@ -12,7 +12,7 @@ import threading
 import time
 import unittest
 
-from helpers import SECONDS, SLOW, Model, hits_of, slow_documents, stand_in, stopped, until
+from helpers import SECONDS, SLOW, Model, hits_of, slow_documents, stand_in, state_of, stop, stopped, until
 
 import tsearch
 
@@ -216,7 +216,7 @@ class Time(unittest.TestCase):
         try:
             session.put("first", "first")
             session.publish()
-            os.kill(session.pid, signal.SIGSTOP)
+            stop(session.pid)
             sent = []
 
             def put() -> None:
@@ -227,8 +227,8 @@ class Time(unittest.TestCase):
             sender = threading.Thread(target=put)
             sender.start()
             time.sleep(0.5)
-            # a mebibyte waits, one more body, and what the pipe takes
-            self.assertLess(len(sent), 15)
+            # a mebibyte waits, one more body, what the pipe takes, and what the program had begun to read
+            self.assertLess(len(sent), 60)
             for call in session.status, session.publish, lambda limit: session.find("x", timeout=limit):
                 self.assertRaises(TimeoutError, call, 0.1)
             os.kill(session.pid, signal.SIGCONT)
@@ -307,7 +307,7 @@ class Ends(unittest.TestCase):
     def test_every_waiter_is_told(self) -> None:
         session = tsearch.Session()
         session.status()
-        os.kill(session.pid, signal.SIGSTOP)
+        stop(session.pid)
         calls = [session.status, lambda: session.find("x"), session.publish, session.sync, lambda: session.put("a", "b").wait()]
         told = []
 
@@ -442,14 +442,7 @@ class Pipes(unittest.TestCase):
         client.wait()
         client.stdout.close()
 
-        def is_gone() -> bool:
-            try:
-                with open(f"/proc/{pid}/stat", encoding="ascii") as file:
-                    return file.read().rpartition(")")[2].split()[0] == "Z"
-            except OSError:
-                return True
-
-        until(is_gone)
+        until(lambda: state_of(pid) in ("Z", ""))
 
 
 if __name__ == "__main__":

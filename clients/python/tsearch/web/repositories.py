@@ -19,6 +19,7 @@ from ..views import document_pattern
 MOST_KEPT = 64 << 20
 # In seconds.
 _TO_PUBLISH = 5.0
+_TO_TELL = 1.0
 
 
 class _Kept(NamedTuple):
@@ -168,8 +169,9 @@ class Repository:
         raise Gone("the file has changed since this search")
 
     async def status(self) -> Status:
-        """What the session holds."""
-        return await self.session.status()
+        """What the session holds. `TimeoutError` if its program does not say so soon."""
+        async with asyncio.timeout(_TO_TELL):
+            return await self.session.status()
 
 
 def names_of(roots: list[str]) -> list[tuple[str, bytes]]:

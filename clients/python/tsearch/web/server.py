@@ -293,7 +293,7 @@ class Server:
         told = []
         for repository in self._repositories.values():
             one: dict[str, object] = {"repository": repository.name, "loaded": repository.is_loaded, "left_out": repository.left_out}
-            with contextlib.suppress(Ended):
+            with contextlib.suppress(Ended, TimeoutError):
                 status = await repository.status()
                 one.update(version=status.version, documents=status.documents, bytes=status.bytes)
             if not repository.is_loaded:
@@ -307,7 +307,7 @@ class Server:
         for repository in self._repositories.values():
             label = {"repository": repository.name}
             rows.add("tsearch_up", "gauge", "Whether the program runs.", 0, label)
-            with contextlib.suppress(Ended):
+            with contextlib.suppress(Ended, TimeoutError):
                 status = await repository.status()
                 rows.add("tsearch_up", "gauge", "", 1, label)
                 rows.add("tsearch_version", "gauge", "The version that is published.", status.version, label)
