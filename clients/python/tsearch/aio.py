@@ -14,7 +14,7 @@ from .answers import Answer, Published, Status
 from .core import Core, Query, Sent, SentSearch, ended_by, ended_with, status_of, value_of
 from .errors import Ended, Error
 from .folder import Files, Progress, Refreshed, Step
-from .program import MOST_COMMANDS, command
+from .program import MOST_COMMANDS, TO_END, command, kill_group
 
 __all__ = ["Change", "Changes", "Folder", "Search", "Session"]
 
@@ -24,8 +24,6 @@ _BLOCK = 1 << 18
 _MESSAGE = 4_096
 # In bytes: so much of files is read ahead, and then sent.
 _BATCH = 1 << 21
-# In seconds: how long a program that has closed its output, or is killed, may take to end.
-_TO_END = 5.0
 
 
 def _future_of(sent: Sent) -> asyncio.Future[Any]:
@@ -144,7 +142,7 @@ class _Connection:
         done, _ = await asyncio.wait([self.task], timeout=timeout)
         if not done:
             self.kill()
-            await asyncio.wait([self.task], timeout=_TO_END)
+            await asyncio.wait([self.task], timeout=TO_END)
         return None if self.process is None else self.process.returncode
 
     def kill(self) -> None:
@@ -154,8 +152,7 @@ class _Connection:
             self._writer.transport.abort()
             self._reader.feed_eof()
         elif self.process.returncode is None:
-            with contextlib.suppress(ProcessLookupError):
-                self.process.kill()
+            kill_group(self.process.pid)
 
     async def _run(self) -> None:
         fault: Error | None = None
@@ -165,20 +162,20 @@ class _Connection:
             fault = error if isinstance(error, Error) else Ended(None, repr(error))
             self.kill()
         status = None if self.process is None else await self._status(self.process)
-        await asyncio.wait([self._errors], timeout=_TO_END)
+        await asyncio.wait([self._errors], timeout=TO_END)
         message = self._message.decode(errors="replace").strip()
         self.ended = ended_with(fault) if fault else ended_by(status, message)
         self._tell(self.core.end(self.ended))
         self._writer.close()
         with contextlib.suppress(OSError, TimeoutError):
-            async with asyncio.timeout(_TO_END):
+            async with asyncio.timeout(TO_END):
                 await self._writer.wait_closed()
 
     async def _status(self, process: subprocess.Process) -> int:
         # The pipe is closed, so that it ends even if it still reads.
         self._writer.close()
         try:
-            async with asyncio.timeout(_TO_END):
+            async with asyncio.timeout(TO_END):
                 return await process.wait()
         except TimeoutError:
             self.kill()

@@ -131,6 +131,11 @@ class Core:
         coming = () if self._coming is None else (self._coming.search.number,)
         return frozenset((*self._open, *coming))
 
+    @property
+    def open_count(self) -> int:
+        """How many there are of them."""
+        return len(self._open) + (self._coming is not None)
+
     # What is sent.
 
     def put(self, name: str | bytes, body: bytes) -> tuple[Sent, list[bytes]]:

@@ -2,13 +2,17 @@
 
 from __future__ import annotations
 
+import contextlib
 import os
 import pathlib
 import shutil
+import signal
 from collections.abc import Sequence
 
 from .errors import Error
 
+# In seconds: how long a program that has closed its output, or is killed, may take to end.
+TO_END = 5.0
 # The most puts, loads and removes that a session can be told to take: a client that stays does not want to be full.
 MOST_COMMANDS = 4_294_967_294
 
@@ -21,6 +25,12 @@ def find_program() -> str:
     if not found:
         raise Error("there is no program: set TSEARCH to its path")
     return found
+
+
+def kill_group(process: int) -> None:
+    """Kills a process that leads a group, and the group: the program may be one that compiles tsearch, with processes of its own."""
+    with contextlib.suppress(ProcessLookupError):
+        os.killpg(process, signal.SIGKILL)
 
 
 def command(

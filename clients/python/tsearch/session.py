@@ -19,7 +19,7 @@ from typing import Any, Protocol
 from .answers import Answer, Published, Status
 from .core import Core, Query, Sent, SentSearch, ended_by, ended_with, status_of, value_of
 from .errors import Ended, Error
-from .program import MOST_COMMANDS, command
+from .program import MOST_COMMANDS, TO_END, command, kill_group
 
 # In bytes. Whoever sends waits while more than this has not gone to the program.
 MOST_WAITING = 1 << 20
@@ -28,8 +28,6 @@ MOST_OPEN = 512
 _BLOCK = 1 << 18
 # Of standard error only so much is kept.
 _MESSAGE = 4_096
-# In seconds: how long a program that has closed its output, or is killed, may take to end.
-_TO_END = 5.0
 
 
 class HasDescriptor(Protocol):
@@ -134,7 +132,7 @@ class _Connection:
     def _has_room(self, is_search: bool) -> bool:
         if self.ended is not None or self.is_closing:
             return True
-        return self._waiting_bytes <= MOST_WAITING and not (is_search and len(self.core.open_numbers) >= self._most_open)
+        return self._waiting_bytes <= MOST_WAITING and not (is_search and self.core.open_count >= self._most_open)
 
     def _write(self, parts: list[bytes]) -> None:
         for part in parts:
@@ -179,7 +177,7 @@ class _Connection:
         self._thread.join(timeout)
         if self._thread.is_alive():
             self.kill()
-            self._thread.join(_TO_END)
+            self._thread.join(TO_END)
         return None if self.process is None else self.process.returncode
 
     def kill(self) -> None:
@@ -191,8 +189,11 @@ class _Connection:
             self._is_left = True
             self.room.notify_all()
             self._wake_thread()
-        if self.process is not None:
-            self.process.kill()
+        self._kill_program()
+
+    def _kill_program(self) -> None:
+        if self.process is not None and self.process.poll() is None:
+            kill_group(self.process.pid)
 
     # For the thread of the connection.
 
@@ -202,8 +203,7 @@ class _Connection:
             self._serve()
         except Exception as error:  # whatever it is, nobody may wait for ever
             fault = error if isinstance(error, Error) else Ended(None, repr(error))
-            if self.process is not None:
-                self.process.kill()
+            self._kill_program()
         status = None if self.process is None else self._status()
         message = self._message.decode(errors="replace").strip()
         with self.lock:
@@ -234,9 +234,9 @@ class _Connection:
         if self.process.stderr is not None:
             self.process.stderr.close()
         try:
-            return self.process.wait(_TO_END)
+            return self.process.wait(TO_END)
         except subprocess.TimeoutExpired:
-            self.process.kill()
+            self._kill_program()
             return self.process.wait()
 
     def _serve(self) -> None:
@@ -321,7 +321,7 @@ class _Connection:
 
     def _take_rest(self, errors: int) -> None:
         """Takes what is left of the messages once the output has ended."""
-        deadline = time.monotonic() + _TO_END
+        deadline = time.monotonic() + TO_END
         with selectors.DefaultSelector() as selector:
             selector.register(errors, selectors.EVENT_READ)
             while selector.select(_left(deadline)) and self._take_message(errors):
@@ -447,7 +447,7 @@ class Session(Changes):
     @classmethod
     def over(cls, reading: int | HasDescriptor, writing: int | HasDescriptor, *, most_open: int = MOST_OPEN) -> Session:
         """A session over pipes or a socket that lead to a program started elsewhere with --live, to which nothing was sent before.
-        The descriptors are duplicated: the caller closes its own. Such a session cannot be restarted."""
+        The descriptors are duplicated, and the files set not to block: the caller closes its own. Such a session cannot be restarted."""
         session = cls.__new__(cls)
         session._words = None
         session._messages, session._most_open = None, most_open

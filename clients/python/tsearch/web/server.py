@@ -186,7 +186,7 @@ class Server:
             return _lines_of({"refused": "cancelled"}, status=409)
         except ConnectionResetError:
             self._outcomes["left"] += 1
-            raise
+            raise asyncio.CancelledError from None  # which aiohttp takes as what it is
         finally:
             if self._running.get(asked.visitor) == (asked.turn, task):
                 del self._running[asked.visitor]
