@@ -523,7 +523,7 @@ def client_of_a_folder():
             found = [b"a.txt:1:hello world\n", b"sub/b c:d%.txt:1:say hello\n", b"feed\n", b".txt:2:hello\n"]
             ask(b"hello", left_out + found)
             ask(b"^b", [b"a.txt:2:bye\n"])
-            ask(b"(", [b"search 3 refused: group not closed at 0\n"])
+            ask(b"(", [b"refused: group not closed at 0\n"])
             write("a.txt", b"hello again\n")
             (top / "feed\n.txt").unlink()
             write("binary", b"hello, text\n")

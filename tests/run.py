@@ -71,6 +71,7 @@ GIVEN = words_given()
 PROGRAM = TOP / "out/compiled/tsearch" if GIVEN.compiled else PROVED
 CASES = TOP / "tests/cases"
 EXAMPLES = TOP / "examples"
+CLIENTS = TOP / "clients"
 ARCHITECTURE = TOP / "docs/architecture"
 README = TOP / "README"
 FIRST_WAY = "## A put, from the script to the index\n"
@@ -313,7 +314,7 @@ def compare_examples(text):
 
 def compare_files(text):
     """Looks for each file that is named: by its path from the top, or by the end of it."""
-    folders = ["bench", "building", "crates", "docs", "examples", "tests"]
+    folders = ["bench", "building", "clients", "crates", "docs", "examples", "tests"]
     paths = [path.relative_to(TOP).parts for folder in folders for path in (TOP / folder).rglob("*.*")]
     ends = {"/".join(parts[at:]) for parts in paths if "out" not in parts for at in range(len(parts))}
     missing = set(re.findall(r"`([\w/]+\.(?:rt|antt|py|md))`", text)) - ends
@@ -365,6 +366,7 @@ def compare_readme(base):
     with tempfile.TemporaryDirectory() as folder:
         copy = pathlib.Path(folder)
         shutil.copytree(EXAMPLES, copy / "examples")
+        shutil.copytree(CLIENTS, copy / "clients", ignore=shutil.ignore_patterns("__pycache__"))
         write_command(copy / "tsearch", f'#!/bin/sh\nexec "{PROGRAM}" "$@"\n')
         for command, lines in shown:
             compare_command(folder, command, lines)

@@ -1,0 +1,113 @@
+"""A server of the page for a test, and its visitors."""
+
+from __future__ import annotations
+
+import contextlib
+import json
+import os
+import pathlib
+import socket
+import subprocess
+import sys
+import tempfile
+import time
+import urllib.error
+import urllib.parse
+import urllib.request
+from collections.abc import Iterator
+
+from helpers import PACKAGE, SECONDS, slow_documents, until
+
+MARKUP = b"<script>document.title = 'taken over'</script>"
+DOCUMENTS = {
+    "one": {
+        "src/main.c": b"int main(void)\n{\n    return call(1);\n}\n",
+        "src/util.c": b"int call(int x)\n{\n    return x + 1; // <b>caller</b>\n}\n",
+        b"<img src=x onerror=document.title='taken over'>.txt": b"hostile name\n" + MARKUP + b" hostile body\n",
+        b"caf\xe9 \xff.txt": b"bytes \xff\xfe hostile\n",
+        "many.txt": b"".join(b"many lines %d\n" % number for number in range(2_000)),
+        "wide.txt": b"x" * 8_000 + b" needle " + b"y" * 8_000 + b"\n",
+    },
+    "two": {"src/main.c": b"int main(int count)\n", **slow_documents(), "binary": b"\0"},
+}
+
+
+class Server:
+    """A server that runs, and how to ask it."""
+
+    def __init__(self, port: int, top: pathlib.Path, pid: int) -> None:
+        self.address = f"http://127.0.0.1:{port}"
+        self.top = top
+        self._pid = pid
+
+    def programs(self) -> list[int]:
+        """The processes of the sessions, in the order of the repositories."""
+        tasks = pathlib.Path(f"/proc/{self._pid}/task").iterdir()
+        return sorted(int(pid) for task in tasks for pid in (task / "children").read_text().split())
+
+    def get(self, path: str, headers: dict[str, str] | None = None) -> tuple[int, bytes, dict[str, str]]:
+        """The status, the body and the headers of an answer."""
+        request = urllib.request.Request(self.address + path, headers=headers or {})
+        opener = urllib.request.build_opener(urllib.request.ProxyHandler({}))
+        try:
+            with opener.open(request, timeout=SECONDS) as answer:
+                return answer.status, answer.read(), dict(answer.headers)
+        except urllib.error.HTTPError as error:
+            with error:
+                return error.code, error.read(), dict(error.headers)
+
+    def lines(self, path: str, **words: object) -> list[dict]:
+        """The JSON of each line of an answer."""
+        query = urllib.parse.urlencode(words, doseq=True, encoding="utf-8", errors="surrogateescape")
+        return [json.loads(line) for line in self.get(f"{path}?{query}")[1].splitlines()]
+
+    def find(self, q: str | bytes, **words: object) -> list[dict]:
+        """The lines of an answer to a search."""
+        return self.lines("/api/find", q=q, **words)
+
+    def hits(self, q: str, **words: object) -> list[tuple[str, str, int, str]]:
+        """The hits of a search: repository, name, line and text."""
+        rows = self.find(q, **words)
+        return [(row["repository"], row["name"], hit["line"], "".join(hit["parts"])) for row in rows if "hits" in row for hit in row["hits"]]
+
+
+@contextlib.contextmanager
+def serving(*options: str) -> Iterator[Server]:
+    """A server of two repositories."""
+    with tempfile.TemporaryDirectory() as name:
+        top = pathlib.Path(name)
+        for repository, documents in DOCUMENTS.items():
+            for path, body in documents.items():
+                file = top / repository / os.fsdecode(path)
+                file.parent.mkdir(parents=True, exist_ok=True)
+                file.write_bytes(body)
+        with socket.socket() as free:
+            free.bind(("127.0.0.1", 0))
+            port = free.getsockname()[1]
+        words = ["--port", str(port), "--look", "0.2", *options, str(top / "one"), str(top / "two")]
+        environment = {**os.environ, "PYTHONPATH": str(PACKAGE)}
+        with open(top / "log", "wb") as log:
+            process = subprocess.Popen([sys.executable, "-B", "-m", "tsearch.web", *words], env=environment, stdout=log, stderr=log)
+        try:
+            server = Server(port, top, process.pid)
+
+            def is_loaded() -> bool:
+                if process.poll() is not None:
+                    raise AssertionError((top / "log").read_text())
+                try:
+                    return all(one["loaded"] for one in json.loads(server.get("/api/status")[1])["repositories"])
+                except (urllib.error.URLError, ConnectionError):
+                    time.sleep(0.05)
+                    return False
+
+            until(is_loaded)
+            yield server
+            log_text = (top / "log").read_text()
+            assert "Traceback" not in log_text, log_text
+        finally:
+            process.terminate()
+            try:
+                process.wait(SECONDS)
+            except subprocess.TimeoutExpired:
+                process.kill()
+                process.wait()

@@ -1,0 +1,203 @@
+"""The page in a browser: typing, results, refusals, files, and hostile names and bodies."""
+
+import importlib.util
+import shutil
+import tempfile
+import time
+import unittest
+
+from helpers import SECONDS, stopped
+from serving import serving
+
+CHROMIUM, DRIVER = shutil.which("chromium"), shutil.which("chromedriver")
+# No service of the browser's makers is called.
+ARGUMENTS = [
+    "--headless=new", "--no-sandbox", "--disable-dev-shm-usage", "--disable-background-networking", "--disable-component-update",
+    "--disable-sync", "--no-first-run", "--disable-extensions", "--host-resolver-rules=MAP * ~NOTFOUND, EXCLUDE 127.0.0.1",
+]  # fmt: skip
+
+
+def reason_to_skip() -> str:
+    missing = [f"the library {library}" for library in ("aiohttp", "selenium") if not importlib.util.find_spec(library)]
+    missing += ["chromium"] * (CHROMIUM is None) + ["chromedriver (chromium-driver)"] * (DRIVER is None)
+    return f"missing: {', '.join(missing)}" if missing else ""
+
+
+@unittest.skipIf(reason_to_skip(), reason_to_skip())
+class Page(unittest.TestCase):
+    @classmethod
+    def setUpClass(cls) -> None:
+        from selenium import webdriver
+        from selenium.webdriver.chrome.service import Service
+
+        cls.server = cls.enterClassContext(serving("--search-ms", "2000", "--most-lines", "100"))
+        options = webdriver.ChromeOptions()
+        options.binary_location = CHROMIUM
+        for argument in [*ARGUMENTS, f"--user-data-dir={cls.enterClassContext(tempfile.TemporaryDirectory(ignore_cleanup_errors=True))}"]:
+            options.add_argument(argument)
+        options.set_capability("goog:loggingPrefs", {"browser": "ALL"})
+        cls.browser = webdriver.Chrome(service=Service(DRIVER), options=options)
+        cls.addClassCleanup(cls.browser.quit)
+        cls.browser.set_page_load_timeout(SECONDS)
+        cls.browser.set_window_size(1_200, 800)
+
+    def setUp(self) -> None:
+        self.browser.get_log("browser")
+        self.open("/")
+
+    def open(self, path: str) -> None:
+        """Opens the page, and waits until it takes what is typed."""
+        self.browser.get(self.server.address + path)
+        self.wait(lambda: self.done() is not None)
+
+    def wait(self, holds) -> None:
+        from selenium.webdriver.support.ui import WebDriverWait
+
+        WebDriverWait(self.browser, SECONDS, 0.02).until(lambda _: holds())
+
+    def all(self, selector: str) -> list:
+        return self.browser.find_elements("css selector", selector)
+
+    def one(self, selector: str):
+        return self.browser.find_element("css selector", selector)
+
+    def type(self, text: str, selector: str = "#pattern", pause: float = 0) -> None:
+        """Types into a field, and waits for the answer to what stands in the pattern then."""
+        for letter in text:
+            self.one(selector).send_keys(letter)
+            time.sleep(pause)
+        pattern = self.one("#pattern").get_attribute("value")
+        self.wait(lambda: self.done() == pattern)
+
+    def done(self) -> str | None:
+        return self.one("body").get_attribute("data-done")
+
+    def shown(self) -> list[tuple[str, str, str]]:
+        """The hits on the page: name, number and text."""
+        script = """return [...document.querySelectorAll('#results section')].flatMap(section =>
+            [...section.querySelectorAll('.row')].map(row => [section.querySelector('.name').textContent,
+            row.querySelector('.number').textContent, row.querySelector('.text').textContent]))"""
+        return [tuple(row) for row in self.browser.execute_script(script)]
+
+    def marks(self) -> list[str]:
+        return [mark.text for mark in self.all("#results mark")]
+
+    def test_typing(self) -> None:
+        """A search for each letter, of which the last one stands, however quickly they come."""
+        for pause in 0, 0.03:
+            self.open("/")
+            self.type("int main", pause=pause)
+            wanted = [("src/main.c", "1", "int main(void)"), ("src/main.c", "1", "int main(int count)")]
+            self.assertEqual(self.shown(), wanted)
+            self.assertEqual(self.marks(), ["int main"] * 2)
+            self.assertIn("2 lines in 2 files", self.one("#status").text)
+        self.one("#pattern").clear()
+        self.type("call")
+        self.assertEqual(len(self.shown()), 3)
+        self.assertEqual(self.done(), "call")
+
+    def test_options_and_filters(self) -> None:
+        self.type("MAIN")
+        self.assertEqual((self.shown(), self.one("#status").text), ([], "No line matches."))
+        self.one("#ignore-case + span").click()
+        self.wait(lambda: len(self.shown()) == 2)
+        self.one("#repositories label:nth-child(2)").click()
+        self.wait(lambda: len(self.shown()) == 1)
+        self.assertEqual(self.one("#results .repository").text, "two")
+        self.one("#repositories label:nth-child(2)").click()
+        self.one("#pattern").clear()
+        self.type("call")
+        self.wait(lambda: len(self.shown()) == 3)
+        self.one("#word + span").click()
+        self.wait(lambda: len(self.shown()) == 2)
+        self.type("util", "#name")
+        self.wait(lambda: [row[0] for row in self.shown()] == ["src/util.c"])
+        self.one("#name").clear()
+        self.one("#word + span").click()
+        self.one("#pattern").clear()
+        self.one("#literal + span").click()
+        self.type("call(1)")
+        self.wait(lambda: [row[2] for row in self.shown()] == ["    return call(1);"])
+        # the address keeps it all
+        address = self.browser.current_url
+        self.browser.get(address)
+        self.wait(lambda: [row[2] for row in self.shown()] == ["    return call(1);"])
+        self.assertTrue(self.one("#literal").is_selected())
+
+    def test_a_refused_pattern(self) -> None:
+        self.type("call(1")
+        self.assertEqual(self.one("#fault").get_attribute("textContent"), "    ^ group not closed")
+        self.assertEqual(self.shown(), [])
+        self.type(")")
+        self.wait(lambda: not self.one("#fault").is_displayed())
+        self.assertEqual(self.one("#status").text, "No line matches.")
+        self.one("#pattern").clear()
+        self.type("é[z-a]")
+        self.assertEqual(self.one("#fault").get_attribute("textContent"), "   ^ bad range")
+        self.one("#pattern").clear()
+        self.type("call")
+        self.type("x[", "#name")
+        self.wait(lambda: self.one("#fault").text == "path: bracket not closed at 1")
+
+    def test_files(self) -> None:
+        self.type("return x")
+        self.one("#results .row").click()
+        self.wait(lambda: self.one("#file").is_displayed() and self.all("#file-lines .row"))
+        self.assertEqual([row.text for row in self.all("#file-lines .text")], ["int call(int x)", "{", "    return x + 1; // <b>caller</b>", "}"])
+        self.assertEqual(self.one("#file-lines .target").text, "3")
+        self.assertEqual(self.one("#file-lines mark").text, "return x")
+        # as it was when it was found
+        path = self.server.top / "one/src/util.c"
+        before = path.read_bytes()
+        path.write_bytes(b"changed\n")
+        try:
+            self.wait(lambda: self.server.hits("^changed$"))
+            self.one("#close").click()
+            self.assertFalse(self.one("#file").is_displayed())
+            self.one("#results .row").click()
+            self.wait(lambda: len(self.all("#file-lines .row")) == 4 and self.one("#file").is_displayed())
+            self.assertEqual(self.one("#file-lines .text").text, "int call(int x)")
+        finally:
+            path.write_bytes(before)
+            self.wait(lambda: not self.server.hits("^changed$"))
+
+    def test_a_slow_search_does_not_hold_up_another_visitor(self) -> None:
+        with stopped(self.server.programs()[1]):
+            self.one("#pattern").send_keys("main")
+            time.sleep(0.3)
+            self.assertEqual(self.done(), "")
+            self.assertEqual(len(self.server.hits("int main", repository="one")), 1)
+            # nor the same one, who searches where it is not slow
+            self.one("#repositories label:nth-child(1)").click()
+            self.wait(lambda: [row[2] for row in self.shown()] == ["int main(void)"])
+
+    def test_many_and_long_lines(self) -> None:
+        self.type("many")
+        self.assertEqual(len(self.shown()), 100)
+        self.assertIn("2,000 lines, the first 100 of them shown", self.one("#status").text)
+        self.one("#pattern").clear()
+        self.type("needle")
+        self.assertEqual(self.marks(), ["needle"])
+        self.assertLess(len(self.shown()[0][2]), 500)
+
+    def test_hostile_names_and_bodies(self) -> None:
+        self.type("hostile")
+        texts = [row[2] for row in self.shown()]
+        self.assertIn("<script>document.title = 'taken over'</script> hostile body", texts)
+        self.assertIn("bytes \ufffd\ufffd hostile", texts)
+        self.assertIn("<img src=x onerror=document.title='taken over'>.txt", {row[0] for row in self.shown()})
+        for row in self.all("#results .row"):
+            row.click()
+            self.wait(lambda: "shown" in row.get_attribute("class") and self.one("#file").is_displayed())
+        self.one("#pattern").clear()
+        self.type("<img src=x onerror=\"document.title='taken over'\">")
+        self.browser.get(self.server.address + "/?q=%3Cscript%3Edocument.title%3D%27taken%20over%27%3C/script%3E(&name=%3Cimg%20src=x%3E")
+        self.wait(lambda: self.done())
+        self.assertEqual(self.browser.title, "tsearch")
+        self.assertEqual(self.all("#results img, #results script, #file script, #fault *"), [])
+        told = [entry["message"] for entry in self.browser.get_log("browser")]
+        self.assertEqual([message for message in told if "Content Security Policy" in message or "Uncaught" in message], [])
+
+
+if __name__ == "__main__":
+    unittest.main()

@@ -1,0 +1,198 @@
+"""The core, which has no input and output: what is sent, and what the bytes that come settle, however they are cut."""
+
+import random
+import unittest
+
+import helpers  # puts the package on the path of modules
+
+from tsearch.core import Core, Query, _after_line, ended_by, value_of
+from tsearch.errors import Cancelled, ChangeRefused, Ended, NotUnderstood, PatternRefused, PublishRefused, SearchRefused, TooSlow
+
+
+def cut(data: bytes, source: random.Random) -> list[bytes]:
+    """The data in pieces."""
+    pieces, at = [], 0
+    while at < len(data):
+        step = source.choice([1, 2, 3, 7, 50, 1_000])
+        pieces.append(data[at : at + step])
+        at += step
+    return pieces
+
+
+class Sending(unittest.TestCase):
+    def test_items_are_as_the_page_says(self) -> None:
+        core = Core()
+        self.assertEqual(b"".join(core.put("a b:%", b"x\ny\n")[1]), b"put a%20b%3A%25 4\nx\ny\n\n")
+        self.assertEqual(b"".join(core.load("a", b"/tmp/a b")[1]), b"load a /tmp/a b\n")
+        self.assertEqual(b"".join(core.remove(b"\xff\n")[1]), b"remove \xff%0A\n")
+        self.assertEqual(b"".join(core.find(Query.of("o w"))[1]), b"search o w\n")
+        self.assertEqual(b"".join(core.find(Query.of("o w", "^a"))[1]), b"searchin ^a o w\n")
+        self.assertEqual(b"".join(core.find(Query.of("o w", ignore_case=True))[1]), b"isearch o w\n")
+        self.assertEqual(b"".join(core.find(Query.of("", "^a", ignore_case=True))[1]), b"isearchin ^a \n")
+        self.assertEqual(b"".join(core.find(Query.of("a.b", literal=True))[1]), b"search a\\.b\n")
+        self.assertEqual(b"".join(core.publish()[2]), b"publish\nstatus\n")
+        self.assertEqual(b"".join(core.find(Query.of("", ""))[1]), b"searchin  \n")
+
+    def test_what_would_be_something_else_is_not_sent(self) -> None:
+        core = Core()
+        for pattern, reason, offset in ("a\nremove a", "bad byte", 1), ("ab\0", "bad byte", 2), ("a" * 1_025, "pattern too long", 1_024):
+            with self.assertRaises(PatternRefused) as raised:
+                core.find(Query.of(pattern))
+            self.assertEqual((raised.exception.reason, raised.exception.offset), (reason, offset))
+            with self.assertRaises(PatternRefused) as raised:
+                core.find(Query.of("x", pattern))
+            self.assertEqual((raised.exception.reason, raised.exception.offset, raised.exception.in_name), (reason, offset, True))
+        with self.assertRaises(PatternRefused) as raised:
+            core.find(Query.of("x", "ab c"))
+        self.assertEqual(raised.exception.offset, 2)
+        for name, reason in (b"", "name empty"), (b"n" * 256, "name too long"), (b" " * 86, "name too long"):
+            for call in (lambda: core.put(name, b""), lambda: core.remove(name), lambda: core.load(name, b"x")):
+                with self.assertRaises(ChangeRefused) as raised:
+                    call()
+                self.assertEqual((raised.exception.reason, raised.exception.name), (reason, name))
+        for path in b"", b"a\nb", b"a\0":
+            self.assertRaises(ChangeRefused, core.load, "a", path)
+        # nothing of that was counted
+        search, parts = core.find(Query.of("x"))
+        self.assertEqual((search.number, search.line, parts), (1, 1, [b"search x\n"]))
+
+    def test_lines_of_bodies_are_counted(self) -> None:
+        core = Core()
+        core.put("a", b"1\n2\n3")
+        self.assertEqual(core.find(Query.of("x"))[0].line, 5)
+
+
+class Receiving(unittest.TestCase):
+    def talk(self) -> tuple[Core, list, bytes]:
+        """Items, and what a session writes to them, with entries out of order and lines that look like texts of a session."""
+        core = Core(life=3)
+        sent = [core.put("a", b"1\n2")[0]]  # lines 1 to 3
+        sent.append(core.put("b", b"x\0")[0])  # 4, 5
+        sent.append(core.find(Query.of("x"))[0])  # 6, search 1
+        sent.append(core.find(Query.of("(", word=True))[0])  # 7, search 2
+        publish, status, _ = core.publish()  # 8, 9
+        sent += [publish, status]
+        sent.append(core.find(Query.of("y", limit=2))[0])  # 10, search 3
+        sent.append(core.remove("c d")[0])  # 11
+        sent.append(core.find(Query.of("z"))[0])  # 12, search 4
+        sent.append(core.find(Query.of("s"))[0])  # 13, search 5
+        sent.append(core.find(Query.of("m", ")"))[0])  # 14, search 6
+        sent.append(core.status()[0])  # 15
+        written = (
+            b"line 4 refused: byte 0 in body\nsearch 2 refused: group not closed at 0\n"
+            b"line 9 status version 1 documents 1 bytes 3 accepted 1 of 9 open 1\n"
+            b"search 3 version 1 lines 4 candidates 1 of 1\na:1:search 9 version 1 lines 7\na%20b:7::y\nb:1:\nb:2:line 3 refused: x\n"
+            b"line 11 refused: no such file\nsearch 5 refused: too slow\nsearch 4 refused: out of memory\n"
+            b"search 6 refused: name pattern: bad range at 0\nsearch 1 version 0 lines 0\n"
+            b"line 15 status version 1 documents 1 bytes 3 accepted 1 of 9 open 0\n"
+        )
+        return core, sent, written
+
+    def check(self, sent: list) -> None:
+        put, bad_put, first, refused, publish, status, limited, removed, no_memory, slow, bad_name, last = sent
+        self.assertIsNone(value_of(put))
+        self.assertIsNone(value_of(publish))
+        self.assertEqual((bad_put.error.reason, bad_put.error.name), ("byte 0 in body", b"b"))
+        self.assertEqual((len(first.value), first.value.version, first.value.life), (0, 0, 3))
+        self.assertEqual((refused.error.reason, refused.error.offset), ("group not closed", 0))
+        self.assertEqual((status.value.version, status.value.open, status.value.refused), (1, 1, (bad_put.error,)))
+        answer = limited.value
+        self.assertEqual(answer.hits(), [(b"a", 1, b"search 9 version 1 lines 7"), (b"a b", 7, b":y")])
+        self.assertEqual((answer.count, len(answer), answer.more, answer.candidates, answer.documents), (4, 2, True, 1, 1))
+        self.assertEqual((type(removed.error), removed.error.name), (ChangeRefused, b"c d"))
+        self.assertEqual([type(no_memory.error), type(slow.error)], [SearchRefused, TooSlow])
+        self.assertTrue(bad_name.error.in_name)
+        self.assertEqual(last.value.refused, ())
+
+    def test_texts_cut_anywhere(self) -> None:
+        for seed in range(200):
+            core, sent, written = self.talk()
+            settled = [one for piece in cut(written, random.Random(seed)) for one in core.receive(piece)]
+            self.assertCountEqual(settled, sent)
+            self.check(sent)
+            self.assertFalse(core.open_numbers)
+
+    def test_all_at_once_and_byte_by_byte(self) -> None:
+        for pieces in (lambda data: [data], lambda data: [data[at : at + 1] for at in range(len(data))]):
+            core, sent, written = self.talk()
+            for piece in pieces(written):
+                core.receive(piece)
+            self.check(sent)
+
+    def test_end_in_the_middle_settles_all(self) -> None:
+        for end in range(0, 300, 3):
+            core, sent, written = self.talk()
+            core.receive(written[:end])
+            core.end(ended_by(-9, "gone"))
+            self.assertTrue(all(one.is_settled for one in sent))
+            self.assertTrue(all(type(one.error) is Ended for one in sent[-1:]))
+
+    def test_cancels(self) -> None:
+        core = Core()
+        first, second = core.find(Query.of("a"))[0], core.find(Query.of("b"))[0]
+        self.assertEqual(core.cancel(first), [b"cancel 1\n"])
+        self.assertEqual(core.cancel(first), [])
+        # the second is cancelled while its lines come
+        core.receive(b"search 2 version 0 lines 3\na:1:x\na:2")
+        self.assertEqual(core.cancel(second), [])
+        self.assertEqual(core.receive(b":x\na:3:x\nsearch 1 refused: cancelled\n"), [second, first])
+        self.assertEqual([type(first.error), type(second.error)], [Cancelled, Cancelled])
+        third = core.find(Query.of("c"))[0]
+        core.receive(b"search 3 version 0 lines 1\na:1:x\n")
+        self.assertEqual((core.cancel(third), len(third.value)), ([], 1))
+        # an answer that comes in spite of the cancel is passed over, and not kept
+        fourth = core.find(Query.of("d"))[0]
+        core.cancel(fourth)
+        core.receive(b"search 4 version 0 lines 2\na:1:x\n")
+        self.assertEqual((core._coming.keep, core._coming.parts), (0, []))
+        core.receive(b"a:2:x\n")
+        self.assertIsInstance(fourth.error, Cancelled)
+
+    def test_a_status_leaves_refusals_to_the_publish(self) -> None:
+        core = Core()
+        put, status = core.put("a", b"\0")[0], core.status()[0]
+        core.receive(b"line 1 refused: full\nline 3 status version 0 documents 0 bytes 0 accepted 0 of 9 open 0\n")
+        _, second, _ = core.publish()
+        core.receive(b"line 5 status version 0 documents 0 bytes 0 accepted 0 of 9 open 0\n")
+        self.assertEqual((status.value.refused, second.value.refused), ((), (put.error,)))
+
+    def test_a_refused_publish(self) -> None:
+        core = Core()
+        publish, status, _ = core.publish()
+        core.receive(b"line 1 refused: out of memory\nline 2 status version 0 documents 0 bytes 0 accepted 0 of 9 open 0\n")
+        self.assertIsInstance(publish.error, PublishRefused)
+        self.assertEqual(status.value.refused, ())
+
+    def test_what_no_session_writes(self) -> None:
+        for written in (
+            b"hello\n",
+            b"search 2 version 0 lines 0\n",
+            b"search 1 version 0 lines\n",
+            b"line 9 refused: bad line\n",
+            b"line 1 status version 0\n",
+            b"x" * 2_000,
+            b"search 1 version 0 lines 1\na:1:x\nsearch 1 version 0 lines 0\n",
+        ):
+            with self.subTest(written=written[:40]):
+                core = Core()
+                core.find(Query.of("x"))
+                self.assertRaises(NotUnderstood, core.receive, written)
+
+    def test_an_answer_to_what_has_to_be_refused(self) -> None:
+        core = Core()
+        core.find(Query.of("(a", word=True))
+        self.assertRaises(NotUnderstood, core.receive, b"search 1 version 0 lines 0\n")
+
+    def test_where_lines_end(self) -> None:
+        source = random.Random(5)
+        for _ in range(500):
+            data = bytes(source.choices(b"a\n\nb", k=source.randint(1, 40)))
+            at = source.randrange(len(data))
+            for lines in range(1, data.count(b"\n", at) + 1):
+                found = _after_line(data, at, lines)
+                self.assertEqual((data[at:found].count(b"\n"), data[found - 1 : found]), (lines, b"\n"))
+
+
+if __name__ == "__main__":
+    assert helpers.PACKAGE.is_dir()
+    unittest.main()

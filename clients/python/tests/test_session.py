@@ -1,0 +1,457 @@
+"""The session for threads: answers against a plain model, kills, refusals, slow programs and slow readers."""
+
+import os
+import pickle
+import random
+import signal
+import socket
+import subprocess
+import sys
+import tempfile
+import threading
+import time
+import unittest
+
+from helpers import SECONDS, SLOW, Model, hits_of, slow_documents, stand_in, state_of, stop, stopped, until
+
+import tsearch
+
+
+def threads(count, run) -> list:
+    """Runs a function in so many threads, with their numbers, and gives what they raise."""
+    faults = []
+
+    def call(number: int) -> None:
+        try:
+            run(number)
+        except BaseException as fault:  # whatever it is, it is compared
+            faults.append(fault)
+
+    running = [threading.Thread(target=call, args=(number,)) for number in range(count)]
+    for thread in running:
+        thread.start()
+    for thread in running:
+        thread.join(SECONDS)
+    if any(thread.is_alive() for thread in running):
+        faults.append(AssertionError("a thread waits"))
+    return faults
+
+
+class Answers(unittest.TestCase):
+    def test_many_threads_share_a_session(self) -> None:
+        model = Model(1)
+        for readers in 0, 2, 8:
+            with self.subTest(readers=readers), tsearch.Session(readers=readers, most_open=20) as session:
+                for name, body in model.documents.items():
+                    session.put(name, body)
+                self.assertEqual(session.publish().documents, len(model.documents))
+
+                def search(number: int) -> None:
+                    source = random.Random(number)
+                    for _ in range(40):
+                        pattern, ignore_case = source.choice(model.PATTERNS), source.random() < 0.3
+                        limit = source.choice([None, 0, 3])
+                        answer = session.find(pattern, ignore_case=ignore_case, limit=limit, timeout=SECONDS)
+                        wanted = model.find(pattern, ignore_case)
+                        if (answer.hits(), answer.count) != (wanted[:limit], len(wanted)):
+                            raise AssertionError(f"{pattern}: {answer.hits()}, and not {wanted}")
+
+                self.assertEqual(threads(24, search), [])
+                self.assertEqual(session.status(SECONDS).open, 0)
+
+    def test_answers_beside_changes(self) -> None:
+        """Each publish writes the same number into two documents: an answer shows it twice, and no thread sees it fall."""
+        with tsearch.Session() as session:
+            done = threading.Event()
+
+            def search(_: int) -> None:
+                last = -1
+                while not done.is_set():
+                    answer = session.find("^[0-9]+$", timeout=SECONDS)
+                    texts = {hit.text for hit in answer}
+                    if len(answer) not in (0, 2) or len(texts) > 1 or (texts and int(min(texts)) < last):
+                        raise AssertionError(f"{answer.hits()} after {last}")
+                    last = int(min(texts, default=b"-1"))
+
+            def change() -> None:
+                for number in range(200):
+                    session.put("a", str(number))
+                    session.put("b", str(number))
+                    # no older than the publish before
+                    published = session.publish(SECONDS)
+                    answer = session.find(f"^{number}$", line=True, timeout=SECONDS)
+                    if (len(answer), answer.version) != (2, published.version):
+                        raise AssertionError(answer)
+                done.set()
+
+            def run(number: int) -> None:
+                try:
+                    change() if number == 0 else search(number)
+                finally:
+                    done.set()
+
+            self.assertEqual(threads(6, run), [])
+
+    def test_names_and_values(self) -> None:
+        names = [b"a b", b"a:1:x", b"100%", b"\xff\xfe", "é".encode(), b"line\nfeed", b"~!@#", b"%41"]
+        with tsearch.Session(stats=True) as session:
+            for name in names:
+                session.put(name, b"x \xff:y\nno")
+            session.publish()
+            answer = session.find("x")
+            self.assertEqual(sorted(hit.name for hit in answer), sorted(names))
+            self.assertEqual({hit[1:] for hit in answer}, {(1, b"x \xff:y")})
+            self.assertEqual({hit.text for hit in answer.texts()}, {"x \ufffd:y"})
+            self.assertEqual(answer.documents, len(names))
+            self.assertEqual([name for name, _ in answer.by_document()], list(answer.counts()))
+            self.assertEqual(session.find("x", name="^a%20b$").hits(), [(b"a b", 1, b"x \xff:y")])
+            for name in names:
+                session.remove(name).wait(SECONDS)
+            self.assertEqual(session.publish().documents, 0)
+
+    def test_loads(self) -> None:
+        with tempfile.TemporaryDirectory() as folder, tsearch.Session() as session:
+            path = os.path.join(folder, "a file")
+            with open(path, "w", encoding="ascii") as file:
+                file.write("hello")
+            session.load("loaded", path)
+            missing = session.load("missing", os.path.join(folder, "none"))
+            published = session.publish()
+            self.assertEqual([(one.name, one.reason) for one in published.refused], [(b"missing", "cannot load")])
+            self.assertRaises(tsearch.ChangeRefused, missing.wait, SECONDS)
+            self.assertEqual(session.find("h").hits(), [(b"loaded", 1, b"hello")])
+
+    def test_empty_and_large_answers(self) -> None:
+        body = b"\n" * 300_000
+        with tsearch.Session() as session:
+            self.assertEqual((session.find("x").hits(), session.find("x").version), ([], 0))
+            session.put("large", body)
+            session.put("small", b"x")
+            session.publish()
+            answer = session.find("")
+            self.assertEqual(len(answer), 300_001)
+            self.assertEqual(sum(hit.text == b"" for hit in answer), 300_000)
+            limited = session.find("", limit=10)
+            self.assertEqual((len(limited), limited.count, len(limited.data) < 200), (10, 300_001, True))
+
+
+class Refusals(unittest.TestCase):
+    def test_of_patterns(self) -> None:
+        with tsearch.Session() as session:
+            for pattern, name, reason, offset in (
+                ("a(b", None, "group not closed", 1),
+                ("é[z-a]", None, "bad range", 4),
+                ("a", "*", "nothing to repeat", 0),
+                ("a\nput b", None, "bad byte", 1),
+                ("a\0", None, "bad byte", 1),
+            ):
+                with self.assertRaises(tsearch.PatternRefused) as raised:
+                    session.find(pattern, name=name)
+                found = raised.exception
+                self.assertEqual((found.reason, found.offset, found.in_name), (reason, offset, name is not None))
+                again = pickle.loads(pickle.dumps(found))
+                self.assertEqual((str(again), again.offset), (str(found), offset))
+            self.assertEqual(session.status().accepted, 0)
+
+    def test_of_changes(self) -> None:
+        with tsearch.Session(max_commands=3) as session:
+            changes = [session.put("a", "x"), session.put("b", b"\0"), session.put("c", "y" * 16_385), session.remove("d")]
+            session.status(SECONDS)
+            published = session.publish()
+            wanted = [(b"b", "byte 0 in body"), (b"c", "line too long"), (b"d", "no such file")]
+            self.assertEqual([(one.name, one.reason) for one in published.refused], wanted)
+            self.assertEqual(session.publish().refused, ())
+            changes[0].wait(SECONDS)
+            for change in changes[1:]:
+                self.assertRaises(tsearch.ChangeRefused, change.wait, SECONDS)
+            session.put("e", "1")
+            session.put("f", "2")
+            with self.assertRaises(tsearch.ChangeRefused) as raised:
+                session.put("g", "3").wait(SECONDS)
+            self.assertEqual(raised.exception.reason, "full")
+            # a new program takes them all, and the old one answers until then
+            session.restart(lambda new: [new.put(name, "z") for name in "abc"], only_if_ended=False)
+            self.assertEqual((session.life, len(session.find("z")), session.find("z").life), (2, 3, 2))
+
+
+class Time(unittest.TestCase):
+    def test_a_search_is_cancelled_after_its_time(self) -> None:
+        with tsearch.Session() as session:
+            for name, body in slow_documents().items():
+                session.put(name, body)
+            session.publish()
+            for _ in range(4):  # more than there are readers
+                began = time.monotonic()
+                with stopped(session.pid), self.assertRaises(TimeoutError):
+                    session.find(SLOW, timeout=0.1)
+                self.assertLess(time.monotonic() - began, SECONDS / 4)
+            session.sync(SECONDS)
+            self.assertEqual(session.status(SECONDS).open, 0)
+            self.assertEqual(len(session.find("^end$", timeout=SECONDS)), 1)
+
+    def test_cancel(self) -> None:
+        with tsearch.Session() as session:
+            for name, body in slow_documents().items():
+                session.put(name, body)
+            session.publish()
+            with stopped(session.pid):
+                searches = [session.begin(SLOW) for _ in range(5)]
+                with self.assertRaises(TimeoutError):
+                    searches[0].result(0.05)
+                self.assertFalse(searches[0].done())
+                for search in searches:
+                    session.cancel(search)
+                    session.cancel(search)
+            for search in searches:
+                self.assertRaises(tsearch.Cancelled, search.result, SECONDS)
+            done = session.begin("^end$")
+            self.assertEqual(len(done.result(SECONDS)), 1)
+            done.cancel()
+            self.assertEqual((len(done.result()), done.done()), (1, True))
+
+    def test_a_program_that_takes_nothing(self) -> None:
+        """Senders wait, and do not fill the memory; limits of time hold; and all is there once it goes on."""
+        session = tsearch.Session()
+        body = b"x" * 99 + b"\n"
+        try:
+            session.put("first", "first")
+            session.publish()
+            stop(session.pid)
+            sent = []
+
+            def put() -> None:
+                for number in range(200):
+                    session.put(f"f{number}", body * 1_000)
+                    sent.append(number)
+
+            sender = threading.Thread(target=put)
+            sender.start()
+            time.sleep(0.5)
+            # a mebibyte waits, one more body, what the pipe takes, and what the program had begun to read
+            self.assertLess(len(sent), 60)
+            for call in session.status, session.publish, lambda limit: session.find("x", timeout=limit):
+                self.assertRaises(TimeoutError, call, 0.1)
+            os.kill(session.pid, signal.SIGCONT)
+            sender.join(SECONDS)
+            self.assertEqual(len(sent), 200)
+            self.assertEqual(session.publish(SECONDS).documents, 201)
+            self.assertEqual(session.find("x", timeout=SECONDS).count, 200_000)
+        finally:
+            os.kill(session.pid, signal.SIGCONT)
+            session.close(SECONDS)
+
+    def test_close(self) -> None:
+        session = tsearch.Session()
+        session.status()
+        began = time.monotonic()
+        with stopped(session.pid):
+            search = session.begin("x")
+            self.assertEqual(session.close(0.3), -signal.SIGKILL)
+        self.assertLess(time.monotonic() - began, SECONDS / 2)
+        self.assertRaises(tsearch.Ended, search.result, SECONDS)
+        self.assertRaises(tsearch.Ended, session.find, "x")
+        session.close()
+        # what was sent before is answered
+        session = tsearch.Session()
+        session.put("a", "x")
+        session.publish()
+        searches = [session.begin("x") for _ in range(100)]
+        self.assertEqual(session.close(SECONDS), 0)
+        self.assertEqual({len(search.result(SECONDS)) for search in searches}, {1})
+
+
+class Ends(unittest.TestCase):
+    def test_kills_in_the_middle_of_answers(self) -> None:
+        """Each thread gets whole answers or `Ended`, and goes on once one of them has started the program again."""
+        documents = {b"f%d" % number: b"line %d\n" % number * 500 for number in range(40)}
+        wanted = hits_of(documents, "line")
+
+        def feed(changes: tsearch.Changes) -> None:
+            for name, body in documents.items():
+                changes.put(name, body)
+
+        with tsearch.Session() as session:
+            feed(session)
+            session.publish(SECONDS)
+            counts = {"ended": 0, "whole": 0}
+            lock = threading.Lock()
+            done = threading.Event()
+
+            def search(_: int) -> None:
+                while not done.is_set():
+                    try:
+                        answer = session.find("line", timeout=SECONDS)
+                        if answer.hits() != wanted:
+                            raise AssertionError(f"{len(answer)} lines of life {answer.life}, and not {len(wanted)}")
+                        key = "whole"
+                    except tsearch.Ended:
+                        session.restart(feed)
+                        key = "ended"
+                    with lock:
+                        counts[key] += 1
+
+            def kill(_: int) -> None:
+                try:
+                    for _ in range(6):
+                        before, life = counts["whole"], session.life
+                        until(lambda before=before: counts["whole"] > before + 5)
+                        os.kill(session.pid, signal.SIGKILL)
+                        until(lambda life=life: session.life > life)
+                finally:
+                    done.set()
+
+            self.assertEqual(threads(7, lambda number: kill(number) if number == 0 else search(number)), [])
+            self.assertEqual(session.life, 7)
+            self.assertGreaterEqual(counts["ended"], 6)
+
+    def test_every_waiter_is_told(self) -> None:
+        session = tsearch.Session()
+        session.status()
+        stop(session.pid)
+        calls = [session.status, lambda: session.find("x"), session.publish, session.sync, lambda: session.put("a", "b").wait()]
+        told = []
+
+        def call(number: int) -> None:
+            try:
+                calls[number % len(calls)]()
+                told.append("returned")
+            except tsearch.Ended as ended:
+                told.append(ended.status)
+
+        waiting = [threading.Thread(target=call, args=(number,)) for number in range(15)]
+        session.begin("x")
+        for thread in waiting:
+            thread.start()
+        time.sleep(0.3)
+        self.assertEqual(told, [])
+        os.kill(session.pid, signal.SIGKILL)
+        for thread in waiting:
+            thread.join(SECONDS)
+        self.assertEqual(told, [-signal.SIGKILL] * 15)
+        session.close()
+
+    def test_a_feed_that_fails(self) -> None:
+        with tsearch.Session() as session:
+            session.put("a", "x")
+            session.publish()
+            self.assertIsNone(session.restart(lambda changes: 1 / 0))
+            with self.assertRaises(ZeroDivisionError):
+                session.restart(lambda changes: 1 / 0, only_if_ended=False)
+            self.assertEqual((session.life, len(session.find("x"))), (1, 1))
+            session.kill()
+            with self.assertRaises(ZeroDivisionError):
+                session.restart(lambda changes: 1 / 0)
+            self.assertRaises(tsearch.Ended, session.find, "x")
+
+    def test_a_program_with_processes_of_its_own(self) -> None:
+        """They hold its output open, and are killed with it."""
+        session = tsearch.Session(["bash", "-c", "echo $$ >&2; sleep 60; exit 3", "bash"], messages=lambda message: None)
+        search = session.begin("x")
+        session.kill()
+        self.assertRaises(tsearch.Ended, search.result, 2.0)
+        self.assertEqual(session.close(2.0), -signal.SIGKILL)
+
+    def test_a_session_that_is_closed_stays_so(self) -> None:
+        session = tsearch.Session()
+        session.kill()
+        self.assertEqual(session.restart(lambda changes: changes.put("a", "x")).documents, 1)
+        # closed while it is fed
+        session.kill()
+        self.assertRaises(tsearch.Ended, session.restart, lambda changes: session.close())
+        self.assertRaises(tsearch.Ended, session.restart, print)
+        self.assertEqual(session.life, 2)
+
+    def test_what_the_program_says_at_its_end(self) -> None:
+        session = tsearch.Session([tsearch.find_program(), "--readers", "99"])
+        with self.assertRaises(tsearch.Ended) as raised:
+            session.find("x", timeout=SECONDS)
+        self.assertEqual(raised.exception.status, 2)
+        self.assertIn("invalid value '99'", str(raised.exception))
+        session.close()
+
+    def test_a_program_that_is_none(self) -> None:
+        self.assertRaises(OSError, tsearch.Session, "/nothing/here")
+        for code, error in (
+            ("say(b'hello\\n'); time.sleep(60)", tsearch.NotUnderstood),
+            ("next(items); say(b'search 1 version 0 lines 5\\na:1:x\\na:2'); os._exit(3)", tsearch.Ended),
+            ("next(items); say(b'search 7 version 0 lines 0\\n'); time.sleep(60)", tsearch.NotUnderstood),
+            ("os.close(1); time.sleep(60)", tsearch.Ended),
+        ):
+            with self.subTest(code=code):
+                session = tsearch.Session(stand_in(code))
+                self.assertRaises(error, session.find, "x", timeout=SECONDS)
+                session.kill()
+                session.close()
+
+    def test_what_is_sent_for_a_search_that_nobody_waits_for(self) -> None:
+        code = """
+            seen = [next(items), next(items)]
+            assert seen == [b"search slow\\n", b"cancel 1\\n"], seen
+            say(b"search 1 refused: cancelled\\n")
+            assert next(items) == b"search x\\n"
+            say(b"search 2 version 0 lines 0\\n")
+        """
+        session = tsearch.Session(stand_in(code))
+        self.assertRaises(TimeoutError, session.find, "slow", timeout=0.3)
+        self.assertEqual(session.find("x", timeout=SECONDS).hits(), [])
+        self.assertEqual(session.close(SECONDS), 0)
+
+    def test_a_program_that_writes_slowly(self) -> None:
+        code = """
+            next(items)
+            for byte in b"search 1 version 0 lines 2\\na:1:x\\na:2:y\\n":
+                say(bytes([byte]))
+                time.sleep(0.005)
+            next(items)
+        """
+        session = tsearch.Session(stand_in(code))
+        self.assertEqual(len(session.find("x", timeout=SECONDS)), 2)
+        session.close(0.1)
+
+
+class Pipes(unittest.TestCase):
+    def run_over(self, reading: int, writing: int) -> None:
+        session = tsearch.Session.over(reading, writing)
+        os.close(reading)
+        if writing != reading:
+            os.close(writing)
+        session.put("a", "hello\n" * 1_000)
+        session.publish(SECONDS)
+        self.assertEqual(threads(8, lambda _: self.assertEqual(len(session.find("hello", timeout=SECONDS)), 1_000)), [])
+        self.assertRaises(ValueError, session.restart, print)
+        self.assertIsNone(session.close(SECONDS))
+        with self.assertRaises(tsearch.Ended) as raised:
+            session.status()
+        self.assertIsNone(raised.exception.status)
+
+    def test_two_pipes(self) -> None:
+        program = subprocess.Popen([tsearch.find_program(), "--live"], stdin=subprocess.PIPE, stdout=subprocess.PIPE)
+        reading, writing = os.dup(program.stdout.fileno()), os.dup(program.stdin.fileno())
+        program.stdin.close()
+        program.stdout.close()
+        self.run_over(reading, writing)
+        self.assertEqual(program.wait(SECONDS), 0)
+
+    def test_a_socket(self) -> None:
+        here, there = socket.socketpair()
+        program = subprocess.Popen([tsearch.find_program(), "--live"], stdin=there, stdout=there)
+        there.close()
+        descriptor = here.detach()
+        self.run_over(descriptor, descriptor)
+        self.assertEqual(program.wait(SECONDS), 0)
+
+    def test_nothing_is_left_running(self) -> None:
+        """A client that is killed leaves no program."""
+        code = "import sys, time, tsearch; s = tsearch.Session(); s.status(); print(s.pid, flush=True); time.sleep(60)"
+        path = os.pathsep.join(sys.path)
+        client = subprocess.Popen([sys.executable, "-c", code], stdout=subprocess.PIPE, env={**os.environ, "PYTHONPATH": path})
+        pid = int(client.stdout.readline())
+        client.kill()
+        client.wait()
+        client.stdout.close()
+
+        until(lambda: state_of(pid) in ("Z", ""))
+
+
+if __name__ == "__main__":
+    unittest.main()

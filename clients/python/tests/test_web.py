@@ -1,0 +1,206 @@
+"""The server of the page, asked without a browser."""
+
+import concurrent.futures
+import importlib.util
+import json
+import os
+import pathlib
+import re
+import signal
+import socket
+import time
+import unittest
+
+from helpers import SECONDS, SLOW, stopped, until
+from serving import MARKUP, serving
+
+
+@unittest.skipUnless(importlib.util.find_spec("aiohttp"), "the library aiohttp is missing (python3-aiohttp)")
+class Web(unittest.TestCase):
+    @classmethod
+    def setUpClass(cls) -> None:
+        cls.server = cls.enterClassContext(serving("--search-ms", "1500", "--most-lines", "50"))
+
+    def test_searches(self) -> None:
+        hits = self.server.hits
+        mains = [("one", "src/main.c", 1, "int main(void)"), ("two", "src/main.c", 1, "int main(int count)")]
+        self.assertEqual(hits("int main"), mains)
+        self.assertEqual(hits("INT main"), [])
+        self.assertEqual(hits("INT main", i=1), mains)
+        self.assertEqual(hits("main(", F=1), mains)
+        self.assertEqual(hits("call", w=1), [("one", "src/main.c", 3, "    return call(1);"), ("one", "src/util.c", 1, "int call(int x)")])
+        self.assertEqual(hits("int call.*", x=1), [("one", "src/util.c", 1, "int call(int x)")])
+        self.assertEqual(hits("int", name="util"), [("one", "src/util.c", 1, "int call(int x)")])
+        self.assertEqual(hits("int main", name="^src/", repository="two"), mains[1:])
+        self.assertEqual(hits("int main", repository=["one", "two"]), mains)
+        self.assertEqual(hits("int main", repository="none"), [])
+        self.assertEqual(hits("a|"), hits(""))
+
+    def test_marks_and_totals(self) -> None:
+        rows = self.server.find("main|count", repository="two")
+        head, row, total = rows
+        self.assertEqual((head["repository"], head["lines"], head["loaded"]), ("two", 1, True))
+        self.assertEqual(row["hits"], [{"line": 1, "parts": ["int ", "main", "(int ", "count", ")"]}])
+        self.assertEqual((total["lines"], total["shown"]), (1, 1))
+
+    def test_limits_that_a_visitor_cannot_lift(self) -> None:
+        for more in {}, {"max": "99999"}, {"max": "x"}, {"max": "-1"}, {"max": "٣"}:
+            rows = self.server.find("many", **more)
+            self.assertEqual((rows[-1]["lines"], rows[-1]["shown"]), (2_000, 50), more)
+        self.assertEqual(self.server.find("many", max="3")[-1]["shown"], 3)
+        self.assertEqual(self.server.find("many", max="0")[-1]["shown"], 0)
+
+    def test_refusals(self) -> None:
+        find = self.server.find
+        self.assertEqual(find("a(b"), [{"refused": "group not closed", "offset": 1, "in": "pattern"}])
+        self.assertEqual(find("a(b", w=1), [{"refused": "group not closed", "offset": 1, "in": "pattern"}])
+        self.assertEqual(find("a", name="x[b"), [{"refused": "bracket not closed", "offset": 1, "in": "name"}])
+        self.assertEqual(find("a\nremove src/main.c\npublish"), [{"refused": "bad byte", "offset": 1, "in": "pattern"}])
+        self.assertEqual(find("a", name="b\npublish")[0]["in"], "name")
+        self.assertEqual(find("a\0")[0]["refused"], "bad byte")
+        self.assertEqual(find("a" * 2_000)[0]["refused"], "pattern too long")
+        self.assertEqual(find("é[z-a]"), [{"refused": "bad range", "offset": 4, "in": "pattern"}])
+        self.assertEqual(self.server.get("/api/find?q=(")[0], 400)
+        self.assertEqual(len(self.server.hits("int main")), 2)
+
+    def test_hostile_names_and_bodies(self) -> None:
+        rows = self.server.find("hostile")
+        found = {row["name"]: row for row in rows if "hits" in row}
+        self.assertIn("<img src=x onerror=document.title='taken over'>.txt", found)
+        bytes_row = found["caf\ufffd \ufffd.txt"]
+        self.assertEqual(bytes_row["id"], "caf%E9%20%FF.txt")
+        self.assertEqual(bytes_row["hits"], [{"line": 1, "parts": ["bytes \ufffd\ufffd ", "hostile", ""]}])
+        self.assertEqual(self.server.hits(b"\xff\xfe")[0][1], "caf\ufffd \ufffd.txt")
+        # a file is viewed by its bytes
+        status, body, _ = self.server.get(f"/api/file?repository=one&life=1&version={rows[0]['version']}&name={bytes_row['id']}")
+        self.assertEqual((status, json.loads(body)["lines"]), (200, ["bytes \ufffd\ufffd hostile"]))
+        self.assertIn(MARKUP.decode() + " hostile body", [hit[3] for hit in self.server.hits("hostile")])
+        for path in "/", "/api/find?q=hostile", "/api/find?q=(", "/metrics", "/none":
+            headers = {name.lower(): value for name, value in self.server.get(path)[2].items()}
+            self.assertIn("default-src 'none'", headers.get("content-security-policy", ""), path)
+            self.assertEqual(headers["x-content-type-options"], "nosniff")
+
+    def test_nothing_else_is_served(self) -> None:
+        for path in "/../server.py", "/%2e%2e/server.py", "/page.js/..", "/api", "/src/main.c":
+            self.assertEqual(self.server.get(path)[0], 404, path)
+        for words in "name=..%2Fsecret", "name=%2Fetc%2Fpasswd", "name=src", "name=^.*$", "name=src/main.c%0Apublish":
+            status, body, _ = self.server.get(f"/api/file?repository=one&life=1&version=6&{words}")
+            self.assertEqual(status, 404, (words, body))
+        for words in "", "repository=none&name=a&life=1&version=1", "repository=one&name=a&life=x&version=1", "repository=one&life=1&version=1":
+            self.assertEqual(self.server.get(f"/api/file?{words}")[0], 400, words)
+        self.assertEqual(self.server.get("/api/status", {"Host": "attacker.example"})[0], 403)
+        self.assertEqual(self.server.get("/api/status", {"Host": "127.0.0.1@attacker.example:80"})[0], 403)
+        self.assertEqual(self.server.get("/api/status", {"Host": "localhost:80"})[0], 200)
+
+    def test_a_slow_search_does_not_hold_up_others(self) -> None:
+        with concurrent.futures.ThreadPoolExecutor(8) as pool:
+            slow = [pool.submit(self.server.find, SLOW, repository="two") for _ in range(4)]
+            time.sleep(0.1)
+            began = time.monotonic()
+            self.assertEqual(len(self.server.hits("int main", repository="one")), 1)
+            self.assertLess(time.monotonic() - began, SECONDS / 4)
+            for search in slow:
+                self.assertLess(len(search.result()), 4)
+
+    def test_the_search_before_is_cancelled(self) -> None:
+        with concurrent.futures.ThreadPoolExecutor(2) as pool, stopped(self.server.programs()[1]):
+            slow = pool.submit(self.server.find, "main", visitor="a", turn=2)
+            time.sleep(0.3)
+            self.assertEqual(len(self.server.hits("int main", visitor="a", turn=3, repository="one")), 1)
+            self.assertEqual(slow.result(), [{"refused": "cancelled"}])
+            # one of an earlier turn that comes late gives way
+            slow = pool.submit(self.server.find, "main", visitor="a", turn=5)
+            time.sleep(0.3)
+            self.assertEqual(self.server.find("int main", visitor="a", turn=4), [{"refused": "cancelled"}])
+            self.assertEqual(len(self.server.hits("int main", visitor="b", turn=1, repository="one")), 1)
+            self.assertFalse(slow.done())
+            self.server.find("x", visitor="a", turn=6, repository="one")
+            self.assertEqual(slow.result(), [{"refused": "cancelled"}])
+
+    def test_a_visitor_who_leaves(self) -> None:
+        """Their searches are cancelled in the program."""
+        host, port = self.server.address.removeprefix("http://").split(":")
+        before = self.metric("tsearch_web_searches_total", outcome="cancelled")
+        with stopped(self.server.programs()[1]):
+            for _ in range(3):
+                with socket.create_connection((host, int(port))) as visitor:
+                    visitor.sendall(b"GET /api/find?q=main HTTP/1.1\r\nHost: localhost\r\n\r\n")
+                    time.sleep(0.2)
+            time.sleep(0.5)
+        until(lambda: self.metric("tsearch_web_searches_total", outcome="cancelled") >= before + 3)
+        until(lambda: self.metric("tsearch_open_searches", repository="two") == 0)
+
+    def metric(self, name: str, **labels: str) -> float:
+        shown = ",".join(f'{key}="{value}"' for key, value in labels.items())
+        found = re.search(rf"^{re.escape(f'{name}{{{shown}}}')} (\S+)$", self.server.get("/metrics")[1].decode(), re.MULTILINE)
+        self.assertIsNotNone(found, (name, labels))
+        return float(found[1])
+
+    def test_metrics(self) -> None:
+        text = self.server.get("/metrics")[1].decode()
+        kinds = {}
+        for line in text.splitlines():
+            if line.startswith("# TYPE"):
+                kinds[line.split()[2]] = line.split()[3]
+            elif not line.startswith("#"):
+                found = re.fullmatch(r'(\w+)(\{\w+="[^"]*"(,\w+="[^"]*")*\})? [0-9.e+-]+', line)
+                self.assertIsNotNone(found, line)
+                self.assertIn(found[1], kinds)
+        self.assertEqual(self.metric("tsearch_documents", repository="two"), 102)
+        self.assertEqual(self.metric("tsearch_left_out_files", repository="two"), 1)
+        self.assertEqual(self.metric("tsearch_up", repository="one"), 1)
+        before = self.metric("tsearch_web_searches_total", outcome="answered")
+        self.server.find("x")
+        self.assertEqual(self.metric("tsearch_web_searches_total", outcome="answered"), before + 1)
+
+
+@unittest.skipUnless(importlib.util.find_spec("aiohttp"), "the library aiohttp is missing (python3-aiohttp)")
+class Changes(unittest.TestCase):
+    def test_files_of_the_answer_s_version(self) -> None:
+        with serving() as server:
+            path = pathlib.Path(server.top, "one/src/main.c")
+
+            def view(head: dict) -> tuple[int, list[str]]:
+                place = f"repository=one&life={head['life']}&version={head['version']}"
+                status, body, _ = server.get(f"/api/file?{place}&name=src/main.c")
+                return status, json.loads(body).get("lines")
+
+            heads = [(server.find("main", repository="one")[0], path.read_text().splitlines())]
+            for number in range(5):
+                text = f"int changed_{number}(void);\n"
+                path.write_text(text)
+                until(lambda number=number: server.hits(f"changed_{number}"))
+                heads.append((server.find("changed", repository="one")[0], text.splitlines()))
+            for head, lines in heads:
+                self.assertEqual(view(head), (200, lines))
+            path.unlink()
+            until(lambda: not server.hits("changed"))
+            for head, lines in heads:
+                self.assertEqual(view(head), (200, lines))
+            self.assertEqual(view(server.find("x", repository="one")[0])[0], 404)
+
+    def test_a_program_that_is_killed(self) -> None:
+        with serving() as server:
+            head = server.find("int main", repository="one")[0]
+            self.assertEqual(len(server.programs()), 2)
+            for pid in server.programs():
+                os.kill(pid, signal.SIGKILL)
+            until(lambda: len(server.hits("int main")) == 2)
+            after = server.find("int main", repository="one")[0]
+            self.assertEqual((head["life"], after["life"]), (1, 2))
+            # the versions of the program before are no longer known
+            status, _, _ = server.get(f"/api/file?repository=one&life=1&version={head['version']}&name=src/main.c")
+            self.assertEqual(status, 410)
+            status, _, _ = server.get(f"/api/file?repository=one&life=2&version={after['version']}&name=src/main.c")
+            self.assertEqual(status, 200)
+            self.assertIn(b'tsearch_restarts_total{repository="one"} 1\n', server.get("/metrics")[1])
+
+    def test_too_slow(self) -> None:
+        with serving("--search-ms", "1") as server:
+            pathlib.Path(server.top, "two/large").write_bytes(b"a few words of a long file, and so on\n" * 25_000)
+            until(lambda: server.get("/metrics")[1].count(b'tsearch_documents{repository="two"} 103'))
+            until(lambda: server.find("a.*b.*c.*d.*e.*f", search_ms="99999") == [{"refused": "too slow", "milliseconds": 1}])
+
+
+if __name__ == "__main__":
+    unittest.main()

@@ -1,0 +1,561 @@
+"""A session and a folder for programs with asyncio. Any number of tasks of one loop share one; the standard library suffices."""
+
+from __future__ import annotations
+
+import asyncio
+import contextlib
+import itertools
+import os
+from asyncio import subprocess
+from collections.abc import AsyncIterator, Awaitable, Callable, Iterator, Sequence
+from typing import Any
+
+from .answers import Answer, Published, Status
+from .core import Core, Query, Sent, SentSearch, ended_by, ended_with, status_of, value_of
+from .errors import Ended, Error
+from .folder import Files, Progress, Refreshed, Step
+from .program import MOST_COMMANDS, TO_END, command, kill_group
+
+__all__ = ["Change", "Changes", "Folder", "Search", "Session"]
+
+# The program takes no item, not even a cancel, while 1,024 searches are open.
+MOST_OPEN = 512
+_BLOCK = 1 << 18
+_MESSAGE = 4_096
+# In bytes: so much of files is read ahead, and then sent.
+_BATCH = 1 << 21
+
+
+def _future_of(sent: Sent) -> asyncio.Future[Any]:
+    """A future of what an item comes to."""
+    future: asyncio.Future[Any] = asyncio.get_running_loop().create_future()
+
+    def settle(settled: Sent) -> None:
+        if future.done():
+            return
+        if settled.error is None:
+            future.set_result(settled.value)
+        else:
+            future.set_exception(settled.error)
+            future.exception()  # who no longer waits for it is not told at the future's end
+
+    if sent.is_settled:
+        settle(sent)
+    else:
+        sent.on_settled = settle
+    return future
+
+
+class _Connection:
+    """One life of a program: its streams, its core, and the task that reads what it writes."""
+
+    def __init__(
+        self,
+        reader: asyncio.StreamReader,
+        writer: asyncio.StreamWriter,
+        process: subprocess.Process | None,
+        life: int,
+        most_open: int,
+        messages: Callable[[bytes], None] | None,
+    ) -> None:
+        self.core = Core(life)
+        self.life = life
+        self.process = process
+        self.ended: Callable[[], Error] | None = None
+        self._reader, self._writer = reader, writer
+        self._turns = asyncio.Semaphore(most_open)
+        self._draining = asyncio.Lock()
+        self.is_closing = False
+        self._message = b""
+        self._messages = messages
+        self._open: set[asyncio.Future[Any]] = set()
+        self._errors = asyncio.create_task(self._take_messages())
+        self.task = asyncio.create_task(self._run())
+
+    async def send(self, make: Callable[[Core], tuple[Any, list[bytes]]]) -> Any:
+        """Sends what `make` makes, and waits until the program has taken nearly all that was sent."""
+        self._check_alive()
+        sent, parts = make(self.core)
+        self._write(parts)
+        await self._drain()
+        return sent
+
+    async def begin(self, query: Query) -> Search:
+        """Sends a search once it has its turn, which lasts until its entry."""
+        await self._turns.acquire()
+        try:
+            self._check_alive()
+            sent, parts = self.core.find(query)
+        except BaseException:
+            self._turns.release()
+            raise
+        future = _future_of(sent)
+        self._open.add(future)
+        future.add_done_callback(self._give_turn)
+        self._write(parts)
+        search = Search(self, sent, future)
+        try:
+            await self._drain()
+        except asyncio.CancelledError:
+            search.cancel()
+            raise
+        return search
+
+    def _give_turn(self, future: asyncio.Future[Any]) -> None:
+        self._open.discard(future)
+        self._turns.release()
+
+    def cancel(self, search: SentSearch) -> None:
+        """Sends a cancel, at once: a short item that waits for no room."""
+        if self.ended is None and not self.is_closing:
+            self._write(self.core.cancel(search))
+
+    def open_futures(self) -> set[asyncio.Future[Any]]:
+        """Those of the searches that have no entry yet."""
+        return set(self._open)
+
+    def _check_alive(self) -> None:
+        if self.ended:
+            raise self.ended()
+        if self.is_closing:
+            raise Ended(None)
+
+    def _write(self, parts: list[bytes]) -> None:
+        if parts:
+            self._writer.writelines(parts)
+
+    async def _drain(self) -> None:
+        # What went wrong with the writing is told once the output has ended.
+        with contextlib.suppress(OSError):
+            async with self._draining:
+                await self._writer.drain()
+
+    async def close(self, timeout: float | None) -> int | None:
+        """Closes the input, waits for the end, and ends the program itself if it does not come in time."""
+        self.is_closing = True
+        if self.ended is None:
+            with contextlib.suppress(OSError, RuntimeError):
+                if self._writer.can_write_eof():
+                    self._writer.write_eof()
+                else:
+                    self._writer.close()
+        done, _ = await asyncio.wait([self.task], timeout=timeout)
+        if not done:
+            self.kill()
+            await asyncio.wait([self.task], timeout=TO_END)
+        return None if self.process is None else self.process.returncode
+
+    def kill(self) -> None:
+        """Ends the program, or leaves the streams, at once."""
+        self.is_closing = True
+        if self.process is None:
+            self._writer.transport.abort()
+            self._reader.feed_eof()
+        elif self.process.returncode is None:
+            kill_group(self.process.pid)
+
+    async def _run(self) -> None:
+        fault: Error | None = None
+        try:
+            await self._take_output()
+        except Exception as error:  # whatever it is, nobody may wait for ever
+            fault = error if isinstance(error, Error) else Ended(None, repr(error))
+            self.kill()
+        status = None if self.process is None else await self._status(self.process)
+        await asyncio.wait([self._errors], timeout=TO_END)
+        message = self._message.decode(errors="replace").strip()
+        self.ended = ended_with(fault) if fault else ended_by(status, message)
+        self._tell(self.core.end(self.ended))
+        self._writer.close()
+        with contextlib.suppress(OSError, TimeoutError):
+            async with asyncio.timeout(TO_END):
+                await self._writer.wait_closed()
+
+    async def _status(self, process: subprocess.Process) -> int:
+        # The pipe is closed, so that it ends even if it still reads.
+        self._writer.close()
+        try:
+            async with asyncio.timeout(TO_END):
+                return await process.wait()
+        except TimeoutError:
+            self.kill()
+            return await process.wait()
+
+    async def _take_output(self) -> None:
+        with contextlib.suppress(OSError):
+            while data := await self._reader.read(_BLOCK):
+                self._tell(self.core.receive(data))
+
+    async def _take_messages(self) -> None:
+        if self.process is None or self.process.stderr is None:
+            return
+        with contextlib.suppress(OSError):
+            while data := await self.process.stderr.read(_MESSAGE):
+                self._message = (self._message + data)[-_MESSAGE:]
+                if self._messages:
+                    self._messages(data)
+
+    @staticmethod
+    def _tell(settled: list[Sent]) -> None:
+        for sent in settled:
+            if sent.on_settled:
+                sent.on_settled(sent)
+
+
+class Change:
+    """A put, a load or a remove that was sent. Whether it is accepted is known once a text of a later item has come."""
+
+    def __init__(self, connection: _Connection, sent: Sent) -> None:
+        self._connection = connection
+        self._sent = sent
+
+    @property
+    def name(self) -> bytes:
+        """The name of the document."""
+        assert self._sent.name is not None
+        return self._sent.name
+
+    async def wait(self) -> None:
+        """Returns once the change is known to be accepted, and asks for a status to know it. `ChangeRefused` if it is refused."""
+        if not self._sent.is_settled:
+            await _asked(self._connection)
+        value_of(self._sent)
+
+
+class Search:
+    """A search that was sent. `await search` gives its answer; a task that is cancelled while it waits leaves the search open, and
+    `cancel` gives it up."""
+
+    def __init__(self, connection: _Connection, sent: SentSearch, future: asyncio.Future[Any]) -> None:
+        self._connection = connection
+        self._sent = sent
+        self._future = future
+
+    def __await__(self) -> Any:
+        return asyncio.shield(self._future).__await__()
+
+    def done(self) -> bool:
+        """Whether the search has its answer or its refusal."""
+        return self._future.done()
+
+    def cancel(self) -> None:
+        """Gives the search up, in the program too. If it has its answer already, it keeps it; else `Cancelled` is raised."""
+        self._connection.cancel(self._sent)
+
+
+class Changes:
+    """What changes the documents of a session. A `restart` passes one to its callback, and every `Session` is one. The methods are
+    those of `tsearch.Changes`, with `await`: each returns once the program has taken nearly all that was sent."""
+
+    def __init__(self, connection: _Connection) -> None:
+        self._connection = connection
+
+    async def put(self, name: str | bytes, body: str | bytes) -> Change:
+        """Adds a document, or replaces the one of this name. The body is bytes, or text that is sent as UTF-8."""
+        data = body.encode() if isinstance(body, str) else bytes(body)
+        connection = self._connection
+        return Change(connection, await connection.send(lambda core: core.put(name, data)))
+
+    async def load(self, name: str | bytes, path: str | bytes | os.PathLike[str] | os.PathLike[bytes]) -> Change:
+        """Adds a document, or replaces the one of this name, with the bytes of a file that the program reads. A path that is not
+        absolute starts at the folder that the program runs in."""
+        connection = self._connection
+        return Change(connection, await connection.send(lambda core: core.load(name, os.fsencode(path))))
+
+    async def remove(self, name: str | bytes) -> Change:
+        """Removes a document."""
+        connection = self._connection
+        return Change(connection, await connection.send(lambda core: core.remove(name)))
+
+
+class Session(Changes):
+    """A program that keeps documents and answers searches, for as many tasks of a loop as want to share it.
+
+        async with tsearch.aio.Session.started() as session:
+            await session.put("a.txt", "hello world")
+            await session.publish()
+            for hit in await session.find("o w"):
+                print(hit.name, hit.line, hit.text)
+
+    It does what `tsearch.Session` does, and its arguments and errors are the same. Limits of time are asyncio's: a task that is
+    cancelled in `find`, by `asyncio.timeout` too, cancels its search in the program.
+    """
+
+    def __init__(self, connection: _Connection, start: Callable[[int], Awaitable[_Connection]] | None) -> None:
+        super().__init__(connection)
+        self._start = start
+        self._restarting = asyncio.Lock()
+        self._is_closed = False
+
+    @classmethod
+    async def start(
+        cls,
+        program: str | os.PathLike[str] | Sequence[str] | None = None,
+        *,
+        readers: int | None = None,
+        search_ms: int | None = None,
+        max_commands: int | None = MOST_COMMANDS,
+        stats: bool = False,
+        messages: Callable[[bytes], None] | None = None,
+        most_open: int = MOST_OPEN,
+    ) -> Session:
+        """Starts a program. `close` ends it. The arguments are those of `tsearch.Session`."""
+        if not 1 <= most_open <= 1_000:
+            raise ValueError("most_open is 1 to 1,000")
+        words = command(program, readers=readers, search_ms=search_ms, max_commands=max_commands, stats=stats)
+        pipe = subprocess.PIPE
+
+        async def start(life: int) -> _Connection:
+            # Ctrl-C at a terminal is for the client, which then ends the session.
+            process = await asyncio.create_subprocess_exec(*words, stdin=pipe, stdout=pipe, stderr=pipe, start_new_session=True)
+            assert process.stdin is not None and process.stdout is not None
+            return _Connection(process.stdout, process.stdin, process, life, most_open, messages)
+
+        return cls(await start(1), start)
+
+    @classmethod
+    @contextlib.asynccontextmanager
+    async def started(cls, *words: Any, **options: Any) -> AsyncIterator[Session]:
+        """A session that lasts as long as its block. The arguments are those of `start`."""
+        async with await cls.start(*words, **options) as session:
+            yield session
+
+    @classmethod
+    def over(cls, reader: asyncio.StreamReader, writer: asyncio.StreamWriter, *, most_open: int = MOST_OPEN) -> Session:
+        """A session over streams that lead to a program started elsewhere with --live, to which nothing was sent before. Such a
+        session cannot be restarted."""
+        return cls(_Connection(reader, writer, None, 1, most_open, None), None)
+
+    @property
+    def life(self) -> int:
+        """How often the program was started. Versions are counted from 0 in each life."""
+        return self._connection.life
+
+    @property
+    def pid(self) -> int | None:
+        """The number of the program's process, if this session started it."""
+        process = self._connection.process
+        return None if process is None else process.pid
+
+    async def publish(self) -> Published:
+        """Lets searches see all changes so far, and returns once they do, with what was refused since the publish before.
+        `PublishRefused` if there is no memory."""
+        return await _published(self._connection)
+
+    async def status(self) -> Status:
+        """What the session holds. It waits for no search."""
+        return status_of(await _asked(self._connection))
+
+    async def sync(self) -> None:
+        """Returns once every search that was sent before has its answer or its refusal. Nothing is sent for it: behind an item
+        `sync` the cancels of other tasks would wait."""
+        connection = self._connection
+        before = connection.open_futures()
+        if before:
+            await asyncio.wait(before)
+        if connection.ended:
+            raise connection.ended()
+
+    async def begin(
+        self,
+        pattern: str | bytes,
+        *,
+        name: str | bytes | None = None,
+        ignore_case: bool = False,
+        literal: bool = False,
+        word: bool = False,
+        line: bool = False,
+        limit: int | None = None,
+    ) -> Search:
+        """Sends a search and does not wait for its answer. The arguments are those of `find`."""
+        query = Query.of(pattern, name, limit, ignore_case=ignore_case, literal=literal, word=word, line=line)
+        return await self._connection.begin(query)
+
+    async def find(
+        self,
+        pattern: str | bytes,
+        *,
+        name: str | bytes | None = None,
+        ignore_case: bool = False,
+        literal: bool = False,
+        word: bool = False,
+        line: bool = False,
+        limit: int | None = None,
+    ) -> Answer:
+        """The lines that contain a match of a pattern, in the documents of the last publish or a later one. The arguments and the
+        errors are those of `tsearch.Session.find`."""
+        search = await self.begin(pattern, name=name, ignore_case=ignore_case, literal=literal, word=word, line=line, limit=limit)
+        try:
+            answer: Answer = await search
+            return answer
+        except asyncio.CancelledError:
+            search.cancel()
+            raise
+
+    def cancel(self, search: Search) -> None:
+        """Gives up a search, as its own `cancel` does."""
+        search.cancel()
+
+    async def restart(self, feed: Callable[[Changes], Awaitable[object]], *, only_if_ended: bool = True) -> Published | None:
+        """Starts the program again, and lets `feed` put all documents into it, as `tsearch.Session.restart` does."""
+        if self._start is None:
+            raise ValueError("a session over streams cannot start a program")
+        async with self._restarting:
+            before = self._connection
+            if self._is_closed:
+                raise Ended(None)
+            if only_if_ended and before.ended is None and not before.is_closing:
+                return None
+            connection = await self._start(before.life + 1)
+            try:
+                await feed(Changes(connection))
+                published = await _published(connection)
+                if self._is_closed:
+                    raise Ended(None)
+            except BaseException:
+                connection.kill()
+                raise
+            self._connection = connection
+        await before.close(None)
+        return published
+
+    async def close(self, timeout: float | None = 10.0) -> int | None:
+        """Ends the session: what was sent is carried out and answered first. A program that has not ended after so many seconds is
+        killed. The status of the program, negative for a signal; None over streams. A second call does nothing."""
+        self._is_closed = True
+        return await self._connection.close(timeout)
+
+    def kill(self) -> None:
+        """Ends the program at once. Who waits for it gets `Ended`. It can be started again."""
+        self._connection.kill()
+
+    async def __aenter__(self) -> Session:
+        return self
+
+    async def __aexit__(self, kind: type[BaseException] | None, *_: object) -> None:
+        if kind is not None:
+            self.kill()
+        await self.close()
+
+
+async def _asked(connection: _Connection) -> Any:
+    """The value of a status that is asked for now."""
+
+    def make(core: Core) -> tuple[asyncio.Future[Any], list[bytes]]:
+        sent, parts = core.status()
+        return _future_of(sent), parts
+
+    return await (await connection.send(make))
+
+
+async def _published(connection: _Connection) -> Published:
+    def make(core: Core) -> tuple[tuple[Sent, asyncio.Future[Any]], list[bytes]]:
+        publish, status, parts = core.publish()
+        return (publish, _future_of(status)), parts
+
+    publish, future = await connection.send(make)
+    published: Published = await future
+    value_of(publish)  # settled before the status behind it
+    return published
+
+
+class Folder:
+    """Keeps the text files of a folder in a session, as `tsearch.Folder` does. A thread reads the files.
+
+    before_change: is awaited with the name of each document that is there and is about to be replaced or removed.
+    """
+
+    def __init__(
+        self,
+        session: Session,
+        root: str | bytes | os.PathLike[str] | os.PathLike[bytes] = ".",
+        *,
+        prefix: str | bytes = b"",
+        git: bool | None = None,
+        progress: Progress | None = None,
+        before_change: Callable[[bytes], Awaitable[object]] | None = None,
+    ) -> None:
+        self._session = session
+        self._files = Files(root, prefix, git)
+        self._progress = progress or (lambda done, of: None)
+        self._before_change = before_change
+        self._lock = asyncio.Lock()
+        self._is_pending = False
+
+    @property
+    def root(self) -> bytes:
+        """The absolute path of the folder."""
+        return self._files.root
+
+    @property
+    def left_out(self) -> dict[bytes, str]:
+        """What is not in the session now, by its path from the top of the folder, with the reason."""
+        return dict(self._files.left_out)
+
+    async def refresh(self) -> Refreshed:
+        """Looks through the folder, sends what has changed, and publishes it, as `tsearch.Folder.refresh` does."""
+        async with self._lock:
+            put, removed = await self._send(self._session, self._before_change)
+            published = None
+            if put or removed or self._is_pending:
+                published = await self._session.publish()
+                self._is_pending = False
+                published = await self._remove(published) or published
+            else:
+                await self._session.status()  # it may have ended
+            return Refreshed(put, removed, self._files.take_news(), published)
+
+    async def restart(self) -> Published | None:
+        """Starts the program again if it has ended, and sends all files. For a session with this folder alone."""
+        async with self._lock:
+            published = await self._session.restart(self._feed)
+            if published:
+                self._is_pending = False
+                await self._remove(published)
+            return published
+
+    async def find(self, pattern: str | bytes, **options: Any) -> Answer:
+        """A search of the session, with the arguments of `Session.find`, in the documents of this folder as they were last sent."""
+        return await self._session.find(pattern, **options)
+
+    async def _feed(self, changes: Changes) -> None:
+        self._files.forget()
+        await self._send(changes, None)
+
+    async def _send(self, changes: Changes, before_change: Callable[[bytes], Awaitable[object]] | None) -> tuple[int, int]:
+        put = removed = 0
+        steps, held = self._files.steps(), frozenset(self._files.held)
+        while batch := await asyncio.to_thread(_some_of, steps):
+            for name, body, done, of in batch:
+                self._is_pending = True
+                self._progress(done, of)
+                if before_change and name.removeprefix(self._files.prefix) in held:
+                    await before_change(name)
+                if body is None:
+                    await changes.remove(name)
+                    removed += 1
+                else:
+                    await changes.put(name, body)
+                    put += 1
+        if put or removed:
+            self._progress(put + removed, put + removed)
+        return put, removed
+
+    async def _remove(self, published: Published) -> Published | None:
+        """Removes documents whose new bodies were refused, so that the old ones are not found."""
+        stale = self._files.take_refusals(published.refused)
+        for name in stale:
+            await self._session.remove(name)
+        return await self._session.publish() if stale else None
+
+
+def _some_of(steps: Iterator[Step]) -> list[Step]:
+    """The next steps, of a few mebibytes at most."""
+    batch: list[Step] = []
+    size = 0
+    for step in itertools.islice(steps, 256):
+        batch.append(step)
+        size += len(step.body or b"")
+        if size > _BATCH:
+            break
+    return batch

@@ -1,0 +1,362 @@
+"""The core of a session, without input and output: calls give the bytes to send, and the bytes that come settle what was sent.
+
+Both faces, `tsearch.Session` and `tsearch.aio.Session`, own one core each, and call it from one thread at a time. A call that sends an
+item gives its `Sent`, which `receive` settles with a value or an error. Entries of searches come in any order and are known by their
+numbers; all other texts come in the order of their items (docs/SCRIPT.md, "A session").
+"""
+
+from __future__ import annotations
+
+import collections
+import dataclasses
+import re
+from collections.abc import Callable
+from dataclasses import dataclass
+
+from . import patterns
+from .answers import Answer, Published, Status
+from .errors import (
+    Cancelled,
+    ChangeRefused,
+    Ended,
+    Error,
+    NotUnderstood,
+    PatternRefused,
+    PublishRefused,
+    Refused,
+    SearchRefused,
+    TooSlow,
+)
+from .names import checked, to_bytes
+
+# A put's length has at most this many digits.
+_MOST_DIGITS = 9
+_REFUSED_LINE = re.compile(rb"line (\d+) refused: (.*)")
+_STATUS = re.compile(rb"line (\d+) status version (\d+) documents (\d+) bytes (\d+) accepted (\d+) of (\d+) open (\d+)")
+_REFUSED_SEARCH = re.compile(rb"search (\d+) refused: (name pattern: )?(.*?)(?: at (\d+))?")
+_ANSWER = re.compile(rb"search (\d+) version (\d+) lines (\d+)(?: candidates (\d+) of (\d+))?")
+# No text of a session that is not part of an answer is this long.
+_LONGEST_HEAD = 1_024
+_OF_SEARCHES = {"cancelled": Cancelled, "too slow": TooSlow}
+
+
+class Sent:
+    """An item that was sent, until it is settled and from then on. The face that waits for it sets `on_settled`."""
+
+    __slots__ = ("line", "name", "is_of_publish", "is_settled", "value", "error", "on_settled")
+
+    def __init__(self, line: int, name: bytes | None = None) -> None:
+        self.line = line
+        # of a put, a load or a remove: the document's, as it was given
+        self.name = name
+        # of a status: it follows a publish, and tells what was refused
+        self.is_of_publish = False
+        self.is_settled = False
+        self.value: object = None
+        self.error: Error | None = None
+        self.on_settled: Callable[[Sent], None] | None = None
+
+    def refusal(self, reason: str) -> Refused:
+        """The error for a refusal of this item."""
+        return PublishRefused(reason) if self.name is None else ChangeRefused(reason, self.name)
+
+
+class SentSearch(Sent):
+    """A search that was sent."""
+
+    __slots__ = ("number", "composed", "limit", "is_wanted")
+
+    def __init__(self, line: int, number: int, composed: patterns.Composed, limit: int | None) -> None:
+        super().__init__(line)
+        self.number = number
+        self.composed = composed
+        self.limit = limit
+        # not once it is cancelled: then its answer is passed over
+        self.is_wanted = True
+
+
+@dataclass(frozen=True)
+class Query:
+    """What is asked for, in the terms of `find`; `Session.find` says what each means."""
+
+    pattern: bytes
+    name: bytes | None = None
+    ignore_case: bool = False
+    literal: bool = False
+    word: bool = False
+    line: bool = False
+    limit: int | None = None
+
+    @classmethod
+    def of(cls, pattern: str | bytes, name: str | bytes | None = None, limit: int | None = None, **options: bool) -> Query:
+        """The query for the arguments of `find`."""
+        if limit is not None and limit < 0:
+            raise ValueError("a limit is at least 0")
+        return cls(to_bytes(pattern), None if name is None else to_bytes(name), limit=limit, **options)
+
+    def composed(self) -> patterns.Composed:
+        """The pattern that is sent."""
+        return patterns.compose(self.pattern, self.literal, self.word, self.line)
+
+
+@dataclass
+class _Coming:
+    """An answer whose lines are coming. So many more are kept, and then so many passed over."""
+
+    search: SentSearch
+    answer: Callable[[bytes], Answer]
+    keep: int
+    skip: int
+    parts: list[bytes]
+
+
+class Core:
+    """A session's state, as its client knows it."""
+
+    def __init__(self, life: int = 1) -> None:
+        self._life = life
+        self._next_line = 1
+        self._searches = 0
+        self._open: dict[int, SentSearch] = {}
+        # what is no search and not settled, in the order of the lines
+        self._items: collections.deque[Sent] = collections.deque()
+        self._refused: list[ChangeRefused] = []
+        self._rest = b""
+        self._coming: _Coming | None = None
+        self._settled: list[Sent] = []
+
+    @property
+    def open_numbers(self) -> frozenset[int]:
+        """The numbers of the searches that have no entry yet, or not all of it; cancelled ones too."""
+        coming = () if self._coming is None else (self._coming.search.number,)
+        return frozenset((*self._open, *coming))
+
+    @property
+    def open_count(self) -> int:
+        """How many there are of them."""
+        return len(self._open) + (self._coming is not None)
+
+    # What is sent.
+
+    def put(self, name: str | bytes, body: bytes) -> tuple[Sent, list[bytes]]:
+        """A put. `ChangeRefused` at once for a bad name, and for a body too long to be sent as one."""
+        quoted = checked(name)
+        if len(str(len(body))) > _MOST_DIGITS:
+            raise ChangeRefused("body too long", to_bytes(name))
+        return self._item(to_bytes(name), [b"put %s %d\n" % (quoted, len(body)), body, b"\n"])
+
+    def load(self, name: str | bytes, path: bytes) -> tuple[Sent, list[bytes]]:
+        """A load. `ChangeRefused` at once for a bad name, and for a path that is empty or has a line feed or a byte 0."""
+        quoted = checked(name)
+        if not path or b"\n" in path or b"\0" in path:
+            raise ChangeRefused("cannot load", to_bytes(name))
+        return self._item(to_bytes(name), [b"load %s %s\n" % (quoted, path)])
+
+    def remove(self, name: str | bytes) -> tuple[Sent, list[bytes]]:
+        """A remove. `ChangeRefused` at once for a bad name."""
+        return self._item(to_bytes(name), [b"remove %s\n" % checked(name)])
+
+    def publish(self) -> tuple[Sent, Sent, list[bytes]]:
+        """A publish and a status behind it, by which the publish and all before it are known to be carried out."""
+        publish, first = self._item(None, [b"publish\n"])
+        status, second = self._item(None, [b"status\n"])
+        status.is_of_publish = True
+        return publish, status, first + second
+
+    def status(self) -> tuple[Sent, list[bytes]]:
+        """A status."""
+        return self._item(None, [b"status\n"])
+
+    def find(self, query: Query) -> tuple[SentSearch, list[bytes]]:
+        """A search. `PatternRefused` at once for what cannot be sent as a pattern."""
+        composed = query.composed()
+        if query.name is None:
+            name = b""
+        else:
+            patterns.check(patterns.compose(query.name), in_name=True)
+            name = b"in " + query.name
+        patterns.check(composed)
+        word = b"isearch" if query.ignore_case else b"search"
+        self._searches += 1
+        search = SentSearch(self._next_line, self._searches, composed, query.limit)
+        self._next_line += 1
+        self._open[search.number] = search
+        return search, [b"%s%s %s\n" % (word, name, composed.pattern)]
+
+    def cancel(self, search: SentSearch) -> list[bytes]:
+        """A cancel, and from now on the search's answer is passed over. Nothing is sent for a search that has its entry, or that was
+        cancelled before."""
+        if search.is_settled or not search.is_wanted:
+            return []
+        search.is_wanted = False
+        if self._coming and self._coming.search is search:
+            self._coming.skip += self._coming.keep
+            self._coming.keep = 0
+            self._coming.parts.clear()
+            return []
+        return self._item(None, [b"cancel %d\n" % search.number])[1]
+
+    def _item(self, name: bytes | None, parts: list[bytes]) -> tuple[Sent, list[bytes]]:
+        sent = Sent(self._next_line, name)
+        self._next_line += sum(part.count(b"\n") for part in parts)
+        self._items.append(sent)
+        return sent, parts
+
+    # What comes.
+
+    def receive(self, data: bytes) -> list[Sent]:
+        """Takes bytes that came, and gives what they settle. `NotUnderstood` if they are not what a session writes."""
+        data = self._rest + data
+        at = 0
+        while at < len(data):
+            if self._coming:
+                at = self._take_lines(self._coming, data, at)
+                continue
+            end = data.find(b"\n", at)
+            if end < 0:
+                break
+            self._take_head(data[at:end])
+            at = end + 1
+        self._rest = data[at:]
+        if len(self._rest) > _LONGEST_HEAD:
+            raise NotUnderstood(f"no text of a session begins so: {self._rest[:80]!r}")
+        settled, self._settled = self._settled, []
+        return settled
+
+    def end(self, ended: Callable[[], Error]) -> list[Sent]:
+        """Settles all that is left with an error, a new one for each. Nothing can be sent from now on."""
+        left = [*self._items, *self._open.values(), *([self._coming.search] if self._coming else [])]
+        self._items.clear()
+        self._open.clear()
+        self._coming = None
+        for sent in left:
+            self._settle(sent, error=ended())
+        settled, self._settled = self._settled, []
+        return settled
+
+    def _settle(self, sent: Sent, value: object = None, error: Error | None = None) -> None:
+        sent.is_settled, sent.value, sent.error = True, value, error
+        self._settled.append(sent)
+
+    def _accept_before(self, line: int) -> None:
+        """The items before this line that are not settled are accepted: a refusal would have come by now."""
+        while self._items and self._items[0].line < line:
+            self._settle(self._items.popleft())
+
+    def _take_head(self, head: bytes) -> None:
+        if found := _ANSWER.fullmatch(head):
+            number, version, lines = (int(word) for word in found.groups()[:3])
+            counted = [None if word is None else int(word) for word in found.groups()[3:]]
+            self._begin_answer(number, version, lines, *counted)
+        elif found := _REFUSED_SEARCH.fullmatch(head):
+            in_name, reason, offset = found.groups()[1:]
+            search = self._entry(int(found[1]))
+            self._settle(search, error=_error_of(search, in_name is not None, reason.decode(errors="replace"), offset))
+        elif found := _STATUS.fullmatch(head):
+            line, version, documents, size, accepted, most, open_now = map(int, found.groups())
+            sent = self._item_at(line, head)
+            refused = tuple(self._refused) if sent.is_of_publish else ()
+            if sent.is_of_publish:
+                self._refused.clear()
+            self._settle(sent, Published(self._life, version, documents, size, accepted, most, open_now, refused))
+        elif found := _REFUSED_LINE.fullmatch(head):
+            sent = self._item_at(int(found[1]), head)
+            error = sent.refusal(found[2].decode(errors="replace"))
+            if isinstance(error, ChangeRefused):
+                self._refused.append(error)
+            self._settle(sent, error=error)
+        else:
+            raise NotUnderstood(f"no text of a session is so: {head[:80]!r}")
+
+    def _item_at(self, line: int, head: bytes) -> Sent:
+        self._accept_before(line)
+        if not self._items or self._items[0].line != line:
+            raise NotUnderstood(f"nothing was sent in this line: {head[:80]!r}")
+        return self._items.popleft()
+
+    def _entry(self, number: int) -> SentSearch:
+        """The search whose entry comes. All texts of items before it have come."""
+        search = self._open.pop(number, None)
+        if search is None:
+            raise NotUnderstood(f"an entry of search {number}, which is not open")
+        self._accept_before(search.line)
+        return search
+
+    def _begin_answer(self, number: int, version: int, lines: int, candidates: int | None, documents: int | None) -> None:
+        search = self._entry(number)
+        if search.composed.is_open:
+            raise NotUnderstood(f"the pattern {search.composed.pattern!r} is not refused")
+        keep = 0 if not search.is_wanted else lines if search.limit is None else min(lines, search.limit)
+
+        def answer(data: bytes) -> Answer:
+            return Answer(self._life, version, lines, keep, data, candidates, documents)
+
+        self._coming = _Coming(search, answer, keep, lines - keep, [])
+        self._end_answer(self._coming)
+
+    def _take_lines(self, coming: _Coming, data: bytes, at: int) -> int:
+        """Takes lines of the answer that is coming, and gives where it has come to."""
+        is_kept = coming.keep > 0
+        left = coming.keep or coming.skip
+        count = data.count(b"\n", at)
+        end = len(data) if count < left else _after_line(data, at, left)
+        if is_kept:
+            coming.parts.append(data[at:end])
+            coming.keep -= min(count, left)
+        else:
+            coming.skip -= min(count, left)
+        self._end_answer(coming)
+        return end
+
+    def _end_answer(self, coming: _Coming) -> None:
+        if coming.keep or coming.skip:
+            return
+        self._coming = None
+        if coming.search.is_wanted:
+            self._settle(coming.search, coming.answer(b"".join(coming.parts)))
+        else:
+            self._settle(coming.search, error=Cancelled("cancelled"))
+
+
+def _after_line(data: bytes, at: int, lines: int) -> int:
+    """The offset after so many line feeds from `at` on; there are that many. Halves what is left, which looks at it twice."""
+    end = len(data)
+    while end - at > 1:
+        middle = (at + end) // 2
+        before = data.count(b"\n", at, middle)
+        if before < lines:
+            at, lines = middle, lines - before
+        else:
+            end = middle
+    return end
+
+
+def _error_of(search: SentSearch, in_name: bool, reason: str, offset: bytes | None) -> Error:
+    """The error for the refusal of a search."""
+    if offset is None:
+        return _OF_SEARCHES.get(reason, SearchRefused)(reason)
+    at = int(offset)
+    return PatternRefused(reason, at if in_name else search.composed.origin(at), in_name)
+
+
+def value_of(sent: Sent) -> object:
+    """What a settled item came to: its value, or its error, which is raised."""
+    if sent.error is not None:
+        raise sent.error
+    return sent.value
+
+
+def status_of(published: object) -> Status:
+    """A status without what was refused."""
+    assert isinstance(published, Published)
+    return Status(**{field.name: getattr(published, field.name) for field in dataclasses.fields(Status)})
+
+
+def ended_with(error: Error) -> Callable[[], Error]:
+    """What makes an error like this one for each who waits."""
+    return lambda: type(error)(*error.args)
+
+
+def ended_by(status: int | None, message: str) -> Callable[[], Error]:
+    """What makes the error for each who waits when the program ends."""
+    return lambda: Ended(status, message)

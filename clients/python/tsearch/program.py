@@ -1,0 +1,55 @@
+"""The program, and the words that start a session of it."""
+
+from __future__ import annotations
+
+import contextlib
+import os
+import pathlib
+import shutil
+import signal
+from collections.abc import Sequence
+
+from .errors import Error
+
+# In seconds: how long a program that has closed its output, or is killed, may take to end.
+TO_END = 5.0
+# The most puts, loads and removes that a session can be told to take: a client that stays does not want to be full.
+MOST_COMMANDS = 4_294_967_294
+
+
+def find_program() -> str:
+    """The path of the program: that of the variable TSEARCH; else that of the repository in which this package lies, whose first call
+    compiles it, in some minutes; else the command `tsearch` on the PATH. `Error` if there is none."""
+    beside = pathlib.Path(__file__).resolve().parents[3] / "tsearch"
+    found = os.environ.get("TSEARCH") or (str(beside) if beside.is_file() else shutil.which("tsearch"))
+    if not found:
+        raise Error("there is no program: set TSEARCH to its path")
+    return found
+
+
+def kill_group(process: int) -> None:
+    """Kills a process that leads a group, and the group: the program may be one that compiles tsearch, with processes of its own."""
+    with contextlib.suppress(ProcessLookupError):
+        os.killpg(process, signal.SIGKILL)
+
+
+def command(
+    program: str | os.PathLike[str] | Sequence[str] | None = None,
+    *,
+    readers: int | None = None,
+    search_ms: int | None = None,
+    max_commands: int | None = MOST_COMMANDS,
+    stats: bool = False,
+) -> list[str]:
+    """The words that start a session. `program` is a path, or the words of a command to which the options are added."""
+    if program is None:
+        words = [find_program()]
+    elif isinstance(program, (str, os.PathLike)):
+        words = [os.fspath(program)]
+    else:
+        words = list(program)
+    words.append("--live")
+    for option, number in ("--readers", readers), ("--search-ms", search_ms), ("--max-commands", max_commands):
+        if number is not None:
+            words += [option, str(number)]
+    return words + ["--stats"] * stats

@@ -1,0 +1,248 @@
+"use strict";
+// Every text of a document or of a visitor is put into the page as text, and never as markup.
+
+const at = (id) => document.getElementById(id);
+const pattern = at("pattern"), nameField = at("name"), results = at("results"), status = at("status"), fault = at("fault");
+const options = { i: at("ignore-case"), w: at("word"), F: at("literal") };
+const visitor = Array.from(crypto.getRandomValues(new Uint8Array(16)), (byte) => byte.toString(16).padStart(2, "0")).join("");
+// Fewer letters are searched for at Enter alone: they find too much to be of use.
+const LEAST = 3;
+const LONGEST = 400;
+
+let running = null, turn = 0;
+
+function element(tag, className, text) {
+  const made = document.createElement(tag);
+  if (className) made.className = className;
+  if (text !== undefined) made.textContent = text;
+  return made;
+}
+
+function chosen() {
+  return [...document.querySelectorAll("#repositories input:checked")].map((box) => box.value);
+}
+
+function wordsOf() {
+  const words = new URLSearchParams();
+  words.set("q", pattern.value);
+  if (nameField.value) words.set("name", nameField.value);
+  for (const [word, box] of Object.entries(options)) if (box.checked) words.set(word, "1");
+  for (const repository of chosen()) words.append("repository", repository);
+  return words;
+}
+
+function show(text) {
+  status.textContent = text;
+}
+
+function clear() {
+  results.replaceChildren();
+  results.classList.remove("stale");
+}
+
+function complain(told) {
+  if (told.offset === undefined) {
+    fault.hidden = true;
+    const slow = told.refused === "too slow" ? ` after ${told.milliseconds} ms; try a narrower one` : "";
+    show(`The search is given up: ${told.refused}${slow}.`);
+    return;
+  }
+  const isName = told.in === "name";
+  const bytes = new TextEncoder().encode(isName ? nameField.value : pattern.value).slice(0, told.offset);
+  const before = new TextDecoder().decode(bytes).length;
+  fault.textContent = isName ? `path: ${told.refused} at ${told.offset}` : `${" ".repeat(before)}^ ${told.refused}`;
+  fault.hidden = false;
+  show("");
+}
+
+// A long line is cut around its first match.
+function cut(parts) {
+  const found = parts.length > 1 ? parts[0].length : 0;
+  const from = Math.max(0, found - LONGEST / 4);
+  let left = LONGEST, skip = from;
+  return parts.map((part, index) => {
+    const begin = Math.min(skip, part.length);
+    skip -= begin;
+    const shown = part.slice(begin, begin + left);
+    left -= shown.length;
+    return (index === 0 && from > 0 ? "…" : "") + shown;
+  });
+}
+
+function rowOf(hit) {
+  const row = element("button", "row");
+  row.type = "button";
+  row.append(element("span", "number", String(hit.line)));
+  const text = element("span", "text");
+  cut(hit.parts).forEach((part, index) => text.append(index % 2 ? element("mark", "", part) : part));
+  row.append(text);
+  return row;
+}
+
+function addDocument(found, head, several) {
+  const section = element("section");
+  const title = element("h2");
+  if (several) title.append(element("span", "repository", found.repository));
+  title.append(element("span", "name", found.name), element("span", "count", found.hits.length === 1 ? "1 line" : `${found.hits.length} lines`));
+  section.append(title);
+  for (const hit of found.hits) {
+    const row = rowOf(hit);
+    row.addEventListener("click", () => view(found, head, hit.line, row));
+    section.append(row);
+  }
+  results.append(section);
+}
+
+async function* linesOf(response) {
+  const reader = response.body.pipeThrough(new TextDecoderStream()).getReader();
+  let rest = "";
+  for (;;) {
+    const { value, done } = await reader.read();
+    if (done) return;
+    const lines = (rest + value).split("\n");
+    rest = lines.pop();
+    for (const line of lines) yield JSON.parse(line);
+  }
+}
+
+async function search() {
+  if (running) running.abort();
+  const words = wordsOf();
+  history.replaceState(null, "", words.get("q") ? `?${words}` : location.pathname);
+  document.body.dataset.done = "";
+  if (!words.get("q")) {
+    running = null;
+    fault.hidden = true;
+    clear();
+    return showLoaded();
+  }
+  const own = (running = new AbortController());
+  results.classList.add("stale");
+  words.set("visitor", visitor);
+  words.set("turn", String(++turn));
+  try {
+    const response = await fetch(`/api/find?${words}`, { signal: own.signal });
+    let heads = {}, total = null, isFirst = true;
+    for await (const told of linesOf(response)) {
+      if (own.signal.aborted) return;
+      if (isFirst) {
+        clear();
+        results.scrollTop = 0;
+        isFirst = false;
+      }
+      if (told.refused) {
+        complain(told);
+        results.replaceChildren();
+      } else if (told.hits) addDocument(told, heads[told.repository], document.querySelectorAll("#repositories input").length > 1);
+      else if (told.repository !== undefined) heads[told.repository] = told;
+      else total = told;
+    }
+    if (total) {
+      fault.hidden = true;
+      const files = results.querySelectorAll("section").length;
+      const more = total.shown < total.lines ? `, the first ${total.shown.toLocaleString()} of them shown` : "";
+      const lines = total.lines === 1 ? "1 line" : `${total.lines.toLocaleString()} lines`;
+      const unloaded = Object.values(heads).filter((head) => !head.loaded).map((head) => head.repository);
+      const part = unloaded.length ? ` Still loading: ${unloaded.join(", ")}.` : "";
+      show((total.lines ? `${lines}${more ? more : ` in ${files === 1 ? "1 file" : `${files} files`}`}, in ${Math.round(total.seconds * 1000)} ms` : "No line matches.") + part);
+    }
+    document.body.dataset.done = words.get("q");
+  } catch (error) {
+    if (own.signal.aborted) return;
+    clear();
+    show("The server does not answer.");
+  }
+}
+
+async function view(found, head, line, row) {
+  document.querySelectorAll(".row.shown").forEach((other) => other.classList.remove("shown"));
+  row.classList.add("shown");
+  const address = `/api/file?${new URLSearchParams({ repository: found.repository, life: head.life, version: head.version })}&name=${found.id}`;
+  const response = await fetch(address);
+  const told = await response.json();
+  const lines = at("file-lines");
+  at("file-name").textContent = `${found.repository}/${found.name}`;
+  at("file").hidden = false;
+  if (told.refused) {
+    lines.replaceChildren(element("p", "note", `${told.refused}. Search again to see it as it is now.`));
+    return;
+  }
+  const marks = new Map(found.hits.map((hit) => [hit.line, hit]));
+  lines.replaceChildren(...told.lines.map((text, index) => {
+    const shown = element("div", "row");
+    const hit = marks.get(index + 1);
+    const column = element("span", "text");
+    if (hit) hit.parts.forEach((part, number) => column.append(number % 2 ? element("mark", "", part) : part));
+    else column.textContent = text;
+    shown.append(element("span", index + 1 === line ? "number target" : "number", String(index + 1)), column);
+    return shown;
+  }));
+  lines.children[line - 1]?.scrollIntoView({ block: "center" });
+}
+
+function closeFile() {
+  at("file").hidden = true;
+  document.querySelectorAll(".row.shown").forEach((row) => row.classList.remove("shown"));
+}
+
+async function showLoaded() {
+  try {
+    const told = await (await fetch("/api/status")).json();
+    const documents = told.repositories.reduce((sum, one) => sum + (one.documents || 0), 0);
+    const loading = told.repositories.filter((one) => !one.loaded);
+    if (pattern.value) return;
+    if (loading.length) {
+      const done = loading.reduce((sum, one) => sum + one.done, 0), of = loading.reduce((sum, one) => sum + one.of, 0);
+      show(`Loading: ${done.toLocaleString()} of ${of.toLocaleString()} files.`);
+      setTimeout(showLoaded, 500);
+    } else show(documents === 1 ? "1 file to search." : `${documents.toLocaleString()} files to search.`);
+    return told;
+  } catch (error) {
+    show("The server does not answer.");
+  }
+}
+
+function addRepositories(told, wanted) {
+  if (told.repositories.length < 2) {
+    at("repositories").hidden = true;
+  }
+  for (const one of told.repositories) {
+    const label = element("label"), box = element("input");
+    box.type = "checkbox";
+    box.value = one.repository;
+    box.checked = wanted.includes(one.repository);
+    label.append(box, element("span", "", one.repository));
+    at("repositories").append(label);
+  }
+}
+
+async function begin() {
+  const words = new URLSearchParams(location.search);
+  pattern.value = words.get("q") || "";
+  nameField.value = words.get("name") || "";
+  for (const [word, box] of Object.entries(options)) box.checked = words.has(word);
+  try {
+    addRepositories(await (await fetch("/api/status")).json(), words.getAll("repository"));
+  } catch (error) {
+    show("The server does not answer.");
+  }
+  const typed = () => {
+    if (!pattern.value || [...pattern.value].length >= LEAST) search();
+    else {
+      if (running) running.abort();
+      show("Enter searches for fewer than three letters.");
+    }
+  };
+  pattern.addEventListener("input", typed);
+  nameField.addEventListener("input", typed);
+  at("form").addEventListener("change", (event) => { if (event.target.type === "checkbox") search(); });
+  at("form").addEventListener("submit", (event) => { event.preventDefault(); search(); });
+  at("close").addEventListener("click", closeFile);
+  document.addEventListener("keydown", (event) => {
+    if (event.key === "Escape") closeFile();
+    if (event.key === "/" && event.target.tagName !== "INPUT") { event.preventDefault(); pattern.select(); }
+  });
+  search();
+}
+
+begin();
