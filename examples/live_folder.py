@@ -15,7 +15,7 @@ sys.path.insert(0, os.path.join(os.path.dirname(os.path.abspath(__file__)), ".."
 import tsearch  # noqa: E402
 
 if __name__ == "__main__":
-    with tsearch.Session(messages=sys.stderr.buffer.write) as session:
+    with tsearch.Session(messages=lambda text: os.write(2, text)) as session:
         folder = tsearch.Folder(session, sys.argv[1] if len(sys.argv) > 1 else ".")
         while os.write(1, b"> ") and (typed := sys.stdin.buffer.readline().rstrip(b"\n")):
             rows = [b"left out: %s: %s\n" % (name, reason.encode()) for name, reason in folder.refresh().left_out]

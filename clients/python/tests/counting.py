@@ -2,6 +2,7 @@
 
 from __future__ import annotations
 
+import collections
 import logging
 import sys
 import unittest
@@ -17,10 +18,6 @@ class Counting(unittest.TestResult):
     def addSuccess(self, test: unittest.TestCase) -> None:
         super().addSuccess(test)
         self.passed += 1
-
-    def addSkip(self, test: unittest.TestCase, reason: str) -> None:
-        super().addSkip(test, reason)
-        print(f"left out: {test.id()}: {reason}", flush=True)
 
     def addError(self, test: unittest.TestCase, err: object) -> None:
         super().addError(test, err)  # type: ignore[arg-type]
@@ -58,6 +55,9 @@ def main() -> None:
     result = Counting()
     suite.run(result)
     failed = len(result.failures) + len(result.errors) + complaints.count
+    left_out = collections.Counter((test.id().split(".")[0], reason) for test, reason in result.skipped)
+    for (module, reason), count in left_out.items():
+        print(f"left out: {count} tests of {module}: {reason}", flush=True)
     print(f"{result.passed} passed, {failed} failed", flush=True)
     sys.exit(1 if failed else 0)
 
