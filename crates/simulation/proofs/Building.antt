@@ -1,18 +1,17 @@
 -- Parts that are built from others.
-use Rattle.std.proofs.Common.{◌≡◌, ◌≢◌, ℕ, zero, suc, ◌+◌, ◌-◌, ◌*◌, ◌<◌, ◌≤◌, Bool, true, false, ◌&&◌, ◌||◌, ◌==◌, if◌then◌else◌, IsTrue, List, length, get_or}
+use Rattle.std.proofs.Common.{◌≡◌, ℕ, zero, suc, ◌+◌, ◌-◌, ◌*◌, ◌<◌, ◌≤◌, Bool, true, false, ◌==◌, if◌then◌else◌, IsTrue, List, length, get_or}
 use Rattle.std.proofs.Common.{Option, Some, None, IfSome, ◌⊎◌, inl, inr, refl, sym, subst, ap, ◌∙◌, arith}
 use Rattle.std.proofs.lemmas.Bool.Decides.{nat_tests}
-use Rattle.ere.specs.ByteSet.{has}
-use Rattle.ere.specs.Tree.{Tree, empty, set, at_start, at_end, cat, alt, repeat, Trees, none, more}
+use Rattle.ere.specs.Tree.{Tree, cat, alt, repeat, Trees, none, more}
 use Rattle.matcher.specs.Spans.{Relation, Spans, SpansEach, SpansSome, Steps}
 use Rattle.simulation.specs.declared.part.Gaps.{Gaps}
 use Rattle.simulation.specs.declared.part.Counts.{Counts}
 use Rattle.simulation.specs.declared.part.Sizes.{Sizes}
 use Rattle.simulation.specs.Parts.{Shape, nothing, both, either, loop, times, is_gap, Chain, Reads, Fits, Suffices}
 use Rattle.simulation.specs.Parts.{set as one_of}
-use Rattle.simulation.specs.Packing.{IsPacked, StandsFor, StandsForEach, StandsForSome, nowhere, everywhere, gaps_of_both, gaps_of_either, gaps_of_times}
-use Rattle.simulation.proofs.Tests.{or_cases, or_left, or_right, and_left, and_right, and_both}
-use Rattle.simulation.proofs.Forward.{reads_forward, chain_on, at_or_past, le_or_lt}
+use Rattle.simulation.specs.Packing.{IsPacked, StandsFor, nowhere, everywhere, gaps_of_both, gaps_of_either, gaps_of_times}
+use Rattle.simulation.proofs.Tests.{and_left}
+use Rattle.simulation.proofs.Forward.{reads_forward}
 use Rattle.matcher.proofs.Bits.{false≢true}
 use Rattle.simulation.proofs.Packing.{gap_everywhere, gap_both}
 use Rattle.std.proofs.Common.{◌^◌, ◌∷◌, drop, is_none, is_some, map, not, rules, Err, IfNone, IfOk, Ok, Result, SomeIff}
@@ -25,7 +24,7 @@ use Rattle.simulation.specs.Parts.{shape}
 use Rattle.simulation.specs.Packing.{IsEachPart, IsPartFor, IsSomePart, IsTreePart, IsTurns}
 use Rattle.simulation.proofs.Packing.{each_none_packed, some_none_packed}
 use Rattle.simulation.proofs.Packing.{Then, Or, ReadsBoth, both_packed, either_packed, gap_nowhere}
-use Rattle.simulation.proofs.Repeats.{IsEnough, AtMost, repeat_packed, reads_inside, chain_inside}
+use Rattle.simulation.proofs.Repeats.{IsEnough, AtMost, repeat_packed, reads_inside}
 
 pub as_part : (words : List ℕ → Relation) (part built : Shape) (gaps given : Gaps) (copies size total : ℕ) → built ≡ part → given ≡ gaps → total ≡ size
     → IsPartFor words part gaps copies size → IsPartFor words built given copies total

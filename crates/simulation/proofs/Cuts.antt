@@ -1,9 +1,8 @@
 -- The cells of a part are its own and those of its members, one after the other.
-use Rattle.std.proofs.Common.{◌≡◌, ℕ, suc, ◌+◌, ◌-◌, ◌*◌, ◌/◌, ◌%◌, ◌<◌, ◌≤◌, Bool, ◌&&◌, ◌||◌, IsTrue, List, ◌++◌, length, get_or, take, drop, ◌⊎◌, inl, inr}
-use Rattle.std.proofs.Common.{◌↔◌, refl, sym, ap, subst, ◌∙◌, arith, length-append, length-drop}
+use Rattle.std.proofs.Common.{◌≡◌, ℕ, suc, ◌+◌, ◌-◌, ◌*◌, ◌/◌, ◌<◌, ◌≤◌, Bool, ◌&&◌, ◌||◌, IsTrue, List, ◌++◌, length, take, drop, ◌⊎◌, inl, inr}
+use Rattle.std.proofs.Common.{◌↔◌, sym, ap, subst, ◌∙◌, arith, length-drop}
 use Rattle.std.proofs.lemmas.List.{get_or-take, get_or_append_left, take_at, drop_at, length-take-le}
-use Rattle.ere.specs.Bits.{has_bit}
-use Rattle.matcher.proofs.Bits.{position_is, same_word}
+use Rattle.matcher.proofs.Bits.{same_word}
 use Rattle.simulation.specs.declared.part.Gaps.{Gaps}
 use Rattle.simulation.specs.declared.part.Counts.{Counts}
 use Rattle.simulation.specs.declared.part.Sizes.{Sizes}

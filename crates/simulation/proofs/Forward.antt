@@ -1,9 +1,9 @@
 -- Words lead forward, and what is pending ends no earlier than here.
-use Rattle.std.proofs.Common.{◌≡◌, ℕ, zero, suc, ◌+◌, ◌*◌, ◌<◌, ◌≤◌, Bool, true, false, IsTrue, List, length, ◌⊎◌, inl, inr, refl, sym, arith, subst, take, drop, nat_lt, nat_le}
+use Rattle.std.proofs.Common.{◌≡◌, ℕ, zero, suc, ◌+◌, ◌*◌, ◌<◌, ◌≤◌, Bool, true, false, List, ◌⊎◌, inl, inr, refl, arith, drop, nat_lt, nat_le}
 use Rattle.std.proofs.lemmas.Bool.Decides.{nat_tests}
 use Rattle.matcher.specs.Spans.{Relation}
 use Rattle.simulation.specs.Parts.{Shape, nothing, set, both, either, loop, times, Chain, Reads}
-use Rattle.simulation.specs.Pending.{Pending, IsKept, Tells, first_of, second_of}
+use Rattle.simulation.specs.Pending.{Pending, first_of, second_of}
 
 pub chain_not_back : (relation : Relation) → ((a b : ℕ) → relation a b → a < b) → (count from to : ℕ) → Chain relation count from to → from ≤ to
 unfolding Chain

@@ -1,5 +1,5 @@
 -- A line that is read byte by byte.
-use Rattle.std.proofs.Common.{◌≡◌, ◌≢◌, ℕ, zero, suc, ◌+◌, ◌-◌, ◌*◌, ◌/◌, ◌%◌, ◌<◌, ◌≤◌, Bool, true, false, ◌==◌, if◌then◌else◌, IsTrue, List, [], ◌∷◌, length, get_or, take, drop, ◌⊎◌, ◌↔◌, inl, inr}
+use Rattle.std.proofs.Common.{◌≡◌, ℕ, suc, ◌+◌, ◌*◌, ◌/◌, ◌<◌, ◌≤◌, Bool, true, false, ◌==◌, if◌then◌else◌, IsTrue, List, length, get_or, take, drop, ◌⊎◌, ◌↔◌, inl, inr}
 use Rattle.std.proofs.Common.{refl, sym, subst, ap, ◌∙◌, arith, nat_lt, bit_and}
 use Rattle.std.proofs.Common.{set as set_word, ◌||◌}
 use Rattle.std.proofs.Math.Nat.{div-one}
@@ -12,7 +12,7 @@ use Rattle.matcher.specs.Spans.{Spans}
 use Rattle.matcher.proofs.Bits.{false≢true, empty_word, position_in, position_set_same}
 use Rattle.matcher.proofs.Meaning.{hit_of_spans, spans_of_hit}
 use Rattle.simulation.specs.declared.part.Gaps.{Gaps}
-use Rattle.simulation.specs.Parts.{Shape, nothing, set, both, either, loop, times, is_gap, Chain, Reads}
+use Rattle.simulation.specs.Parts.{Shape, nothing, set, both, either, loop, times, is_gap, Reads}
 use Rattle.simulation.specs.Pending.{at, first_of, second_of, Pending, Tells, IsKept, IsReady, IsWhole, Advances, size_of}
 use Rattle.simulation.specs.Packing.{IsPacked}
 use Rattle.simulation.specs.Private.Reading.{AreClear, HasWord, IsReadTo}

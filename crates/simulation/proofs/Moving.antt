@@ -1,16 +1,15 @@
 -- The turns of a repeat in words of cells.
 use Rattle.std.proofs.Common.{◌≡◌, ◌≢◌, ℕ, zero, suc, ◌+◌, ◌-◌, ◌*◌, ◌/◌, ◌%◌, ◌^◌, ◌<◌, ◌≤◌, Bool, true, false, ◌&&◌, ◌||◌, ◌==◌, if◌then◌else◌, nat_lt, nat_le}
-use Rattle.std.proofs.Common.{IsTrue, List, length, get_or, set, drop, ◌⊎◌, ◌↔◌, inl, inr, refl, sym, ap, subst, ◌∙◌, arith, bit_and, bit_or, nat_eq}
+use Rattle.std.proofs.Common.{IsTrue, List, length, get_or, set, drop, ◌⊎◌, ◌↔◌, inl, inr, refl, sym, ap, ◌∙◌, arith, bit_and, bit_or, nat_eq}
 use Rattle.std.proofs.lemmas.List.{get_or-drop}
 use Rattle.std.proofs.lemmas.Nat.{mod-mul-add, mul-add-lt}
 use Rattle.std.proofs.Math.Nat.{mul-le-mul_right}
-use Rattle.std.specs.Int.{bit_at}
 use Rattle.std.proofs.lemmas.Bool.Decides.{nat_tests}
 use Rattle.std.proofs.lemmas.Nat.{shr-shr}
 use Rattle.std.proofs.lemmas.Nat.Bits.{bit_at_above}
 use Rattle.ere.specs.Bits.{has_bit}
-use Rattle.ere.proofs.Bits.{has_or, has_with, has_zero, tests_bit}
-use Rattle.matcher.proofs.Bits.{false≢true, has_moved_to, or_none, position_is, position_in, position_set_same, position_set_other}
+use Rattle.ere.proofs.Bits.{has_or, has_with, tests_bit}
+use Rattle.matcher.proofs.Bits.{false≢true, has_moved_to, or_none, position_is, position_set_same, position_set_other}
 use Rattle.simulation.specs.declared.part.Counts.{Counts}
 use Rattle.simulation.specs.Pending.{at, room, AnyTurn, Enters, Enters as enters, IsNarrow, IsNarrow as narrows}
 use Rattle.simulation.proofs.Tests.{or_cases, or_left, or_right, and_left, and_right, and_both}

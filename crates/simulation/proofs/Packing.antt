@@ -1,18 +1,15 @@
 -- Parts that stand for trees.
-use Rattle.std.proofs.Common.{◌≡◌, ◌≢◌, ℕ, zero, suc, ◌+◌, ◌-◌, ◌*◌, ◌<◌, ◌≤◌, Bool, true, false, ◌&&◌, ◌||◌, ◌==◌, if◌then◌else◌, IsTrue, List, length, get_or}
-use Rattle.std.proofs.Common.{Option, Some, None, IfSome, ◌⊎◌, inl, inr, refl, sym, subst, ap, ◌∙◌, arith}
+use Rattle.std.proofs.Common.{◌≡◌, ℕ, ◌<◌, Bool, true, false, ◌&&◌, ◌||◌, ◌==◌, if◌then◌else◌, IsTrue, List, length}
+use Rattle.std.proofs.Common.{◌⊎◌, inl, inr, refl, sym, subst, ◌∙◌, arith}
 use Rattle.std.proofs.lemmas.Bool.Decides.{nat_tests}
-use Rattle.ere.specs.ByteSet.{has}
-use Rattle.ere.specs.Tree.{Tree, empty, set, at_start, at_end, cat, alt, repeat, Trees, none, more}
-use Rattle.matcher.specs.Spans.{Relation, Spans, SpansEach, SpansSome, Steps}
+use Rattle.ere.specs.Tree.{empty, set, at_start, at_end, none}
+use Rattle.matcher.specs.Spans.{Relation, Spans, SpansEach, SpansSome}
 use Rattle.simulation.specs.declared.part.Gaps.{Gaps}
-use Rattle.simulation.specs.declared.part.Counts.{Counts}
-use Rattle.simulation.specs.declared.part.Sizes.{Sizes}
-use Rattle.simulation.specs.Parts.{Shape, nothing, both, either, loop, times, is_gap, Chain, Reads, Fits, Suffices}
+use Rattle.simulation.specs.Parts.{Shape, nothing, is_gap, Reads}
 use Rattle.simulation.specs.Parts.{set as one_of}
-use Rattle.simulation.specs.Packing.{IsPacked, StandsFor, StandsForEach, StandsForSome, nowhere, everywhere, gaps_of_both, gaps_of_either, gaps_of_times}
+use Rattle.simulation.specs.Packing.{IsPacked, StandsFor, StandsForEach, StandsForSome, nowhere, everywhere, gaps_of_both, gaps_of_either}
 use Rattle.simulation.proofs.Tests.{or_cases, or_left, or_right, and_left, and_right, and_both}
-use Rattle.simulation.proofs.Forward.{reads_forward, chain_on, at_or_past, le_or_lt}
+use Rattle.simulation.proofs.Forward.{at_or_past}
 use Rattle.matcher.proofs.Bits.{false≢true}
 
 -- The gaps at one position.

@@ -1,5 +1,5 @@
 -- The members of a part have lower ranks.
-use Rattle.std.proofs.Common.{◌≡◌, ℕ, ◌+◌, ◌<◌, arith, subst, refl, sym}
+use Rattle.std.proofs.Common.{◌≡◌, ℕ, ◌+◌, ◌<◌, arith, subst}
 use Rattle.simulation.specs.declared.part.Gaps.{Gaps}
 use Rattle.simulation.specs.declared.part.Counts.{Counts}
 use Rattle.simulation.specs.declared.part.Sizes.{Sizes}

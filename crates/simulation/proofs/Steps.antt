@@ -1,6 +1,6 @@
 -- What one byte does to the cells of each kind of part.
-use Rattle.std.proofs.Common.{◌≡◌, ℕ, zero, suc, ◌+◌, ◌-◌, ◌*◌, ◌<◌, ◌≤◌, Bool, true, false, ◌&&◌, ◌||◌, IsTrue, List, length, get_or, take, drop, ◌⊎◌, ◌↔◌, inl, inr}
-use Rattle.std.proofs.Common.{refl, sym, subst, ap, ◌∙◌, arith}
+use Rattle.std.proofs.Common.{◌≡◌, ℕ, zero, suc, ◌+◌, ◌-◌, ◌*◌, ◌<◌, ◌≤◌, Bool, false, ◌&&◌, ◌||◌, IsTrue, List, length, get_or, drop, ◌⊎◌, ◌↔◌, inl, inr}
+use Rattle.std.proofs.Common.{refl, sym, subst, ◌∙◌, arith}
 use Rattle.ere.specs.ByteSet.{has}
 use Rattle.simulation.specs.declared.part.Gaps.{Gaps}
 use Rattle.simulation.specs.declared.part.Counts.{Counts}
@@ -9,7 +9,7 @@ use Rattle.simulation.specs.Parts.{Shape, nothing, set, both, either, loop, time
 use Rattle.simulation.specs.Pending.{at, first_of, second_of, Pending, Tells, IsKept, IsReady, Advances}
 use Rattle.simulation.proofs.Tests.{or_cases, or_left, or_right, and_left, and_right, and_both}
 use Rattle.simulation.specs.Pending.{Enters, Enters as enters, AnyTurn}
-use Rattle.simulation.proofs.Forward.{reads_forward, chain_on, pending_forward, stays, at_or_past, le_or_lt}
+use Rattle.simulation.proofs.Forward.{reads_forward, pending_forward, stays, at_or_past, le_or_lt}
 use Rattle.matcher.proofs.Bits.{false≢true, is_false}
 use Rattle.std.proofs.lemmas.Nat.{mul-add-lt}
 

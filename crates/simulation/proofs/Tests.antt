@@ -1,5 +1,5 @@
 -- What tests of two parts say.
-use Rattle.std.proofs.Common.{◌≡◌, Bool, true, false, ◌&&◌, ◌||◌, IsTrue, ◌⊎◌, inl, inr, refl}
+use Rattle.std.proofs.Common.{Bool, true, false, ◌&&◌, ◌||◌, IsTrue, ◌⊎◌, inl, inr, refl}
 
 pub or_cases : (a b : Bool) → IsTrue (a || b) → IsTrue a ⊎ IsTrue b
 or_cases true b h = inl refl

@@ -1,5 +1,5 @@
 -- Which part stands for a tree.
-use Rattle.std.specs.Prelude.{◌≡◌, ℕ, ◌≤◌, ◌<◌, Bool, true, false, ◌&&◌, ◌||◌, if◌then◌else◌, ◌==◌, IsTrue, List, ◌⊎◌, Option, IfSome, IfNone}
+use Rattle.std.specs.Prelude.{◌≡◌, ℕ, ◌≤◌, ◌<◌, Bool, true, false, ◌&&◌, ◌||◌, if◌then◌else◌, ◌==◌, IsTrue, List, Option, IfSome, IfNone}
 use Rattle.ere.specs.Tree.{Tree, Trees}
 use Rattle.matcher.specs.Spans.{Relation, Spans, SpansEach, SpansSome}
 use Rattle.simulation.specs.declared.part.Gaps.{Gaps}

@@ -1,6 +1,6 @@
 -- The words of a part by positions of a line, which is not empty. No word is empty: where a part of a tree has the
 -- empty word is said by gaps, next to the parts that they join.
-use Rattle.std.specs.Prelude.{◌≡◌, ℕ, zero, suc, ◌+◌, ◌*◌, ◌<◌, ◌≤◌, Bool, if◌then◌else◌, ◌==◌, IsTrue, List, length, slice_index, ◌⊎◌}
+use Rattle.std.specs.Prelude.{◌≡◌, ℕ, zero, suc, ◌<◌, ◌≤◌, Bool, if◌then◌else◌, ◌==◌, IsTrue, List, length, slice_index, ◌⊎◌}
 use Rattle.ere.specs.ByteSet.{has}
 use Rattle.matcher.specs.Spans.{Relation}
 use Rattle.simulation.specs.declared.part.Gaps.{Gaps}

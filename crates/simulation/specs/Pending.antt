@@ -1,5 +1,5 @@
 -- What the cells of a part hold at a position of the line: the words that have begun and are not read to their end.
-use Rattle.std.specs.Prelude.{◌≡◌, ℕ, suc, ◌+◌, ◌*◌, ◌/◌, ◌<◌, ◌≤◌, ◌↔◌, Bool, false, IsTrue, List, length, take, drop, ◌⊎◌}
+use Rattle.std.specs.Prelude.{◌≡◌, ℕ, suc, ◌+◌, ◌*◌, ◌/◌, ◌<◌, ◌≤◌, Bool, IsTrue, List, length, take, drop, ◌⊎◌}
 use Rattle.matcher.specs.PositionSets.{has_position}
 use Rattle.simulation.specs.declared.part.Counts.{Counts}
 use Rattle.simulation.specs.declared.part.Sizes.{Sizes}

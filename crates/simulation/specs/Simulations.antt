@@ -1,5 +1,5 @@
 -- Which tree a simulation is made for.
-use Rattle.std.specs.Prelude.{◌≡◌, ◌<◌, length}
+use Rattle.std.specs.Prelude.{◌≡◌, length}
 use Rattle.ere.specs.Tree.{Tree}
 use Rattle.matcher.specs.Spans.{Spans}
 use Rattle.simulation.specs.declared.simulation.Simulation.{Simulation}

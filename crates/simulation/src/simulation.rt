@@ -36,7 +36,7 @@ impl Simulation {
 
     /// The simulation of a tree, which is within the limits.
     ///
-    /// It takes less than 200 KiB. The only error is that memory ran out.
+    /// The only error is that memory ran out.
     pub fn new(alloc: Global, tree: &Ere) -> Result<Simulation, AllocError>
         requires { IsWithinLimits (form tree.now) }
         ensures { IfOk result (IsSimulationOf (form tree.now)) }

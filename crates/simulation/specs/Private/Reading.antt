@@ -1,7 +1,7 @@
 -- A line that is read byte by byte.
-use Rattle.std.specs.Prelude.{◌≡◌, ℕ, ◌<◌, ◌≤◌, List, slice_index, length}
+use Rattle.std.specs.Prelude.{◌≡◌, ℕ, ◌<◌, ◌≤◌, List, slice_index}
 use Rattle.simulation.specs.Parts.{Shape, Reads}
-use Rattle.simulation.specs.Pending.{IsKept, IsWhole, Pending, size_of}
+use Rattle.simulation.specs.Pending.{IsKept, Pending}
 
 -- Some word of the part is in the line.
 abbrev pub HasWord : List ℕ → Shape → Type 0

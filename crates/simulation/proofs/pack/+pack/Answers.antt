@@ -1,7 +1,7 @@
-use Rattle.std.proofs.Common.{◌≡◌, ◌∙◌, ap, refl, sym, subst, arith, map, length, drop, Some, None}
-use Rattle.ere.specs.Tree.{form, trees_of, repeat}
+use Rattle.std.proofs.Common.{◌≡◌, ◌∙◌, ap, arith, map, length, Some}
+use Rattle.ere.specs.Tree.{form, trees_of}
 use Rattle.ere.proofs.Forms.{form-Empty, form-Set, form-Start, form-End, form-Cat, form-Alt, form-Repeat}
-use Rattle.simulation.specs.Parts.{shape, nothing}
+use Rattle.simulation.specs.Parts.{nothing}
 use Rattle.simulation.specs.Parts.{set as one_of}
 use Rattle.simulation.proofs.Shapes.{shape-Set}
 use Rattle.simulation.proofs.Packing as packing

@@ -1,5 +1,5 @@
-use Rattle.std.proofs.Common.{◌≡◌, ◌∙◌, ◌+◌, ap, refl, sym, subst, arith, length, suc, add-one, length-drop, drop}
-use Rattle.simulation.specs.Parts.{shape, both, either, loop, times}
+use Rattle.std.proofs.Common.{◌≡◌, ◌∙◌, ◌+◌, ap, subst, arith}
+use Rattle.simulation.specs.Parts.{shape}
 use Rattle.simulation.specs.Pending.{IsReady, rank}
 use Rattle.simulation.proofs.Shapes.{shape-Nothing, shape-Set, shape-Both, shape-Either, shape-Loop, shape-Times}
 use Rattle.simulation.proofs.Steps as steps

@@ -1,4 +1,4 @@
-use Rattle.std.proofs.Common.{arith, sym, ap, ◌∙◌}
+use Rattle.std.proofs.Common.{arith}
 use Rattle.simulation.proofs.Moving as moving
 use Rattle.simulation.proofs.turns.any_turn.Goals as goal
 

@@ -1,4 +1,4 @@
-use Rattle.std.proofs.Common.{◌+◌, ◌*◌, ◌∙◌, ap, length, arith, refl, ◌||◌}
+use Rattle.std.proofs.Common.{◌+◌, ◌*◌, length, arith}
 use Rattle.simulation.specs.Pending.{at}
 use Rattle.simulation.proofs.Moving as moving
 use Rattle.simulation.proofs.turns.any_wide.Goals as goal

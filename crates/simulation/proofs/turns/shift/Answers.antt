@@ -1,4 +1,3 @@
-use Rattle.std.proofs.Common.{arith}
 use Rattle.simulation.proofs.Moving as moving
 use Rattle.simulation.proofs.turns.shift.Goals as goal
 

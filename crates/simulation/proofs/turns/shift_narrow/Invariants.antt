@@ -1,4 +1,3 @@
-use Rattle.simulation.specs.Private.Words.{shifted}
 use Rattle.simulation.proofs.Moving.{IsMoving}
 use Rattle.simulation.proofs.turns.shift_narrow.Given as goal
 
