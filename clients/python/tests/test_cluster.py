@@ -77,7 +77,7 @@ class Clusters(unittest.IsolatedAsyncioTestCase):
         from tsearch.cluster import Cluster
 
         await self.cluster.close()
-        async with asyncio.timeout(SECONDS), Cluster(self.client, 1, program="/nothing/here") as cluster:
+        async with asyncio.timeout(2 * SECONDS), Cluster(self.client, 1, program="/nothing/here") as cluster:
             for _ in range(2):
                 with self.assertRaises(tsearch.Ended):
                     await cluster.find("x")
@@ -105,7 +105,7 @@ class Clusters(unittest.IsolatedAsyncioTestCase):
                     raise AssertionError((answer.hits(), before))
                 counts[0] += 1
 
-        async with asyncio.timeout(SECONDS):
+        async with asyncio.timeout(2 * SECONDS):
             await publish()
             published = number
             searches = [asyncio.create_task(search()) for _ in range(4)]

@@ -90,7 +90,8 @@ class Folders(unittest.TestCase):
         path = self.top / "a"
         read_state = os.lstat
         for number in range(20):
-            now = time.time_ns()
+            # ahead of the clock, so that it is late enough however slow the test is
+            now = time.time_ns() + 10**12
 
             def state_now(name: bytes, now: int = now) -> object:
                 state = read_state(name)

@@ -11,6 +11,8 @@ from __future__ import annotations
 import asyncio
 import contextlib
 import heapq
+import math
+import time
 import zlib
 from collections.abc import Iterator
 from typing import Any, NamedTuple
@@ -23,9 +25,13 @@ from .core import Query
 from .errors import ChangeRefused, Ended, Error
 from .session import Change, Search, Session
 
-# In seconds: how long a call to a shard may take, and how long a lane waits for a worker that no other shard has.
+# In seconds: how long a call to a shard may take, how long an actor may take to be made, and how long a lane waits for a worker that
+# no other shard has.
 _TO_CALL = 120.0
+_TO_MAKE = 10.0
 _TO_PLACE = 30.0
+# In seconds: so long no shard goes to a worker that has failed. The scheduler may not know yet that it has ended.
+_AVOIDED = 15.0
 # How often a call is sent, each time to a new actor, before its shard is given up; and the seconds before the second time.
 _TRIES = 6
 _PAUSE = 0.05
@@ -51,7 +57,11 @@ class Shard:
     """The actor: a session, whose items come in calls that are numbered."""
 
     def __init__(self, options: dict[str, Any]) -> None:
-        self._session = Session(**options)
+        try:
+            self._session = Session(**options)
+        except OSError as error:
+            # among the errors of Dask it would be one of the worker
+            raise Ended(None, str(error)) from None
         self._next = 0
         self._changes: list[Change] = []
 
@@ -128,7 +138,8 @@ class _Workers:
 
     def __init__(self, client: Client) -> None:
         self._client: Any = client
-        self._used: set[str] = set()
+        # each until when
+        self._used: dict[str, float] = {}
 
     async def take(self) -> str:
         """A worker that has no shard; all actors of a worker would share one thread."""
@@ -136,15 +147,15 @@ class _Workers:
             while True:
                 known = (await self._client.scheduler.identity())["workers"]
                 for worker in known:
-                    if worker not in self._used:
-                        self._used.add(worker)
+                    if self._used.get(worker, 0) < time.monotonic():
+                        self._used[worker] = math.inf
                         return str(worker)
                 await asyncio.sleep(0.05)
 
-    def give(self, worker: str | None) -> None:
+    def give(self, worker: str | None, has_failed: bool = False) -> None:
         """The worker has no shard any more."""
         if worker is not None:
-            self._used.discard(worker)
+            self._used[worker] = time.monotonic() + _AVOIDED if has_failed else 0
 
 
 class _Lane:
@@ -228,7 +239,7 @@ class _Lane:
             # Dask says OSError for a worker that ends during a call, and ValueError for one that has ended
             except (OSError, ValueError, Ended, TimeoutError) as fault:
                 last = fault
-                await self._leave()
+                await self._leave(has_failed=not isinstance(fault, Ended))
                 await asyncio.sleep(_PAUSE * (2**tried - 1))
             self.heals += 1
         raise last
@@ -239,14 +250,14 @@ class _Lane:
             outcomes: list[Any] = await self._actor.run(number, items)
         return outcomes
 
-    async def _leave(self) -> None:
+    async def _leave(self, has_failed: bool) -> None:
         """Leaves an actor that does not answer. Its program ends with its worker, or by this call if only the program has ended."""
         actor, self._actor, self._made = self._actor, None, None
         if actor is not None:
             with contextlib.suppress(OSError, ValueError, TimeoutError):
                 async with asyncio.timeout(1):
                     await actor.close()
-        self._workers.give(self._worker)
+        self._workers.give(self._worker, has_failed)
         self._worker = None
 
     async def _make(self) -> None:
@@ -255,7 +266,7 @@ class _Lane:
         self._next = 0
         submit: Any = self._client.submit
         self._made = submit(Shard, self._options, actor=True, workers=[self._worker], pure=False)
-        async with asyncio.timeout(_TO_CALL):
+        async with asyncio.timeout(_TO_MAKE):
             self._actor = await self._made
         published = [_Put(name, body) for name, body in self._documents.items()]
         for batch in _batches(published):
