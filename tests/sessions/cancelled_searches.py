@@ -1,7 +1,7 @@
 #!/usr/bin/env python3
 """Cancels searches of the built program, gives searches a limit of time, and asks for statuses while searches are open.
 
-A long search would take minutes. It goes through many documents, and each of them takes some tenths of a second. So what waits for the
+A long search would take minutes. It goes through many documents, and each of them takes a tenth of a second or more. So what waits for the
 whole search does not come within the limit of time, and what waits for one document does. The order of the texts shows which of the two
 it is, and no time is measured. A slow search takes some tenths of a second, in a document with one long line, and a quick one next to
 nothing. What a session has written is also judged (judge/transcripts.py): each search has one entry, and each status shows what is so.
@@ -27,17 +27,17 @@ from sessions.slow_searches import SLOW, TABLE, slow_body  # noqa: E402
 ROUNDS, OPEN, BATCHES = 2, 1_000, 80
 # While so many searches are open, no item is taken.
 MOST_OPEN = 1_024
-# A body of one line that is too long for the first documents of a search, which are looked at in another way.
-MANY, LENGTH = 800, 8_300
+MANY, LENGTH = 2_000, 15_000
 LETTERS = bytes(b"ab"[byte % 2] for byte in range(256))
 
 
 def long_bodies():
     source = random.Random(1)
-    return {b"long%03d" % number: b"x" + source.randbytes(LENGTH).translate(LETTERS) for number in range(MANY)}
+    body = b"".join(b"x" + source.randbytes(LENGTH).translate(LETTERS) + b"\n" for _ in range(2))
+    return {b"long%04d" % number: body for number in range(MANY)}
 
 
-BODIES = {**long_bodies(), b"slow": slow_body(1, 4_000), b"quick": b"hello\n"}
+BODIES = {**long_bodies(), b"slow": slow_body(2, 16_000), b"quick": b"hello\n"}
 DOCUMENTS = b"".join(put(*pair) for pair in BODIES.items()) + b"publish\n"
 VERSION, BYTES = len(BODIES), sum(map(len, BODIES.values()))
 
@@ -45,7 +45,7 @@ LONG_SEARCH, SLOW_SEARCH, QUICK_SEARCH = b"searchin ^long " + SLOW + b"\n", b"se
 # The patterns that are not plain, each with its spelling for the judge or the reason of its refusal.
 PATTERNS = {**TABLE, b"(": "group not closed at 0"}
 QUICK = b"search %%d version %d lines 1\nquick:1:hello\n" % VERSION
-FOUND = b"search %%d version %d lines 1\nslow:2:end\n" % VERSION
+FOUND = b"search %%d version %d lines 1\nslow:3:end\n" % VERSION
 CANCELLED, TOO_SLOW = b"search %d refused: cancelled\n", b"search %d refused: too slow\n"
 REFUSED, BAD_LINE, NO_SUCH_SEARCH = b"line %d refused: %s\n", b"bad line", b"no such search"
 STATUS = b"line %d status version %d documents %d bytes %d accepted %d of 1000000 open %d\n"

@@ -23,11 +23,14 @@ from counted import Wrong, run_tests  # noqa: E402
 from judge import transcripts  # noqa: E402
 from live import GREATEST_LINE, MEBIBYTE, SECONDS, Session, faults_with_each, same, send_all  # noqa: E402
 
-# Among large counts, a star with a `$` takes a round for each byte of a line, and each round looks at all that can come next.
-SLOW = rb"x([ab]|a([ab]{250}){15}c|d$)*e|^end$"
+# Large counts in a row inside a star: the simulation, which is the way for such a pattern, looks at some 3,000 places for each
+# byte, which takes seconds for each MB.
+SLOW = rb"x(" + rb"([ab]{0,20}c?){3}" * 50 + rb"d$|[ab])*e|^end$"
 # What the pattern finds in the bodies below.
 TABLE = {SLOW: b"^end$"}
-SLOW_SEARCH = b"searchin ^slow$ " + SLOW + b"\n"
+SLOW_SEARCH = b"searchin ^slow " + SLOW + b"\n"
+# How many documents a long search goes through, of a MiB each. Readers that are idle share them.
+LONG_DOCUMENTS = 64
 REPLACEMENTS = 3_000
 
 
@@ -37,9 +40,14 @@ def slow_body(lines, length):
     return b"".join(b"x" + bytes(source.choices(b"ab", k=length - 2)) + b"\n" for _ in range(lines)) + b"end\n"
 
 
+def long_documents():
+    body = slow_body(64, 16_000)
+    return b"".join(put(b"slow%02d" % number, body) for number in range(LONG_DOCUMENTS))
+
+
 # A search of the first is slow, and one of the second long.
-SHORT, LONG = put(b"slow", slow_body(1, 4_000)) + b"publish\n", put(b"slow", slow_body(64, 16_000)) + b"publish\n"
-FOUND = b"search %d version %d lines 1\nslow:2:end\n"
+SHORT, LONG = put(b"slow", slow_body(2, 16_000)) + b"publish\n", long_documents() + b"publish\n"
+FOUND = b"search %d version %d lines 1\nslow:3:end\n"
 REFUSED = b"line %d refused: %s\n"
 # The line of the first item after each body.
 AFTER_SHORT, AFTER_LONG = SHORT.count(b"\n") + 1, LONG.count(b"\n") + 1
@@ -54,7 +62,7 @@ def texts_come_beside_a_long_search(start):
             name = b"new%d" % number
             session.ask(
                 put(name, b"hello %d" % number) + b"publish\nsearch ^hello %d$\n" % number,
-                b"search %d version %d lines 1\n%s:1:hello %d\n" % (number, number, name, number),
+                b"search %d version %d lines 1\n%s:1:hello %d\n" % (number, LONG_DOCUMENTS + number - 1, name, number),
             )
             session.ask(b"what\n", REFUSED % (line + 4, b"bad line"))
             line += 5
@@ -79,7 +87,7 @@ def search_is_answered_beside_long_ones_by_the_last_reader():
     with Session("--readers", "16") as session:
         session.send(LONG + SLOW_SEARCH * 15)
         for number in range(16, 40):
-            session.ask(b"searchin ^b h\n", b"search %d version 1 lines 0\n" % number)
+            session.ask(b"searchin ^b h\n", b"search %d version %d lines 0\n" % (number, LONG_DOCUMENTS))
 
 
 def replacements_beside_a_long_search_leave_memory_level(start):
@@ -90,7 +98,7 @@ def replacements_beside_a_long_search_leave_memory_level(start):
         early = late = 0
         for number in range(2, REPLACEMENTS + 2):
             items = put(b"f", filler + b"text %d\n" % number) + b"publish\nsearch ^text %d$\n" % number
-            session.ask(items, b"search %d version %d lines 1\nf:2501:text %d\n" % (number, number, number))
+            session.ask(items, b"search %d version %d lines 1\nf:2501:text %d\n" % (number, LONG_DOCUMENTS + number - 1, number))
             if number == REPLACEMENTS // 10:
                 early = session.memory("VmRSS")
         late = session.memory("VmRSS")
