@@ -4,8 +4,9 @@ Prints the time from the script's first byte to the first publish, that of `cind
 pattern the lines found, the candidates, and the time of a search by tsearch and by the other tools, with their output in
 a file: the least and the median of five runs, in milliseconds. tsearch is a session without readers that has all files; a run of it is a
 batch of copies of the search, from before they are sent until their last byte is in the file, divided by their number.
-The other tools are whole commands. All use one thread except the second `rg`, which uses as many as it likes. Nothing is
-asserted.
+Another session has a reader for each processor; it is asked one search at a time, and the time is that of each until its last byte
+is in the file. The other tools are whole commands. All use one thread except that session and the second `rg`, which uses as many
+as it likes. Nothing is asserted.
 """
 import os
 import re
@@ -87,12 +88,13 @@ def words_of(path):
 class Session:
     """A session that has all files of a script. Its text goes to a file, which is emptied before each run."""
 
-    def __init__(self, target, script):
-        self.path = os.path.join(target, "answers")
+    def __init__(self, target, script, readers=0):
+        self.path = os.path.join(target, "answers%d" % readers)
+        self.readers = readers
         self.size = {}
         self.searches = 0
         with open(self.path, "ab") as out:
-            words = [timed.PROGRAM, "--live", "--readers", "0", "--stats", "--max-commands", "1000000"]
+            words = [timed.PROGRAM, "--live", "--readers", str(readers), "--stats", "--max-commands", "1000000"]
             self.process = subprocess.Popen(words, stdin=subprocess.PIPE, stdout=out)
         with open(script, "rb") as items:
             shutil.copyfileobj(items, self.process.stdin)
@@ -140,7 +142,13 @@ class Session:
         """The seconds of one search in each of some runs."""
         once = min(self.run(search, 1) for _ in range(3))
         copies = max(1, min(MOST_COPIES, int(LEAST_RUN / once + 1)))
+        if self.readers:
+            return [self.alone(search, copies) for _ in range(RUNS)]
         return [self.run(search, copies) / copies for _ in range(RUNS)]
+
+    def alone(self, search, count):
+        """The seconds of one of so many searches, each asked when the one before has its answer."""
+        return statistics.mean(self.run(search, 1) for _ in range(count))
 
     def end(self):
         self.process.stdin.close()
@@ -174,11 +182,11 @@ def others(files, env, pattern, name=None, glob=None, ignoring=()):
     return [shown(spent(words, env)) if shutil.which(words[0]) else "-" for words in commands]
 
 
-def row(session, files, env, what, search, pattern, name=None, glob=None, ignoring=()):
-    head = session.first(search)
-    ours = shown(quiet.measured(search, lambda: session.times(search)))
+def row(sessions, files, env, what, search, pattern, name=None, glob=None, ignoring=()):
+    head = [session.first(search) for session in sessions][0]
+    ours = [shown(quiet.measured(search, lambda: session.times(search))) for session in sessions]
     lines, candidates = head[1].decode(), head[2].decode()
-    cells = [what, "`%s`" % (pattern if name is None else name + " " + pattern).replace("|", "\\|"), lines, candidates, ours]
+    cells = [what, "`%s`" % (pattern if name is None else name + " " + pattern).replace("|", "\\|"), lines, candidates, *ours]
     print("| " + " | ".join(cells + others(files, env, pattern, name, glob, ignoring)) + " |", flush=True)
 
 
@@ -196,16 +204,18 @@ def main():
         env = dict(os.environ, CSEARCHINDEX=os.path.join(target, "csearchindex"), LC_ALL="C")
         if shutil.which("cindex"):
             print("cindex %s ms" % shown(quiet.measured("cindex", lambda: index_times(files, env))))
-        session = Session(target, script)
-        print("| kind | pattern | lines | candidates | tsearch | csearch | rg -j1 | rg | grep -rE |\n|---|---|---|---|---|---|---|---|---|")
+        sessions = [Session(target, script), Session(target, script, os.cpu_count())]
+        heads = ["tsearch", "tsearch, %d readers" % os.cpu_count(), "csearch", "rg -j1", "rg", "grep -rE"]
+        print("| kind | pattern | lines | candidates | %s |\n|---|---|---|---|%s" % (" | ".join(heads), "---|" * len(heads)))
         for what, pattern in PATTERNS:
-            row(session, files, env, what, "search " + pattern, pattern)
-        row(session, files, env, "case counts", "search " + IGNORED[0], IGNORED[0])
+            row(sessions, files, env, what, "search " + pattern, pattern)
+        row(sessions, files, env, "case counts", "search " + IGNORED[0], IGNORED[0])
         for pattern in IGNORED:
-            row(session, files, env, "case ignored", "isearch " + pattern, pattern, ignoring=["-i"])
+            row(sessions, files, env, "case ignored", "isearch " + pattern, pattern, ignoring=["-i"])
         for name, glob, pattern in NAMED:
-            row(session, files, env, "by name", "searchin %s %s" % (name, pattern), pattern, name, glob)
-        session.end()
+            row(sessions, files, env, "by name", "searchin %s %s" % (name, pattern), pattern, name, glob)
+        for session in sessions:
+            session.end()
         print(quiet.told())
 
 
