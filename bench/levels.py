@@ -19,7 +19,7 @@ METER = r"""//! One call for a tree or a query of this height.
 #![tactic(auto)]
 
 use ere::{ByteSet, Ere};
-use matcher::{has_star_height, steps_of};
+use matcher::is_quick;
 use query::{Query, Trigram, simplify};
 use std::alloc::{AllocError, Global};
 use std::env::{self, Env};
@@ -54,11 +54,8 @@ fn with_tree(alloc: Global, kind: &[u8], call: &[u8], height: u32) -> Result<boo
     if call == b"within_limits".as_slice() {
         return Ok(tree.within_limits());
     }
-    if call == b"steps_of".as_slice() {
-        return Ok(steps_of(&tree) > 0);
-    }
-    if call == b"has_star_height".as_slice() {
-        return Ok(has_star_height(&tree, 1_000_000_000));
+    if call == b"is_quick".as_slice() {
+        return Ok(is_quick(&tree));
     }
     Ok(true)
 }
@@ -116,9 +113,9 @@ fn query_of(alloc: Global, height: u32) -> Result<Query, AllocError> {
 """
 
 CALLS = {
-    "repeats": ["drop", "clone", "==", "within_limits", "steps_of", "has_star_height"],
-    "cats": ["drop", "clone", "==", "within_limits", "steps_of", "has_star_height"],
-    "alternatives": ["drop", "clone", "==", "within_limits", "steps_of", "has_star_height"],
+    "repeats": ["drop", "clone", "==", "within_limits", "is_quick"],
+    "cats": ["drop", "clone", "==", "within_limits", "is_quick"],
+    "alternatives": ["drop", "clone", "==", "within_limits", "is_quick"],
     "query": ["drop", "clone", "==", "simplify"],
 }
 HEIGHTS = (20000, 60000)

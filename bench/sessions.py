@@ -34,8 +34,8 @@ CLIENTS = 4
 SEARCHES_OF_A_CLIENT = 250
 CHANGES = 200
 RARE = b"search rare_word_of_the_bench\n"
-# Among large counts, a star with a `$` takes a round for each byte of a line, and each round looks at all that can come next.
-SLOW = rb"searchin ^slow_lines$ x([ab]|a([ab]{250}){15}c|d$)*e" + b"\n"
+# Large counts in a row inside a star: for each byte the simulation looks at some 3,000 places.
+SLOW = rb"searchin ^slow_lines$ x(" + rb"([ab]{0,20}c?){3}" * 50 + rb"d$|[ab])*e" + b"\n"
 TEXT = b"searchin ^text_of_%d$ ([a-m ][n-z ]){14}$\n"
 LENGTHS = [2**power for power in range(14, 21)]
 
