@@ -59,9 +59,9 @@ pub fn form_lines<R: Threads + Sync>(
     ensures { IfOk result (λ text. text.items ≡ text_of_hits lines.now) }
 {
     if parts < 2 || lines.count_within(PIECE) == lines.len() {
-        let mut text = Vec::new(alloc);
-        append_lines(&mut text, lines.again())?;
-        return Ok(text);
+        let mut whole = Vec::with_capacity(alloc, lines.bytes())?;
+        append_lines(&mut whole, lines.again())?;
+        return Ok(whole);
     }
     let low = parts / 2;
     let high = parts - low;
@@ -88,16 +88,7 @@ pub fn append_lines(out: &mut Vec<u8>, lines: Lines<'_>) -> Result<(), AllocErro
     ensures ok { OnOk result (out.new.items ≡ out.old.items ++ text_of_hits lines.entry) }
     ensures err { OnErr result (Begins out.old.items out.new.items) }
 {
-    out.reserve(lines.bytes())?;
-    append_hits(out, lines)
-}
-
-/// Appends a line for each hit. An `Err` can leave some of them in `out`.
-fn append_hits(out: &mut Vec<u8>, hits: Lines<'_>) -> Result<(), AllocError>
-    ensures ok { OnOk result (out.new.items ≡ out.old.items ++ text_of_hits hits.entry) }
-    ensures err { OnErr result (Begins out.old.items out.new.items) }
-{
-    for hit in hits {
+    for hit in lines {
         append_hit(out, &hit)?;
     }
     Ok(())

@@ -1,5 +1,4 @@
-use Rattle.std.proofs.Common.{◌≡◌, ◌++◌, ◌+◌, drop, refl, sym, ◌∙◌, ap, append_assoc}
-use Rattle.search.specs.Parts.{all_hits}
+use Rattle.std.proofs.Common.{refl}
 use Rattle.search.specs.Text.{text_of_hits}
 use Rattle.search.proofs.PartLemmas.{text-parts}
 use Rattle.transcript.proofs.WriteLemmas.{done_in_part, done_more, next_of_two}

@@ -1,4 +1,4 @@
-use Rattle.std.proofs.Common.{◌≡◌, ◌++◌, drop, refl, ◌∙◌, ap}
+use Rattle.std.proofs.Common.{◌++◌, drop, refl, ◌∙◌, ap}
 use Rattle.search.specs.Text.{text_of_hits}
 use Rattle.search.proofs.PartLemmas.{text-joined}
 use Rattle.search.proofs.parts.Part.text.Goals as goal

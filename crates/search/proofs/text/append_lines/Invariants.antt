@@ -1,5 +1,5 @@
 use Rattle.search.proofs.TextLemmas.{WritesSoFar}
-use Rattle.search.proofs.text.append_hits.Given as goal
+use Rattle.search.proofs.text.append_lines.Given as goal
 
 abbrev pub invariant-loop-hit : goal.invariant-loop-hit
 invariant-loop-hit l = WritesSoFar l.initial.out.items l.initial.hit-iterator l.hit-iterator l.out.items

@@ -4,7 +4,7 @@ use Rattle.std.proofs.lemmas.Result.{err_from_is_err_and}
 use Rattle.search.specs.Hits.{hit_of}
 use Rattle.search.specs.Text.{text_of_hit}
 use Rattle.search.proofs.TextLemmas.{writes_begin, writes_one, writes_end, Begins-append}
-use Rattle.search.proofs.text.append_hits.Goals as goal
+use Rattle.search.proofs.text.append_lines.Goals as goal
 
 pub loop-hit-init : goal.loop-hit-init
 loop-hit-init c = writes_begin c.args.out.now.items c.into_iter-hit-iterator.result
