@@ -8,7 +8,7 @@ ghost use Rattle.simulation.specs.Pending.{at, room};
 pub(crate) const BITS: usize = 64;
 
 /// The word if `held`, and no bit otherwise.
-fn word_if(held: bool, word: u64) -> u64
+pub(crate) fn word_if(held: bool, word: u64) -> u64
     ensures { (bit : ℕ) → has_bit result bit ≡ (held && has_bit word bit) }
 {
     if held { word } else { 0 }
