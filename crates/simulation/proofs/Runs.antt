@@ -7,9 +7,8 @@ use Rattle.ere.specs.Bits.{has_bit}
 use Rattle.simulation.specs.declared.part.Places.{Places}
 use Rattle.simulation.specs.Parts.{run}
 use Rattle.simulation.specs.Pending.{at, words_for, Advances, IsRun}
-use Rattle.simulation.proofs.Moving.{set_first_word}
 use Rattle.simulation.proofs.Steps.{run_advances}
-use Rattle.simulation.proofs.Words.{word_is}
+use Rattle.simulation.proofs.Words.{first_word, first_written}
 
 lt_is : (a b : ℕ) → a < b → nat_lt a b ≡ true
 lt_is a b h = grind (arith, nat_tests)
@@ -85,7 +84,7 @@ run_stepped line here masks places copies entered cells moved word inside is_run
     own : (left k : ℕ) → left ≤ places.after → k < copies → at (set cells 0 word) (left * stride + k)
         ≡ ((if nat_lt left places.after then at cells (suc left * stride + k) else at entered k) && has_bit mask (left * stride))
     own left k within low =
-        set_first_word cells word (left * stride + k) some (in_word left k within low) ∙ bits (left * stride + k)
+        first_written cells word (left * stride + k) some (in_word left k within low) ∙ bits (left * stride + k)
         ∙ ap (λ t. t && has_bit mask (left * stride + k)) (moves left k within (let apart = is_run.apart in omega arith) ∙ go (nat_lt left places.after) refl)
         ∙ ap (λ t. (if nat_lt left places.after then at cells (suc left * stride + k) else at entered k) && t) masked
       where
@@ -93,9 +92,6 @@ run_stepped line here masks places copies entered cells moved word inside is_run
         masked =
             ap (λ n. has_bit mask (left * n + k)) is_run.apart ∙ is_run.same (get_or line here 0) left k within low
             ∙ ap (λ n. has_bit mask (left * n)) (sym is_run.apart)
-
-        first_word : (words : List ℕ) (b : ℕ) → b < 64 → has_bit (get_or words 0 0) b ≡ at words b
-        first_word words b bit = let same : 0 * 64 + b ≡ b = omega arith in word_is words 0 b bit ∙ ap (at words) same
 
         go : (t : Bool) → nat_lt left places.after ≡ t
             → (if t then has_bit (get_or cells 0 0) (suc left * stride + k) else has_bit (get_or entered 0 0) k)
