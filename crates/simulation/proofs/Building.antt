@@ -21,6 +21,7 @@ use Rattle.ere.specs.Tree.{form, trees_of}
 use Rattle.simulation.specs.Pending.{IsStride, IsWhole, size_of, words_for}
 use Rattle.simulation.specs.declared.pack.Packed.{Packed}
 use Rattle.simulation.specs.Parts.{shape}
+use Rattle.simulation.specs.Private.Rows.{IsLonger}
 use Rattle.simulation.specs.Packing.{IsEachPart, IsPartFor, IsSomePart, IsTreePart, IsTurns}
 use Rattle.simulation.proofs.Packing.{each_none_packed, some_none_packed}
 use Rattle.simulation.proofs.Packing.{Then, Or, ReadsBoth, both_packed, either_packed, gap_nowhere}
@@ -199,6 +200,38 @@ both_part tree trees left right before after sizes copies first second total own
         (λ line from to r. r) one.packed two.packed
 
     then_packed : IsPacked (λ line. SpansEach line (more tree trees)) (both left right sizes before after) (gaps_of_both before after)
+    then_packed =
+        record { forward = base.forward; sound = base.sound; complete = base.complete; empty = base.empty; gap = base.gap; steady = base.steady }
+
+-- A set and then a part, as one part.
+pub row_part : (members : List Bool) (tree : Tree) (trees : Trees) (left right row : Shape) (before after : Gaps) (copies first second : ℕ)
+    → left ≡ one_of members → before ≡ nowhere → after ≡ nowhere → IsLonger members right row copies
+    → IsPartFor (λ line. Spans line tree) left before copies first → IsPartFor (λ line. SpansEach line trees) right after copies second
+    → IsPartFor (λ line. SpansEach line (more tree trees)) row after copies second
+unfolding SpansEach
+row_part members tree trees left right row before after copies first second is_set none_before none_after longer one two = record {
+  packed = subst (λ g. IsPacked (λ line. SpansEach line (more tree trees)) row g) (sym none_after) then_packed;
+  whole = longer.whole;
+  sized = longer.sized ∙ two.sized;
+}
+  where
+    head : IsPacked (λ line. Spans line tree) (one_of members) nowhere
+    head = subst (λ p. IsPacked (λ line. Spans line tree) p nowhere) is_set (subst (λ g. IsPacked (λ line. Spans line tree) left g) none_before one.packed)
+
+    rest : IsPacked (λ line. SpansEach line trees) right nowhere
+    rest = subst (λ g. IsPacked (λ line. SpansEach line trees) right g) none_after two.packed
+
+    to_row : (line : List ℕ) (from to : ℕ) → ReadsBoth line (one_of members) right nowhere nowhere from to → Reads line row from to
+    to_row line from to (inl h) = (longer.reads line from to).1 h
+    to_row line from to (inr (inl h)) = absurd (gap_nowhere line from h.0)
+    to_row line from to (inr (inr h)) = absurd (gap_nowhere line to h.1)
+
+    base : IsPacked (Then (λ line. Spans line tree) (λ line. SpansEach line trees)) row nowhere
+    base =
+        both_packed (λ line. Spans line tree) (λ line. SpansEach line trees) (one_of members) right row nowhere nowhere
+        (λ line from to r. inl ((longer.reads line from to).0 r)) to_row head rest
+
+    then_packed : IsPacked (λ line. SpansEach line (more tree trees)) row nowhere
     then_packed =
         record { forward = base.forward; sound = base.sound; complete = base.complete; empty = base.empty; gap = base.gap; steady = base.steady }
 

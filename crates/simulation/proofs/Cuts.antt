@@ -5,9 +5,10 @@ use Rattle.std.proofs.lemmas.List.{get_or-take, get_or_append_left, take_at, dro
 use Rattle.matcher.proofs.Bits.{same_word}
 use Rattle.simulation.specs.declared.part.Gaps.{Gaps}
 use Rattle.simulation.specs.declared.part.Counts.{Counts}
+use Rattle.simulation.specs.declared.part.Places.{Places}
 use Rattle.simulation.specs.declared.part.Sizes.{Sizes}
-use Rattle.simulation.specs.Parts.{Shape, nothing, set, both, either, loop, times, is_gap, Suffices}
-use Rattle.simulation.specs.Pending.{at, room, first_of, second_of, words_for, size_of, IsWhole, IsKept, IsReady, Advances, Enters, Enters as enters, AnyTurn, IsStride, IsNarrow, IsNarrow as narrows}
+use Rattle.simulation.specs.Parts.{Shape, nothing, set, run, both, either, loop, times, is_gap, Suffices}
+use Rattle.simulation.specs.Pending.{at, room, first_of, second_of, words_for, size_of, IsWhole, IsRun, IsKept, IsReady, Advances, Enters, Enters as enters, AnyTurn, IsStride, IsNarrow, IsNarrow as narrows}
 use Rattle.simulation.proofs.Steps.{both_advances, either_advances, loop_advances, times_advances}
 
 pub at_take : (cells : List ℕ) (words k : ℕ) → k < 64 * words → at (take words cells) k ≡ at cells k
@@ -28,6 +29,7 @@ pub own_fit : (part : Shape) (copies : ℕ) → words_for copies ≤ size_of par
 unfolding size_of
 own_fit nothing copies = omega arith
 own_fit (set members) copies = omega arith
+own_fit (run masks places) copies = omega arith
 own_fit (both left right sizes before after) copies = omega arith
 own_fit (either left right sizes) copies = omega arith
 own_fit (loop body own) copies = own_fit body copies
@@ -386,6 +388,20 @@ pub set_cells_long : (line : List ℕ) (here : ℕ) (members : List Bool) (copie
     → IsReady line here (set members) copies entered cells → length cells ≡ words_for copies
 unfolding size_of
 set_cells_long line here members copies entered cells ready = ready.cells_all
+
+pub run_long : (line : List ℕ) (here : ℕ) (masks : List ℕ) (places : Places) (copies : ℕ) (entered cells : List ℕ)
+    → IsReady line here (run masks places) copies entered cells
+    → (here < length line) × IsRun masks places copies × (length entered ≡ words_for copies) × (length cells ≡ words_for copies)
+unfolding size_of IsWhole
+run_long line here masks places copies entered cells ready = (ready.inside, ready.whole, ready.entered_all, ready.cells_all)
+
+pub whole_run : (masks : List ℕ) (places : Places) (copies : ℕ) → IsWhole (run masks places) copies → IsRun masks places copies
+unfolding IsWhole
+whole_run masks places copies whole = whole
+
+pub whole_left : (left right : Shape) (sizes : Sizes) (before after : Gaps) (copies : ℕ) → IsWhole (both left right sizes before after) copies → IsWhole left copies
+unfolding IsWhole
+whole_left left right sizes before after copies whole = whole.2
 
 pub even_in : (copies stride own : ℕ) (cells : List ℕ) → own ≡ words_for copies → length cells ≡ own → IsStride copies stride
     → IsNarrow stride ⊎ (stride ≡ room cells)

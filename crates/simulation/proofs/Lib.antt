@@ -5,6 +5,8 @@ pub mod Steps
 pub mod Words
 pub mod Cuts
 pub mod Ranks
+pub mod Runs
+pub mod Masks
 pub mod Packing
 pub mod Repeats
 pub mod Building

@@ -12,7 +12,7 @@ use Rattle.matcher.specs.Spans.{Spans}
 use Rattle.matcher.proofs.Bits.{false≢true, empty_word, position_in, position_set_same}
 use Rattle.matcher.proofs.Meaning.{hit_of_spans, spans_of_hit}
 use Rattle.simulation.specs.declared.part.Gaps.{Gaps}
-use Rattle.simulation.specs.Parts.{Shape, nothing, set, both, either, loop, times, is_gap, Reads}
+use Rattle.simulation.specs.Parts.{Shape, nothing, set, run, both, either, loop, times, is_gap, Reads}
 use Rattle.simulation.specs.Pending.{at, first_of, second_of, Pending, Tells, IsKept, IsReady, IsWhole, Advances, size_of}
 use Rattle.simulation.specs.Packing.{IsPacked}
 use Rattle.simulation.specs.Private.Reading.{AreClear, HasWord, IsReadTo}
@@ -47,6 +47,7 @@ none_pending : (line : List ℕ) (here : ℕ) (part : Shape) (copies : ℕ) (cel
 unfolding Pending
 none_pending line here nothing copies cells k to clear p = p
 none_pending line here (set members) copies cells k to clear p = clear_cell cells k clear p.0
+none_pending line here (run masks places) copies cells k to clear p = clear_cell cells (p.0 * places.stride + k) clear p.2
 none_pending line here (both left right sizes before after) copies cells k to clear (inl p) =
     none_pending line here left copies (first_of sizes cells) k p.0 (clear_take sizes.first (drop sizes.own cells) (clear_drop sizes.own cells clear)) p.1
 none_pending line here (both left right sizes before after) copies cells k to clear (inr p) =
@@ -69,6 +70,7 @@ clear_kept : (line : List ℕ) (here : ℕ) (part : Shape) (copies : ℕ) (cells
 unfolding IsKept
 clear_kept line here nothing copies cells clear = clear_tells line here nothing copies cells clear
 clear_kept line here (set members) copies cells clear = clear_tells line here (set members) copies cells clear
+clear_kept line here (run masks places) copies cells clear = clear_tells line here (run masks places) copies cells clear
 clear_kept line here (both left right sizes before after) copies cells clear = (
   clear_tells line here (both left right sizes before after) copies cells clear,
   clear_kept line here left copies (first_of sizes cells) (clear_take sizes.first (drop sizes.own cells) (clear_drop sizes.own cells clear)),

@@ -15,7 +15,7 @@ use Rattle.simulation.specs.Pending.{at, room, AnyTurn, Enters, Enters as enters
 use Rattle.simulation.proofs.Tests.{or_cases, or_left, or_right, and_left, and_right, and_both}
 use Rattle.simulation.proofs.Forward.{at_or_past, le_or_lt}
 use Rattle.simulation.specs.Private.Words.{AreWritten, AreChanged, shifted, repeated}
-use Rattle.simulation.proofs.Words.{written_more, changed_more, word_is}
+use Rattle.simulation.proofs.Words.{written_more, changed_more, word_is, first_written}
 
 lt_of : (a b : ℕ) → nat_lt a b ≡ true → a < b
 lt_of a b e = grind (arith, nat_tests)
@@ -452,11 +452,6 @@ at_drop cells words k =
     let same : (words + k / 64) * 64 + k % 64 ≡ 64 * words + k = omega arith in
     position_is (drop words cells) k ∙ ap (λ n. has_bit n (k % 64)) (get_or-drop words cells (k / 64) 0) ∙ word_is cells (words + k / 64) (k % 64) bit ∙ ap (at cells) same
 
-pub set_first_word : (cells : List ℕ) (word k : ℕ) → 0 < length cells → k < 64 → at (set cells 0 word) k ≡ has_bit word k
-set_first_word cells word k some low =
-    let same : 0 * 64 + k ≡ k = omega arith in
-    ap (at (set cells 0 word)) (sym same) ∙ position_set_same cells 0 word k some low
-
 pub set_one : (cells : List ℕ) (k j : ℕ) → k / 64 < length cells
     → at (set cells (k / 64) (bit_or (get_or cells (k / 64) 0) (1 * 2 ^ (k % 64) % 2 ^ 64))) j ≡ (at cells j || j == k)
 set_one cells k j inside = go (nat_eq (j / 64) (k / 64)) refl
@@ -535,4 +530,4 @@ wide_cell turn stride words k read stride_is =
 pub first_any : (counts : Counts) (lowest : ℕ) (read own : List ℕ) (word k : ℕ) → 0 < length own → k < 64 → IsTrue (has_bit word k) ↔ AnyTurn counts lowest read k
     → IsTrue (at (set own 0 word) k) ↔ AnyTurn counts lowest read k
 first_any counts lowest read own word k some low is =
-    (λ h. is.0 (sym (set_first_word own word k some low) ∙ h), λ any. set_first_word own word k some low ∙ is.1 any)
+    (λ h. is.0 (sym (first_written own word k some low) ∙ h), λ any. first_written own word k some low ∙ is.1 any)

@@ -3,15 +3,17 @@ use Rattle.std.specs.Prelude.{◌≡◌, ℕ, Bool, List}
 use Rattle.std.proofs.Common.{sym, ap, ◌∙◌}
 use Rattle.std.specs.declared.alloc.Global.{Global}
 use Rattle.std.specs.declared.boxed.Box.{Box}
+use Rattle.std.specs.declared.vec.Vec.{Vec}
 use Rattle.simulation.specs.declared.part.Gaps.{Gaps}
 use Rattle.simulation.specs.declared.part.Counts.{Counts}
 use Rattle.simulation.specs.declared.part.Sizes.{Sizes}
+use Rattle.simulation.specs.declared.part.Places.{Places}
 use Rattle.simulation.specs.declared.part.Part.{Part}
 use Rattle.simulation.specs.declared.part.Part.TheOpen as layer
-use Rattle.simulation.specs.declared.part.Part.TheVariants.{Nothing, Set, Both, Either, Loop, Times}
-use Rattle.simulation.specs.declared.part.Part.TheVariants.{rolls-Nothing, rolls-Set, rolls-Both, rolls-Either, rolls-Loop, rolls-Times}
+use Rattle.simulation.specs.declared.part.Part.TheVariants.{Nothing, Set, Run, Both, Either, Loop, Times}
+use Rattle.simulation.specs.declared.part.Part.TheVariants.{rolls-Nothing, rolls-Set, rolls-Run, rolls-Both, rolls-Either, rolls-Loop, rolls-Times}
 use Rattle.simulation.specs.declared.part.Part.TheFolds.{fold-roll-Part}
-use Rattle.simulation.specs.Parts.{Shape, nothing, set, both, either, loop, times, shape, shape_step}
+use Rattle.simulation.specs.Parts.{Shape, nothing, set, run, both, either, loop, times, shape, shape_step}
 
 pub shape-Nothing : shape Nothing ≡ nothing
 unfolding shape
@@ -20,6 +22,10 @@ shape-Nothing = ap shape (sym rolls-Nothing) ∙ fold-roll-Part Shape shape_step
 pub shape-Set : (members : List Bool) → shape (Set members) ≡ set members
 unfolding shape
 shape-Set members = ap shape (sym (rolls-Set members)) ∙ fold-roll-Part Shape shape_step (layer.Set members)
+
+pub shape-Run : (masks : Vec ℕ Global) (places : Places) → shape (Run masks places) ≡ run masks.items places
+unfolding shape
+shape-Run masks places = ap shape (sym (rolls-Run masks places)) ∙ fold-roll-Part Shape shape_step (layer.Run masks places)
 
 pub shape-Both : (left right : Box Part Global) (sizes : Sizes) (before after : Gaps)
     → shape (Both left right sizes before after) ≡ both (shape left.value) (shape right.value) sizes before after

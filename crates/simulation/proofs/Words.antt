@@ -1,5 +1,5 @@
 -- Loops that write words of cells.
-use Rattle.std.proofs.Common.{◌≡◌, ◌≢◌, ℕ, ◌+◌, ◌*◌, ◌/◌, ◌%◌, ◌<◌, ◌≤◌, Bool, true, false, nat_lt, List, length, get_or, set, refl, sym, subst, ◌∙◌, arith}
+use Rattle.std.proofs.Common.{◌≡◌, ◌≢◌, ℕ, ◌+◌, ◌*◌, ◌/◌, ◌%◌, ◌<◌, ◌≤◌, Bool, true, false, nat_lt, List, length, get_or, set, refl, sym, ap, subst, ◌∙◌, arith}
 use Rattle.std.proofs.lemmas.Bool.Decides.{nat_tests}
 use Rattle.ere.specs.Bits.{has_bit}
 use Rattle.matcher.proofs.Bits.{position_in, position_set_same, position_set_other}
@@ -36,3 +36,11 @@ changed_more before cells i word value inside changed here = record {
 -- The word in a place has the cells from there on.
 pub word_is : (cells : List ℕ) (i b : ℕ) → b < 64 → has_bit (get_or cells i 0) b ≡ at cells (i * 64 + b)
 word_is cells i b low = sym (position_in cells i b low)
+
+pub first_word : (cells : List ℕ) (k : ℕ) → k < 64 → has_bit (get_or cells 0 0) k ≡ at cells k
+first_word cells k low = let same : 0 * 64 + k ≡ k = omega arith in word_is cells 0 k low ∙ ap (at cells) same
+
+pub first_written : (cells : List ℕ) (word k : ℕ) → 0 < length cells → k < 64 → at (set cells 0 word) k ≡ has_bit word k
+first_written cells word k some low =
+    let same : 0 * 64 + k ≡ k = omega arith in
+    ap (at (set cells 0 word)) (sym same) ∙ position_set_same cells 0 word k some low

@@ -1,11 +1,13 @@
 -- The words of a part by positions of a line, which is not empty. No word is empty: where a part of a tree has the
 -- empty word is said by gaps, next to the parts that they join.
-use Rattle.std.specs.Prelude.{◌≡◌, ℕ, zero, suc, ◌<◌, ◌≤◌, Bool, if◌then◌else◌, ◌==◌, IsTrue, List, length, slice_index, ◌⊎◌}
+use Rattle.std.specs.Prelude.{◌≡◌, ℕ, zero, suc, ◌*◌, ◌<◌, ◌≤◌, Bool, if◌then◌else◌, ◌==◌, IsTrue, List, length, slice_index, ◌⊎◌}
+use Rattle.ere.specs.Bits.{has_bit}
 use Rattle.ere.specs.ByteSet.{has}
 use Rattle.matcher.specs.Spans.{Relation}
 use Rattle.simulation.specs.declared.part.Gaps.{Gaps}
 use Rattle.simulation.specs.declared.part.Counts.{Counts}
 use Rattle.simulation.specs.declared.part.Sizes.{Sizes}
+use Rattle.simulation.specs.declared.part.Places.{Places}
 use Rattle.simulation.specs.declared.part.Part.{Part, Part-F}
 use Rattle.simulation.specs.declared.part.Part.TheOpen as layer
 use Rattle.simulation.specs.declared.part.Part.TheFolds.{fold-Part}
@@ -14,6 +16,7 @@ use Rattle.simulation.specs.declared.part.Part.TheFolds.{fold-Part}
 pub data Shape : Type 0 where
   nothing : Shape
   set : List Bool → Shape
+  run : List ℕ → Places → Shape
   both : Shape → Shape → Sizes → Gaps → Gaps → Shape
   either : Shape → Shape → Sizes → Shape
   loop : Shape → ℕ → Shape
@@ -23,6 +26,7 @@ pub data Shape : Type 0 where
 abbrev pub shape_step : Part-F Shape → Shape
 shape_step layer.Nothing = nothing
 shape_step (layer.Set members) = set members
+shape_step (layer.Run masks places) = run masks.items places
 shape_step (layer.Both left right sizes before after) = both left.value right.value sizes before after
 shape_step (layer.Either left right sizes) = either left.value right.value sizes
 shape_step (layer.Loop body own) = loop body.value own
@@ -50,9 +54,17 @@ Fits counts words = IsTrue counts.unbounded ⊎ (words ≤ counts.copies)
 abbrev pub Suffices : List ℕ → Counts → ℕ → ℕ → Type 0
 Suffices line counts words to = (counts.least ≤ words) ⊎ IsTrue (is_gap counts.gaps line to)
 
+-- One byte of each of the last sets of a run. A set is known by how many come after it: bit `left * stride` of a byte's
+-- mask says whether the set with `left` sets after it has the byte.
+unfoldable pub Row : List ℕ → List ℕ → ℕ → ℕ → ℕ → ℕ → Type 0
+Row line masks stride zero from to = from ≡ to
+Row line masks stride (suc left) from to =
+    (from < length line) × IsTrue (has_bit (slice_index masks (slice_index line from)) (left * stride)) × Row line masks stride left (suc from) to
+
 unfoldable pub Reads : List ℕ → Shape → ℕ → ℕ → Type 0
 Reads line nothing from to = ⊥
 Reads line (set members) from to = (to ≡ suc from) × (from < length line) × IsTrue (has members (slice_index line from))
+Reads line (run masks places) from to = Row line masks places.stride (suc places.after) from to
 Reads line (both left right sizes before after) from to =
     ((middle : ℕ) × Reads line left from middle × Reads line right middle to)
     ⊎ ((IsTrue (is_gap before line from) × Reads line right from to) ⊎ (Reads line left from to × IsTrue (is_gap after line to)))

@@ -1,9 +1,11 @@
 -- What the cells of a part hold at a position of the line: the words that have begun and are not read to their end.
-use Rattle.std.specs.Prelude.{◌≡◌, ℕ, suc, ◌+◌, ◌*◌, ◌/◌, ◌<◌, ◌≤◌, Bool, IsTrue, List, length, take, drop, ◌⊎◌}
+use Rattle.std.specs.Prelude.{◌≡◌, ℕ, suc, ◌+◌, ◌*◌, ◌/◌, ◌<◌, ◌≤◌, Bool, IsTrue, List, length, slice_index, take, drop, ◌⊎◌}
+use Rattle.ere.specs.Bits.{has_bit}
 use Rattle.matcher.specs.PositionSets.{has_position}
 use Rattle.simulation.specs.declared.part.Counts.{Counts}
+use Rattle.simulation.specs.declared.part.Places.{Places}
 use Rattle.simulation.specs.declared.part.Sizes.{Sizes}
-use Rattle.simulation.specs.Parts.{Shape, nothing, set, both, either, loop, times, is_gap, Chain, Reads, Fits, Suffices}
+use Rattle.simulation.specs.Parts.{Shape, nothing, set, run, both, either, loop, times, is_gap, Chain, Reads, Row, Fits, Suffices}
 
 -- whether the cell of a copy is set: cell k is bit k mod 64 of word k / 64
 abbrev pub at : List ℕ → ℕ → Bool
@@ -26,6 +28,8 @@ second_of sizes cells = drop sizes.first (drop sizes.own cells)
 unfoldable pub Pending : List ℕ → ℕ → Shape → ℕ → List ℕ → ℕ → ℕ → Type 0
 Pending line here nothing copies cells copy to = ⊥
 Pending line here (set members) copies cells copy to = IsTrue (at cells copy) × (to ≡ here)
+Pending line here (run masks places) copies cells copy to =
+    (left : ℕ) × (left ≤ places.after) × IsTrue (at cells (left * places.stride + copy)) × Row line masks places.stride left here to
 Pending line here (both left right sizes before after) copies cells copy to =
     ((middle : ℕ) × Pending line here left copies (first_of sizes cells) copy middle
     × (Reads line right middle to ⊎ ((middle ≡ to) × IsTrue (is_gap after line to))))
@@ -47,6 +51,7 @@ pub record Tells (line : List ℕ) (here : ℕ) (part : Shape) (copies : ℕ) (c
 unfoldable pub IsKept : List ℕ → ℕ → Shape → ℕ → List ℕ → Type 0
 IsKept line here nothing copies cells = Tells line here nothing copies cells
 IsKept line here (set members) copies cells = Tells line here (set members) copies cells
+IsKept line here (run masks places) copies cells = Tells line here (run masks places) copies cells
 IsKept line here (both left right sizes before after) copies cells =
     Tells line here (both left right sizes before after) copies cells
     × IsKept line here left copies (first_of sizes cells) × IsKept line here right copies (second_of sizes cells)
@@ -100,15 +105,27 @@ pub record IsStride (copies stride : ℕ) : Type 0 where
 unfoldable pub size_of : Shape → ℕ → ℕ
 size_of nothing copies = words_for copies
 size_of (set members) copies = words_for copies
+size_of (run masks places) copies = words_for copies
 size_of (both left right sizes before after) copies = words_for copies + (size_of left copies + size_of right copies)
 size_of (either left right sizes) copies = words_for copies + (size_of left copies + size_of right copies)
 size_of (loop body own) copies = size_of body copies
 size_of (times body counts) copies = words_for copies + size_of body (counts.copies * counts.stride)
 
+-- The sets of a run fit into one word, and each copy has the same sets.
+pub record IsRun (masks : List ℕ) (places : Places) (copies : ℕ) : Type 0 where
+  pub apart : places.stride ≡ copies
+  pub some : 0 < copies
+  pub more : 0 < places.after
+  pub fits : places.after * copies + copies ≤ 64
+  pub all : length masks ≡ 256
+  pub same : (byte left copy : ℕ) → left ≤ places.after → copy < copies
+      → has_bit (slice_index masks byte) (left * copies + copy) ≡ has_bit (slice_index masks byte) (left * copies)
+
 -- The numbers that a part keeps are those of this many copies.
 unfoldable pub IsWhole : Shape → ℕ → Type 0
 IsWhole nothing copies = Unit {0}
 IsWhole (set members) copies = Unit {0}
+IsWhole (run masks places) copies = IsRun masks places copies
 IsWhole (both left right sizes before after) copies =
     (sizes.own ≡ words_for copies) × (sizes.first ≡ size_of left copies) × IsWhole left copies × IsWhole right copies
 IsWhole (either left right sizes) copies =
@@ -130,6 +147,7 @@ pub record IsReady (line : List ℕ) (here : ℕ) (part : Shape) (copies : ℕ) 
 unfoldable pub rank : Shape → ℕ
 rank nothing = 1
 rank (set members) = 1
+rank (run masks places) = 1
 rank (both left right sizes before after) = rank left + rank right + 2
 rank (either left right sizes) = rank left + rank right + 2
 rank (loop body own) = rank body + 2

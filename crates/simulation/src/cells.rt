@@ -8,7 +8,7 @@ ghost use Rattle.simulation.specs.Pending.{at, room};
 pub(crate) const BITS: usize = 64;
 
 /// The word if `held`, and no bit otherwise.
-fn word_if(held: bool, word: u64) -> u64
+pub(crate) fn word_if(held: bool, word: u64) -> u64
     ensures { (bit : ℕ) → has_bit result bit ≡ (held && has_bit word bit) }
 {
     if held { word } else { 0 }
@@ -22,44 +22,65 @@ pub(crate) fn either(left: u64, right: u64) -> u64
 }
 
 /// Copies the first words.
+#[inline(always)]
 pub(crate) fn copy(from: &[u64], to: &mut [u64])
     requires { length from.now ≤ length to.old }
     ensures { (k : ℕ) → k < room from.now → at to.new k ≡ at from.now k }
 {
+    // Most parts have one word.
+    if from.len() == 1 {
+        to[0] = from[0];
+        return;
+    }
     for i in 0..from.len() {
         to[i] = from[i];
     }
 }
 
 /// Copies the first words if `held`, and clears them otherwise.
+#[inline(always)]
 pub(crate) fn keep_if(held: bool, from: &[u64], to: &mut [u64], words: usize)
     requires from { words ≤ length from.now }
     requires to { words ≤ length to.old }
     ensures { (k : ℕ) → k < 64 * words → at to.new k ≡ (held && at from.now k) }
 {
+    if words == 1 {
+        to[0] = word_if(held, from[0]);
+        return;
+    }
     for i in 0..words {
         to[i] = word_if(held, from[i]);
     }
 }
 
 /// The first cells that are set in `one`, or in `other` if `too`.
+#[inline(always)]
 pub(crate) fn either_if(one: &[u64], too: bool, other: &[u64], to: &mut [u64], words: usize)
     requires one { words ≤ length one.now }
     requires other { words ≤ length other.now }
     requires to { words ≤ length to.old }
     ensures { (k : ℕ) → k < 64 * words → at to.new k ≡ (at one.now k || (too && at other.now k)) }
 {
+    if words == 1 {
+        to[0] = either(one[0], word_if(too, other[0]));
+        return;
+    }
     for i in 0..words {
         to[i] = either(one[i], word_if(too, other[i]));
     }
 }
 
 /// Adds cells to others.
+#[inline(always)]
 pub(crate) fn add(more: &[u64], to: &mut [u64], words: usize)
     requires more { words ≤ length more.now }
     requires to { words ≤ length to.old }
     ensures { (k : ℕ) → k < 64 * words → at to.new k ≡ (at to.old k || at more.now k) }
 {
+    if words == 1 {
+        to[0] = either(to[0], more[0]);
+        return;
+    }
     for i in 0..words {
         to[i] = either(to[i], more[i]);
     }

@@ -4,6 +4,7 @@
 mod cells;
 mod pack;
 mod part;
+mod run;
 mod simulation;
 mod step;
 mod turns;

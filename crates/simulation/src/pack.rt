@@ -2,13 +2,14 @@
 
 ghost use Rattle.std.specs.Prelude.{◌≡◌, ℕ, ◌+◌, ◌*◌, ◌≤◌, ◌<◌, IfOk, IfSome, IsTrue, None, Some, map, if◌then◌else◌};
 ghost use Rattle.ere.specs.Tree.{form, trees_of, repeat, Tree, Trees, more};
-ghost use Rattle.simulation.specs.Parts.{nothing, shape};
+ghost use Rattle.simulation.specs.Parts.{nothing, set, shape};
 ghost use Rattle.simulation.specs.Packing.{everywhere, gaps_of_both, gaps_of_either, gaps_of_times, only_at, IsEachPart, IsSomePart, IsTreePart, IsTurns, nowhere};
-ghost use Rattle.simulation.specs.Pending.{IsStride, words_for};
+ghost use Rattle.simulation.specs.Pending.{IsStride, IsWhole, words_for};
 
 use crate::cells::BITS;
 use crate::part::{Counts, Gaps, Part, Sizes};
-use ere::Ere;
+use crate::run::longer;
+use ere::{ByteSet, Ere};
 use std::alloc::{AllocError, Global};
 
 /// A part, how many words its cells take, and where its tree has the empty word.
@@ -203,13 +204,88 @@ fn looped(alloc: Global, one: Packed, least: u8, copies: usize) -> Result<Packed
     })
 }
 
-/// A word of one part and then a word of another.
+/// A word of one part and then a word of another. Sets in a row become one part.
 fn both(alloc: Global, first: Packed, second: Packed, copies: usize) -> Result<Packed, AllocError>
+    requires some { 0 < copies }
+    requires whole { IsWhole (shape second.part) copies }
     ensures { IfOk result (λ packed. (tree : Tree) (trees : Trees) → IsTreePart tree first copies → IsEachPart trees second copies → IsEachPart (more tree trees) packed copies) }
 {
     if is_nothing(&second.part) && is_everywhere(second.gaps) {
         return Ok(first);
     }
+    if is_nowhere(first.gaps) && is_nowhere(second.gaps) {
+        if let Some(members) = set_of(&first.part) {
+            return set_before(alloc, members, first, second, copies);
+        }
+    }
+    pair(alloc, first, second, copies)
+}
+
+/// The set that the part is, or nothing.
+fn set_of(part: &Part) -> Option<ByteSet>
+    ensures { IfSome result (λ members. shape part.now ≡ set members) }
+{
+    match part {
+        Part::Set(members) => Some(*members),
+        _ => None,
+    }
+}
+
+/// A set and then a word of a part. Neither has the empty word.
+fn set_before(
+    alloc: Global,
+    members: ByteSet,
+    first: Packed,
+    second: Packed,
+    copies: usize,
+) -> Result<Packed, AllocError>
+    requires some { 0 < copies }
+    requires whole { IsWhole (shape second.part) copies }
+    requires set { shape first.part ≡ set members }
+    requires gaps { (first.gaps ≡ nowhere) × (second.gaps ≡ nowhere) }
+    ensures { IfOk result (λ packed. (tree : Tree) (trees : Trees) → IsTreePart tree first copies → IsEachPart trees second copies → IsEachPart (more tree trees) packed copies) }
+{
+    let Packed { part, size, gaps } = second;
+    match part {
+        Part::Both(left, right, sizes, before, after) => {
+            if is_nowhere(before) {
+                if let Some(row) = longer(alloc, &members, &left, copies)? {
+                    return Ok(Packed {
+                        part: Part::Both(Box::new(alloc, row)?, right, sizes, before, after),
+                        size,
+                        gaps,
+                    });
+                }
+            }
+            let rest = Packed {
+                part: Part::Both(left, right, sizes, before, after),
+                size,
+                gaps,
+            };
+            pair(alloc, first, rest, copies)
+        }
+        part => {
+            if let Some(row) = longer(alloc, &members, &part, copies)? {
+                return Ok(Packed {
+                    part: row,
+                    size,
+                    gaps,
+                });
+            }
+            let rest = Packed {
+                part,
+                size,
+                gaps,
+            };
+            pair(alloc, first, rest, copies)
+        }
+    }
+}
+
+/// A word of one part and then a word of another, as two members.
+fn pair(alloc: Global, first: Packed, second: Packed, copies: usize) -> Result<Packed, AllocError>
+    ensures { IfOk result (λ packed. (tree : Tree) (trees : Trees) → IsTreePart tree first copies → IsEachPart trees second copies → IsEachPart (more tree trees) packed copies) }
+{
     let own = words_for(copies);
     let Some(members) = first.size.checked_add(second.size) else {
         return Err(AllocError);
@@ -310,6 +386,13 @@ fn is_everywhere(gaps: Gaps) -> bool
     ensures { IsTrue result → gaps ≡ everywhere }
 {
     gaps.alone && gaps.start && gaps.inside && gaps.end
+}
+
+/// Whether the empty word is nowhere.
+fn is_nowhere(gaps: Gaps) -> bool
+    ensures { IsTrue result → gaps ≡ nowhere }
+{
+    !(gaps.alone || gaps.start || gaps.inside || gaps.end)
 }
 
 /// The empty word at the line's start or end.

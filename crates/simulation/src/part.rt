@@ -27,6 +27,15 @@ pub struct Sizes {
     pub first: usize,
 }
 
+/// Where the sets of a run lie in a word of cells. The last set has the lowest bits.
+#[derive(Clone, Copy, Debug, PartialEq, Eq)]
+pub struct Places {
+    /// How far apart two sets are, which is the number of copies.
+    pub stride: usize,
+    /// How many sets come after the first, at least one.
+    pub after: usize,
+}
+
 /// How often the body of `Part::Times` is read.
 #[derive(Clone, Copy, Debug, PartialEq, Eq)]
 pub struct Counts {
@@ -53,6 +62,9 @@ pub enum Part {
     Nothing,
     /// One byte of the set.
     Set(ByteSet),
+    /// One byte of each of some sets, one after the other. For each byte there is a mask: which of the sets have it, with
+    /// the same bit for each copy.
+    Run(Vec<u64>, Places),
     /// A word of one part and then a word of another. Either can be left out where it has the empty word.
     Both(Box<Part>, Box<Part>, Sizes, Gaps, Gaps),
     /// A word of either part.

@@ -1,11 +1,12 @@
 //! One byte of the line.
 
 ghost use Rattle.std.specs.Prelude.{◌≡◌, ℕ, suc, ◌+◌, ◌*◌, ◌<◌, ◌≤◌, length};
-ghost use Rattle.simulation.specs.Parts.{shape, set, both, either, loop, times};
-ghost use Rattle.simulation.specs.Pending.{Advances, IsReady, words_for};
+ghost use Rattle.simulation.specs.Parts.{shape, set, run, both, either, loop, times};
+ghost use Rattle.simulation.specs.Pending.{Advances, IsReady, IsRun, words_for};
 
 use crate::cells::{add, copy, either_if, keep_if};
-use crate::part::{Counts, Gaps, Part, Sizes, is_gap};
+use crate::part::{Counts, Gaps, Part, Places, Sizes, is_gap};
+use crate::run::moved_on;
 use crate::turns::{any_turn, begin_turns, lowest_turn};
 use ere::ByteSet;
 
@@ -25,6 +26,7 @@ pub(crate) fn step(
     match part {
         Part::Nothing => {}
         Part::Set(members) => step_set(members, copies, line, here, entered, cells),
+        Part::Run(masks, places) => step_run(masks, *places, copies, line, here, entered, cells),
         Part::Both(left, right, sizes, before, after) => {
             step_both(
                 left, right, *sizes, *before, *after, copies, line, here, entered, cells,
@@ -54,6 +56,26 @@ fn step_set(
 {
     let words = cells.len();
     keep_if(members.has(line[here]), entered, cells, words);
+}
+
+#[inline(always)]
+fn step_run(
+    masks: &[u64],
+    places: Places,
+    copies: usize,
+    line: &[u8],
+    here: usize,
+    entered: &[u64],
+    cells: &mut [u64],
+)
+    requires inside { here < length line.now }
+    requires run { IsRun masks.now places copies }
+    requires entered { length entered.now ≡ words_for copies }
+    requires cells { length cells.old ≡ words_for copies }
+    ensures { Advances line.now here (run masks.now places) copies entered.now cells.old cells.new }
+{
+    let moved = moved_on(places, cells[0], entered[0]);
+    cells[0] = moved & masks[line[here] as usize];
 }
 
 #[cycle(step)]

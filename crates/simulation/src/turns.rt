@@ -207,7 +207,7 @@ fn set_if(held: bool, words: &mut [u64], k: usize)
 }
 
 /// The lowest bits of a word.
-fn lowest_bits(word: u64, count: usize) -> u64
+pub(crate) fn lowest_bits(word: u64, count: usize) -> u64
     requires { (0 < count) × (count < 64) }
     ensures low { (b : ℕ) → b < count → has_bit result b ≡ has_bit word b }
     ensures high { (b : ℕ) → count ≤ b → has_bit result b ≡ false }
@@ -225,7 +225,7 @@ fn highest_bits(word: u64, count: usize) -> u64
 }
 
 /// A word moved up, with other bits before it.
-fn moved_in(word: u64, carried: u64, count: usize) -> u64
+pub(crate) fn moved_in(word: u64, carried: u64, count: usize) -> u64
     requires count { count < 64 }
     requires high { (b : ℕ) → count ≤ b → has_bit carried b ≡ false }
     ensures { (b : ℕ) → b < 64 → has_bit result b ≡ (if nat_lt b count then has_bit carried b else has_bit word (b - count)) }
@@ -234,7 +234,7 @@ fn moved_in(word: u64, carried: u64, count: usize) -> u64
 }
 
 /// A word moved down.
-fn moved_down(word: u64, count: usize) -> u64
+pub(crate) fn moved_down(word: u64, count: usize) -> u64
     requires { count < 64 }
     ensures { (b : ℕ) → has_bit result b ≡ has_bit word (count + b) }
 {

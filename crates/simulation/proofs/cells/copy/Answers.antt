@@ -1,6 +1,6 @@
-use Rattle.std.proofs.Common.{arith}
+use Rattle.std.proofs.Common.{◌∙◌, arith}
 use Rattle.simulation.specs.Pending.{at}
-use Rattle.simulation.proofs.Words.{written_more, word_is}
+use Rattle.simulation.proofs.Words.{first_word, first_written, written_more, word_is}
 use Rattle.simulation.proofs.cells.copy.Goals as goal
 
 pub loop-i-init : goal.loop-i-init
@@ -12,3 +12,6 @@ loop-i-preserved c =
 
 pub returns : goal.returns
 returns c = λ k low. c.loop-i.invariant k (omega arith)
+
+pub returns-then-from-eq1 : goal.returns-then-from-eq1
+returns-then-from-eq1 c = λ k low. first_written c.args.to.now _ k (omega arith) (omega arith) ∙ first_word c.args.from.now k (omega arith)

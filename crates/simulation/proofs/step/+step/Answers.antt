@@ -1,7 +1,7 @@
 use Rattle.std.proofs.Common.{◌≡◌, ◌∙◌, ◌+◌, ap, subst, arith}
 use Rattle.simulation.specs.Parts.{shape}
 use Rattle.simulation.specs.Pending.{IsReady, rank}
-use Rattle.simulation.proofs.Shapes.{shape-Nothing, shape-Set, shape-Both, shape-Either, shape-Loop, shape-Times}
+use Rattle.simulation.proofs.Shapes.{shape-Nothing, shape-Set, shape-Run, shape-Both, shape-Either, shape-Loop, shape-Times}
 use Rattle.simulation.proofs.Steps as steps
 use Rattle.simulation.proofs.Cuts as cuts
 use Rattle.simulation.proofs.Ranks as ranks
@@ -15,10 +15,22 @@ pub step-step_set-requires-clause-cells : goal.step-step_set-requires-clause-cel
 step-step_set-requires-clause-cells t c =
     cuts.set_cells_long _ _ _ _ _ _ (subst (λ s. IsReady c.args.line.now c.args.here s c.args.copies c.args.entered.now c.args.cells.now) (ap shape c.in-Set.is ∙ shape-Set c.in-Set.members) c.requires)
 
+pub step-step_run-requires-clause-run : goal.step-step_run-requires-clause-run
+step-step_run-requires-clause-run t c =
+    rw c.deref.ensures.value (cuts.run_long _ _ _ _ _ _ _ (subst (λ s. IsReady c.args.line.now c.args.here s c.args.copies c.args.entered.now c.args.cells.now) (ap shape c.in-Run.is ∙ shape-Run c.in-Run.masks c.in-Run.places) c.requires)).1
+
+pub step-step_run-requires-clause-entered : goal.step-step_run-requires-clause-entered
+step-step_run-requires-clause-entered t c =
+    (cuts.run_long _ _ _ _ _ _ _ (subst (λ s. IsReady c.args.line.now c.args.here s c.args.copies c.args.entered.now c.args.cells.now) (ap shape c.in-Run.is ∙ shape-Run c.in-Run.masks c.in-Run.places) c.requires)).2
+
+pub step-step_run-requires-clause-cells : goal.step-step_run-requires-clause-cells
+step-step_run-requires-clause-cells t c =
+    (cuts.run_long _ _ _ _ _ _ _ (subst (λ s. IsReady c.args.line.now c.args.here s c.args.copies c.args.entered.now c.args.cells.now) (ap shape c.in-Run.is ∙ shape-Run c.in-Run.masks c.in-Run.places) c.requires)).3
+
 pub step-step_both-requires : goal.step-step_both-requires
 step-step_both-requires t c =
     let d : rank (shape c.args.part.now) ≡ t = omega arith in
-    rw (c.deref.ensures, c.deref-in-Both.ensures)
+    rw (c.deref-in-Both.ensures, c.deref-in-Both-2.ensures)
     (ranks.both_falls _ _ _ c.in-Both.sizes c.in-Both.before c.in-Both.after t (ap shape c.in-Both.is ∙ shape-Both c.in-Both.left c.in-Both.right c.in-Both.sizes c.in-Both.before c.in-Both.after) d, subst (λ s. IsReady c.args.line.now c.args.here s c.args.copies c.args.entered.now c.args.cells.now) (ap shape c.in-Both.is ∙ shape-Both c.in-Both.left c.in-Both.right c.in-Both.sizes c.in-Both.before c.in-Both.after) c.requires)
 
 pub step-step_either-requires : goal.step-step_either-requires
@@ -44,8 +56,11 @@ step-returns-in-Nothing t c =
 pub step-returns-in-Set : goal.step-returns-in-Set
 step-returns-in-Set t c = rw (ap shape c.in-Set.is ∙ shape-Set c.in-Set.members) c.step_set.ensures
 
+pub step-returns-in-Run : goal.step-returns-in-Run
+step-returns-in-Run t c = rw ((ap shape c.in-Run.is ∙ shape-Run c.in-Run.masks c.in-Run.places), ← c.deref.ensures.value) c.step_run.ensures
+
 pub step-returns-in-Both : goal.step-returns-in-Both
-step-returns-in-Both t c = rw ((ap shape c.in-Both.is ∙ shape-Both c.in-Both.left c.in-Both.right c.in-Both.sizes c.in-Both.before c.in-Both.after), ← c.deref.ensures, ← c.deref-in-Both.ensures) c.step_both.ensures
+step-returns-in-Both t c = rw ((ap shape c.in-Both.is ∙ shape-Both c.in-Both.left c.in-Both.right c.in-Both.sizes c.in-Both.before c.in-Both.after), ← c.deref-in-Both.ensures, ← c.deref-in-Both-2.ensures) c.step_both.ensures
 
 pub step-returns-in-Either : goal.step-returns-in-Either
 step-returns-in-Either t c = rw ((ap shape c.in-Either.is ∙ shape-Either c.in-Either.left c.in-Either.right c.in-Either.sizes), ← c.deref-in-Either.ensures, ← c.deref-in-Either-2.ensures) c.step_either.ensures
