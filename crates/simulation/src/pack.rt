@@ -272,11 +272,7 @@ fn set_before(
                     gaps,
                 });
             }
-            let rest = Packed {
-                part,
-                size,
-                gaps,
-            };
+            let rest = Packed { part, size, gaps };
             pair(alloc, first, rest, copies)
         }
     }
