@@ -2,6 +2,9 @@
 use Rattle.std.proofs.Common.{◌≡◌, ℕ, zero, suc, ◌+◌, ◌-◌, ◌*◌, ◌<◌, ◌≤◌, Bool, true, false, ◌==◌, if◌then◌else◌, IsTrue, List, length, get_or}
 use Rattle.std.proofs.Common.{Option, Some, None, IfSome, ◌⊎◌, inl, inr, refl, sym, subst, ap, ◌∙◌, arith}
 use Rattle.std.proofs.lemmas.Bool.Decides.{nat_tests}
+use Rattle.std.proofs.Common.{◌&&◌, ◌||◌, nat_lt}
+use Rattle.std.proofs.lemmas.List.FromFn.{get_or-map-range_with_len}
+use Rattle.ere.specs.ByteSet.{has, is_line_byte, set_of, union}
 use Rattle.ere.specs.Tree.{Tree, cat, alt, repeat, Trees, none, more}
 use Rattle.matcher.specs.Spans.{Relation, Spans, SpansEach, SpansSome, Steps}
 use Rattle.simulation.specs.declared.part.Gaps.{Gaps}
@@ -10,7 +13,7 @@ use Rattle.simulation.specs.declared.part.Sizes.{Sizes}
 use Rattle.simulation.specs.Parts.{Shape, nothing, both, either, loop, times, is_gap, Chain, Reads, Fits, Suffices}
 use Rattle.simulation.specs.Parts.{set as one_of}
 use Rattle.simulation.specs.Packing.{IsPacked, StandsFor, nowhere, everywhere, gaps_of_both, gaps_of_either, gaps_of_times}
-use Rattle.simulation.proofs.Tests.{and_left}
+use Rattle.simulation.proofs.Tests.{and_left, or_cases, or_left, or_right}
 use Rattle.simulation.proofs.Forward.{reads_forward}
 use Rattle.matcher.proofs.Bits.{false≢true}
 use Rattle.simulation.proofs.Packing.{gap_everywhere, gap_both}
@@ -285,6 +288,55 @@ either_part tree trees left right before after sizes copies first second total o
         (λ line from to r. r) one.packed two.packed
 
     or_packed : IsPacked (λ line. SpansSome line (more tree trees)) (either left right sizes) (gaps_of_either before after)
+    or_packed = record { forward = base.forward; sound = base.sound; complete = base.complete; empty = base.empty; gap = base.gap; steady = base.steady }
+
+line_again : (line_byte a b : Bool) → (line_byte && (line_byte && ((line_byte && a) || (line_byte && b)))) ≡ ((line_byte && a) || (line_byte && b))
+line_again true a b = refl
+line_again false a b = refl
+
+has_union : (one two : List Bool) (byte : ℕ) → has (union one two) byte ≡ (has one byte || has two byte)
+unfolding set_of
+has_union one two byte = go (nat_lt byte 256) refl
+  where
+    go : (t : Bool) → nat_lt byte 256 ≡ t → has (union one two) byte ≡ (has one byte || has two byte)
+    go true e =
+        let small : byte < 256 = grind (arith, nat_tests) in
+        ap (λ t. is_line_byte byte && t)
+        (get_or-map-range_with_len (λ b. is_line_byte b && (has one b || has two b)) 0 256 byte byte false small (omega arith))
+        ∙ line_again (is_line_byte byte) (get_or one byte false) (get_or two byte false)
+    go false e =
+        ap (λ t. (t && (not (byte == 0) && not (byte == 10))) && get_or (union one two) byte false) e
+        ∙ sym (ap (λ t. ((t && (not (byte == 0) && not (byte == 10))) && get_or one byte false) || ((t && (not (byte == 0) && not (byte == 10))) && get_or two byte false)) e)
+
+-- A byte of either set.
+pub union_part : (tree : Tree) (trees : Trees) (left right : Shape) (one two : List Bool) (before after : Gaps) (copies first second : ℕ)
+    → left ≡ one_of one → right ≡ one_of two → IsPartFor (λ line. Spans line tree) left before copies first
+    → IsPartFor (λ line. SpansSome line trees) right after copies second
+    → IsPartFor (λ line. SpansSome line (more tree trees)) (one_of (union one two)) (gaps_of_either before after) copies first
+unfolding SpansSome Reads IsWhole size_of
+union_part tree trees left right one two before after copies first second left_is right_is head rest =
+    record { packed = or_packed; whole = tt; sized = subst (λ p. size_of p copies ≡ first) left_is head.sized }
+  where
+    of_union : (line : List ℕ) (from to : ℕ) → Reads line (one_of (union one two)) from to → Reads line (one_of one) from to ⊎ Reads line (one_of two) from to
+    of_union line from to (next, inside, is) =
+        elim (or_cases (has one (get_or line from 0)) (has two (get_or line from 0)) (sym (has_union one two (get_or line from 0)) ∙ is)) [
+          | inl a ↦ inl (next, inside, a)
+          | inr b ↦ inr (next, inside, b)
+        ]
+
+    to_union : (line : List ℕ) (from to : ℕ) → Reads line (one_of one) from to ⊎ Reads line (one_of two) from to → Reads line (one_of (union one two)) from to
+    to_union line from to (inl (next, inside, a)) =
+        (next, inside, has_union one two (get_or line from 0) ∙ or_left (has one (get_or line from 0)) (has two (get_or line from 0)) a)
+    to_union line from to (inr (next, inside, b)) =
+        (next, inside, has_union one two (get_or line from 0) ∙ or_right (has one (get_or line from 0)) (has two (get_or line from 0)) b)
+
+    base : IsPacked (Or (λ line. Spans line tree) (λ line. SpansSome line trees)) (one_of (union one two)) (gaps_of_either before after)
+    base =
+        either_packed (λ line. Spans line tree) (λ line. SpansSome line trees) (one_of one) (one_of two) (one_of (union one two)) before after of_union to_union
+        (subst (λ p. IsPacked (λ line. Spans line tree) p before) left_is head.packed)
+        (subst (λ p. IsPacked (λ line. SpansSome line trees) p after) right_is rest.packed)
+
+    or_packed : IsPacked (λ line. SpansSome line (more tree trees)) (one_of (union one two)) (gaps_of_either before after)
     or_packed = record { forward = base.forward; sound = base.sound; complete = base.complete; empty = base.empty; gap = base.gap; steady = base.steady }
 
 -- A word of either part, where the second has none but the empty word.

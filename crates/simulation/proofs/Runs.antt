@@ -1,12 +1,12 @@
 -- Runs in a word of cells.
-use Rattle.std.proofs.Common.{◌≡◌, ℕ, suc, ◌+◌, ◌-◌, ◌*◌, ◌/◌, ◌<◌, ◌≤◌, Bool, true, false, ◌&&◌, if◌then◌else◌, nat_lt, List, length, get_or, set, refl, sym, ap, ◌∙◌, arith}
+use Rattle.std.proofs.Common.{◌≡◌, ℕ, suc, ◌+◌, ◌-◌, ◌*◌, ◌<◌, ◌≤◌, Bool, true, false, ◌&&◌, if◌then◌else◌, nat_lt, List, length, get_or, set, refl, sym, ap, ◌∙◌, arith}
 use Rattle.std.proofs.lemmas.Bool.Decides.{nat_tests}
 use Rattle.std.proofs.lemmas.Nat.{mul-add-lt}
 use Rattle.std.proofs.Math.Nat.{mul-le-mul_right}
 use Rattle.ere.specs.Bits.{has_bit}
 use Rattle.simulation.specs.declared.part.Places.{Places}
 use Rattle.simulation.specs.Parts.{run}
-use Rattle.simulation.specs.Pending.{at, words_for, Advances, IsRun}
+use Rattle.simulation.specs.Pending.{at, Advances, IsRun}
 use Rattle.simulation.proofs.Steps.{run_advances}
 use Rattle.simulation.proofs.Words.{first_word, first_written}
 

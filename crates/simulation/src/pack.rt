@@ -272,11 +272,7 @@ fn set_before(
                     gaps,
                 });
             }
-            let rest = Packed {
-                part,
-                size,
-                gaps,
-            };
+            let rest = Packed { part, size, gaps };
             pair(alloc, first, rest, copies)
         }
     }
@@ -307,7 +303,7 @@ fn pair(alloc: Global, first: Packed, second: Packed, copies: usize) -> Result<P
     })
 }
 
-/// A word of either part.
+/// A word of either part. Two sets become one.
 fn either(alloc: Global, first: Packed, second: Packed, copies: usize) -> Result<Packed, AllocError>
     ensures { IfOk result (λ packed. (tree : Tree) (trees : Trees) → IsTreePart tree first copies → IsSomePart trees second copies → IsSomePart (more tree trees) packed copies) }
 {
@@ -318,6 +314,15 @@ fn either(alloc: Global, first: Packed, second: Packed, copies: usize) -> Result
             size: first.size,
             gaps,
         });
+    }
+    if let Some(one) = set_of(&first.part) {
+        if let Some(two) = set_of(&second.part) {
+            return Ok(Packed {
+                part: Part::Set(one.union(&two)),
+                size: first.size,
+                gaps,
+            });
+        }
     }
     let own = words_for(copies);
     let Some(members) = first.size.checked_add(second.size) else {

@@ -49,7 +49,25 @@ const ROWS: &[u8] = b"+~
 +^(([ab]{2}){3}){2}$~abababababab
 -^(([ab]{2}){3}){2}$~ababababababa
 +[^a]b{0}c~xc
--[^a]b{0}c~xbac";
+-[^a]b{0}c~xbac
++^abcd$~abcd
+-^abcd$~abdd
+-^abcd$~abc
++bcd.*cde~abcdcde
++^(abc){21}$~abcabcabcabcabcabcabcabcabcabcabcabcabcabcabcabcabcabcabcabcabc
+-^(abc){21}$~abcabcabcabcabcabcabcabcabcabcabcabcabcabcabcabcabcabcabcabcabb
++^(ab){32}$~abababababababababababababababababababababababababababababababab
+-^(ab){32}$~ababababababababababababababababababababababababababababababab
++^(abc){33}$~abcabcabcabcabcabcabcabcabcabcabcabcabcabcabcabcabcabcabcabcabcabcabcabcabcabcabcabcabcabcabcabcabc
+-^(abc){33}$~abcabcabcabcabcabcabcabcabcabcabcabcabcabcabcabcabcabcabcabcabcabcabcabcabcabcabcabcabcabcabcabcabcabc
++^aaaaaaaaaaaaaaaaaaaaaaaaaaaaaaaaaaaaaaaaaaaaaaaaaaaaaaaaaaaaaaaaaaaaaab$~aaaaaaaaaaaaaaaaaaaaaaaaaaaaaaaaaaaaaaaaaaaaaaaaaaaaaaaaaaaaaaaaaaaaaab
+-^aaaaaaaaaaaaaaaaaaaaaaaaaaaaaaaaaaaaaaaaaaaaaaaaaaaaaaaaaaaaaaaaaaaaaab$~aaaaaaaaaaaaaaaaaaaaaaaaaaaaaaaaaaaaaaaaaaaaaaaaaaaaaaaaaaaaaaaaaaaaab
+-^aaaaaaaaaaaaaaaaaaaaaaaaaaaaaaaaaaaaaaaaaaaaaaaaaaaaaaaaaaaaaaaaaaaaaab$~aaaaaaaaaaaaaaaaaaaaaaaaaaaaaaaaaaaaaaaaaaaaaaaaaaaaaaaaaaaaaaaaaaaaaaab
++(ab?cd)*efg~xabcdacdefg
+-^(ab?cd)*efg$~abcdbcdefg
++^(a|b|[cd])e$~ce
+-^(a|b|[cd])e$~ee
++^(a|b?)(c|d)e$~de";
 
 /// The half of a row before the `~`, and the half after it.
 fn halves(row: &[u8]) -> (&[u8], &[u8]) {

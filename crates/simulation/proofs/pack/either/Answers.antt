@@ -1,8 +1,10 @@
-use Rattle.std.proofs.Common.{◌+◌, refl, ap, ◌∙◌}
+use Rattle.std.proofs.Common.{◌+◌, ◌≡◌, refl, ap, ◌∙◌, subst, IfSome}
 use Rattle.simulation.specs.declared.part.Sizes.{Sizes}
 use Rattle.simulation.specs.Parts.{shape, either}
-use Rattle.simulation.proofs.Shapes.{shape-Either}
-use Rattle.simulation.proofs.Building.{as_part, sum_is, either_part, only_part}
+use Rattle.simulation.specs.Parts.{set as one_of}
+use Rattle.ere.specs.ByteSet.{union}
+use Rattle.simulation.proofs.Shapes.{shape-Either, shape-Set}
+use Rattle.simulation.proofs.Building.{as_part, sum_is, either_part, only_part, union_part}
 use Rattle.simulation.proofs.pack.either.Goals as goal
 
 pub returns-then-is_nothing : goal.returns-then-is_nothing
@@ -20,5 +22,13 @@ returns c = λ tree trees one two.
     ∙ ap (λ p. either (shape c.args.first.part) (shape p) sizes) c.in_ok-right.ensures.ok)
     c.either_gaps-gaps.ensures refl
     (either_part tree trees (shape c.args.first.part) (shape c.args.second.part) c.args.first.gaps c.args.second.gaps sizes c.args.copies
-    c.args.first.size c.args.second.size c.in-Some-checked_add.size c.words_for-own.ensures refl
-    (sum_is _ _ _ _ c.in-Some-checked_add.is c.checked_add-2.ensures ∙ ap (λ n. c.words_for-own.result + n) (sum_is _ _ _ _ c.in-Some.is c.checked_add.ensures)) one two)
+    c.args.first.size c.args.second.size c.in-Some-checked_add-2.size c.words_for-own.ensures refl
+    (sum_is _ _ _ _ c.in-Some-checked_add-2.is c.checked_add-2.ensures ∙ ap (λ n. c.words_for-own.result + n) (sum_is _ _ _ _ c.in-Some-checked_add.is c.checked_add.ensures)) one two)
+
+pub returns-in-Some-set_of : goal.returns-in-Some-set_of
+returns-in-Some-set_of c = λ tree trees head rest.
+    as_part _ (one_of (union c.in-Some.one c.in-Some-set_of.two)) _ _ _ c.args.copies _ _ (shape-Set c.union.result ∙ ap one_of c.union.ensures) c.either_gaps-gaps.ensures
+    refl
+    (union_part tree trees (shape c.args.first.part) (shape c.args.second.part) c.in-Some.one c.in-Some-set_of.two c.args.first.gaps c.args.second.gaps c.args.copies
+    c.args.first.size c.args.second.size (subst (λ o. IfSome o (λ m. shape c.args.first.part ≡ one_of m)) c.in-Some.is c.set_of.ensures)
+    (subst (λ o. IfSome o (λ m. shape c.args.second.part ≡ one_of m)) c.in-Some-set_of.is c.set_of-in-Some.ensures) head rest)

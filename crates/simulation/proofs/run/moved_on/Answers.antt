@@ -1,4 +1,3 @@
-use Rattle.std.proofs.Common.{arith}
 use Rattle.simulation.proofs.Runs as runs
 use Rattle.simulation.proofs.run.moved_on.Goals as goal
 
