@@ -155,7 +155,7 @@ def show(title, rows):
     print("\n%s\n\n| pattern | seconds for each MB | text |\n|---|---|---|" % title)
     for pattern, (cost, name) in rows:
         text = pattern.decode("latin-1").replace("|", "\\|")
-        shown = text if len(text) <= 100 else "%s... %d bytes" % (text[:80], len(text))
+        shown = text if len(text) <= 250 else "%s... %d bytes" % (text[:80], len(text))
         print("| `%s` | %.2f | %s |" % (shown, cost, name.decode()), flush=True)
 
 
