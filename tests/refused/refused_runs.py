@@ -8,8 +8,8 @@ there are as many places as readers. The library of counting.py counts the reque
 a different order each time, so these runs are repeated.
 
 Then a body is searched that is so large that the pattern is compiled, which takes some hundreds of requests in a row. If one of
-them is refused, the body is searched line by line and the answer stays the same; with stars inside stars, in the pattern or in the
-name pattern, the search is refused.
+them is refused, the body is searched line by line and the answer stays the same, also with stars inside stars, in the pattern or in
+the name pattern, where the simulation takes the lines.
 
 Finally, large requests are refused and small ones are not. It is then known which item gets no memory, and so what must
 be written: a put, a load or a search with no room is refused with its line or number, and the next item is carried out.
@@ -51,8 +51,8 @@ LARGE = b"".join(b"line %d of the body, int x = 0x%08x;\n" % (number, number * 7
 SEARCHES = {
     b"search line 44[0-3] .* 0x00": ("the same", 400),
     b"isearch LINE 44[0-3] .* 0X00": ("the same", 400),
-    b"search ((a*|b)*|c)*0x0034[0-3]": ("the search refused", 400),
-    b"searchin ((a*|b)*|c)*b$ 0x0034[0-3]": ("the search refused", 200),
+    b"search ((a*|b)*|c)*0x0034[0-3]": ("the same", 400),
+    b"searchin ((a*|b)*|c)*b$ 0x0034[0-3]": ("the same", 200),
 }
 
 # Requests of at least this many bytes are large: those for a body of LONG, for the hits of MANY, and for the texts below, and none for
