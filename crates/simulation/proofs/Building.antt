@@ -206,35 +206,24 @@ both_part tree trees left right before after sizes copies first second total own
     then_packed =
         record { forward = base.forward; sound = base.sound; complete = base.complete; empty = base.empty; gap = base.gap; steady = base.steady }
 
--- A set and then a part, as one part.
-pub row_part : (members : List Bool) (tree : Tree) (trees : Trees) (left right row : Shape) (before after : Gaps) (copies first second : ℕ)
-    → left ≡ one_of members → before ≡ nowhere → after ≡ nowhere → IsLonger members right row copies
+-- A part and then another, as one part.
+pub row_part : (tree : Tree) (trees : Trees) (left right row : Shape) (before after : Gaps) (copies first second : ℕ)
+    → IsLonger left right before after row copies
     → IsPartFor (λ line. Spans line tree) left before copies first → IsPartFor (λ line. SpansEach line trees) right after copies second
-    → IsPartFor (λ line. SpansEach line (more tree trees)) row after copies second
-unfolding SpansEach
-row_part members tree trees left right row before after copies first second is_set none_before none_after longer one two = record {
-  packed = subst (λ g. IsPacked (λ line. SpansEach line (more tree trees)) row g) (sym none_after) then_packed;
-  whole = longer.whole;
-  sized = longer.sized ∙ two.sized;
-}
+    → IsPartFor (λ line. SpansEach line (more tree trees)) row (gaps_of_both before after) copies second
+unfolding SpansEach Reads
+row_part tree trees left right row before after copies first second longer one two =
+    record { packed = then_packed; whole = longer.whole; sized = longer.sized ∙ two.sized }
   where
-    head : IsPacked (λ line. Spans line tree) (one_of members) nowhere
-    head = subst (λ p. IsPacked (λ line. Spans line tree) p nowhere) is_set (subst (λ g. IsPacked (λ line. Spans line tree) left g) none_before one.packed)
+    sizes : Sizes
+    sizes = record { own = 0; first = 0 }
 
-    rest : IsPacked (λ line. SpansEach line trees) right nowhere
-    rest = subst (λ g. IsPacked (λ line. SpansEach line trees) right g) none_after two.packed
-
-    to_row : (line : List ℕ) (from to : ℕ) → ReadsBoth line (one_of members) right nowhere nowhere from to → Reads line row from to
-    to_row line from to (inl h) = (longer.reads line from to).1 h
-    to_row line from to (inr (inl h)) = absurd (gap_nowhere line from h.0)
-    to_row line from to (inr (inr h)) = absurd (gap_nowhere line to h.1)
-
-    base : IsPacked (Then (λ line. Spans line tree) (λ line. SpansEach line trees)) row nowhere
+    base : IsPacked (Then (λ line. Spans line tree) (λ line. SpansEach line trees)) row (gaps_of_both before after)
     base =
-        both_packed (λ line. Spans line tree) (λ line. SpansEach line trees) (one_of members) right row nowhere nowhere
-        (λ line from to r. inl ((longer.reads line from to).0 r)) to_row head rest
+        both_packed (λ line. Spans line tree) (λ line. SpansEach line trees) left right row before after
+        (λ line from to r. (longer.reads sizes line from to).0 r) (λ line from to r. (longer.reads sizes line from to).1 r) one.packed two.packed
 
-    then_packed : IsPacked (λ line. SpansEach line (more tree trees)) row nowhere
+    then_packed : IsPacked (λ line. SpansEach line (more tree trees)) row (gaps_of_both before after)
     then_packed =
         record { forward = base.forward; sound = base.sound; complete = base.complete; empty = base.empty; gap = base.gap; steady = base.steady }
 
@@ -457,3 +446,7 @@ pub alt_result : {E : Type 0} (trees : Trees) (copies : ℕ) (r : Result Packed 
     → IfOk r (λ built. IsTreePart (alt trees) built copies)
 alt_result trees copies (Ok built) h = alt_part trees built copies h
 alt_result trees copies (Err e) h = tt
+
+-- What holds of what is found.
+pub found : {X : Type 0} (x : X) (o : Option X) → o ≡ Some x → (P : X → Type 0) → IfSome o P → P x
+found x o is P h = subst (λ o. IfSome o P) is h

@@ -2,6 +2,8 @@
 use Rattle.std.proofs.Common.{◌≡◌, ℕ, zero, suc, ◌+◌, ◌*◌, ◌<◌, ◌≤◌, Bool, true, false, List, ◌⊎◌, inl, inr, refl, arith, drop, nat_lt, nat_le}
 use Rattle.std.proofs.lemmas.Bool.Decides.{nat_tests}
 use Rattle.matcher.specs.Spans.{Relation}
+use Rattle.simulation.specs.declared.part.Places.{Places}
+use Rattle.simulation.specs.Parts.{Row as rows}
 use Rattle.simulation.specs.Parts.{Shape, nothing, set, run, both, either, loop, times, Chain, Reads, Row}
 use Rattle.simulation.specs.Pending.{Pending, first_of, second_of}
 
@@ -20,16 +22,17 @@ chain_forward relation forward count from to h =
     let rest = chain_not_back relation forward count h.0 to h.2 in
     omega arith
 
-pub row_long : (line masks : List ℕ) (stride count from to : ℕ) → Row line masks stride count from to → to ≡ from + count
-unfolding Row
-row_long line masks stride zero from to h = omega arith
-row_long line masks stride (suc left) from to h = let rest = row_long line masks stride left (suc from) to h.2 in omega arith
+pub row_forward : (line masks : List ℕ) (places : Places) (left from to : ℕ) → Row line masks places left from to → from ≤ to
+row_forward line masks places zero from to (rows.done e) = omega arith
+row_forward line masks places (suc left) from to (rows.skips o r) = row_forward line masks places left from to r
+row_forward line masks places (suc left) from to (rows.reads i r) = let on = row_forward line masks places left (suc from) to r in omega arith
+row_forward line masks places left from to (rows.again p i r) = let on = row_forward line masks places left (suc from) to r in omega arith
 
 pub reads_forward : (line : List ℕ) (part : Shape) (from to : ℕ) → Reads line part from to → from < to
 unfolding Reads
 reads_forward line nothing from to h = absurd h
 reads_forward line (set members) from to h = let next = h.0 in omega arith
-reads_forward line (run masks places) from to h = let long = row_long line masks places.stride (suc places.after) from to h in omega arith
+reads_forward line (run masks places) from to h = h.0
 reads_forward line (both left right sizes before after) from to (inl h) =
     let one = reads_forward line left from h.0 h.1 in
     let two = reads_forward line right h.0 to h.2 in
@@ -49,9 +52,7 @@ pub pending_forward : (line : List ℕ) (here : ℕ) (part : Shape) (copies : �
 unfolding Pending
 pending_forward line here nothing copies cells copy to h = absurd h
 pending_forward line here (set members) copies cells copy to h = let same = h.1 in omega arith
-pending_forward line here (run masks places) copies cells copy to h =
-    let long = row_long line masks places.stride h.0 here to h.3 in
-    omega arith
+pending_forward line here (run masks places) copies cells copy to h = row_forward line masks places h.0 here to h.3
 pending_forward line here (both left right sizes before after) copies cells copy to (inl (middle, p, inl r)) =
     let one = pending_forward line here left copies (first_of sizes cells) copy middle p in
     let two = reads_forward line right middle to r in

@@ -10,5 +10,10 @@ pub mod Masks
 pub mod Packing
 pub mod Repeats
 pub mod Building
+pub mod Unrolling
 pub mod Lines
+pub mod Halving
+pub mod Matches
 pub mod Moving
+pub mod Folding
+pub mod Passing

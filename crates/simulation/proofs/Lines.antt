@@ -1,26 +1,29 @@
 -- A line that is read byte by byte.
-use Rattle.std.proofs.Common.{◌≡◌, ℕ, suc, ◌+◌, ◌*◌, ◌/◌, ◌<◌, ◌≤◌, Bool, true, false, ◌==◌, if◌then◌else◌, IsTrue, List, length, get_or, take, drop, ◌⊎◌, ◌↔◌, inl, inr}
+use Rattle.std.proofs.Common.{◌≡◌, ℕ, suc, ◌+◌, ◌-◌, ◌*◌, ◌/◌, ◌<◌, ◌≤◌, Bool, true, false, not, ◌&&◌, ◌==◌, if◌then◌else◌, IsFalse, IsTrue, List, length, get_or, take, drop, ◌⊎◌, ◌↔◌, inl, inr}
 use Rattle.std.proofs.Common.{refl, sym, subst, ap, ◌∙◌, arith, nat_lt, bit_and}
-use Rattle.std.proofs.Common.{set as set_word, ◌||◌}
+use Rattle.std.proofs.Common.{set as set_word, ◌||◌, MatchOption, Option, Some, None, is_some}
 use Rattle.std.proofs.Math.Nat.{div-one}
+use Rattle.ere.specs.Bits.{has_bit}
 use Rattle.ere.proofs.Bits.{tests_bit}
 use Rattle.std.proofs.lemmas.Bool.Decides.{nat_tests}
 use Rattle.std.proofs.lemmas.List.{get_or-drop, get_or-take, get_or_past, length-take}
 use Rattle.ere.specs.Tree.{Tree}
 use Rattle.ere.specs.Language.{ContainsMatch}
+use Rattle.matcher.specs.Private.Starts.{is_word_after}
 use Rattle.matcher.specs.Spans.{Spans}
 use Rattle.matcher.proofs.Bits.{false≢true, empty_word, position_in, position_set_same}
 use Rattle.matcher.proofs.Meaning.{hit_of_spans, spans_of_hit}
+use Rattle.simulation.specs.declared.ends.Wanted.{Wanted}
 use Rattle.simulation.specs.declared.part.Gaps.{Gaps}
 use Rattle.simulation.specs.Parts.{Shape, nothing, set, run, both, either, loop, times, is_gap, Reads}
-use Rattle.simulation.specs.Pending.{at, first_of, second_of, Pending, Tells, IsKept, IsReady, IsWhole, Advances, size_of}
+use Rattle.simulation.specs.Pending.{at, first_of, second_of, Pending, Tells, IsKept, IsReady, Advances, size_of}
 use Rattle.simulation.specs.Packing.{IsPacked}
-use Rattle.simulation.specs.Private.Reading.{AreClear, HasWord, IsReadTo}
+use Rattle.simulation.specs.Private.Reading.{AreClear, Ends, HasRoom, HasWanted, IsLastEnd, IsNextEnd, IsReadTo, IsStart, IsWanted, NoneEndsAfter}
 use Rattle.simulation.proofs.Cuts.{own_fit}
 use Rattle.simulation.proofs.Steps.{told}
-use Rattle.simulation.proofs.Tests.{or_cases, or_left, or_right}
+use Rattle.simulation.proofs.Tests.{and_left, and_right, or_cases, or_left, or_right}
 use Rattle.simulation.proofs.Repeats.{gap_between, reads_inside}
-use Rattle.simulation.proofs.Forward.{reads_forward, at_or_past}
+use Rattle.simulation.proofs.Forward.{reads_forward, at_or_past, le_or_lt}
 
 pub clear_all : (cells : List ℕ) → ((k : ℕ) → k < length cells → get_or cells k 0 ≡ 0) → AreClear cells
 clear_all cells low i = go (nat_lt i (length cells)) refl
@@ -87,63 +90,128 @@ clear_kept line here (times body counts) copies cells clear = (
   clear_kept line here body (counts.copies * counts.stride) (drop counts.own cells) (clear_drop counts.own cells clear),
 )
 
-pub read_none : (line : List ℕ) (part : Shape) (cells : List ℕ) → AreClear cells → IsReadTo line 0 part cells
-read_none line part cells clear = record {
-  kept = clear_kept line 0 part 1 cells clear;
-  sound = λ to p. absurd (none_pending line 0 part 1 cells 0 to clear p);
-  begun = λ from to low high r. absurd (omega arith);
-  none = λ from to low r. let past = reads_forward line part from to r in absurd (omega arith);
+pub read_none : (line : List ℕ) (here : ℕ) (part : Shape) (wanted : Wanted) (cells : List ℕ) → here ≡ wanted.first → AreClear cells
+    → IsReadTo line here part wanted cells
+read_none line here part wanted cells at_first clear = record {
+  least = omega arith;
+  kept = clear_kept line here part 1 cells clear;
+  sound = λ to p. absurd (none_pending line here part 1 cells 0 to clear p);
+  begun = λ start to begins early late r. let least = begins.least in absurd (omega arith);
 }
 
-pub read_more : (line : List ℕ) (here next : ℕ) (part : Shape) (entered cells read : List ℕ) → next ≡ suc here → IsReadTo line here part cells
-    → Advances line here part 1 entered cells read → IsTrue (at entered 0) → at read 0 ≡ false → IsReadTo line next part read
-read_more line here next part entered cells read next_is before step is unset = subst (λ n. IsReadTo line n part read) (sym next_is)
-    (record { kept = step.kept; sound = sound; begun = begun; none = none })
+pub read_more : (line : List ℕ) (here next : ℕ) (part : Shape) (wanted : Wanted) (held : Bool) (entered cells read : List ℕ) → next ≡ suc here
+    → IsReadTo line here part wanted cells → Advances line here part 1 entered cells read → at entered 0 ≡ held
+    → IsTrue held ↔ IsStart line wanted here → IsReadTo line next part wanted read
+read_more line here next part wanted held entered cells read next_is before step held_is starts = subst (λ n. IsReadTo line n part wanted read) (sym next_is)
+    (record { least = let least = before.least in omega arith; kept = step.kept; sound = sound; begun = begun })
   where
     low : 0 < 1
     low = omega arith
 
-    sound : (to : ℕ) → Pending line (suc here) part 1 read 0 to → HasWord line part
-    sound to p = elim (step.sound 0 to low p) [ inl old ↦ before.sound to old | inr new ↦ (here, to, new.1) ]
+    sound : (to : ℕ) → Pending line (suc here) part 1 read 0 to → (start : ℕ) × IsStart line wanted start × Reads line part start to
+    sound to p = elim (step.sound 0 to low p) [ inl old ↦ before.sound to old | inr new ↦ (here, starts.0 (sym held_is ∙ new.0), new.1) ]
 
-    begun : (from to : ℕ) → from < suc here → suc here < to → Reads line part from to → Pending line (suc here) part 1 read 0 to
-    begun from to under over r =
-        elim (at_or_past from here (let down : from ≤ here = omega arith in down)) [
-          | inl same ↦ step.begins 0 to low is (subst (λ n. Reads line part n to) same r)
-          | inr past ↦ (let on : here < to = omega arith in step.goes_on 0 to low on (before.begun from to past on r))
-        ]
-
-    ended : Pending line (suc here) part 1 read 0 (suc here) → ⊥
-    ended p = false≢true (sym unset ∙ (told line (suc here) part 1 read step.kept).pending 0 low p)
-
-    none : (from to : ℕ) → to ≤ suc here → Reads line part from to → ⊥
-    none from to under r =
-        let forward = reads_forward line part from to r in
-        elim (at_or_past to (suc here) under) [
+    begun : (start to : ℕ) → IsStart line wanted start → start < suc here → suc here ≤ to → Reads line part start to
+        → Pending line (suc here) part 1 read 0 to
+    begun start to begins early late r =
+        elim (at_or_past start here (let down : start ≤ here = omega arith in down)) [
           | inl same ↦
-              elim (at_or_past from here (let down : from ≤ here = omega arith in down)) [
-                | inl there ↦
-                    ended (step.begins 0 (suc here) low is (subst (λ n. Reads line part n (suc here)) there (subst (λ n. Reads line part from n) same r)))
-                | inr past ↦
-                    (let on : here < suc here = omega arith in
-                    ended (step.goes_on 0 (suc here) low on (before.begun from (suc here) past on (subst (λ n. Reads line part from n) same r))))
-              ]
-          | inr past ↦ before.none from to (omega arith) r
+              step.begins 0 to low (held_is ∙ starts.1 (subst (λ n. IsStart line wanted n) same begins)) (subst (λ n. Reads line part n to) same r)
+          | inr past ↦
+              (let on : here < to = omega arith in
+              let down : here ≤ to = omega arith in
+              step.goes_on 0 to low on (before.begun start to begins past down r))
         ]
 
-pub found_word : (line : List ℕ) (here : ℕ) (part : Shape) (entered cells read : List ℕ) → IsReadTo line here part cells
-    → Advances line here part 1 entered cells read → IsTrue (at read 0) → HasWord line part
-found_word line here part entered cells read before step set_there =
+-- The first cell says whether a word ends here that is looked for, if it is free there.
+pub end_here : (line : List ℕ) (here : ℕ) (part : Shape) (wanted : Wanted) (cells : List ℕ) → IsReadTo line here part wanted cells → IsTrue (at cells 0)
+    → IsFalse (wanted.whole_words && is_word_after line here) → Ends line part wanted here
+end_here line here part wanted cells read held free =
     let low : 0 < 1 = omega arith in
-    elim (step.sound 0 (suc here) low ((told line (suc here) part 1 read step.kept).set 0 low set_there)) [
-      | inl old ↦ before.sound (suc here) old
-      | inr new ↦ (here, suc here, new.1)
+    let word = read.sound here ((told line here part 1 cells read.kept).set 0 low held) in
+    (word.0, record { begins = word.1; word = word.2; free = free })
+
+pub set_here : (line : List ℕ) (here : ℕ) (part : Shape) (wanted : Wanted) (cells : List ℕ) → IsReadTo line here part wanted cells → Ends line part wanted here
+    → IsTrue (at cells 0)
+set_here line here part wanted cells read ends =
+    let low : 0 < 1 = omega arith in
+    let on = reads_forward line part ends.0 here ends.1.word in
+    let down : here ≤ here = omega arith in
+    (told line here part 1 cells read.kept).pending 0 low (read.begun ends.0 here ends.1.begins on down ends.1.word)
+
+not_true : (t : Bool) → IsTrue (not t) → IsFalse t
+not_true true e = absurd (false≢true e)
+not_true false e = refl
+
+pub none_next : (line : List ℕ) (from here next : ℕ) (part : Shape) (wanted : Wanted) (cells : List ℕ) (ended : Bool) → next ≡ suc here
+    → ((other : ℕ) → from < other → Ends line part wanted other → here < other) → IsReadTo line next part wanted cells
+    → ended ≡ (at cells 0 && not (wanted.whole_words && is_word_after line next)) → ended ≡ false
+    → (other : ℕ) → from < other → Ends line part wanted other → next < other
+none_next line from here next part wanted cells ended next_is none read ended_is unset other after ends =
+    let behind = none other after ends in
+    elim (at_or_past next other (let down : next ≤ other = omega arith in down)) [
+      | inr past ↦ past
+      | inl same ↦
+          (let there = subst (λ n. Ends line part wanted n) (sym same) ends in
+          absurd (false≢true (sym unset ∙ ended_is ∙ ap (λ t. t && not (wanted.whole_words && is_word_after line next)) (set_here line next part wanted cells read there)
+          ∙ ap not there.1.free)))
     ]
 
-pub no_word : (line : List ℕ) (here : ℕ) (part : Shape) (cells : List ℕ) → IsReadTo line here part cells → length line ≤ here → HasWord line part → ⊥
-no_word line here part cells read past word =
-    let end = reads_inside line part word.0 word.1 word.2 in
-    read.none word.0 word.1 (omega arith) word.2
+pub end_found : (line : List ℕ) (from here next : ℕ) (part : Shape) (wanted : Wanted) (cells : List ℕ) (ended : Bool) → next ≡ suc here → from ≤ here
+    → ((other : ℕ) → from < other → Ends line part wanted other → here < other) → IsReadTo line next part wanted cells
+    → ended ≡ (at cells 0 && not (wanted.whole_words && is_word_after line next)) → IsTrue ended
+    → IsNextEnd line part wanted from next
+end_found line from here next part wanted cells ended next_is on none read ended_is is = record {
+  after = omega arith;
+  ends =
+      end_here line next part wanted cells read (and_left (at cells 0) (not (wanted.whole_words && is_word_after line next)) (sym ended_is ∙ is))
+      (not_true (wanted.whole_words && is_word_after line next) (and_right (at cells 0) (not (wanted.whole_words && is_word_after line next)) (sym ended_is ∙ is)));
+  next = λ other after ends. let behind = none other after ends in omega arith;
+}
+
+-- Where no cell is set, and no word can begin any more, none ends later.
+pub none_later : (line : List ℕ) (from here : ℕ) (part : Shape) (wanted : Wanted) (cells : List ℕ)
+    → ((other : ℕ) → from < other → Ends line part wanted other → here < other) → IsReadTo line here part wanted cells → wanted.past ≤ here → AreClear cells
+    → NoneEndsAfter line part wanted from
+none_later line from here part wanted cells none read past clear end after ends =
+    let behind = none end after ends in
+    let below = ends.1.begins.below in
+    let early : ends.0 < here = omega arith in
+    let late : here ≤ end = omega arith in
+    none_pending line here part 1 cells 0 end clear (read.begun ends.0 end ends.1.begins early late ends.1.word)
+
+pub none_past : (line : List ℕ) (from here : ℕ) (part : Shape) (wanted : Wanted) → ((other : ℕ) → from < other → Ends line part wanted other → here < other)
+    → length line ≤ here → NoneEndsAfter line part wanted from
+none_past line from here part wanted none past end after ends =
+    let behind = none end after ends in
+    let inside = reads_inside line part ends.0 end ends.1.word in
+    omega arith
+
+pub last_of : (line : List ℕ) (part : Shape) (wanted : Wanted) (last : ℕ) → Ends line part wanted last → NoneEndsAfter line part wanted last
+    → IsLastEnd line part wanted last
+last_of line part wanted last ends none = record { ends = ends; last = λ other there. up other there (le_or_lt other last) }
+  where
+    up : (other : ℕ) → Ends line part wanted other → (other ≤ last) ⊎ (last < other) → other ≤ last
+    up other there (inl low) = low
+    up other there (inr high) = absurd (none other high there)
+
+-- A word that is looked for ends after the least position.
+pub ends_after : (line : List ℕ) (part : Shape) (wanted : Wanted) (start end : ℕ) → IsWanted line part wanted start end → wanted.first < end
+ends_after line part wanted start end is =
+    let least = is.begins.least in
+    let on = reads_forward line part start end is.word in
+    omega arith
+
+-- less of the line is left after it
+pub nearer : (line : List ℕ) (part : Shape) (wanted : Wanted) (from end : ℕ) → IsNextEnd line part wanted from end
+    → length line - end < length line - from
+nearer line part wanted from end next =
+    let after = next.after in
+    let inside = reads_inside line part next.ends.0 end next.ends.1.word in
+    omega arith
+
+pub none_at_all : (line : List ℕ) (part : Shape) (wanted : Wanted) → NoneEndsAfter line part wanted wanted.first → HasWanted line part wanted → ⊥
+none_at_all line part wanted none (start, (end, is)) = none end (ends_after line part wanted start end is) (start, is)
 
 -- The empty word in a line is at its start or its end too.
 gap_at_ends : (gaps : Gaps) (line : List ℕ) (place : ℕ) → (IsTrue gaps.inside → IsTrue gaps.start × IsTrue gaps.end) → place ≤ length line
@@ -162,41 +230,52 @@ gap_at_ends gaps line place steady low h =
 
 -- A match is a word or a gap at the start or the end.
 pub match_to : (line : List ℕ) (tree : Tree) (part : Shape) (gaps : Gaps) → IsPacked (λ line. Spans line tree) part gaps → ContainsMatch tree line
-    → (IsTrue (is_gap gaps line 0) ⊎ IsTrue (is_gap gaps line (length line))) ⊎ HasWord line part
+    → (IsTrue (is_gap gaps line 0) ⊎ IsTrue (is_gap gaps line (length line))) ⊎ HasWanted line part (record { first = 0; past = length line; whole_words = false })
 match_to line tree part gaps packed hit =
     let spans = spans_of_hit line tree hit in
     elim (at_or_past spans.0 spans.1 (packed.forward line spans.0 spans.1 spans.3)) [
       | inl same ↦
           inl (gap_at_ends gaps line spans.0 packed.steady spans.2 (packed.gap line spans.0 (subst (λ n. Spans line tree spans.0 n) (sym same) spans.3)))
-      | inr past ↦ inr (spans.0, spans.1, packed.complete line spans.0 spans.1 past spans.3)
+      | inr past ↦
+          (let word = packed.complete line spans.0 spans.1 past spans.3 in
+          let inside = reads_inside line part spans.0 spans.1 word in
+          let begins : IsStart line (record { first = 0; past = length line; whole_words = false }) spans.0 =
+          record { least = omega arith; below = omega arith; free = refl } in
+          inr (spans.0, (spans.1, record { begins = begins; word = word; free = refl })))
     ]
 
 pub match_of_gap : (line : List ℕ) (tree : Tree) (part : Shape) (gaps : Gaps) (place : ℕ) → IsPacked (λ line. Spans line tree) part gaps → place ≤ length line
     → IsTrue (is_gap gaps line place) → ContainsMatch tree line
 match_of_gap line tree part gaps place packed low g = hit_of_spans line tree place place low (packed.empty line place g)
 
-pub match_of_word : (line : List ℕ) (tree : Tree) (part : Shape) (gaps : Gaps) → IsPacked (λ line. Spans line tree) part gaps → HasWord line part
-    → ContainsMatch tree line
-match_of_word line tree part gaps packed word =
-    let past = reads_forward line part word.0 word.1 word.2 in
-    let inside = reads_inside line part word.0 word.1 word.2 in
-    hit_of_spans line tree word.0 word.1 (omega arith) (packed.sound line word.0 word.1 word.2)
-
--- The first cell of some words.
-pub first_set : (cells : List ℕ) → 0 < length cells → IsTrue (at (set_word cells 0 1) 0)
-first_set cells some =
-    let low : 0 < 64 = omega arith in
-    position_set_same cells 0 1 0 some low
+pub match_of_word : (line : List ℕ) (tree : Tree) (part : Shape) (gaps : Gaps) (wanted : Wanted) → IsPacked (λ line. Spans line tree) part gaps
+    → HasWanted line part wanted → ContainsMatch tree line
+match_of_word line tree part gaps wanted packed (start, (end, is)) =
+    let past = reads_forward line part start end is.word in
+    let inside = reads_inside line part start end is.word in
+    hit_of_spans line tree start end (omega arith) (packed.sound line start end is.word)
 
 pub first_is : (cells : List ℕ) → (bit_and (get_or cells 0 0) 1 == 1) ≡ at cells 0
 first_is cells =
     let low : 0 < 64 = omega arith in
     ap (λ n. bit_and n 1 == 1) (sym (div-one (get_or cells 0 0))) ∙ tests_bit (get_or cells 0 0) 0 ∙ sym (position_in cells 0 0 low)
 
-pub ready_to_read : (line : List ℕ) (here : ℕ) (part : Shape) (entered cells : List ℕ) → IsWhole part 1 → here < length line → length entered ≡ size_of part 1
-    → length cells ≡ size_of part 1 → IsReadTo line here part cells → IsReady line here part 1 entered cells
-ready_to_read line here part entered cells whole inside entered_all cells_all before =
-    record { whole = whole; inside = inside; entered_all = entered_all; cells_all = cells_all; kept = before.kept }
+-- The first cell of some words.
+pub first_held : (held : Bool) (word : ℕ) (cells : List ℕ) → 0 < length cells → ((bit : ℕ) → has_bit word bit ≡ (held && has_bit 1 bit))
+    → at (set_word cells 0 word) 0 ≡ held
+first_held held word cells some word_is =
+    let low : 0 < 64 = omega arith in
+    position_set_same cells 0 word 0 some low ∙ word_is 0 ∙ whole held
+  where
+    whole : (t : Bool) → (t && has_bit 1 0) ≡ t
+    whole true = refl
+    whole false = refl
+
+pub ready_to_read : (line : List ℕ) (here : ℕ) (part : Shape) (wanted : Wanted) (entered cells new_entered new_cells : List ℕ) → HasRoom part entered cells
+    → length new_entered ≡ length entered → length new_cells ≡ length cells → here < length line → IsReadTo line here part wanted new_cells
+    → IsReady line here part 1 new_entered new_cells
+ready_to_read line here part wanted entered cells new_entered new_cells room same_entered same_cells inside read =
+    record { whole = room.whole; inside = inside; entered_all = same_entered ∙ room.entered_all; cells_all = same_cells ∙ room.cells_all; kept = read.kept }
 
 pub found_after_gap : (line : List ℕ) (tree : Tree) (part : Shape) (gaps : Gaps) → IsPacked (λ line. Spans line tree) part gaps
     → IsTrue (is_gap gaps line 0 || is_gap gaps line (length line)) → ContainsMatch tree line
@@ -207,10 +286,10 @@ found_after_gap line tree part gaps packed h =
     ]
 
 pub found_by_word : (line : List ℕ) (tree : Tree) (part : Shape) (gaps : Gaps) (there found : Bool) → IsPacked (λ line. Spans line tree) part gaps
-    → there ≡ (is_gap gaps line 0 || is_gap gaps line (length line)) → there ≡ false → IsTrue found ↔ HasWord line part
-    → IsTrue found ↔ ContainsMatch tree line
+    → there ≡ (is_gap gaps line 0 || is_gap gaps line (length line)) → there ≡ false
+    → IsTrue found ↔ HasWanted line part (record { first = 0; past = length line; whole_words = false }) → IsTrue found ↔ ContainsMatch tree line
 found_by_word line tree part gaps there found packed there_is none word = (
-  λ is. match_of_word line tree part gaps packed (word.0 is),
+  λ is. match_of_word line tree part gaps (record { first = 0; past = length line; whole_words = false }) packed (word.0 is),
   λ hit.
       elim (match_to line tree part gaps packed hit) [
         | inl ends ↦
@@ -226,3 +305,10 @@ found_by_word line tree part gaps there found packed there_is none word = (
 -- Some cell is there for one copy.
 pub some_cell : (part : Shape) (cells : List ℕ) → length cells ≡ size_of part 1 → 0 < length cells
 some_cell part cells long = let fit : 1 ≤ size_of part 1 = own_fit part 1 in omega arith
+
+pub found_at_all : (line : List ℕ) (part : Shape) (wanted : Wanted) (cells : List ℕ) (found : Option ℕ)
+    → MatchOption found (NoneEndsAfter line part wanted wanted.first)
+    (λ end. IsNextEnd line part wanted wanted.first end × IsReadTo line end part wanted cells)
+    → IsTrue (is_some found) ↔ HasWanted line part wanted
+found_at_all line part wanted cells None none = (λ is. absurd (false≢true is), λ has. absurd (none_at_all line part wanted none has))
+found_at_all line part wanted cells (Some end) next = (λ is. (next.0.ends.0, (end, next.0.ends.1)), λ has. refl)

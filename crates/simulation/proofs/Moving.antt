@@ -385,22 +385,6 @@ narrow_small stride (narrows.eight e) = (omega arith, omega arith)
 narrow_small stride (narrows.sixteen e) = (omega arith, omega arith)
 narrow_small stride (narrows.half e) = (omega arith, omega arith)
 
--- No turn of a narrow stride lies in two words.
-turn_bits : (turn stride k from : ℕ) → from ≡ turn * stride → IsNarrow stride → k < stride → from % 64 + k < 64
-turn_bits turn stride k from is (narrows.one e) low = let whole : from ≡ turn * 1 = is ∙ ap (λ n. turn * n) e in omega arith
-turn_bits turn stride k from is (narrows.two e) low = let whole : from ≡ turn * 2 = is ∙ ap (λ n. turn * n) e in omega arith
-turn_bits turn stride k from is (narrows.four e) low = let whole : from ≡ turn * 4 = is ∙ ap (λ n. turn * n) e in omega arith
-turn_bits turn stride k from is (narrows.eight e) low = let whole : from ≡ turn * 8 = is ∙ ap (λ n. turn * n) e in omega arith
-turn_bits turn stride k from is (narrows.sixteen e) low = let whole : from ≡ turn * 16 = is ∙ ap (λ n. turn * n) e in omega arith
-turn_bits turn stride k from is (narrows.half e) low = let whole : from ≡ turn * 32 = is ∙ ap (λ n. turn * n) e in omega arith
-
-pub turn_is : (read : List ℕ) (turn stride k from result : ℕ) → from ≡ turn * stride → IsNarrow stride → k < stride
-    → ((b : ℕ) → has_bit result b ≡ has_bit (get_or read (from / 64) 0) (from % 64 + b)) → has_bit result k ≡ at read (turn * stride + k)
-turn_is read turn stride k from result is narrow low bits =
-    let fits = turn_bits turn stride k from is narrow low in
-    let same : from / 64 * 64 + (from % 64 + k) ≡ turn * stride + k = omega arith in
-    bits k ∙ word_is read (from / 64) (from % 64 + k) fits ∙ ap (at read) same
-
 -- One of the turns before one is set.
 abbrev pub AnyBefore : Counts → ℕ → ℕ → List ℕ → ℕ → Type 0
 AnyBefore counts lowest turn cells k = (before : ℕ) × (lowest ≤ before) × (before < turn) × IsTrue (at cells (before * counts.stride + k))

@@ -5,14 +5,16 @@ use Rattle.std.proofs.lemmas.Bool.Decides.{nat_tests}
 use Rattle.ere.specs.Tree.{Tree, repeat}
 use Rattle.matcher.specs.Spans.{Relation, Spans, Steps}
 use Rattle.simulation.specs.declared.part.Gaps.{Gaps}
+use Rattle.simulation.specs.declared.part.Places.{Places}
+use Rattle.simulation.specs.Parts.{Row as rows}
 use Rattle.simulation.specs.Parts.{Shape, nothing, run, both, either, loop, times, is_gap, Chain, Reads, Row}
 use Rattle.simulation.specs.Parts.{set as one_of}
 use Rattle.simulation.specs.Packing.{StandsFor, everywhere, gaps_of_times}
-use Rattle.simulation.proofs.Forward.{at_or_past, le_or_lt}
+use Rattle.simulation.proofs.Forward.{at_or_past, le_or_lt, row_forward}
 use Rattle.simulation.proofs.Packing.{gap_everywhere}
 
 -- Some steps and then more.
-steps_join : (relation : Relation) (one two from middle to : ℕ) → Steps relation one from middle → Steps relation two middle to → Steps relation (one + two) from to
+pub steps_join : (relation : Relation) (one two from middle to : ℕ) → Steps relation one from middle → Steps relation two middle to → Steps relation (one + two) from to
 unfolding Steps
 steps_join relation one zero from middle to h g =
     subst (λ n. Steps relation n from to) (let same : one ≡ one + zero = omega arith in same) (subst (λ n. Steps relation one from n) g h)
@@ -116,16 +118,25 @@ unfolding Chain
 chain_inside line part inside zero from to h = subst (λ n. n ≤ length line) h.2 (inside from h.0 h.1)
 chain_inside line part inside (suc count) from to h = chain_inside line part inside count h.0 to h.2
 
-row_inside : (line masks : List ℕ) (stride left from to : ℕ) → Row line masks stride (suc left) from to → to ≤ length line
-unfolding Row
-row_inside line masks stride zero from to h = let low = h.0 in let end = h.2 in omega arith
-row_inside line masks stride (suc left) from to h = row_inside line masks stride left (suc from) to h.2
+row_inside : (line masks : List ℕ) (places : Places) (left from to : ℕ) → Row line masks places left from to → from < to → to ≤ length line
+row_inside line masks places zero from to (rows.done e) on = absurd (omega arith)
+row_inside line masks places (suc left) from to (rows.skips o r) on = row_inside line masks places left from to r on
+row_inside line masks places (suc left) from to (rows.reads i r) on =
+    elim (at_or_past (suc from) to (row_forward line masks places left (suc from) to r)) [
+      | inl same ↦ (let inside = i.0 in omega arith)
+      | inr past ↦ row_inside line masks places left (suc from) to r past
+    ]
+row_inside line masks places left from to (rows.again p i r) on =
+    elim (at_or_past (suc from) to (row_forward line masks places left (suc from) to r)) [
+      | inl same ↦ (let inside = i.0 in omega arith)
+      | inr past ↦ row_inside line masks places left (suc from) to r past
+    ]
 
 pub reads_inside : (line : List ℕ) (part : Shape) (from to : ℕ) → Reads line part from to → to ≤ length line
 unfolding Reads
 reads_inside line nothing from to h = absurd h
 reads_inside line (one_of members) from to h = let next = h.0 in let low = h.1 in omega arith
-reads_inside line (run masks places) from to h = row_inside line masks places.stride places.after from to h
+reads_inside line (run masks places) from to h = row_inside line masks places (suc places.after) from to h.1 h.0
 reads_inside line (both left right sizes before after) from to (inl h) = reads_inside line right h.0 to h.2
 reads_inside line (both left right sizes before after) from to (inr (inl h)) = reads_inside line right from to h.1
 reads_inside line (both left right sizes before after) from to (inr (inr h)) = reads_inside line left from to h.0

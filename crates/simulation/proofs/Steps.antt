@@ -1,19 +1,16 @@
 -- What one byte does to the cells of each kind of part.
-use Rattle.std.proofs.Common.{◌≡◌, ℕ, zero, suc, ◌+◌, ◌-◌, ◌*◌, ◌<◌, ◌≤◌, Bool, true, false, ◌&&◌, ◌||◌, IsTrue, List, length, get_or, drop, nat_lt, if◌then◌else◌, ◌⊎◌, ◌↔◌, inl, inr}
-use Rattle.std.proofs.Common.{refl, sym, ap, subst, ◌∙◌, arith}
-use Rattle.ere.specs.Bits.{has_bit}
+use Rattle.std.proofs.Common.{◌≡◌, ℕ, zero, suc, ◌+◌, ◌-◌, ◌*◌, ◌<◌, ◌≤◌, Bool, false, ◌&&◌, ◌||◌, IsTrue, List, length, get_or, drop, ◌⊎◌, ◌↔◌, inl, inr}
+use Rattle.std.proofs.Common.{refl, sym, subst, ◌∙◌, arith}
 use Rattle.ere.specs.ByteSet.{has}
 use Rattle.simulation.specs.declared.part.Gaps.{Gaps}
 use Rattle.simulation.specs.declared.part.Counts.{Counts}
-use Rattle.simulation.specs.declared.part.Places.{Places}
 use Rattle.simulation.specs.declared.part.Sizes.{Sizes}
-use Rattle.simulation.specs.Parts.{Shape, nothing, set, run, both, either, loop, times, is_gap, Chain, Reads, Row, Fits, Suffices}
+use Rattle.simulation.specs.Parts.{Shape, nothing, set, run, both, either, loop, times, is_gap, Chain, Reads, Fits, Suffices}
 use Rattle.simulation.specs.Pending.{at, first_of, second_of, Pending, Tells, IsKept, IsReady, Advances}
 use Rattle.simulation.proofs.Tests.{or_cases, or_left, or_right, and_left, and_right, and_both}
 use Rattle.simulation.specs.Pending.{Enters, Enters as enters, AnyTurn}
-use Rattle.simulation.proofs.Forward.{reads_forward, pending_forward, row_long, stays, at_or_past, le_or_lt}
+use Rattle.simulation.proofs.Forward.{reads_forward, pending_forward, stays, at_or_past, le_or_lt}
 use Rattle.matcher.proofs.Bits.{false≢true, is_false}
-use Rattle.std.proofs.lemmas.Bool.Decides.{nat_tests}
 use Rattle.std.proofs.lemmas.Nat.{mul-add-lt}
 
 -- What the first cells of a part say is kept.
@@ -177,95 +174,6 @@ set_advances line here members copies entered cells next inside own = record {
   begins = λ k to low is r. (own k low ∙ and_both (has members (get_or line here 0)) (at entered k) r.2 is, r.0);
   kept = record { set = λ k low is. (is, refl); pending = λ k low p. p.0 };
 }
-
-pub run_advances : (line : List ℕ) (here : ℕ) (masks : List ℕ) (places : Places) (copies : ℕ) (entered cells next : List ℕ) → here < length line
-    → ((left k : ℕ) → left ≤ places.after → k < copies → at next (left * places.stride + k)
-    ≡ ((if nat_lt left places.after then at cells (suc left * places.stride + k) else at entered k)
-    && has_bit (get_or masks (get_or line here 0) 0) (left * places.stride)))
-    → Advances line here (run masks places) copies entered cells next
-unfolding Pending Reads IsKept Row
-run_advances line here masks places copies entered cells next inside own =
-    record { sound = sound; goes_on = goes_on; begins = begins; kept = record { set = tells_set; pending = tells_pending } }
-  where
-    whole : Shape
-    whole = run masks places
-
-    stride : ℕ
-    stride = places.stride
-
-    has_here : ℕ → Bool
-    has_here left = has_bit (get_or masks (get_or line here 0) 0) (left * stride)
-
-    before : ℕ → ℕ → Bool
-    before left k = if nat_lt left places.after then at cells (suc left * stride + k) else at entered k
-
-    first : (k : ℕ) → before places.after k ≡ at entered k
-    first k =
-        let low : places.after ≤ places.after = omega arith in
-        let is : nat_lt places.after places.after ≡ false = grind (arith, nat_tests) in
-        ap (λ t. if t then at cells (suc places.after * stride + k) else at entered k) is
-
-    later : (left k : ℕ) → left < places.after → before left k ≡ at cells (suc left * stride + k)
-    later left k low =
-        let is : nat_lt left places.after ≡ true = grind (arith, nat_tests) in
-        ap (λ t. if t then at cells (suc left * stride + k) else at entered k) is
-
-    sound : (k to : ℕ) → k < copies → Pending line (suc here) whole copies next k to
-        → Pending line here whole copies cells k to ⊎ (IsTrue (at entered k) × Reads line whole here to)
-    sound k to low (left, within, is, row) =
-        elim (at_or_past left places.after within) [
-          | inl last ↦
-              inr (
-                sym (first k) ∙ ap (λ n. before n k) (sym last) ∙ and_left (before left k) (has_here left) both,
-                (
-                  inside,
-                  ap has_here (sym last) ∙ and_right (before left k) (has_here left) both,
-                  subst (λ n. Row line masks stride n (suc here) to) last row,
-                ),
-              )
-          | inr past ↦
-              inl (
-                suc left,
-                past,
-                sym (later left k past) ∙ and_left (before left k) (has_here left) both,
-                (inside, and_right (before left k) (has_here left) both, row),
-              )
-        ]
-      where
-        both : IsTrue (before left k && has_here left)
-        both = sym (own left k within low) ∙ is
-
-    goes_on : (k to : ℕ) → k < copies → here < to → Pending line here whole copies cells k to → Pending line (suc here) whole copies next k to
-    goes_on k to low on (zero, within, is, row) = absurd (omega arith)
-    goes_on k to low on (suc left, within, is, (still, bit, row)) =
-        let few : left ≤ places.after = omega arith in (
-          left,
-          few,
-          own left k few low ∙ and_both (before left k) (has_here left) (later left k within ∙ is) bit,
-          row,
-        )
-
-    begins : (k to : ℕ) → k < copies → IsTrue (at entered k) → Reads line whole here to → Pending line (suc here) whole copies next k to
-    begins k to low is (still, bit, row) =
-        let all : places.after ≤ places.after = omega arith in (
-          places.after,
-          all,
-          own places.after k all low ∙ and_both (before places.after k) (has_here places.after) (first k ∙ is) bit,
-          row,
-        )
-
-    tells_set : (k : ℕ) → k < copies → IsTrue (at next k) → Pending line (suc here) whole copies next k (suc here)
-    tells_set k low is =
-        let none : 0 ≤ places.after = omega arith in
-        let same : k ≡ 0 * stride + k = omega arith in
-        (0, none, subst (λ n. IsTrue (at next n)) same is, refl)
-
-    tells_pending : (k : ℕ) → k < copies → Pending line (suc here) whole copies next k (suc here) → IsTrue (at next k)
-    tells_pending k low (left, within, is, row) =
-        let long = row_long line masks stride left (suc here) (suc here) row in
-        let none : left ≡ 0 = omega arith in
-        let same : 0 * stride + k ≡ k = omega arith in
-        subst (λ n. IsTrue (at next n)) same (subst (λ n. IsTrue (at next (n * stride + k))) none is)
 
 pub either_advances : (line : List ℕ) (here : ℕ) (left right : Shape) (sizes : Sizes) (copies : ℕ) (entered cells next entered_left entered_right : List ℕ)
     → Advances line here left copies entered_left (first_of sizes cells) (first_of sizes next)

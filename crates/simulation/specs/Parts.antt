@@ -54,17 +54,25 @@ Fits counts words = IsTrue counts.unbounded ⊎ (words ≤ counts.copies)
 abbrev pub Suffices : List ℕ → Counts → ℕ → ℕ → Type 0
 Suffices line counts words to = (counts.least ≤ words) ⊎ IsTrue (is_gap counts.gaps line to)
 
--- One byte of each of the last sets of a run. A set is known by how many come after it: bit `left * stride` of a byte's
--- mask says whether the set with `left` sets after it has the byte.
-unfoldable pub Row : List ℕ → List ℕ → ℕ → ℕ → ℕ → ℕ → Type 0
-Row line masks stride zero from to = from ≡ to
-Row line masks stride (suc left) from to =
-    (from < length line) × IsTrue (has_bit (slice_index masks (slice_index line from)) (left * stride)) × Row line masks stride left (suc from) to
+-- The next byte of the line is one of a set of a run, the one that has so many sets after it.
+abbrev pub IsRead : List ℕ → List ℕ → Places → ℕ → ℕ → Type 0
+IsRead line masks places left from =
+    (from < length line) × IsTrue (has_bit (slice_index masks (slice_index line from)) (left * places.stride))
+
+-- The end of a word of a run, where the last `left` sets are still to be read. The next of them can be left out if it is
+-- optional. The one that was read last can be read again if it is repeated.
+pub data Row (line masks : List ℕ) (places : Places) : ℕ → ℕ → ℕ → Type 0 where
+  done : {from to : ℕ} → from ≡ to → Row line masks places 0 from to
+  skips : {left from to : ℕ} → IsTrue (has_bit places.optional (left * places.stride)) → Row line masks places left from to
+      → Row line masks places (suc left) from to
+  reads : {left from to : ℕ} → IsRead line masks places left from → Row line masks places left (suc from) to → Row line masks places (suc left) from to
+  again : {left from to : ℕ} → IsTrue (has_bit places.repeated (left * places.stride)) → IsRead line masks places left from
+      → Row line masks places left (suc from) to → Row line masks places left from to
 
 unfoldable pub Reads : List ℕ → Shape → ℕ → ℕ → Type 0
 Reads line nothing from to = ⊥
 Reads line (set members) from to = (to ≡ suc from) × (from < length line) × IsTrue (has members (slice_index line from))
-Reads line (run masks places) from to = Row line masks places.stride (suc places.after) from to
+Reads line (run masks places) from to = (from < to) × Row line masks places (suc places.after) from to
 Reads line (both left right sizes before after) from to =
     ((middle : ℕ) × Reads line left from middle × Reads line right middle to)
     ⊎ ((IsTrue (is_gap before line from) × Reads line right from to) ⊎ (Reads line left from to × IsTrue (is_gap after line to)))

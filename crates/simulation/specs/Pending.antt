@@ -1,5 +1,5 @@
 -- What the cells of a part hold at a position of the line: the words that have begun and are not read to their end.
-use Rattle.std.specs.Prelude.{◌≡◌, ℕ, suc, ◌+◌, ◌*◌, ◌/◌, ◌<◌, ◌≤◌, Bool, IsTrue, List, length, slice_index, take, drop, ◌⊎◌}
+use Rattle.std.specs.Prelude.{◌≡◌, ℕ, suc, ◌+◌, ◌*◌, ◌/◌, ◌<◌, ◌≤◌, ◌↔◌, Bool, false, IsTrue, List, length, slice_index, take, drop, ◌⊎◌}
 use Rattle.ere.specs.Bits.{has_bit}
 use Rattle.matcher.specs.PositionSets.{has_position}
 use Rattle.simulation.specs.declared.part.Counts.{Counts}
@@ -29,7 +29,7 @@ unfoldable pub Pending : List ℕ → ℕ → Shape → ℕ → List ℕ → ℕ
 Pending line here nothing copies cells copy to = ⊥
 Pending line here (set members) copies cells copy to = IsTrue (at cells copy) × (to ≡ here)
 Pending line here (run masks places) copies cells copy to =
-    (left : ℕ) × (left ≤ places.after) × IsTrue (at cells (left * places.stride + copy)) × Row line masks places.stride left here to
+    (left : ℕ) × (left ≤ places.after) × IsTrue (at cells (left * places.stride + copy)) × Row line masks places left here to
 Pending line here (both left right sizes before after) copies cells copy to =
     ((middle : ℕ) × Pending line here left copies (first_of sizes cells) copy middle
     × (Reads line right middle to ⊎ ((middle ≡ to) × IsTrue (is_gap after line to))))
@@ -111,15 +111,22 @@ size_of (either left right sizes) copies = words_for copies + (size_of left copi
 size_of (loop body own) copies = size_of body copies
 size_of (times body counts) copies = words_for copies + size_of body (counts.copies * counts.stride)
 
--- The sets of a run fit into one word, and each copy has the same sets.
+-- A word has a bit for each copy of some of the sets of a run, and no other bits.
+pub record IsSpread (word after copies : ℕ) : Type 0 where
+  pub same : (left copy : ℕ) → left ≤ after → copy < copies → has_bit word (left * copies + copy) ≡ has_bit word (left * copies)
+  pub none : (bit : ℕ) → after * copies + copies ≤ bit → bit < 64 → has_bit word bit ≡ false
+
+-- The sets of a run fit into one word with what is entered before them, and each copy has the same sets.
 pub record IsRun (masks : List ℕ) (places : Places) (copies : ℕ) : Type 0 where
   pub apart : places.stride ≡ copies
   pub some : 0 < copies
-  pub more : 0 < places.after
-  pub fits : places.after * copies + copies ≤ 64
+  pub fits : places.after * copies + copies + copies ≤ 64
   pub all : length masks ≡ 256
   pub same : (byte left copy : ℕ) → left ≤ places.after → copy < copies
       → has_bit (slice_index masks byte) (left * copies + copy) ≡ has_bit (slice_index masks byte) (left * copies)
+  pub optional : IsSpread places.optional places.after copies
+  pub repeated : IsSpread places.repeated places.after copies
+  pub empty : IsTrue places.empty ↔ ((left : ℕ) → left ≤ places.after → IsTrue (has_bit places.optional (left * copies)))
 
 -- The numbers that a part keeps are those of this many copies.
 unfoldable pub IsWhole : Shape → ℕ → Type 0

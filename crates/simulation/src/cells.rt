@@ -2,10 +2,18 @@
 
 ghost use Rattle.std.specs.Prelude.{◌≡◌, ℕ, ◌*◌, ◌<◌, ◌≤◌, ◌&&◌, ◌||◌, length};
 ghost use Rattle.ere.specs.Bits.{has_bit};
-ghost use Rattle.simulation.specs.Pending.{at, room};
+ghost use Rattle.simulation.specs.Pending.{at, room, words_for};
 
 /// How many cells a word holds.
 pub(crate) const BITS: usize = 64;
+
+/// How many words of 64 bits the cells of some copies take.
+pub(crate) fn words_for(copies: usize) -> usize
+    ensures { result ≡ words_for copies }
+{
+    let whole = copies / BITS;
+    if copies % BITS == 0 { whole } else { whole + 1 }
+}
 
 /// The word if `held`, and no bit otherwise.
 pub(crate) fn word_if(held: bool, word: u64) -> u64
@@ -21,7 +29,14 @@ pub(crate) fn either(left: u64, right: u64) -> u64
     left | right
 }
 
-/// Copies the first words.
+/// The bits of both words.
+pub(crate) fn both(left: u64, right: u64) -> u64
+    ensures { (bit : ℕ) → has_bit result bit ≡ (has_bit left bit && has_bit right bit) }
+{
+    left & right
+}
+
+/// Copies all words of `from` to the first words of `to`.
 #[inline(always)]
 pub(crate) fn copy(from: &[u64], to: &mut [u64])
     requires { length from.now ≤ length to.old }
@@ -37,7 +52,7 @@ pub(crate) fn copy(from: &[u64], to: &mut [u64])
     }
 }
 
-/// Copies the first words if `held`, and clears them otherwise.
+/// Copies the first `words` words if `held`, and clears them otherwise.
 #[inline(always)]
 pub(crate) fn keep_if(held: bool, from: &[u64], to: &mut [u64], words: usize)
     requires from { words ≤ length from.now }
@@ -53,7 +68,8 @@ pub(crate) fn keep_if(held: bool, from: &[u64], to: &mut [u64], words: usize)
     }
 }
 
-/// The first cells that are set in `one`, or in `other` if `too`.
+/// Sets in the first `words` words the cells that are set in `one`, or in `other` if `too`, and clears the rest of
+/// them.
 #[inline(always)]
 pub(crate) fn either_if(one: &[u64], too: bool, other: &[u64], to: &mut [u64], words: usize)
     requires one { words ≤ length one.now }
@@ -70,7 +86,7 @@ pub(crate) fn either_if(one: &[u64], too: bool, other: &[u64], to: &mut [u64], w
     }
 }
 
-/// Adds cells to others.
+/// Adds the cells in the first `words` words of `more` to those of `to`.
 #[inline(always)]
 pub(crate) fn add(more: &[u64], to: &mut [u64], words: usize)
     requires more { words ≤ length more.now }

@@ -1,26 +1,35 @@
 //! The part that stands for a tree.
 
-ghost use Rattle.std.specs.Prelude.{◌≡◌, ℕ, ◌+◌, ◌*◌, ◌≤◌, ◌<◌, IfOk, IfSome, IsTrue, None, Some, map, if◌then◌else◌};
+ghost use Rattle.std.specs.Prelude.{◌≡◌, ℕ, ◌+◌, ◌-◌, ◌*◌, ◌≤◌, ◌<◌, IfOk, IfSome, IsTrue, None, Some, map, if◌then◌else◌};
 ghost use Rattle.ere.specs.Tree.{form, trees_of, repeat, Tree, Trees, more};
 ghost use Rattle.simulation.specs.Parts.{nothing, set, shape};
 ghost use Rattle.simulation.specs.Packing.{everywhere, gaps_of_both, gaps_of_either, gaps_of_times, only_at, IsEachPart, IsSomePart, IsTreePart, IsTurns, nowhere};
 ghost use Rattle.simulation.specs.Pending.{IsStride, IsWhole, words_for};
+ghost use Rattle.simulation.specs.Private.Rows.{IsRow};
 
-use crate::cells::BITS;
+use crate::cells::{BITS, words_for};
+use crate::gaps::{
+    are_same, both_gaps, either_gaps, everywhere, is_everywhere, nowhere, only_at, times_gaps,
+};
 use crate::part::{Counts, Gaps, Part, Sizes};
-use crate::run::longer;
-use ere::{ByteSet, Ere};
+use crate::run::{Row, longer, row_of, set_of};
+use ere::Ere;
 use std::alloc::{AllocError, Global};
 
 /// A part, how many words its cells take, and where its tree has the empty word.
 #[derive(Drop)]
 pub(crate) struct Packed {
+    /// The part.
     pub(crate) part: Part,
+    /// How many words of 64 bits its cells take, with those of its members.
     pub(crate) size: usize,
+    /// Where its tree has the empty word.
     pub(crate) gaps: Gaps,
 }
 
 /// The part for some copies of a tree.
+///
+/// An `Err` means that memory ran out, or that its cells would take more words than can be counted.
 #[cycle(pack)]
 pub(crate) fn pack(alloc: Global, tree: &Ere, copies: usize) -> Result<Packed, AllocError>
     requires { 0 < copies }
@@ -93,7 +102,7 @@ fn pack_repeat(
                 let one = pack(alloc, body, copies)?;
                 return Ok(once(one, least));
             }
-            pack_times(alloc, body, least, greatest, most, copies)
+            pack_count(alloc, body, least, most, copies)
         }
         None => {
             if least > 1 {
@@ -103,6 +112,29 @@ fn pack_repeat(
             looped(alloc, one, least, copies)
         }
     }
+}
+
+/// The part for at most `most` words: a run, if one word of cells has room for it.
+#[cycle(pack)]
+fn pack_count(
+    alloc: Global,
+    body: &Ere,
+    least: u8,
+    most: u8,
+    copies: usize,
+) -> Result<Packed, AllocError>
+    requires copies { 0 < copies }
+    requires some { 1 < most }
+    requires ordered { least ≤ most }
+    ensures { IfOk result (λ packed. IsTreePart (repeat (form body.now) least (Some most)) packed copies) }
+{
+    if copies <= BITS / (most as usize + 1) {
+        let one = pack(alloc, body, copies)?;
+        if let Some(row) = unrolled(alloc, &one, least, most, copies)? {
+            return Ok(row);
+        }
+    }
+    pack_times(alloc, body, least, Some(most), most, copies)
 }
 
 /// The part for a number of words that takes more than one turn.
@@ -128,6 +160,72 @@ fn pack_times(
     };
     let one = pack(alloc, body, all)?;
     times(alloc, one, least, greatest, turns, copies, stride, all)
+}
+
+/// At most `most` words of a body as one run: the body that many times, of which those beyond the least number can be left
+/// out. Nothing if that is no run, or if a word of cells has no room for it.
+fn unrolled(
+    alloc: Global,
+    body: &Packed,
+    least: u8,
+    most: u8,
+    copies: usize,
+) -> Result<Option<Packed>, AllocError>
+    requires copies { 0 < copies }
+    requires ordered { least ≤ most }
+    requires body { (tree : Tree) × IsTreePart tree body.now copies }
+    ensures { IfOk result (λ found. IfSome found (λ packed. (tree : Tree) → IsTreePart tree body.now copies → IsTreePart (repeat tree least (Some most)) packed copies)) }
+{
+    let mut rest = no_bytes(copies, everywhere());
+    for i in (0..most as usize).rev() {
+        let Some(word) = word_of(alloc, body, least_at(i, least), copies)? else {
+            return Ok(None);
+        };
+        rest = both(alloc, word, rest, copies)?;
+        if !is_run(&rest.part) {
+            return Ok(None);
+        }
+    }
+    Ok(Some(rest))
+}
+
+/// How many words are needed after so many others, one or none, if there have to be `least` of them.
+fn least_at(before: usize, least: u8) -> u8
+    ensures small { result ≤ 1 }
+    ensures sum { result + (least - (before + 1)) ≡ least - before }
+{
+    if before < least as usize { 1 } else { 0 }
+}
+
+/// One word of a body as a run, which can be left out if none is needed. Nothing if that is no run.
+fn word_of(
+    alloc: Global,
+    body: &Packed,
+    least: u8,
+    copies: usize,
+) -> Result<Option<Packed>, AllocError>
+    requires copies { 0 < copies }
+    requires small { least ≤ 1 }
+    requires whole { IsWhole (shape body.now.part) copies }
+    ensures { IfOk result (λ found. IfSome found (λ word. (tree : Tree) → IsTreePart tree body.now copies → IsTreePart (repeat tree least (Some 1)) word copies)) }
+{
+    let gaps = times_gaps(least, body.gaps);
+    match row_of(alloc, &body.part, gaps, copies)? {
+        Some(row) => Ok(Some(Packed {
+            part: Part::Run(row.masks, row.places),
+            size: body.size,
+            gaps,
+        })),
+        None => Ok(None),
+    }
+}
+
+/// Whether the part is a run.
+fn is_run(part: &Part) -> bool {
+    match part {
+        Part::Run(_, _) => true,
+        _ => false,
+    }
 }
 
 /// A number of words of a body that was packed for all copies.
@@ -204,56 +302,46 @@ fn looped(alloc: Global, one: Packed, least: u8, copies: usize) -> Result<Packed
     })
 }
 
-/// A word of one part and then a word of another. Sets in a row become one part.
+/// A word of one part and then a word of another. Sets in a row become one part, also if they can be left out or repeated.
 fn both(alloc: Global, first: Packed, second: Packed, copies: usize) -> Result<Packed, AllocError>
     requires some { 0 < copies }
-    requires whole { IsWhole (shape second.part) copies }
+    requires first { IsWhole (shape first.part) copies }
+    requires second { IsWhole (shape second.part) copies }
     ensures { IfOk result (λ packed. (tree : Tree) (trees : Trees) → IsTreePart tree first copies → IsEachPart trees second copies → IsEachPart (more tree trees) packed copies) }
 {
     if is_nothing(&second.part) && is_everywhere(second.gaps) {
         return Ok(first);
     }
-    if is_nowhere(first.gaps) && is_nowhere(second.gaps) {
-        if let Some(members) = set_of(&first.part) {
-            return set_before(alloc, members, first, second, copies);
-        }
-    }
-    pair(alloc, first, second, copies)
-}
-
-/// The set that the part is, or nothing.
-fn set_of(part: &Part) -> Option<ByteSet>
-    ensures { IfSome result (λ members. shape part.now ≡ set members) }
-{
-    match part {
-        Part::Set(members) => Some(*members),
-        _ => None,
+    match row_of(alloc, &first.part, first.gaps, copies)? {
+        Some(row) => row_before(alloc, &row, first, second, copies),
+        None => pair(alloc, first, second, copies),
     }
 }
 
-/// A set and then a word of a part. Neither has the empty word.
-fn set_before(
+/// A word of a run and then one of a part.
+fn row_before(
     alloc: Global,
-    members: ByteSet,
+    row: &Row,
     first: Packed,
     second: Packed,
     copies: usize,
 ) -> Result<Packed, AllocError>
     requires some { 0 < copies }
     requires whole { IsWhole (shape second.part) copies }
-    requires set { shape first.part ≡ set members }
-    requires gaps { (first.gaps ≡ nowhere) × (second.gaps ≡ nowhere) }
+    requires row { IsRow row.now (shape first.part) first.gaps copies }
     ensures { IfOk result (λ packed. (tree : Tree) (trees : Trees) → IsTreePart tree first copies → IsEachPart trees second copies → IsEachPart (more tree trees) packed copies) }
 {
+    let whole_gaps = both_gaps(first.gaps, second.gaps);
     let Packed { part, size, gaps } = second;
     match part {
         Part::Both(left, right, sizes, before, after) => {
-            if is_nowhere(before) {
-                if let Some(row) = longer(alloc, &members, &left, copies)? {
+            if are_same(gaps, both_gaps(before, after)) {
+                if let Some(whole) = longer(alloc, row, &left, before, copies)? {
+                    let before = both_gaps(first.gaps, before);
                     return Ok(Packed {
-                        part: Part::Both(Box::new(alloc, row)?, right, sizes, before, after),
+                        part: Part::Both(Box::new(alloc, whole)?, right, sizes, before, after),
                         size,
-                        gaps,
+                        gaps: whole_gaps,
                     });
                 }
             }
@@ -265,11 +353,11 @@ fn set_before(
             pair(alloc, first, rest, copies)
         }
         part => {
-            if let Some(row) = longer(alloc, &members, &part, copies)? {
+            if let Some(whole) = longer(alloc, row, &part, gaps, copies)? {
                 return Ok(Packed {
-                    part: row,
+                    part: whole,
                     size,
-                    gaps,
+                    gaps: whole_gaps,
                 });
             }
             let rest = Packed { part, size, gaps };
@@ -365,90 +453,6 @@ fn is_nothing(part: &Part) -> bool
         Part::Nothing => true,
         _ => false,
     }
-}
-
-/// The empty word nowhere.
-fn nowhere() -> Gaps
-    ensures { result ≡ nowhere }
-{
-    only_at(false, false)
-}
-
-/// The empty word everywhere.
-fn everywhere() -> Gaps
-    ensures { result ≡ everywhere }
-{
-    Gaps {
-        alone: true,
-        start: true,
-        inside: true,
-        end: true,
-    }
-}
-
-/// Whether the empty word is everywhere.
-fn is_everywhere(gaps: Gaps) -> bool
-    ensures { IsTrue result → gaps ≡ everywhere }
-{
-    gaps.alone && gaps.start && gaps.inside && gaps.end
-}
-
-/// Whether the empty word is nowhere.
-fn is_nowhere(gaps: Gaps) -> bool
-    ensures { IsTrue result → gaps ≡ nowhere }
-{
-    !(gaps.alone || gaps.start || gaps.inside || gaps.end)
-}
-
-/// The empty word at the line's start or end.
-fn only_at(start: bool, end: bool) -> Gaps
-    ensures { result ≡ only_at start end }
-{
-    Gaps {
-        alone: start || end,
-        start,
-        inside: false,
-        end,
-    }
-}
-
-/// Where both have the empty word.
-fn both_gaps(one: Gaps, two: Gaps) -> Gaps
-    ensures { result ≡ gaps_of_both one two }
-{
-    Gaps {
-        alone: one.alone && two.alone,
-        start: one.start && two.start,
-        inside: one.inside && two.inside,
-        end: one.end && two.end,
-    }
-}
-
-/// Where either has the empty word.
-fn either_gaps(one: Gaps, two: Gaps) -> Gaps
-    ensures { result ≡ gaps_of_either one two }
-{
-    Gaps {
-        alone: one.alone || two.alone,
-        start: one.start || two.start,
-        inside: one.inside || two.inside,
-        end: one.end || two.end,
-    }
-}
-
-/// Where a number of words can all be empty.
-fn times_gaps(least: u8, gaps: Gaps) -> Gaps
-    ensures { result ≡ gaps_of_times least gaps }
-{
-    if least == 0 { everywhere() } else { gaps }
-}
-
-/// How many words the cells of some copies take.
-fn words_for(copies: usize) -> usize
-    ensures { result ≡ words_for copies }
-{
-    let whole = copies / BITS;
-    if copies % BITS == 0 { whole } else { whole + 1 }
 }
 
 /// The stride of some copies, or nothing if it is greater than any number.

@@ -21,9 +21,9 @@ pub struct Gaps {
 /// Where the cells of two members lie, after those of the part itself.
 #[derive(Clone, Copy, Debug, PartialEq, Eq)]
 pub struct Sizes {
-    /// The number of the part's own cells.
+    /// How many words of 64 bits the part's own cells take.
     pub own: usize,
-    /// The number of cells of the first member.
+    /// How many words the cells of the first member take.
     pub first: usize,
 }
 
@@ -32,8 +32,14 @@ pub struct Sizes {
 pub struct Places {
     /// How far apart two sets are, which is the number of copies.
     pub stride: usize,
-    /// How many sets come after the first, at least one.
+    /// How many sets come after the first.
     pub after: usize,
+    /// The cells of the sets that can be left out.
+    pub optional: u64,
+    /// The cells of the sets of which there can be more bytes than one.
+    pub repeated: u64,
+    /// Whether all sets can be left out.
+    pub empty: bool,
 }
 
 /// How often the body of `Part::Times` is read.
@@ -47,7 +53,7 @@ pub struct Counts {
     pub unbounded: bool,
     /// Where the body has the empty word, so that fewer words than the least are enough.
     pub gaps: Gaps,
-    /// The number of the part's own cells.
+    /// How many words of 64 bits the part's own cells take.
     pub own: usize,
     /// How far apart two copies of the body are that stand for one copy of the part.
     pub stride: usize,
@@ -62,14 +68,14 @@ pub enum Part {
     Nothing,
     /// One byte of the set.
     Set(ByteSet),
-    /// One byte of each of some sets, one after the other. For each byte there is a mask: which of the sets have it, with
-    /// the same bit for each copy.
+    /// One byte of each of some sets, one after the other, or none or more of those that say so. For each byte there is a
+    /// mask: which of the sets have it, with the same bit for each copy.
     Run(Vec<u64>, Places),
     /// A word of one part and then a word of another. Either can be left out where it has the empty word.
     Both(Box<Part>, Box<Part>, Sizes, Gaps, Gaps),
     /// A word of either part.
     Either(Box<Part>, Box<Part>, Sizes),
-    /// One word or more, one after the other. The number is that of the part's own cells.
+    /// One word or more, one after the other. The number says how many words of 64 bits the part's own cells take.
     Loop(Box<Part>, usize),
     /// A number of words, one after the other.
     Times(Box<Part>, Counts),

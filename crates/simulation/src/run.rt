@@ -1,14 +1,17 @@
 //! Sets in a row: one word of cells, with some bits for each set.
 
-ghost use Rattle.std.specs.Prelude.{◌≡◌, ℕ, suc, ◌+◌, ◌*◌, ◌<◌, ◌≤◌, if◌then◌else◌, nat_lt, length, slice_index, IfOk, IfSome};
+ghost use Rattle.std.specs.Prelude.{◌≡◌, ℕ, ◌+◌, ◌-◌, ◌*◌, ◌<◌, ◌≤◌, ◌↔◌, ◌⊎◌, ◌&&◌, false, if◌then◌else◌, nat_lt, IsTrue, length, slice_index, IfOk, IfSome};
 ghost use Rattle.ere.specs.Bits.{has_bit};
 ghost use Rattle.ere.specs.ByteSet.{has};
-ghost use Rattle.simulation.specs.Parts.{run, set, shape};
+ghost use Rattle.simulation.specs.Parts.{Shape, run, set, shape};
+ghost use Rattle.simulation.specs.Packing.{everywhere, nowhere};
 ghost use Rattle.simulation.specs.Pending.{IsRun, IsWhole};
-ghost use Rattle.simulation.specs.Private.Rows.{AreMasks, IsLonger};
+ghost use Rattle.simulation.specs.Private.Rows.{AreMasks, IsLonger, IsPlace, IsRow, Passes};
+ghost use Rattle.simulation.specs.declared.part.Gaps.{Gaps as GapsValue};
 
-use crate::cells::{BITS, word_if};
-use crate::part::{Part, Places};
+use crate::cells::{BITS, both, either, word_if};
+use crate::gaps::{is_everywhere, is_nowhere};
+use crate::part::{Gaps, Part, Places};
 use crate::turns::{lowest_bits, moved_down, moved_in};
 use ere::ByteSet;
 use std::alloc::{AllocError, Global};
@@ -16,79 +19,212 @@ use std::alloc::{AllocError, Global};
 /// How many bytes there are, each with a mask of its own.
 const BYTES: usize = 256;
 
-/// What can read the next byte: each set's cells move down to the next set, and what is entered comes to the first.
-#[inline(always)]
-pub(crate) fn moved_on(places: Places, read: u64, entered: u64) -> u64
-    requires some { (0 < places.stride) × (0 < places.after) }
-    requires fits { places.after * places.stride + places.stride ≤ 64 }
-    ensures { (left k : ℕ) → left ≤ places.after → k < places.stride → has_bit result (left * places.stride + k) ≡ (if nat_lt left places.after then has_bit read (suc left * places.stride + k) else has_bit entered k) }
-{
-    let first = places.after * places.stride;
-    let waiting = lowest_bits(moved_down(read, places.stride), first);
-    moved_in(entered, waiting, first)
+/// A set that can be in a run.
+#[derive(Clone, Copy)]
+pub(crate) struct Place {
+    /// The set.
+    pub(crate) members: ByteSet,
+    /// Whether it can be left out.
+    pub(crate) optional: bool,
+    /// Whether there can be more bytes of it than one.
+    pub(crate) repeated: bool,
 }
 
-/// A set and then a part, as one run. Nothing if the part is no set or run, or if a word has no room for one set more.
-pub(crate) fn longer(
-    alloc: Global,
-    members: &ByteSet,
-    part: &Part,
-    copies: usize,
-) -> Result<Option<Part>, AllocError>
-    requires some { 0 < copies }
-    requires whole { IsWhole (shape part.now) copies }
-    ensures { IfOk result (λ found. IfSome found (λ whole. IsLonger members.now (shape part.now) (shape whole) copies)) }
+/// The sets of a run, with a mask for each byte.
+#[derive(Drop)]
+pub(crate) struct Row {
+    pub(crate) masks: Vec<u64>,
+    pub(crate) places: Places,
+}
+
+/// The word, with each bit also moved down by strides as long as `passed` has the bits that it comes to.
+#[inline(always)]
+pub(crate) fn passed_on(word: u64, passed: u64, stride: usize) -> u64
+    requires { 0 < stride }
+    ensures { (b : ℕ) → IsTrue (has_bit result b) ↔ Passes word passed stride b }
 {
+    let mut found = word;
+    let mut on = passed;
+    let mut distance = stride;
+    while is_on(on, distance) {
+        let next = either(found, both(moved_down(found, distance), on));
+        if next == found {
+            return found;
+        }
+        found = next;
+        on = both(on, moved_down(on, distance));
+        distance = distance * 2;
+    }
+    found
+}
+
+/// Whether some bit of a word can still come from so far above.
+#[inline(always)]
+fn is_on(on: u64, distance: usize) -> bool
+    ensures on { IsTrue result → distance < 64 }
+    ensures off { result ≡ false → (64 ≤ distance) ⊎ (on ≡ 0) }
+{
+    on != 0 && distance < BITS
+}
+
+/// The place that a part is, or `None` if it is none.
+pub(crate) fn place_of(part: &Part, gaps: Gaps) -> Option<Place>
+    ensures { IfSome result (λ place. IsPlace place (shape part.now) gaps) }
+{
+    let optional = is_everywhere(gaps);
+    if !is_gap_of(optional, gaps) {
+        return None;
+    }
     match part {
-        Part::Set(last) => two_sets(alloc, members, last, copies),
-        Part::Run(masks, places) => longer_run(alloc, members, masks, *places, copies),
-        _ => Ok(None),
+        Part::Set(members) => Some(Place {
+            members: *members,
+            optional,
+            repeated: false,
+        }),
+        Part::Loop(body, _) => {
+            let members = set_of(body)?;
+            Some(Place {
+                members,
+                optional,
+                repeated: true,
+            })
+        }
+        _ => None,
     }
 }
 
-/// Two sets as a run.
-fn two_sets(
+/// The set that the part is, or `None` if it is none.
+pub(crate) fn set_of(part: &Part) -> Option<ByteSet>
+    ensures { IfSome result (λ members. shape part.now ≡ set members) }
+{
+    match part {
+        Part::Set(members) => Some(*members),
+        _ => None,
+    }
+}
+
+/// The part as a run. `None` if it is no place or run, or if a word has no room for it.
+///
+/// An `Err` means that memory ran out.
+pub(crate) fn row_of(
     alloc: Global,
-    members: &ByteSet,
-    last: &ByteSet,
+    part: &Part,
+    gaps: Gaps,
     copies: usize,
-) -> Result<Option<Part>, AllocError>
+) -> Result<Option<Row>, AllocError>
+    requires some { 0 < copies }
+    requires whole { IsWhole (shape part.now) copies }
+    ensures { IfOk result (λ found. IfSome found (λ row. IsRow row (shape part.now) gaps copies)) }
+{
+    if let Part::Run(masks, places) = part {
+        if !is_gap_of(places.empty, gaps) {
+            return Ok(None);
+        }
+        return Ok(Some(Row {
+            masks: masks.to_vec(alloc)?,
+            places: *places,
+        }));
+    }
+    match place_of(part, gaps) {
+        Some(place) => one_place(alloc, &place, copies),
+        None => Ok(None),
+    }
+}
+
+/// Whether the empty word is everywhere or nowhere, as `empty` says.
+fn is_gap_of(empty: bool, gaps: Gaps) -> bool
+    ensures { IsTrue result → gaps ≡ (if empty then everywhere else nowhere) }
+{
+    if empty {
+        is_everywhere(gaps)
+    } else {
+        is_nowhere(gaps)
+    }
+}
+
+/// A place as a run of its own. `None` if a word has no room for it. An `Err` means that memory ran out.
+fn one_place(alloc: Global, place: &Place, copies: usize) -> Result<Option<Row>, AllocError>
     requires { 0 < copies }
-    ensures { IfOk result (λ found. IfSome found (λ whole. IsLonger members.now (set last.now) (shape whole) copies)) }
+    ensures { IfOk result (λ found. IfSome found (λ row. (part : Shape) (gaps : GapsValue) → IsPlace place.now part gaps → IsRow row part gaps copies)) }
 {
     if copies > BITS / 2 {
         return Ok(None);
     }
-    let single = masks_of(alloc, last)?;
-    let masks = longer_masks(alloc, members, &single, copies)?;
+    let masks = masks_of(alloc, &place.members)?;
     let places = Places {
         stride: copies,
-        after: 1,
+        after: 0,
+        optional: marks(place.optional, copies),
+        repeated: marks(place.repeated, copies),
+        empty: place.optional,
+    };
+    Ok(Some(Row { masks, places }))
+}
+
+/// A run and then a part, as one run. `None` if the part is no place or run, or if a word has no room for both.
+///
+/// An `Err` means that memory ran out.
+pub(crate) fn longer(
+    alloc: Global,
+    row: &Row,
+    part: &Part,
+    gaps: Gaps,
+    copies: usize,
+) -> Result<Option<Part>, AllocError>
+    requires some { 0 < copies }
+    requires run { IsRun row.now.masks.items row.now.places copies }
+    requires whole { IsWhole (shape part.now) copies }
+    ensures { IfOk result (λ found. IfSome found (λ whole. (first : Shape) (before : GapsValue) → IsRow row.now first before copies → IsLonger first (shape part.now) before gaps (shape whole) copies)) }
+{
+    match row_of(alloc, part, gaps, copies)? {
+        Some(rest) => joined(alloc, row, &rest, copies),
+        None => Ok(None),
+    }
+}
+
+/// Two runs as one, or nothing if a word has no room for both.
+fn joined(alloc: Global, row: &Row, rest: &Row, copies: usize) -> Result<Option<Part>, AllocError>
+    requires first { IsRun row.now.masks.items row.now.places copies }
+    requires second { IsRun rest.now.masks.items rest.now.places copies }
+    ensures { IfOk result (λ found. IfSome found (λ whole. (first second : Shape) (before after : GapsValue) → IsRow row.now first before copies → IsRow rest.now second after copies → IsLonger first second before after (shape whole) copies)) }
+{
+    let low = rest.places.after * copies + copies;
+    let high = row.places.after * copies + copies;
+    if low + high + copies > BITS {
+        return Ok(None);
+    }
+    let masks = joined_masks(alloc, &row.masks, &rest.masks, low)?;
+    let places = Places {
+        stride: copies,
+        after: row.places.after + rest.places.after + 1,
+        optional: joined_words(row.places.optional, rest.places.optional, low),
+        repeated: joined_words(row.places.repeated, rest.places.repeated, low),
+        empty: both_hold(row.places.empty, rest.places.empty),
     };
     Ok(Some(Part::Run(masks, places)))
 }
 
-/// A run with one set more before it.
-fn longer_run(
-    alloc: Global,
-    members: &ByteSet,
-    masks: &[u64],
-    places: Places,
-    copies: usize,
-) -> Result<Option<Part>, AllocError>
-    requires { IsRun masks.now places copies }
-    ensures { IfOk result (λ found. IfSome found (λ whole. IsLonger members.now (run masks.now places) (shape whole) copies)) }
+/// Whether both hold.
+fn both_hold(one: bool, other: bool) -> bool
+    ensures { result ≡ (one && other) }
 {
-    let first = places.after * copies + copies;
-    if first + copies > BITS {
-        return Ok(None);
-    }
-    let masks = longer_masks(alloc, members, masks, first)?;
-    let places = Places {
-        stride: copies,
-        after: places.after + 1,
-    };
-    Ok(Some(Part::Run(masks, places)))
+    one && other
+}
+
+/// A bit for each copy if `on`, and no bit otherwise.
+fn marks(on: bool, copies: usize) -> u64
+    requires { (0 < copies) × (copies < 64) }
+    ensures { (b : ℕ) → b < 64 → has_bit result b ≡ (on && nat_lt b copies) }
+{
+    word_if(on, lowest_bits(!0, copies))
+}
+
+/// The lowest bits of the second word, and then the bits of the first.
+fn joined_words(first: u64, second: u64, low: usize) -> u64
+    requires { (0 < low) × (low < 64) }
+    ensures { (b : ℕ) → b < 64 → has_bit result b ≡ (if nat_lt b low then has_bit second b else has_bit first (b - low)) }
+{
+    moved_in(first, lowest_bits(second, low), low)
 }
 
 /// The masks of one set, with the same bit for each cell.
@@ -102,21 +238,21 @@ fn masks_of(alloc: Global, members: &ByteSet) -> Result<Vec<u64>, AllocError>
     Ok(masks)
 }
 
-/// The masks of a run with one set more, whose cells come after the lowest `first`.
-fn longer_masks(
+/// The masks of two runs in one, where the second has the lowest bits.
+fn joined_masks(
     alloc: Global,
-    members: &ByteSet,
-    masks: &[u64],
-    first: usize,
+    first: &[u64],
+    second: &[u64],
+    low: usize,
 ) -> Result<Vec<u64>, AllocError>
-    requires first { (0 < first) × (first < 64) }
-    requires all { length masks.now ≡ 256 }
-    ensures { IfOk result (λ longer. AreMasks longer.items (λ byte bit. if nat_lt bit first then has_bit (slice_index masks.now byte) bit else has members.now byte)) }
+    requires low { (0 < low) × (low < 64) }
+    requires first { length first.now ≡ 256 }
+    requires second { length second.now ≡ 256 }
+    ensures { IfOk result (λ masks. AreMasks masks.items (λ byte bit. if nat_lt bit low then has_bit (slice_index second.now byte) bit else has_bit (slice_index first.now byte) (bit - low))) }
 {
-    let mut longer = vec![in alloc; 0; BYTES]?;
+    let mut masks = vec![in alloc; 0; BYTES]?;
     for byte in 0..BYTES {
-        let own = word_if(members.has(byte as u8), !0);
-        longer[byte] = moved_in(own, lowest_bits(masks[byte], first), first);
+        masks[byte] = joined_words(first[byte], second[byte], low);
     }
-    Ok(longer)
+    Ok(masks)
 }

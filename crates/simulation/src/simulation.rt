@@ -1,14 +1,14 @@
 //! The simulation of a tree.
 
-ghost use Rattle.std.specs.Prelude.{◌≡◌, ℕ, ◌<◌, ◌≤◌, ◌↔◌, ◌||◌, IsTrue, length};
-ghost use Rattle.simulation.specs.Parts.{is_gap, shape};
-ghost use Rattle.simulation.specs.Pending.{at, IsWhole, size_of};
-ghost use Rattle.simulation.specs.Private.Reading.{AreClear, HasWord};
+ghost use Rattle.std.specs.Prelude.{◌≡◌, ◌||◌, length};
+ghost use Rattle.simulation.specs.Parts.{is_gap};
 
+use crate::ends::{Wanted, has_word, last_end};
 use crate::pack::pack;
 use crate::part::{Gaps, Part, is_gap};
-use crate::step::step;
+use crate::starts::{first_gap, least_start};
 use ere::Ere;
+use matcher::Span;
 use std::alloc::{AllocError, Global};
 
 /// What is needed to look for matches of one tree in lines of any length.
@@ -28,15 +28,17 @@ pub struct Simulation {
 }
 
 impl Simulation {
-    ghost use Rattle.std.specs.Prelude.{◌↔◌, IsTrue, IfOk};
+    ghost use Rattle.std.specs.Prelude.{◌↔◌, IsTrue, IfOk, MatchOption};
     ghost use Rattle.ere.specs.Language.{ContainsMatch};
     ghost use Rattle.ere.specs.Limits.{IsWithinLimits};
     ghost use Rattle.ere.specs.Tree.{Tree, form};
+    ghost use Rattle.matcher.specs.FirstSpan.{HasNoSpan, IsFirstSpan};
+    ghost use Rattle.matcher.specs.FirstStart.{HasNoStart, IsFirstStart};
     ghost use Rattle.simulation.specs.Simulations.{IsSimulationOf};
 
     /// The simulation of a tree, which is within the limits.
     ///
-    /// The only error is that memory ran out.
+    /// An `Err` means that memory ran out.
     pub fn new(alloc: Global, tree: &Ere) -> Result<Simulation, AllocError>
         requires { IsWithinLimits (form tree.now) }
         ensures { IfOk result (IsSimulationOf (form tree.now)) }
@@ -61,26 +63,77 @@ impl Simulation {
         if has_gap(self.gaps, line) {
             return true;
         }
-        has_word(&self.part, line, &mut self.entered, &mut self.cells)
+        let all = Wanted {
+            first: 0,
+            past: line.len(),
+            whole_words: false,
+        };
+        has_word(&self.part, line, all, &mut self.entered, &mut self.cells)
     }
-}
 
-/// Whether some word of the part is in the line.
-fn has_word(part: &Part, line: &[u8], entered: &mut [u64], cells: &mut [u64]) -> bool
-    requires whole { IsWhole (shape part.now) 1 }
-    requires entered { length entered.old ≡ size_of (shape part.now) 1 }
-    requires cells { length cells.old ≡ size_of (shape part.now) 1 }
-    ensures { IsTrue result ↔ HasWord line.now (shape part.now) }
-{
-    clear(cells);
-    for here in 0..line.len() {
-        begin(entered);
-        step(part, 1, line, here, entered, cells);
-        if is_read(cells) {
-            return true;
+    /// The first part of the line from the offset `from` on that is a match of the tree and not empty: of all these the
+    /// parts that begin leftmost, and of them the longest (POSIX.1-2017 XBD 9.1). With `whole_words` only parts with no
+    /// letter, digit or `_` right before them and right after them count. `None` if there is no such part, as from the end
+    /// of the line on. This is what `matcher::first_span` finds.
+    ///
+    /// The line can have any length. Nothing is allocated, and there are no errors. The start is found by halving: the line
+    /// is read about as often as the distance of the start from `from` has binary digits, or twice as often, and once more
+    /// for the end. Each time reading begins at `from` or later, and stops where nothing is left that could become a match.
+    /// The time for each byte is bounded by the tree alone.
+    pub fn first_span(&mut self, line: &[u8], from: usize, whole_words: bool) -> Option<Span>
+        requires { (tree : Tree) × IsSimulationOf tree self.old }
+        ensures same { (tree : Tree) → IsSimulationOf tree self.old → IsSimulationOf tree self.new }
+        ensures found { (tree : Tree) → IsSimulationOf tree self.old → MatchOption result (HasNoSpan line.now tree whole_words from) (IsFirstSpan line.now tree whole_words from) }
+    {
+        let wanted = Wanted {
+            first: from,
+            past: line.len(),
+            whole_words,
+        };
+        let start = least_start(&self.part, line, wanted, &mut self.entered, &mut self.cells)?;
+        let leftmost = Wanted {
+            first: start,
+            past: start + 1,
+            whole_words,
+        };
+        let end = last_end(
+            &self.part,
+            line,
+            leftmost,
+            &mut self.entered,
+            &mut self.cells,
+        )?;
+        Some(Span { start, end })
+    }
+
+    /// Where the leftmost match of the tree in the line begins (POSIX.1-2017 XBD 9.1), as an offset from 0 to the line's
+    /// length. The match can be empty. With `whole_words` only matches with no letter, digit or `_` right before them and
+    /// right after them count. `None` if the line has no such match. This is what `matcher::first_start` finds.
+    ///
+    /// The line can have any length. Nothing is allocated, and there are no errors. The time is that of `first_span` without
+    /// the search for the end, and that of a look at each position up to the first empty match.
+    pub fn first_start(&mut self, line: &[u8], whole_words: bool) -> Option<usize>
+        requires { (tree : Tree) × IsSimulationOf tree self.old }
+        ensures same { (tree : Tree) → IsSimulationOf tree self.old → IsSimulationOf tree self.new }
+        ensures found { (tree : Tree) → IsSimulationOf tree self.old → MatchOption result (HasNoStart line.now tree whole_words) (IsFirstStart line.now tree whole_words) }
+    {
+        let gap = first_gap(self.gaps, line, whole_words);
+        let earlier = Wanted {
+            first: 0,
+            past: gap.unwrap_or(line.len()),
+            whole_words,
+        };
+        match least_start(
+            &self.part,
+            line,
+            earlier,
+            &mut self.entered,
+            &mut self.cells,
+        ) {
+            Some(start) => Some(start),
+            None => gap,
         }
     }
-    false
 }
 
 /// Whether the empty word is at the line's start or its end.
@@ -88,29 +141,4 @@ fn has_gap(gaps: Gaps, line: &[u8]) -> bool
     ensures { result ≡ (is_gap gaps line.now 0 || is_gap gaps line.now (length line.now)) }
 {
     is_gap(gaps, line, 0) || is_gap(gaps, line, line.len())
-}
-
-/// Sets the cell of the first copy.
-fn begin(entered: &mut [u64])
-    requires { 0 < length entered.old }
-    ensures { IsTrue (at entered.new 0) }
-{
-    entered[0] = 1;
-}
-
-/// Whether the cell of the first copy is set.
-fn is_read(cells: &[u64]) -> bool
-    requires { 0 < length cells.now }
-    ensures { result ≡ at cells.now 0 }
-{
-    cells[0] & 1 == 1
-}
-
-/// Clears all cells.
-fn clear(cells: &mut [u64])
-    ensures { AreClear cells.new }
-{
-    for i in 0..cells.len() {
-        cells[i] = 0;
-    }
 }

@@ -4,10 +4,10 @@ ghost use Rattle.std.specs.Prelude.{◌≡◌, ℕ, suc, ◌+◌, ◌*◌, ◌<�
 ghost use Rattle.simulation.specs.Parts.{shape, set, run, both, either, loop, times};
 ghost use Rattle.simulation.specs.Pending.{Advances, IsReady, IsRun, words_for};
 
-use crate::cells::{add, copy, either_if, keep_if};
+use crate::cells::{add, both as and, copy, either as or, either_if, keep_if};
 use crate::part::{Counts, Gaps, Part, Places, Sizes, is_gap};
-use crate::run::moved_on;
-use crate::turns::{any_turn, begin_turns, lowest_turn};
+use crate::run::passed_on;
+use crate::turns::{any_turn, begin_turns, lowest_bits, lowest_turn, moved_down, moved_in};
 use ere::ByteSet;
 
 /// Reads the byte after a position of the line.
@@ -74,8 +74,14 @@ fn step_run(
     requires cells { length cells.old ≡ words_for copies }
     ensures { Advances line.now here (run masks.now places) copies entered.now cells.old cells.new }
 {
-    let moved = moved_on(places, cells[0], entered[0]);
-    cells[0] = moved & masks[line[here] as usize];
+    let first = places.after * places.stride + places.stride;
+    let begun = lowest_bits(entered[0], places.stride);
+    let waiting = moved_in(begun, lowest_bits(cells[0], first), first);
+    let ready = passed_on(waiting, places.optional, places.stride);
+    let again = and(ready, places.repeated);
+    let moved = or(moved_down(ready, places.stride), again);
+    let read = and(moved, masks[line[here] as usize]);
+    cells[0] = passed_on(read, places.optional, places.stride);
 }
 
 #[cycle(step)]

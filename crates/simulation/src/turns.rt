@@ -3,10 +3,10 @@
 ghost use Rattle.std.specs.Prelude.{◌≡◌, ℕ, suc, ◌+◌, ◌-◌, ◌*◌, ◌/◌, ◌<◌, ◌≤◌, ◌↔◌, ◌&&◌, ◌||◌, ◌==◌, ◌⊎◌, nat_le, false, if◌then◌else◌, nat_lt, IsTrue, length, slice_index};
 ghost use Rattle.ere.specs.Bits.{has_bit};
 ghost use Rattle.simulation.specs.Parts.{Suffices};
-ghost use Rattle.simulation.specs.Pending.{at, room, AnyTurn, Enters, IsNarrow};
-ghost use Rattle.simulation.specs.Private.Words.{repeated, shifted};
+ghost use Rattle.simulation.specs.Pending.{at, room, words_for, AnyTurn, Enters, IsNarrow};
+ghost use Rattle.simulation.specs.Private.Words.{repeated, shifted, AnyPart, AnyWithin, IsWithin};
 
-use crate::cells::{BITS, copy, either, keep_if};
+use crate::cells::{BITS, copy, either, keep_if, words_for};
 use crate::part::{Counts, is_gap};
 
 /// What begins in each copy of the body: in the first turn what is entered, in the others what the turn before has
@@ -133,23 +133,52 @@ fn any_narrow(counts: Counts, lowest: usize, read: &[u64]) -> u64
     requires read { counts.all ≤ room read.now }
     ensures { (k : ℕ) → k < counts.stride → IsTrue (has_bit result k) ↔ AnyTurn counts lowest read.now k }
 {
+    if lowest >= counts.copies {
+        return 0;
+    }
+    let word = any_word(lowest * counts.stride, counts.all, read);
+    folded(word, counts.stride)
+}
+
+/// The bits of any word of the cells, from one cell on and before another.
+fn any_word(from: usize, to: usize, cells: &[u64]) -> u64
+    requires { to ≤ room cells.now }
+    ensures { (b : ℕ) → b < 64 → IsTrue (has_bit result b) ↔ AnyWithin from to cells.now b }
+{
     let mut found = 0;
-    for turn in lowest..counts.copies {
-        found = either(found, turn_of(counts, turn, read));
+    for i in from / BITS..words_for(to) {
+        found = either(found, word_within(cells, i, from, to));
     }
     found
 }
 
-/// The cells of one turn, in the lowest bits.
-fn turn_of(counts: Counts, turn: usize, read: &[u64]) -> u64
-    requires all { counts.all ≡ counts.copies * counts.stride }
-    requires stride { IsNarrow counts.stride }
-    requires read { counts.all ≤ room read.now }
-    requires turn { turn < counts.copies }
-    ensures { (k : ℕ) → k < counts.stride → has_bit result k ≡ at read.now (turn * counts.stride + k) }
+/// The cells of a word from one cell on and before another. Neither is in another word on its side.
+fn word_within(words: &[u64], i: usize, from: usize, to: usize) -> u64
+    requires inside { i < length words.now }
+    requires from { from / 64 ≤ i }
+    requires to { i < words_for to }
+    ensures { (b : ℕ) → b < 64 → IsTrue (has_bit result b) ↔ IsWithin from to words.now (i * 64 + b) }
 {
-    let from = turn * counts.stride;
-    moved_down(read[from / BITS], from % BITS)
+    let word = word_from(words, i, from);
+    if i == to / BITS {
+        lowest_bits(word, to % BITS)
+    } else {
+        word
+    }
+}
+
+/// The bits of any of the parts of a word, which are a stride long each.
+fn folded(word: u64, stride: usize) -> u64
+    requires { IsNarrow stride }
+    ensures { (k : ℕ) → k < stride → IsTrue (has_bit result k) ↔ AnyPart word stride k }
+{
+    let mut found = word;
+    let mut width = BITS;
+    while width > stride {
+        width = width / 2;
+        found = either(found, moved_down(found, width));
+    }
+    found
 }
 
 /// Does what `any_turn` does, for a stride of whole words.

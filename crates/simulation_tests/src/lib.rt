@@ -5,4 +5,8 @@
 #![tactic(auto)]
 
 #[cfg(test)]
+mod fixtures;
+#[cfg(test)]
 mod matching;
+#[cfg(test)]
+mod spans;

@@ -1,5 +1,6 @@
 //! Lines that contain a match, and lines that contain none.
 
+use crate::fixtures::halves;
 use ere::parse;
 use simulation::Simulation;
 use std::alloc::{AllocError, Global};
@@ -67,15 +68,29 @@ const ROWS: &[u8] = b"+~
 -^(ab?cd)*efg$~abcdbcdefg
 +^(a|b|[cd])e$~ce
 -^(a|b|[cd])e$~ee
-+^(a|b?)(c|d)e$~de";
-
-/// The half of a row before the `~`, and the half after it.
-fn halves(row: &[u8]) -> (&[u8], &[u8]) {
-    match row.iter().position(|b| *b == b'~') {
-        Some(at) => (&row[..at], &row[at + 1..]),
-        None => (row, &row[..0]),
-    }
-}
++^(a|b?)(c|d)e$~de
++^([ab]{0,3}c?){3}$~aacbbbcabc
++^([ab]{0,3}c?){3}$~aaaacbbbc
+-^([ab]{0,3}c?){3}$~aaaacbbbcabc
++^([ab]{0,3}c?){3}$~ccc
+-^([ab]{0,3}c?){3}$~cccc
++^([ab]{0,3}c?){2,3}d$~d
++^(ab){2,4}$~ababab
+-^(ab){2,4}$~ab
++^(a?b*){4}$~abbab
+-^(a?b*){2}$~aaa
++^(a{3}b){2}c$~aaabaaabc
+-^(a{3}b){2}c$~aaabaabc
++^(a{1,2}b?){2,3}$~aaba
+-^(a{1,2}b?){2,3}$~ab
++^(a+){2,3}$~aaaa
+-^(a+){2,3}$~a
++^((a{0,2}b){2}c){3}$~abaabcbbcaabbc
+-^((a{0,2}b){2}c){3}$~abaabcbbcaaabbc
++^(((ab?){2}c){2}|d){4}$~aacabacdaabcabacd
+-^(((ab?){2}c){2}|d){4}$~aacabacdaabcabac
++^([ab]{0,20}c?){3}([ab]{0,20}c?){3}$~aaaaaaaaaaaaaaaaaaaaaaaaaaaaaaaaaaaaaaaacccaac
+-^([ab]{0,20}c?){3}([ab]{0,20}c?){3}$~aaaaaaaaaaaaaaaaaaaaaaaaaaaaaaaaaaaaaaaacccaaccc";
 
 /// The row without its sign, and whether the sign is `+`.
 fn signed(row: &[u8]) -> (bool, &[u8]) {

@@ -1,17 +1,13 @@
-use Rattle.std.proofs.Common.{ap, ◌∙◌, subst}
 use Rattle.simulation.specs.Parts.{shape}
-use Rattle.simulation.specs.Pending.{IsWhole}
-use Rattle.simulation.proofs.Shapes.{shape-Set, shape-Run}
-use Rattle.simulation.proofs.Cuts as cuts
+use Rattle.simulation.specs.Private.Rows.{IsRow}
+use Rattle.simulation.proofs.Building.{found}
+use Rattle.simulation.proofs.Masks as masks
 use Rattle.simulation.proofs.run.longer.Goals as goal
 
-pub longer_run-requires : goal.longer_run-requires
-longer_run-requires c =
-    rw c.deref.ensures.value
-    (cuts.whole_run _ _ _ (subst (λ s. IsWhole s c.args.copies) (ap shape c.in-Run.is ∙ shape-Run c.in-Run.masks c.in-Run.places) c.requires.whole))
-
-pub returns-in-Set : goal.returns-in-Set
-returns-in-Set c = rw (ap shape c.in-Set.is ∙ shape-Set c.in-Set.last) c.two_sets.ensures
-
-pub returns-in-Run : goal.returns-in-Run
-returns-in-Run c = rw (ap shape c.in-Run.is ∙ shape-Run c.in-Run.masks c.in-Run.places, ← c.deref.ensures.value) c.longer_run.ensures
+pub returns-in-Some : goal.returns-in-Some
+returns-in-Some c =
+    masks.map_found _ _
+    (λ whole longer first before one.
+    longer first (shape c.args.part.now) before c.args.gaps one
+    (found c.in-Some.rest _ c.in-Some.is (λ row. IsRow row (shape c.args.part.now) c.args.gaps c.args.copies) c.in_ok-rest.ensures))
+    c.joined.result c.joined.ensures

@@ -1,5 +1,0 @@
-use Rattle.simulation.proofs.Lines.{first_is}
-use Rattle.simulation.proofs.simulation.is_read.Goals as goal
-
-pub returns : goal.returns
-returns c = first_is c.args.cells.now

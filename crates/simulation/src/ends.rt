@@ -1,0 +1,151 @@
+//! Where words of a part end in a line.
+
+ghost use Rattle.std.specs.Prelude.{◌≡◌, ℕ, ◌<◌, ◌≤◌, ◌↔◌, ◌&&◌, not, MatchOption, IsTrue, length};
+ghost use Rattle.matcher.specs.Private.Starts.{is_word_after, is_word_before};
+ghost use Rattle.simulation.specs.Parts.{shape};
+ghost use Rattle.simulation.specs.Pending.{at};
+ghost use Rattle.simulation.specs.Private.Reading.{AreClear, Ends, HasRoom, HasWanted, IsLastEnd, IsNextEnd, IsReadTo, IsStart, NoneEndsAfter};
+
+use crate::cells::word_if;
+use crate::part::Part;
+use crate::step::step;
+use ere::is_word_byte;
+
+/// Which words of a part are looked for.
+#[derive(Clone, Copy, Debug, PartialEq, Eq)]
+pub(crate) struct Wanted {
+    /// The least position at which they begin.
+    pub(crate) first: usize,
+    /// The position after the greatest one.
+    pub(crate) past: usize,
+    /// Whether no word byte is to be right before them or right after them.
+    pub(crate) whole_words: bool,
+}
+
+/// Whether there is such a word in the line.
+pub(crate) fn has_word(
+    part: &Part,
+    line: &[u8],
+    wanted: Wanted,
+    entered: &mut [u64],
+    cells: &mut [u64],
+) -> bool
+    requires { HasRoom (shape part.now) entered.old cells.old }
+    ensures { IsTrue result ↔ HasWanted line.now (shape part.now) wanted }
+{
+    clear(cells);
+    next_end(part, line, wanted, wanted.first, entered, cells).is_some()
+}
+
+/// The greatest position at which such a word ends, or `None` if there is none.
+pub(crate) fn last_end(
+    part: &Part,
+    line: &[u8],
+    wanted: Wanted,
+    entered: &mut [u64],
+    cells: &mut [u64],
+) -> Option<usize>
+    requires { HasRoom (shape part.now) entered.old cells.old }
+    ensures { MatchOption result (HasWanted line.now (shape part.now) wanted → ⊥) (IsLastEnd line.now (shape part.now) wanted) }
+{
+    clear(cells);
+    let mut last = next_end(part, line, wanted, wanted.first, entered, cells)?;
+    while let Some(end) = next_end(part, line, wanted, last, entered, cells) {
+        last = end;
+    }
+    Some(last)
+}
+
+/// Reads on from a position, up to the next one at which such a word ends. `None` if none ends after that position.
+///
+/// The cells are those of the position, and then those of the end.
+fn next_end(
+    part: &Part,
+    line: &[u8],
+    wanted: Wanted,
+    from: usize,
+    entered: &mut [u64],
+    cells: &mut [u64],
+) -> Option<usize>
+    requires room { HasRoom (shape part.now) entered.old cells.old }
+    requires read { IsReadTo line.now from (shape part.now) wanted cells.old }
+    ensures { MatchOption result (NoneEndsAfter line.now (shape part.now) wanted from)
+        (λ end. IsNextEnd line.now (shape part.now) wanted from end × IsReadTo line.now end (shape part.now) wanted cells.new) }
+{
+    for here in from..line.len() {
+        // Nothing begins any more, and nothing is pending.
+        if here >= wanted.past && are_clear(cells) {
+            return None;
+        }
+        begin(is_start(line, wanted, here), entered);
+        step(part, 1, line, here, entered, cells);
+        if is_end(line, wanted, here + 1, cells) {
+            return Some(here + 1);
+        }
+    }
+    None
+}
+
+/// Whether a word that is looked for can begin at the position, which is no less than the least.
+fn is_start(line: &[u8], wanted: Wanted, at: usize) -> bool
+    requires least { wanted.first ≤ at }
+    requires inside { at ≤ length line.now }
+    ensures { IsTrue result ↔ IsStart line.now wanted at }
+{
+    at < wanted.past && !(wanted.whole_words && follows_word(line, at))
+}
+
+/// Whether the cell of the first copy is set, and a word that is looked for can end at the position.
+fn is_end(line: &[u8], wanted: Wanted, here: usize, cells: &[u64]) -> bool
+    requires { 0 < length cells.now }
+    ensures { result ≡ (at cells.now 0 && not (wanted.whole_words && is_word_after line.now here)) }
+{
+    is_read(cells) && !(wanted.whole_words && precedes_word(line, here))
+}
+
+/// Whether the cell of the first copy is set.
+fn is_read(cells: &[u64]) -> bool
+    requires { 0 < length cells.now }
+    ensures { result ≡ at cells.now 0 }
+{
+    cells[0] & 1 == 1
+}
+
+/// Whether a word byte is right before the position.
+pub(crate) fn follows_word(line: &[u8], at: usize) -> bool
+    requires { at ≤ length line.now }
+    ensures { result ≡ is_word_before line.now at }
+{
+    at > 0 && is_word_byte(line[at - 1])
+}
+
+/// Whether a word byte is right after the position.
+pub(crate) fn precedes_word(line: &[u8], at: usize) -> bool
+    ensures { result ≡ is_word_after line.now at }
+{
+    at < line.len() && is_word_byte(line[at])
+}
+
+/// Sets the cell of the first copy if `held`, and clears it otherwise.
+fn begin(held: bool, entered: &mut [u64])
+    requires { 0 < length entered.old }
+    ensures { at entered.new 0 ≡ held }
+{
+    entered[0] = word_if(held, 1);
+}
+
+/// Clears all cells.
+fn clear(cells: &mut [u64])
+    ensures { AreClear cells.new }
+{
+    for i in 0..cells.len() {
+        cells[i] = 0;
+    }
+}
+
+/// Whether no cell is set.
+fn are_clear(cells: &[u64]) -> bool
+    ensures { IsTrue result → AreClear cells.now }
+{
+    cells.iter().all(|word| *word == 0)
+}
