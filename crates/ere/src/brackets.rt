@@ -12,7 +12,7 @@ use crate::classes::class_named;
 use crate::error::{EreError, EreErrorKind};
 use crate::letters::read_in;
 
-/// Whether this byte is at `at`.
+/// Whether this byte is at the offset `at` of the text. From the text's end on there is none.
 pub fn stands_at(text: &[u8], at: usize, byte: u8) -> bool
     ensures { result ≡ begins_with byte (drop at text.now) }
 {
@@ -26,7 +26,11 @@ fn opens(text: &[u8], at: usize, mark: u8) -> bool
     stands_at(text, at, b'[') && stands_at(text, at + 1, mark)
 }
 
-/// The bracket expression whose `[` is at `opening`: its set, and the offset after its `]`.
+/// The bracket expression whose `[` is at the offset `opening`: its set, as it is read in the case, and the offset
+/// after its `]`.
+///
+/// An `Err` is the first fault from the left: `BadBracket`, at `opening`, if the expression or a symbol in it has no
+/// end; `BadRange`, at the `-`; or `BadClass`, at the `[` of the class or symbol. `EreErrorKind` says when each comes.
 pub fn bracket_at(case: Case, text: &[u8], opening: usize) -> Result<(ByteSet, usize), EreError>
     requires { opening < length text.now }
     ensures ok { IfOk result (λ r. SpellsBracket case (drop (opening + 1) text.now) (drop r.1 text.now) r.0) }

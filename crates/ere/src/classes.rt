@@ -1,4 +1,5 @@
-//! The character classes of the POSIX locale, by their names (POSIX.1-2017 XBD 7.3.1).
+//! The character classes of the POSIX locale, by their names (POSIX.1-2017 XBD 7.3.1). Bytes from 128 on are in none of
+//! them (this program's choice).
 
 ghost use Rattle.std.specs.Prelude.{◌≡◌};
 ghost use Rattle.ere.specs.Classes.{class_named, is_alnum, is_alpha, is_blank, is_cntrl, is_digit, is_graph};

@@ -13,14 +13,15 @@ pub struct EreError {
     pub at: u32,
 }
 
-/// The kinds of faults of a pattern, in the order of their numbers.
+/// The kinds of faults of a pattern. `reason` gives the words of each.
 #[derive(Clone, Copy, Debug, PartialEq, Eq)]
 pub enum EreErrorKind {
     /// The pattern has over 1,024 bytes. Reported at 1024.
     TooLong,
-    /// A byte 0 or 10 (line feed). Reported at the byte.
+    /// A byte 0 or 10 (line feed). Reported at the first such byte.
     BadByte,
-    /// A backslash before a byte that cannot be escaped, or at the pattern's end. Reported at the backslash.
+    /// A backslash before a byte that cannot be escaped, or at the pattern's end. Reported at the backslash. ASCII
+    /// punctuation can be escaped, except `<`, `>`, the grave accent and the apostrophe.
     BadEscape,
     /// A bracket expression, or a `[.`, `[=` or `[:` in it, has no end. Reported at the expression's `[`.
     BadBracket,
@@ -88,8 +89,8 @@ impl EreErrorKind {
             EreErrorKind::BadInterval => "bad interval",
             EreErrorKind::NothingToRepeat => "nothing to repeat",
             EreErrorKind::Unclosed => "group not closed",
-            EreErrorKind::TooDeep => "too deep",
-            EreErrorKind::TooLarge => "too large",
+            EreErrorKind::TooDeep => "too deep (over 64 levels)",
+            EreErrorKind::TooLarge => "too large (over 4096 leaves)",
             EreErrorKind::OutOfMemory => "out of memory",
         }
     }

@@ -1,4 +1,4 @@
-//! The sets of a pattern in which case counts or is ignored.
+//! The sets of a pattern in which case counts or is ignored (POSIX.1-2017 XSH `regcomp`, `REG_ICASE`).
 
 ghost use Rattle.std.specs.Prelude.{◌≡◌};
 ghost use Rattle.ere.specs.ByteSet.{single};

@@ -6,10 +6,10 @@ ghost use Rattle.ere.specs.Tree.{form, trees_of};
 
 use crate::tree::Ere;
 
-/// The greatest height of a pattern's tree.
+/// The greatest height of a pattern's tree (this program's choice). A leaf has height 1.
 pub const MAX_HEIGHT: u8 = 64;
 
-/// The greatest number of leaves of a pattern's tree.
+/// The greatest number of leaves of a pattern's tree, counted as in `Ere::within_limits` (this program's choice).
 pub const MAX_LEAVES: u32 = 4096;
 
 impl Ere {

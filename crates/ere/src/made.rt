@@ -79,7 +79,8 @@ pub fn as_word(alloc: Global, tree: Ere) -> Result<Ere, EreError>
 /// The tree of `^(TREE)$`. A line contains a match of it if the whole line is a word of the tree, with nothing before
 /// it and nothing after it (`whole_lines`).
 ///
-/// An `Err` is as for `as_word`.
+/// An `Err` is `TooDeep` if the new tree is higher than the limit, and then `TooLarge` if it has too many leaves, both
+/// at 0; or `OutOfMemory`.
 pub fn as_line(alloc: Global, tree: Ere) -> Result<Ere, EreError>
     requires { IsWithinLimits (form tree) }
     ensures tree { IfOk result (λ e. form e ≡ line_tree (form tree)) }

@@ -16,7 +16,7 @@ use std::alloc::Global;
 pub struct Part {
     /// The tree.
     pub tree: Ere,
-    /// Its height.
+    /// Its height: 1 for a leaf, and at most `MAX_HEIGHT`.
     pub height: u8,
 }
 
@@ -39,7 +39,10 @@ pub fn no_members(alloc: Global) -> Option<Members>
     })
 }
 
-/// The members and one more, or `None` if one is higher than the limit.
+/// The members, with one more at the end. `None` if one of them is higher than the limit: then `members` or `part` is
+/// `None` too.
+///
+/// An `Err` is `OutOfMemory`, at 0. The members and the part are then dropped.
 pub fn with_member(
     members: Option<Members>,
     part: Option<Part>,
@@ -58,7 +61,8 @@ pub fn with_member(
     Ok(Some(members))
 }
 
-/// The tree of a branch of these pieces, or `None` if it is higher than the limit.
+/// The tree of a branch of these pieces: the empty text for no piece, for one that piece, and for more a `Cat`. `None`
+/// if it is higher than the limit.
 pub fn branch_of(pieces: Option<Members>) -> Option<Part>
     ensures { (trees : Trees) → AreBuilt pieces trees → IsBuilt result (branch_of trees) }
 {
@@ -72,7 +76,8 @@ pub fn branch_of(pieces: Option<Members>) -> Option<Part>
     }
 }
 
-/// The tree of alternatives of these branches, or `None` if it is higher than the limit.
+/// The tree of alternatives of these branches, of which there is at least one: for one that branch, and for more an
+/// `Alt`. `None` if it is higher than the limit.
 pub fn alternatives_of(branches: Option<Members>) -> Option<Part>
     ensures { (trees : Trees) → AreBuilt branches trees → IsBuilt result (alternatives_of trees) }
 {
@@ -85,7 +90,10 @@ pub fn alternatives_of(branches: Option<Members>) -> Option<Part>
     }
 }
 
-/// The tree of a duplication, or `None` if it is higher than the limit.
+/// The tree of a duplication of a part, with its least count, and its greatest if it has one. `None` if it is higher
+/// than the limit.
+///
+/// An `Err` is `OutOfMemory`, at 0. The part is then dropped.
 pub fn repeat_of(
     alloc: Global,
     part: Option<Part>,

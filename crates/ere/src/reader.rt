@@ -19,13 +19,18 @@ use crate::token::{Token, duplication_at, token_at};
 use crate::tree::Ere;
 use std::alloc::Global;
 
-/// The greatest length of a pattern, in bytes.
+/// The greatest length of a pattern, in bytes (this program's choice).
 pub const MAX_PATTERN: usize = 1024;
 
-/// The greatest number of groups that can be open at once.
+/// The greatest number of groups that can be open at once (this program's choice).
 pub const MAX_OPEN: u8 = 64;
 
-/// Reads a pattern in which case counts, as `parse_with` does with `Case::Exact`.
+/// Reads a pattern in which case counts, as `parse_with` does with `Case::Exact`. The tree takes its memory from
+/// `alloc`.
+///
+/// An `Ok` holds the pattern's only tree, which is within the limits. An `Err` names the fault that a reading from left
+/// to right meets first, and its offset (`EreErrorKind`): the pattern has no tree then. Or it is `OutOfMemory`, which
+/// says nothing about the pattern. (POSIX.1-2017 XBD 9.4 and 9.3.5; the limits are this program's choice.)
 pub fn parse(alloc: Global, pattern: &[u8]) -> Result<Ere, EreError>
     ensures tree { IfOk result (λ e. IsTreeOf Case.Exact pattern.now (form e)) }
     ensures limits { IfOk result (λ e. IsWithinLimits (form e)) }
@@ -57,6 +62,9 @@ pub fn parse_with(alloc: Global, pattern: &[u8], case: Case) -> Result<Ere, EreE
 }
 
 /// Checks that the pattern is short enough and made of line bytes.
+///
+/// An `Err` is `TooLong`, at 1024, if it has over 1,024 bytes, and otherwise `BadByte`, at the first byte 0 or line
+/// feed.
 pub fn check_bytes(pattern: &[u8]) -> Result<(), EreError>
     ensures short { OnOk result (length pattern.now ≤ greatest_pattern) }
     ensures allowed { OnOk result (AllByRecursion (λ b. (b ≢ 0) × (b ≢ 10)) pattern.now) }

@@ -16,7 +16,7 @@ use crate::letters::single_in;
 /// A token of a pattern.
 #[derive(Clone, Copy, Debug, PartialEq, Eq)]
 pub enum Token {
-    /// A byte, `.` or a bracket expression.
+    /// A byte, which can have a `\` before it, `.` or a bracket expression.
     Set(ByteSet),
     /// `(`.
     Opens,
@@ -28,11 +28,13 @@ pub enum Token {
     AtStart,
     /// `$`.
     AtEnd,
-    /// A duplication, with its least and greatest count.
+    /// A duplication, with its least and greatest count. `None` if it has no greatest.
     Times(u8, Option<u8>),
 }
 
-/// The token at `at`, and the offset after it.
+/// The token at the offset `at`, and the offset after it. Its set is as it is read in the case.
+///
+/// An `Err` is `BadEscape` or `BadInterval`, at `at`, or a fault of the bracket expression there (`bracket_at`).
 pub fn token_at(case: Case, text: &[u8], at: usize) -> Result<(Token, usize), EreError>
     requires { at < length text.now }
     ensures ok { IfOk result (λ r. SpellsToken case (drop at text.now) (drop r.1 text.now) (meaning r.0)) }
@@ -54,7 +56,10 @@ pub fn token_at(case: Case, text: &[u8], at: usize) -> Result<(Token, usize), Er
     Ok((token_of_byte(case, byte), at + 1))
 }
 
-/// The duplication at `at`, if there is one, and the offset after it.
+/// The duplication at the offset `at`: its least count, its greatest if it has one, and the offset after it. `None` if
+/// there is none, as at the pattern's end.
+///
+/// An `Err` is `BadInterval`, at `at`: a `{` and a digit there begin no interval.
 pub fn duplication_at(
     case: Case,
     text: &[u8],

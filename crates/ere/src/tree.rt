@@ -6,7 +6,8 @@ ghost use Rattle.ere.specs.Tree.{form};
 
 use crate::byte_set::ByteSet;
 
-/// An extended regular expression as a tree. `docs/DEFINITIONS.md` says which texts each tree matches.
+/// An extended regular expression as a tree (POSIX.1-2017 XBD 9.4; anchors by 9.4.9). `docs/DEFINITIONS.md` says which
+/// texts each tree matches.
 ///
 /// A tree can be higher than the limits allow. To drop it, to clone it and to compare it, calls nest as deep as it is
 /// high. By measurement (`bench/levels.py`) each level takes at most 128 bytes of stack to drop or compare, and 448 to

@@ -6,3 +6,4 @@ pub mod LineLemmas
 pub mod MatchLemmas
 pub mod CutLemmas
 pub mod LawLemmas
+pub mod Deciding

@@ -23,6 +23,7 @@ pub struct FirstLine {
 /// Looks for the matches of a compiled pattern. It takes memory while it works. If memory runs out, it goes on
 /// without it, so `first_line` and `matches` never fail.
 pub struct Finder<'p> {
+    /// The engine's searcher, with its tables.
     pub(crate) searcher: Searcher<'p>,
 }
 
@@ -71,7 +72,7 @@ impl<'p> Finder<'p> {
         Some(FirstLine { before, start, end })
     }
 
-    /// Whether the line contains a match. The line must not have a line feed.
+    /// Whether the line contains a match. The line has no line feed.
     pub fn matches(&mut self, line: &[u8]) -> bool
         requires { (k : ℕ) → k < length line.now → slice_index line.now k ≢ 10 }
         ensures same { (tree : Tree) → IsFinderOf tree self.old → IsFinderOf tree self.new }

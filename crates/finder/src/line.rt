@@ -9,7 +9,7 @@ use memchr::{memchr, memrchr};
 /// How many bytes are counted together. Their count fits in a byte, so the processor can count many at a time.
 const BLOCK: usize = 192;
 
-/// Where the line of the position `from` starts.
+/// Where the line of the offset `from` starts, as an offset in bytes: after the last line feed before `from`, or at 0.
 pub fn line_start(text: &[u8], from: usize) -> usize
     requires { from ≤ length text.now }
     ensures { IsLineStart text.now from result }
@@ -20,7 +20,7 @@ pub fn line_start(text: &[u8], from: usize) -> usize
     }
 }
 
-/// Where the line of the position `from` ends: at its line feed, or at the text's end.
+/// Where the line of the offset `from` ends, as an offset in bytes: at its line feed, or at the text's end.
 pub fn line_end(text: &[u8], from: usize) -> usize
     requires { from ≤ length text.now }
     ensures { IsLineEnd text.now from result }
@@ -31,7 +31,7 @@ pub fn line_end(text: &[u8], from: usize) -> usize
     }
 }
 
-/// How many lines are before the one that starts at `start`.
+/// How many lines are before the one that starts at the offset `start`.
 pub fn lines_before(text: &[u8], start: usize) -> usize
     requires inside { start ≤ length text.now }
     requires whole_lines { IsWholeLines (take start text.now) }

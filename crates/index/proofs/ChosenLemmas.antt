@@ -12,16 +12,19 @@ use Rattle.std.proofs.lemmas.Bool.{false≢true, cases_lt, cases_eq}
 use Rattle.std.proofs.lemmas.Bool.Decides.{nat_tests}
 use Rattle.std.proofs.lemmas.List.{length-map, get_or-map, append-nil}
 use Rattle.std.proofs.lemmas.List.Edits.{Swapped, swapped_from_swap, length-swap}
+use Rattle.std.proofs.lemmas.List.Elements.{filter-append}
 use Rattle.std.proofs.lemmas.List.Kept.{AllPairs-from_increasing}
 use Rattle.std.proofs.lemmas.List.Sorted.{IsPermutation-keeps, IsPermutation-map, Contains-permutation, IsPermutation-sym, sorted_far, ranks_by}
 use Rattle.posting.specs.ListValue.{has}
 use Rattle.posting.proofs.SetLemmas.{contains-has}
 use Rattle.index.specs.declared.document.SharedDocument.{SharedDocument}
-use Rattle.index.specs.Documents.{Document, document, document_at, IsInNameOrder}
+use Rattle.index.specs.Documents.{Document, document, document_at, is_under, IsInNameOrder}
+use Rattle.index.specs.Text.{begins_with}
 use Rattle.index.specs.Shared.{document_of, documents_shared}
 use Rattle.index.specs.Private.Chosen.{numbered_document, document_numbered, documents_numbered}
 use Rattle.index.proofs.DocumentLemmas.{same_name, filter_same}
 use Rattle.index.proofs.StoredLemmas.{Numbered, document_at-none}
+use Rattle.index.proofs.UnderLemmas.{Behind, Behind-tail, picked, picked-none, picked-keep, picked-skip}
 
 -- ---- found by their numbers
 
@@ -86,23 +89,64 @@ numbered-filter ds numbered numbers rise = go numbers (AllPairs-from_increasing 
         let low : number < get_or numbers at.0 m = less 0 (suc at.0) m (omega arith) (omega (arith, at.1)) in
         omega (arith, at.2)))
 
--- the document with one more number, before those with the numbers that are left
-pub numbered-more : (ds old new all : List Document) (left rest : List ℕ) (number : ℕ) → left ≡ number ∷ rest
-    → new ≡ old ++ document_numbered ds number → old ++ documents_numbered ds left ≡ all → new ++ documents_numbered ds rest ≡ all
-numbered-more ds old new all left rest number next grown so_far =
-    ap (λ xs. xs ++ documents_numbered ds rest) grown
-    ∙ (append_assoc old (document_numbered ds number) (documents_numbered ds rest)
-    ∙ (ap (λ ns. old ++ documents_numbered ds ns) (sym next) ∙ so_far))
+-- the documents with one more number that pass the test, before those with the numbers that are left
+pub numbered-more : (p : Document → Bool) (ds old new all : List Document) (left rest : List ℕ) (number : ℕ) → left ≡ number ∷ rest
+    → new ≡ old ++ filter p (document_numbered ds number) → old ++ filter p (documents_numbered ds left) ≡ all
+    → new ++ filter p (documents_numbered ds rest) ≡ all
+numbered-more p ds old new all left rest number next grown so_far =
+    ap (λ xs. xs ++ filter p (documents_numbered ds rest)) grown
+    ∙ (append_assoc old (filter p (document_numbered ds number)) (filter p (documents_numbered ds rest))
+    ∙ (ap (λ xs. old ++ xs) (sym (filter-append p (document_numbered ds number) (documents_numbered ds rest)))
+    ∙ (ap (λ ns. old ++ filter p (documents_numbered ds ns)) (sym next) ∙ so_far)))
 
-pub numbered-end : (ds old all : List Document) (left : List ℕ) → left ≡ [] → old ++ documents_numbered ds left ≡ all → old ≡ all
-numbered-end ds old all left none so_far = sym (append-nil old) ∙ (ap (λ ns. old ++ documents_numbered ds ns) (sym none) ∙ so_far)
+pub numbered-end : (p : Document → Bool) (ds old all : List Document) (left : List ℕ) → left ≡ [] → old ++ filter p (documents_numbered ds left) ≡ all
+    → old ≡ all
+numbered-end p ds old all left none so_far = sym (append-nil old) ∙ (ap (λ ns. old ++ filter p (documents_numbered ds ns)) (sym none) ∙ so_far)
 
--- a number that passes the test, and one that does not
-pub filter-keep : (p : ℕ → Bool) (left rest : List ℕ) (number : ℕ) → left ≡ number ∷ rest → p number ≡ true → filter p left ≡ number ∷ filter p rest
-filter-keep p left rest number next passes = ap (filter p) next ∙ ap (λ t. cond t (number ∷ filter p rest) (filter p rest)) passes
+-- The documents taken so far, and those with the numbers that will be picked from the entries that are left, are all.
+pub record AreTaken (ds : List Document) (test : ℕ → Bool) (text : List ℕ) (taken : List Document) (left all : List (List ℕ × ℕ)) : Type 0 where
+  pub so_far : taken ++ filter (is_under text) (documents_numbered ds (picked test text left))
+      ≡ filter (is_under text) (documents_numbered ds (picked test text all))
+  pub behind : Behind text left
 
-pub filter-skip : (p : ℕ → Bool) (left rest : List ℕ) (number : ℕ) → left ≡ number ∷ rest → p number ≡ false → filter p left ≡ filter p rest
-filter-skip p left rest number next fails = ap (filter p) next ∙ ap (λ t. cond t (number ∷ filter p rest) (filter p rest)) fails
+module _ (ds : List Document) (test : ℕ → Bool) (text : List ℕ) (all : List (List ℕ × ℕ)) where
+  pub taken-none : (old : List Document) → old ≡ [] → Behind text all → AreTaken ds test text old all all
+  taken-none old none behind = record {
+    so_far = ap (λ xs. xs ++ filter (is_under text) (documents_numbered ds (picked test text all))) none;
+    behind = behind;
+  }
+
+  pub taken-keep : (old new : List Document) (left rest : List (List ℕ × ℕ)) (name : List ℕ) (number : ℕ) → left ≡ (name, number) ∷ rest
+      → test number ≡ true → begins_with text name ≡ true → new ≡ old ++ filter (is_under text) (document_numbered ds number)
+      → AreTaken ds test text old left all → AreTaken ds test text new rest all
+  taken-keep old new left rest name number next passes begins grown taken = record {
+    so_far =
+        numbered-more (is_under text) ds old new (filter (is_under text) (documents_numbered ds (picked test text all))) (picked test text left)
+        (picked test text rest) number (picked-keep test text left rest name number next passes begins) grown taken.so_far;
+    behind = Behind-tail text left rest name number next taken.behind;
+  }
+
+  pub taken-skip : (old : List Document) (left rest : List (List ℕ × ℕ)) (name : List ℕ) (number : ℕ) → left ≡ (name, number) ∷ rest
+      → test number ≡ false → AreTaken ds test text old left all → AreTaken ds test text old rest all
+  taken-skip old left rest name number next fails taken = record {
+    so_far =
+        ap (λ ns. old ++ filter (is_under text) (documents_numbered ds ns)) (sym (picked-skip test text left rest name number next fails))
+        ∙ taken.so_far;
+    behind = Behind-tail text left rest name number next taken.behind;
+  }
+
+  pub taken-stop : (old : List Document) (left rest : List (List ℕ × ℕ)) (name : List ℕ) (number : ℕ) → left ≡ (name, number) ∷ rest
+      → begins_with text name ≡ false → AreTaken ds test text old left all
+      → old ≡ filter (is_under text) (documents_numbered ds (picked test text all))
+  taken-stop old left rest name number next other taken =
+      numbered-end (is_under text) ds old (filter (is_under text) (documents_numbered ds (picked test text all))) (picked test text left)
+      (picked-none test text left rest name number next taken.behind other) taken.so_far
+
+  pub taken-end : (old : List Document) (left : List (List ℕ × ℕ)) → left ≡ [] → AreTaken ds test text old left all
+      → old ≡ filter (is_under text) (documents_numbered ds (picked test text all))
+  taken-end old left none taken =
+      numbered-end (is_under text) ds old (filter (is_under text) (documents_numbered ds (picked test text all))) (picked test text left)
+      (ap (picked test text) none) taken.so_far
 
 -- ---- sorted by their names
 

@@ -6,6 +6,7 @@ pub mod RisingLemmas
 pub mod SlotLemmas
 pub mod StoredLemmas
 pub mod ApplyLemmas
+mod UnderLemmas
 pub mod OrderLemmas
 mod ChosenLemmas
 pub mod IndexLemmas

@@ -1,5 +1,5 @@
 -- The documents in the order of their names.
-use Rattle.std.proofs.Common.{◌≡◌, ◌≢◌, ℕ, zero, suc, ◌<◌, ◌==◌, ◌||◌, ◌⊎◌, inl, inr, Bool, true, false, cond, List, [], ◌∷◌, map, length}
+use Rattle.std.proofs.Common.{◌≡◌, ◌≢◌, ℕ, zero, suc, ◌<◌, ◌==◌, ◌||◌, ◌&&◌, ◌⊎◌, inl, inr, Bool, true, false, cond, List, [], ◌∷◌, map, length}
 use Rattle.std.proofs.Common.{get_or, Option, Some, None, Contains, refl, sym, ◌∙◌, ap, subst, arith}
 use Rattle.std.specs.Prelude.{All, AllPairs, slice_get, bytes_eq, filter}
 use Rattle.std.specs.List.{AllByRecursion}
@@ -14,13 +14,18 @@ use Rattle.std.specs.Ordering.{nat_cmp}
 use Rattle.std.specs.Cmp.Lexicographic.{slice_cmp, nat_list_cmp_total, texts_ties}
 use Rattle.std.specs.List.Sorted.{IsStrictlySortedBy}
 use Rattle.std.specs.Map.{keys_of, values_of}
-use Rattle.std.specs.BTreeMap.{BTreeMap, get, IsOrdered, is_at, values}
+use Rattle.std.specs.BTreeMap.{BTreeMap, get, IsOrdered, is_at}
+use Rattle.std.specs.BTreeMap.Range.{entries_between}
+use Rattle.std.specs.declared.ops.Bound.{Bound}
+use Rattle.std.specs.declared.ops.Bound.TheVariants.{Unbounded}
 use Rattle.std.proofs.lemmas.Map.Entries.{place_from_lookup, btree_map_get_place}
 use Rattle.std.proofs.lemmas.Option.{slice_get_within, get_or_from_slice_get, some_pair_parts}
 use Rattle.index.specs.declared.sets.Sets.{Sets}
-use Rattle.index.specs.Documents.{Document, document, document_at, number_of, meets, IsInNameOrder, RisesByName}
+use Rattle.index.specs.Documents.{Document, document, document_at, number_of, meets, is_chosen, is_under, IsInNameOrder, RisesByName}
+use Rattle.index.specs.Text.{IsName, begins_with}
+use Rattle.index.proofs.UnderLemmas.{picked, picked-first, filter_after}
 use Rattle.index.specs.Private.Sets.{AreSetsOf, trigrams_shown}
-use Rattle.index.specs.Private.Chosen.{numbered_document, document_numbered, documents_numbered}
+use Rattle.index.specs.Private.Chosen.{numbered_document, document_numbered, documents_numbered, IsFirstUnder}
 use Rattle.index.proofs.DocumentLemmas.{same_name, bytes_eq-refl, Contains-cons, Contains-head, Contains-tail, Contains-number_of}
 use Rattle.index.proofs.DocumentLemmas.{filter-Contains, Contains-filter, filter_same}
 use Rattle.index.proofs.StoredLemmas.{Numbered, same_bool}
@@ -114,9 +119,19 @@ rises-shown documents (entry ∷ entries) sorted = (above entries sorted.0, rise
     above [] h = tt
     above (e ∷ es) h = (h.0, above es h.1)
 
-numbers-shown : (documents : List Document) (entries : List (List ℕ × ℕ)) → values_of entries ≡ map (λ d. d.number) (map (shown documents) entries)
-numbers-shown documents [] = refl
-numbers-shown documents (entry ∷ entries) = ap (λ xs. entry.1 ∷ xs) (numbers-shown documents entries)
+picked-shown : (documents : List Document) (test : ℕ → Bool) (text : List ℕ) (entries : List (List ℕ × ℕ))
+    → picked test text entries ≡ map (λ d. d.number) (filter (λ d. test d.number && begins_with text d.name) (map (shown documents) entries))
+picked-shown documents test text [] = refl
+picked-shown documents test text (entry ∷ entries) = go (test entry.1 && begins_with text entry.0) (picked-shown documents test text entries)
+  where
+    chosen : List Document
+    chosen = filter (λ d. test d.number && begins_with text d.name) (map (shown documents) entries)
+
+    go : (t : Bool) → picked test text entries ≡ map (λ d. d.number) chosen
+        → values_of (cond t (entry ∷ filter (λ e. test e.1 && begins_with text e.0) entries) (filter (λ e. test e.1 && begins_with text e.0) entries))
+        ≡ map (λ d. d.number) (cond t (shown documents entry ∷ chosen) chosen)
+    go true e = ap (λ xs. entry.1 ∷ xs) e
+    go false e = e
 
 slice_get-shown : (documents : List Document) (entries : List (List ℕ × ℕ)) (i : ℕ) (entry : List ℕ × ℕ) → slice_get entries i ≡ Some entry
     → slice_get (map (shown documents) entries) i ≡ Some (shown documents entry)
@@ -153,16 +168,6 @@ rises-filter p (x ∷ ds) rises = go (p x) (names-above x.name p ds rises.0) (ri
     go true above deeper = (above, deeper)
     go false above deeper = deeper
 
-numbers-filter : (test : ℕ → Bool) (ds : List Document) → filter test (map (λ d. d.number) ds) ≡ map (λ d. d.number) (filter (λ d. test d.number) ds)
-numbers-filter test [] = refl
-numbers-filter test (d ∷ ds) = go (test d.number) (numbers-filter test ds)
-  where
-    go : (t : Bool) → filter test (map (λ d. d.number) ds) ≡ map (λ d. d.number) (filter (λ d. test d.number) ds)
-        → cond t (d.number ∷ filter test (map (λ d. d.number) ds)) (filter test (map (λ d. d.number) ds))
-        ≡ map (λ d. d.number) (cond t (d ∷ filter (λ d. test d.number) ds) (filter (λ d. test d.number) ds))
-    go true e = ap (λ xs. d.number ∷ xs) e
-    go false e = e
-
 module _ (ds : List Document) (numbered : Numbered ds) (named : Named ds) (numbers : BTreeMap (List ℕ) ℕ)
     (kept : (name : List ℕ) → get (slice_cmp nat_cmp) numbers name ≡ number_of name ds) (ordered : IsOrdered (slice_cmp nat_cmp) numbers) where
   there : (entry : List ℕ × ℕ) (k : ℕ) → slice_get numbers.entries k ≡ Some entry → Contains ds (shown ds entry)
@@ -185,7 +190,9 @@ module _ (ds : List Document) (numbered : Numbered ds) (named : Named ds) (numbe
       ∙ (ap (λ n. Some (document d.number n (body_of (document_at d.number ds)))) (sym name)
       ∙ ap (λ b. Some (document d.number d.name b)) body))
 
-  pub all_by_name : (all : List Document) × IsInNameOrder ds all × (values numbers ≡ map (λ d. d.number) all)
+  pub all_by_name : (all : List Document) × IsInNameOrder ds all
+      × ((test : ℕ → Bool) (text : List ℕ) → picked test text numbers.entries
+      ≡ map (λ d. d.number) (filter (λ d. test d.number && begins_with text d.name) all))
   all_by_name = (
     map (shown ds) numbers.entries,
     record {
@@ -195,7 +202,7 @@ module _ (ds : List Document) (numbered : Numbered ds) (named : Named ds) (numbe
         λ h. back d h,
       );
     },
-    numbers-shown ds numbers.entries,
+    λ test text. picked-shown ds test text numbers.entries,
   )
 
 -- ---- the documents that have the numbers of a list
@@ -208,24 +215,66 @@ documents_numbered-numbers ds (d ∷ chosen) numbered each =
     ap (numbered_document d.number) (document_at-Contains ds numbered d (each d (Contains-head d chosen))) in
     rw (here, documents_numbered-numbers ds chosen numbered (λ x h. each x (Contains-tail d chosen x h))) refl
 
--- the documents that pass the test, chosen from all documents in the order of their names
-pub many_in_order : (ds : List Document) → Numbered ds → Named ds → (test : ℕ → Bool) (numbers : BTreeMap (List ℕ) ℕ)
+-- the documents with a number that passes the test and a name that begins with the text, chosen from all documents in the
+-- order of their names
+pub many_in_order : (ds : List Document) → Numbered ds → Named ds → (test : ℕ → Bool) (text : List ℕ) (numbers : BTreeMap (List ℕ) ℕ)
     → ((name : List ℕ) → get (slice_cmp nat_cmp) numbers name ≡ number_of name ds) → IsOrdered (slice_cmp nat_cmp) numbers
-    → IsInNameOrder (filter (λ d. test d.number) ds) (documents_numbered ds (filter test (values numbers)))
-many_in_order ds numbered named test numbers kept ordered =
+    → IsInNameOrder (filter (λ d. test d.number && is_under text d) ds)
+    (filter (is_under text) (documents_numbered ds (picked test text numbers.entries)))
+many_in_order ds numbered named test text numbers kept ordered =
     let all = all_by_name ds numbered named numbers kept ordered in
-    let passed = filter (λ d. test d.number) all.0 in
-    let are : documents_numbered ds (filter test (values numbers)) ≡ passed =
-    ap (documents_numbered ds) (ap (filter test) all.2 ∙ numbers-filter test all.0)
-    ∙ documents_numbered-numbers ds passed numbered
-    (λ d h. (all.1.same d).0 (filter-Contains (λ x. test x.number) all.0 d h).0) in
-    subst (λ xs. IsInNameOrder (filter (λ d. test d.number) ds) xs) (sym are) (record {
-      rises = rises-filter (λ d. test d.number) all.0 all.1.rises;
+    let passed = filter p all.0 in
+    let found : documents_numbered ds (picked test text numbers.entries) ≡ passed =
+    ap (documents_numbered ds) (all.2 test text)
+    ∙ documents_numbered-numbers ds passed numbered (λ d h. (all.1.same d).0 (filter-Contains p all.0 d h).0) in
+    let are = ap (filter (is_under text)) found ∙ filter_after p (is_under text) (λ d h. second (test d.number) h) all.0 in
+    subst (λ xs. IsInNameOrder (filter p ds) xs) (sym are) (record {
+      rises = rises-filter p all.0 all.1.rises;
       same = λ d. (
-        λ h. (let at = filter-Contains (λ x. test x.number) all.0 d h in Contains-filter (λ x. test x.number) ds d ((all.1.same d).0 at.0) at.1),
-        λ h. (let at = filter-Contains (λ x. test x.number) ds d h in Contains-filter (λ x. test x.number) all.0 d ((all.1.same d).1 at.0) at.1),
+        λ h. (let at = filter-Contains p all.0 d h in Contains-filter p ds d ((all.1.same d).0 at.0) at.1),
+        λ h. (let at = filter-Contains p ds d h in Contains-filter p all.0 d ((all.1.same d).1 at.0) at.1),
       );
     })
+  where
+    p : Document → Bool
+    p d = test d.number && is_under text d
+
+    second : (t : Bool) {u : Bool} → (t && u) ≡ true → u ≡ true
+    second true h = h
+    second false h = absurd (false≢true h)
+
+-- the same, where the documents were taken from the entries from the first such name on
+pub many_taken : (ds : List Document) → Numbered ds → Named ds → (test : ℕ → Bool) (text : List ℕ) (numbers : BTreeMap (List ℕ) ℕ)
+    → ((name : List ℕ) → get (slice_cmp nat_cmp) numbers name ≡ number_of name ds) → IsOrdered (slice_cmp nat_cmp) numbers
+    → (first : Bound (List ℕ)) → IsFirstUnder text first → (from : List (List ℕ × ℕ))
+    → from ≡ entries_between (slice_cmp nat_cmp) first Unbounded numbers.entries
+    → (taken : List Document) → taken ≡ filter (is_under text) (documents_numbered ds (picked test text from))
+    → IsInNameOrder (filter (λ d. test d.number && is_under text d) ds) taken
+many_taken ds numbered named test text numbers kept ordered first is from are taken so_far =
+    subst (λ xs. IsInNameOrder (filter (λ d. test d.number && is_under text d) ds) xs)
+    (sym (so_far ∙ ap (λ ns. filter (is_under text) (documents_numbered ds ns)) (picked-first text first is test numbers.entries from are)))
+    (many_in_order ds numbered named test text numbers kept ordered)
+
+-- no document is chosen where no name begins with the text
+pub none_in_order : (numbers text : List ℕ) (ds : List Document) → All (λ d. IsName d.name) ds
+    → ((name : List ℕ) → IsName name → begins_with text name ≡ false) → IsInNameOrder (filter (is_chosen numbers text) ds) []
+unfolding IsStrictlySortedBy
+none_in_order numbers text ds names none = subst (λ xs. IsInNameOrder xs []) (sym (nothing ds names)) (record {
+  rises = tt;
+  same = λ d. (λ h. h, λ h. h);
+})
+  where
+    and_no : (t : Bool) → (t && false) ≡ false
+    and_no true = refl
+    and_no false = refl
+
+    nothing : (ds : List Document) → All (λ d. IsName d.name) ds → filter (is_chosen numbers text) ds ≡ []
+    nothing [] names = refl
+    nothing (d ∷ ds) names =
+        let other : begins_with text d.name ≡ false = none d.name (names 0 d (omega arith)) in
+        let out : is_chosen numbers text d ≡ false = ap (λ t. has numbers d.number && t) other ∙ and_no (has numbers d.number) in
+        ap (λ t. cond t (d ∷ filter (is_chosen numbers text) ds) (filter (is_chosen numbers text) ds)) out
+        ∙ nothing ds (λ k x inside. names (suc k) x (omega arith))
 
 or_yes : (a : Bool) → (a || true) ≡ true
 or_yes true = refl

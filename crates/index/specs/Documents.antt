@@ -1,11 +1,13 @@
 -- Which documents a list of commands leaves (this program's choice).
-use Rattle.std.specs.Prelude.{◌≡◌, ◌≢◌, ℕ, suc, ◌+◌, ◌==◌, ◌||◌, not, Bool, false, if◌then◌else◌, List, [], ◌∷◌, ◌++◌, map, filter, length}
+use Rattle.std.specs.Prelude.{◌≡◌, ◌≢◌, ℕ, suc, ◌+◌, ◌==◌, ◌||◌, ◌&&◌, not, Bool, false, if◌then◌else◌, List, [], ◌∷◌, ◌++◌, map, filter, length}
 use Rattle.std.specs.Prelude.{All, Option, Some, None, is_some, bytes_eq, Contains, ◌↔◌}
 use Rattle.std.specs.Ordering.{nat_cmp}
 use Rattle.std.specs.Cmp.Lexicographic.{slice_cmp}
 use Rattle.std.specs.List.Sorted.{IsStrictlySortedBy}
 use Rattle.query.specs.Trigrams.{trigrams_of_body}
 use Rattle.query.specs.Query.{Formula, is_met}
+use Rattle.posting.specs.ListValue.{has}
+use Rattle.index.specs.Text.{begins_with}
 use Rattle.index.specs.declared.command.Command.{Command}
 use Rattle.index.specs.declared.command.Command.TheVariants.{Put, Remove}
 
@@ -69,6 +71,14 @@ documents_of commands = documents_from 1 commands []
 -- whether the trigrams of the document's body meet the formula
 abbrev pub meets : Formula → Document → Bool
 meets formula d = is_met formula (trigrams_of_body d.body)
+
+-- whether the document's name begins with the text
+abbrev pub is_under : List ℕ → Document → Bool
+is_under text d = begins_with text d.name
+
+-- whether the document's number is one of these and its name begins with the text
+abbrev pub is_chosen : List ℕ → List ℕ → Document → Bool
+is_chosen numbers text d = has numbers d.number && is_under text d
 
 -- names rise by their bytes, as unsigned numbers
 abbrev pub RisesByName : List Document → Type 0

@@ -1,5 +1,5 @@
 -- What a name is, and what a body is (this program's choices).
-use Rattle.std.specs.Prelude.{◌≡◌, ℕ, ◌<◌, ◌≤◌, Bool, true, false, not, ◌&&◌, ◌==◌, nat_le, nat_lt, List, length}
+use Rattle.std.specs.Prelude.{◌≡◌, ℕ, ◌<◌, ◌≤◌, Bool, true, false, not, ◌&&◌, ◌==◌, nat_le, nat_lt, List, length, take, bytes_eq}
 use Rattle.std.specs.List.{list_any}
 use Rattle.lines.specs.Lines.{lines_of, greatest_line}
 use Rattle.index.specs.declared.error.NameError.{NameError}
@@ -22,6 +22,10 @@ pub record IsName (bytes : List ℕ) : Type 0 where
   pub some : 0 < length bytes
   pub short : length bytes ≤ greatest_name
   pub printable : has_bad_byte bytes ≡ false
+
+-- whether the name begins with the text
+abbrev pub begins_with : List ℕ → List ℕ → Bool
+begins_with text name = bytes_eq text (take (length text) name)
 
 -- The first cause for which bytes were not made into a name. Memory runs out only if they are a name.
 unfoldable pub IsNameFault : NameError → List ℕ → Type 0

@@ -9,7 +9,7 @@ use memchr::{memchr, memrchr};
 use std::alloc::Global;
 use std::marker::Model;
 
-/// The greatest length of a body, in bytes.
+/// The greatest length of a body, in bytes (this program's choice).
 pub const MAX_BODY: usize = 1048576;
 
 /// The text of a document: at most 1,048,576 bytes, none of them 0, in lines of at most `lines::MAX_LINE`

@@ -1,7 +1,7 @@
 //! The index: the documents that commands leave, and the sets by which they are found.
 
 ghost use Rattle.std.specs.Prelude.{◌≡◌, ℕ, List, ◌+◌, ◌^◌, ◌<◌, [], ◌∷◌, ◌++◌, map, length, OnOk};
-ghost use Rattle.std.specs.Prelude.{OnErr, IfErr, IfOk, IsSome, IsOk, option_map, filter, bytes_eq, if◌then◌else◌, Some, None};
+ghost use Rattle.std.specs.Prelude.{false, OnErr, IfErr, IfOk, IfSome, IfNone, IsSome, IsOk, option_map, filter, bytes_eq, if◌then◌else◌, Some, None};
 ghost use Rattle.std.specs.Ordering.{nat_cmp};
 ghost use Rattle.std.specs.Cmp.Lexicographic.{slice_cmp};
 ghost use Rattle.std.specs.BTreeMap.{IsUnchanged, get};
@@ -9,19 +9,18 @@ ghost use Rattle.std.specs.List.Sorted.{IsStrictlyIncreasing};
 ghost use Rattle.index.specs.declared.command.Command.TheVariants.{Put as put_command, Remove as remove_command};
 ghost use Rattle.query.specs.Query.{formula_of};
 ghost use Rattle.query.specs.Trigrams.{ListsTrigrams};
-ghost use Rattle.posting.specs.ListValue.{has};
-ghost use Rattle.index.specs.Text.{IsName};
-ghost use Rattle.index.specs.Documents.{document_at, number_of, meets, IsInNameOrder};
+ghost use Rattle.index.specs.Text.{IsName, begins_with};
+ghost use Rattle.index.specs.Documents.{document_at, number_of, meets, is_chosen, is_under, IsInNameOrder};
 ghost use Rattle.index.specs.State.{state as state_with, applied, state_of, body_bytes, IsState};
 ghost use Rattle.index.specs.Shared.{documents_shared};
-ghost use Rattle.index.specs.Private.Chosen.{document_numbered, documents_numbered};
+ghost use Rattle.index.specs.Private.Chosen.{document_numbered, documents_numbered, IsFirstUnder};
 ghost use Rattle.index.specs.Private.Slots.{with_body_at};
 ghost use Rattle.index.specs.Private.Store.{stored, IsStore, HasPlaceFor};
 
 use crate::body::Body;
 use crate::command::Command;
 use crate::document::SharedDocument;
-use crate::error::{ApplyError, HeldError};
+use crate::error::{ApplyError, HeldError, NameError};
 use crate::held::{Held, trigrams_in};
 use crate::name::Name;
 use crate::slots::{Occupant, occupant_at};
@@ -31,10 +30,14 @@ use query::Query;
 use std::alloc::{AllocError, Global};
 use std::collections::BTreeMap;
 use std::marker::Model;
+use std::ops::Bound;
 
-/// The documents of a list that is shorter than the number of documents divided by this are sorted by name. For a
-/// longer list, all documents are gone through in the order of their names.
+/// The documents of a list that is shorter than the number of documents in question divided by this are sorted by name.
+/// For a longer list, all documents in question are gone through in the order of their names.
 const FEW: usize = 8;
+
+/// How many names are passed at once to see where those end that begin with a prefix.
+const STRIDE: usize = 64;
 
 /// The documents that commands leave.
 ///
@@ -263,80 +266,149 @@ impl Index {
         sets.postings.select(alloc, query, &sets.live)
     }
 
-    /// The documents whose numbers are in the list, in the order of their names. A number that no document has is left
-    /// out. For a list shorter than an eighth of the number of documents, the cost depends mainly on the length of the
-    /// list. An `Err` means that memory ran out, or that a name or a body has too many handles.
-    pub fn chosen_documents(
+    /// The documents whose numbers are in the list and whose names begin with the prefix, in the order of their names.
+    /// A number that no document has is left out. The cost depends mainly on how many names begin with the prefix or,
+    /// if the list is shorter than an eighth of that, on the length of the list. All numbers of the list are gone
+    /// through in either case.
+    ///
+    /// An `Err` means that memory ran out, or that a name or a body has too many handles.
+    pub fn chosen_documents_under(
         &self,
         alloc: Global,
         chosen: &posting::List,
+        prefix: &[u8],
     ) -> Result<Vec<SharedDocument>, AllocError>
-        ensures { IfOk result (λ shared. IsInNameOrder (filter (λ d. has chosen.now.members d.number) self.now.documents)
-            (documents_shared shared.items)) }
-    {
-        if chosen.len() < self.numbers.len() / FEW {
-            self.few(alloc, chosen)
-        } else {
-            self.many(alloc, chosen)
-        }
-    }
-
-    /// The documents whose numbers are in the list: each is looked up, and then they are sorted by name.
-    fn few(&self, alloc: Global, chosen: &posting::List) -> Result<Vec<SharedDocument>, AllocError>
-        ensures { IfOk result (λ shared. IsInNameOrder (filter (λ d. has chosen.now.members d.number) self.now.documents)
+        ensures { IfOk result (λ shared. IsInNameOrder (filter (is_chosen chosen.now.members prefix.now) self.now.documents)
             (documents_shared shared.items)) }
     {
         let _ = &self.version;
-        let mut shared = self.numbered(alloc, chosen)?;
+        let first = match first_under(alloc, prefix)? {
+            Some(first) => first,
+            None => return Ok(Vec::new(alloc)),
+        };
+        let most = chosen.len().saturating_mul(FEW);
+        if self.has_many_under(&first, prefix, most) {
+            self.few(alloc, chosen, prefix)
+        } else {
+            self.many(alloc, chosen, prefix, &first)
+        }
+    }
+
+    /// Whether about `most` names or more begin with the prefix. They are the first from `first` on, so one name in
+    /// each `STRIDE` shows it.
+    fn has_many_under(&self, first: &Bound<Name>, prefix: &[u8], most: usize) -> bool {
+        if self.numbers.len() < most || prefix.is_empty() {
+            return self.numbers.len() >= most;
+        }
+        let mut names = self.numbers.range((first.as_ref(), Bound::Unbounded));
+        for _ in 0..most / STRIDE {
+            match names.nth(STRIDE - 1) {
+                Some((name, _)) if name.as_bytes().starts_with(prefix) => {}
+                _ => return false,
+            }
+        }
+        true
+    }
+
+    /// The documents whose numbers are in the list and whose names begin with the prefix: each number is looked up, and
+    /// then the documents are sorted by name.
+    fn few(
+        &self,
+        alloc: Global,
+        chosen: &posting::List,
+        prefix: &[u8],
+    ) -> Result<Vec<SharedDocument>, AllocError>
+        ensures { IfOk result (λ shared. IsInNameOrder (filter (is_chosen chosen.now.members prefix.now) self.now.documents)
+            (documents_shared shared.items)) }
+    {
+        let _ = &self.version;
+        let mut shared = self.numbered(alloc, chosen, prefix)?;
         shared.sort_unstable_by(|one, other| one.name.cmp(&other.name));
         Ok(shared)
     }
 
-    /// The documents whose numbers are in the list, in the order of their numbers.
+    /// The documents whose numbers are in the list and whose names begin with the prefix, in the order of their numbers.
     fn numbered(
         &self,
         alloc: Global,
         chosen: &posting::List,
+        prefix: &[u8],
     ) -> Result<Vec<SharedDocument>, AllocError>
-        ensures documents { IfOk result (λ shared. documents_shared shared.items ≡ documents_numbered self.now.documents chosen.now.members) }
+        ensures documents { IfOk result (λ shared. documents_shared shared.items
+            ≡ filter (is_under prefix.now) (documents_numbered self.now.documents chosen.now.members)) }
         ensures rising { IsStrictlyIncreasing chosen.now.members }
     {
         let numbers = chosen.numbers();
         let mut shared = Vec::with_capacity(alloc, chosen.len())?;
         for number in numbers {
-            self.add(number, &mut shared)?;
+            self.add(number, prefix, &mut shared)?;
         }
         Ok(shared)
     }
 
-    /// The documents whose numbers are in the list, found among all documents in the order of their names.
-    fn many(&self, alloc: Global, chosen: &posting::List) -> Result<Vec<SharedDocument>, AllocError>
-        ensures { IfOk result (λ shared. IsInNameOrder (filter (λ d. has chosen.now.members d.number) self.now.documents)
+    /// The documents whose numbers are in the list and whose names begin with the prefix, found among all documents in the
+    /// order of their names, from `first` on.
+    fn many(
+        &self,
+        alloc: Global,
+        chosen: &posting::List,
+        prefix: &[u8],
+        first: &Bound<Name>,
+    ) -> Result<Vec<SharedDocument>, AllocError>
+        requires { IsFirstUnder prefix.now first.now }
+        ensures { IfOk result (λ shared. IsInNameOrder (filter (is_chosen chosen.now.members prefix.now) self.now.documents)
             (documents_shared shared.items)) }
     {
         let among = chosen.lookup(alloc)?;
-        let mut shared = Vec::with_capacity(alloc, chosen.len())?;
-        for number in self.numbers.values() {
+        // most prefixes leave few of them
+        let room = if prefix.is_empty() { chosen.len() } else { 0 };
+        let mut shared = Vec::with_capacity(alloc, room)?;
+        for (name, number) in self.numbers.range((first.as_ref(), Bound::Unbounded)) {
+            if !name.as_bytes().starts_with(prefix) {
+                return Ok(shared);
+            }
             if among.has(*number) {
-                self.add(*number, &mut shared)?;
+                self.add(*number, prefix, &mut shared)?;
             }
         }
         Ok(shared)
     }
 
-    /// Adds the document with this number, if there is one.
-    fn add(&self, number: u32, shared: &mut Vec<SharedDocument>) -> Result<(), AllocError>
+    /// Adds the document with this number, if there is one and its name begins with the prefix.
+    fn add(
+        &self,
+        number: u32,
+        prefix: &[u8],
+        shared: &mut Vec<SharedDocument>,
+    ) -> Result<(), AllocError>
         ensures { OnOk result (documents_shared shared.new.items
-            ≡ documents_shared shared.old.items ++ document_numbered self.now.documents number) }
+            ≡ documents_shared shared.old.items ++ filter (is_under prefix.now) (document_numbered self.now.documents number)) }
     {
         if let Some(occupant) = occupant_at(&self.store.slots, number) {
-            shared.push(SharedDocument {
-                number,
-                name: occupant.name.share()?,
-                held: occupant.held.share()?,
-            })?;
+            if occupant.name.as_bytes().starts_with(prefix) {
+                shared.push(SharedDocument {
+                    number,
+                    name: occupant.name.share()?,
+                    held: occupant.held.share()?,
+                })?;
+            }
         }
         Ok(())
+    }
+}
+
+/// From where on the names stand that begin with the prefix; nothing if no name can begin with it. An `Err` means that
+/// memory ran out.
+fn first_under(alloc: Global, prefix: &[u8]) -> Result<Option<Bound<Name>>, AllocError>
+    ensures some { IfOk result (λ found. IfSome found (IsFirstUnder prefix.now)) }
+    ensures none { IfOk result (λ found. IfNone found ((name : List ℕ) → IsName name → begins_with prefix.now name ≡ false)) }
+{
+    match Name::new(alloc, prefix) {
+        Ok(name) => Ok(Some(Bound::Included(name))),
+        Err(NameError::Empty) => Ok(Some(Bound::Unbounded)),
+        Err(NameError::TooLong) => Ok(None),
+        Err(NameError::BadByte) => Ok(None),
+        Err(NameError::OutOfMemory) => Err(AllocError),
     }
 }
 

@@ -9,7 +9,7 @@ use std::cmp::Ordering;
 use std::marker::Model;
 use std::sync::ArcSlice;
 
-/// The greatest length of a name, in bytes.
+/// The greatest length of a name, in bytes (this program's choice).
 pub const MAX_NAME: usize = 255;
 
 /// The name of a document: 1 to 255 bytes, each of 33 to 126 or 128 to 255 (this program's choice). A

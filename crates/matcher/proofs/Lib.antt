@@ -12,5 +12,8 @@ pub mod Longer
 pub mod MemberLemmas
 pub mod HeightLemmas
 pub mod StepLemmas
+pub mod StartLemmas
 pub mod SpanLemmas
 pub mod SpanLaws
+pub mod StartLaws
+mod AnchoredLemmas

@@ -4,15 +4,12 @@ use Rattle.std.proofs.Common.{refl, sym, ap, subst, ◌∙◌, arith, append_ass
 use Rattle.std.proofs.lemmas.List.{append_cancel_left, length-take-le, take-append-drop, take_more}
 use Rattle.std.proofs.Math.ListN.{get_or-append}
 use Rattle.std.proofs.Math.Seq.{take-append_seam, get_or-append_seam}
-use Rattle.std.specs.Iterator.{Drains}
 use Rattle.ere.specs.Classes.{is_word_byte}
 use Rattle.ere.specs.Edges.{ContainsWholeWord}
 use Rattle.ere.specs.Language.{InLanguage}
-use Rattle.ere.specs.Tree.{Tree, form}
+use Rattle.ere.specs.Tree.{Tree}
 use Rattle.matcher.specs.FirstSpan.{AreSpans, IsSpan, IsWhole}
 use Rattle.matcher.specs.Spans.{Spans}
-use Rattle.matcher.specs.SpansOf.{YieldsSpan}
-use Rattle.matcher.specs.declared.each_span.SpansOf.{SpansOf}
 use Rattle.matcher.specs.declared.spans.Span.{Span}
 use Rattle.matcher.proofs.Meaning.{language_of_spans, spans_of_language}
 
@@ -137,17 +134,3 @@ whole_by_positions tree line = (
   ),
   λ (start, end, inside, spans, whole). parts_of_whole tree line start end inside spans whole,
 )
-
--- What a whole run of the iterator gives.
-pub drained : (here : SpansOf) (spans : List Span) → Drains YieldsSpan here spans
-    → AreSpans here.line.now (form here.tree.now) here.whole_words here.from spans
-drained here [] (after, (there, same, none)) = subst (λ s. AreSpans s.line.now (form s.tree.now) s.whole_words s.from []) (sym same) none.0
-drained here (span ∷ spans) (after, (there, (next, step, more), none)) =
-    let moved = step.1 in
-    let rest = drained next spans (after, (there, more, none)) in (
-      step.0,
-      subst (λ n. AreSpans here.line.now (form here.tree.now) here.whole_words n spans) moved.stands
-          (subst (λ w. AreSpans here.line.now (form here.tree.now) w next.from spans) moved.same_words
-          (subst (λ t. AreSpans here.line.now t next.whole_words next.from spans) moved.same_tree
-          (subst (λ l. AreSpans l (form next.tree.now) next.whole_words next.from spans) moved.same_line rest))),
-    )

@@ -11,7 +11,7 @@ use Rattle.ere.specs.Tree.{Tree, Trees, none, more, trees_of, form}
 use Rattle.ere.proofs.Forms.{form-Empty, form-Set, form-Start, form-End, form-Cat, form-Alt, form-Repeat}
 use Rattle.matcher.proofs.MemberLemmas.{trees_at, no_trees}
 use Rattle.matcher.specs.StarHeight.{is_set}
-use Rattle.matcher.specs.Steps.{steps, steps_in, has_end, some_has_end, rounds_of}
+use Rattle.matcher.specs.Steps.{steps, steps_in, goes_far, some_go_far, rounds_of}
 
 -- the plain trees of members
 abbrev pub forms : List Ere → Trees
@@ -90,39 +90,43 @@ capped_any copies l bound = go (dec_le 1 copies)
             rw e (omega arith)
     go (no above) = let zero_copies : copies ≡ 0 = omega (arith, above) in rw zero_copies (omega arith)
 
-pub has_end-Empty : (e : Ere) → e ≡ Empty → has_end (form e) ≡ false
-unfolding has_end
-has_end-Empty e h = rw (h, form-Empty) refl
+pub goes_far-Empty : (e : Ere) → e ≡ Empty → goes_far (form e) ≡ false
+unfolding goes_far
+goes_far-Empty e h = rw (h, form-Empty) refl
 
-pub has_end-Set : (e : Ere) (members : List Bool) → e ≡ Set members → has_end (form e) ≡ false
-unfolding has_end
-has_end-Set e members h = rw (h, form-Set members) refl
+pub goes_far-Set : (e : Ere) (members : List Bool) → e ≡ Set members → goes_far (form e) ≡ false
+unfolding goes_far
+goes_far-Set e members h = rw (h, form-Set members) refl
 
-pub has_end-Start : (e : Ere) → e ≡ Start → has_end (form e) ≡ false
-unfolding has_end
-has_end-Start e h = rw (h, form-Start) refl
+pub goes_far-Start : (e : Ere) → e ≡ Start → goes_far (form e) ≡ false
+unfolding goes_far
+goes_far-Start e h = rw (h, form-Start) refl
 
-pub has_end-End : (e : Ere) → e ≡ End → has_end (form e) ≡ true
-unfolding has_end
-has_end-End e h = rw (h, form-End) refl
+pub goes_far-End : (e : Ere) → e ≡ End → goes_far (form e) ≡ true
+unfolding goes_far
+goes_far-End e h = rw (h, form-End) refl
 
-pub has_end-Cat : (e : Ere) (members : Vec Ere Global) → e ≡ Cat members → has_end (form e) ≡ some_has_end (forms members.items)
-unfolding has_end
-has_end-Cat e members h = rw (h, form-Cat members) refl
+pub goes_far-Cat : (e : Ere) (members : Vec Ere Global) → e ≡ Cat members → goes_far (form e) ≡ some_go_far (forms members.items)
+unfolding goes_far
+goes_far-Cat e members h = rw (h, form-Cat members) refl
 
-pub has_end-Alt : (e : Ere) (members : Vec Ere Global) → e ≡ Alt members → has_end (form e) ≡ some_has_end (forms members.items)
-unfolding has_end
-has_end-Alt e members h = rw (h, form-Alt members) refl
+pub goes_far-Alt : (e : Ere) (members : Vec Ere Global) → e ≡ Alt members → goes_far (form e) ≡ some_go_far (forms members.items)
+unfolding goes_far
+goes_far-Alt e members h = rw (h, form-Alt members) refl
 
-pub has_end-Repeat : (e : Ere) (body : Box Ere Global) (least : ℕ) (greatest : Option ℕ) → e ≡ Repeat body least greatest
-    → has_end (form e) ≡ has_end (form body.value)
-unfolding has_end
-has_end-Repeat e body least greatest h = rw (h, form-Repeat body least greatest) refl
+pub goes_far-None : (e : Ere) (body : Box Ere Global) (least : ℕ) → e ≡ Repeat body least None → goes_far (form e) ≡ true
+unfolding goes_far
+goes_far-None e body least h = rw (h, form-Repeat body least None) refl
 
-pub some_has_end-more : (tree : Tree) (trees : Trees) → some_has_end (more tree trees) ≡ (has_end tree || some_has_end trees)
-unfolding some_has_end
-some_has_end-more tree trees = refl
+pub goes_far-Some : (e : Ere) (body : Box Ere Global) (least most : ℕ) → e ≡ Repeat body least (Some most)
+    → goes_far (form e) ≡ goes_far (form body.value)
+unfolding goes_far
+goes_far-Some e body least most h = rw (h, form-Repeat body least (Some most)) refl
 
-pub some_has_end-none : some_has_end none ≡ false
-unfolding some_has_end
-some_has_end-none = refl
+pub some_go_far-more : (tree : Tree) (trees : Trees) → some_go_far (more tree trees) ≡ (goes_far tree || some_go_far trees)
+unfolding some_go_far
+some_go_far-more tree trees = refl
+
+pub some_go_far-none : some_go_far none ≡ false
+unfolding some_go_far
+some_go_far-none = refl

@@ -11,14 +11,18 @@ pub record IsWhole (line : List ℕ) (start end : ℕ) : Type 0 where
   pub before : (k : ℕ) → start ≡ suc k → IsFalse (is_word_byte (slice_index line k))
   pub after : end < length line → IsFalse (is_word_byte (slice_index line end))
 
--- The part of the line is a word of the tree there. It is not empty and begins at `from` or later, and if whole words are
--- asked for, it is whole.
-pub record IsSpan (line : List ℕ) (tree : Tree) (whole_words : Bool) (from start end : ℕ) : Type 0 where
-  pub begins : from ≤ start
-  pub some : start < end
+-- The part of the line is a word of the tree there, and if whole words are asked for, it is whole. It can be empty.
+pub record IsMatchAt (line : List ℕ) (tree : Tree) (whole_words : Bool) (start end : ℕ) : Type 0 where
+  pub ordered : start ≤ end
   pub inside : end ≤ length line
   pub word : Spans line tree start end
   pub whole : IsTrue whole_words → IsWhole line start end
+
+-- The part of the line is a match there that is not empty and begins at `from` or later.
+pub record IsSpan (line : List ℕ) (tree : Tree) (whole_words : Bool) (from start end : ℕ) : Type 0 where
+  pub begins : from ≤ start
+  pub some : start < end
+  pub is_match : IsMatchAt line tree whole_words start end
 
 -- No other such part begins before it, and none that begins where it does ends after it.
 pub record IsFirstSpan (line : List ℕ) (tree : Tree) (whole_words : Bool) (from : ℕ) (span : Span) : Type 0 where

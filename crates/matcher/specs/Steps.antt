@@ -5,24 +5,25 @@ use Rattle.ere.specs.Tree.{Tree, empty, set, at_start, at_end, cat, alt, repeat,
 use Rattle.matcher.specs.StarHeight.{is_set, star_height}
 
 unfoldable mutual
-  -- whether the tree has a `$`
-  pub has_end : Tree → Bool
-  has_end empty = false
-  has_end (set members) = false
-  has_end at_start = false
-  has_end at_end = true
-  has_end (cat members) = some_has_end members
-  has_end (alt members) = some_has_end members
-  has_end (repeat body least greatest) = has_end body
+  -- whether the tree has a `$` or a star, so that one round of it can lead through the whole line
+  pub goes_far : Tree → Bool
+  goes_far empty = false
+  goes_far (set members) = false
+  goes_far at_start = false
+  goes_far at_end = true
+  goes_far (cat members) = some_go_far members
+  goes_far (alt members) = some_go_far members
+  goes_far (repeat body least None) = true
+  goes_far (repeat body least (Some most)) = goes_far body
 
-  pub some_has_end : Trees → Bool
-  some_has_end none = false
-  some_has_end (more tree trees) = has_end tree || some_has_end trees
+  pub some_go_far : Trees → Bool
+  some_go_far none = false
+  some_go_far (more tree trees) = goes_far tree || some_go_far trees
 
--- How many rounds of its body a star takes: one for each byte of the line if the body has a `$`. Any other star goes through
--- the line in windows of 64 positions, which takes as long as 32 rounds.
+-- How many rounds of its body a star takes: one for each byte of the line if the body has a `$` or a star. Any other star goes
+-- through the line in windows of 64 positions, which takes as long as 32 rounds.
 abbrev pub rounds_of : Tree → ℕ
-rounds_of body = if has_end body then 16384 else 32
+rounds_of body = if goes_far body then 16384 else 32
 
 unfoldable mutual
   -- A star of a single set is one step. A repeat with a greatest count takes the steps of that many copies of its body.

@@ -1,10 +1,11 @@
 //! Laws of the definitions: each is the contract of a function that does nothing.
 
-ghost use Rattle.std.specs.Prelude.{◌≡◌, ◌≤◌, ◌↔◌, ℕ, Bool, List, ◌++◌, length};
+ghost use Rattle.std.specs.Prelude.{◌≡◌, ◌≤◌, ◌↔◌, ℕ, Bool, true, false, List, ◌++◌, length, Option, Some, MatchOption};
 ghost use Rattle.ere.specs.Edges.{ContainsWholeWord};
-ghost use Rattle.ere.specs.Language.{InLanguage};
+ghost use Rattle.ere.specs.Language.{ContainsMatch, InLanguage};
 ghost use Rattle.ere.specs.Tree.{Tree};
 ghost use Rattle.matcher.specs.FirstSpan.{AreSpans, IsWhole};
+ghost use Rattle.matcher.specs.FirstStart.{HasNoStart, IsFirstStart};
 ghost use Rattle.matcher.specs.Spans.{Spans};
 ghost use Rattle.matcher.specs.declared.spans.Span.{Span};
 
@@ -26,4 +27,20 @@ pub fn whole_words_by_positions()
 pub fn one_list_of_spans()
     ensures { (line : List ℕ) (tree : Tree) (whole_words : Bool) (from : ℕ) (left right : List Span)
         → AreSpans line tree whole_words from left → AreSpans line tree whole_words from right → left ≡ right }
+{}
+
+/// A match begins nowhere in a line exactly if the line contains no match, and one that is a whole word begins nowhere
+/// exactly if the line contains no whole word.
+pub fn no_starts_without_matches()
+    ensures matches { (tree : Tree) (line : List ℕ) → HasNoStart line tree false ↔ (ContainsMatch tree line → ⊥) }
+    ensures whole_words { (tree : Tree) (line : List ℕ) → HasNoStart line tree true ↔ (ContainsWholeWord tree line → ⊥) }
+{}
+
+/// Of a line that contains a match `first_start` gives an offset, and with whole words of a line that contains a whole
+/// word.
+pub fn matches_have_starts()
+    ensures matches { (tree : Tree) (line : List ℕ) (found : Option ℕ) → MatchOption found (HasNoStart line tree false) (IsFirstStart line tree false)
+        → ContainsMatch tree line → (start : ℕ) × (found ≡ Some start) × IsFirstStart line tree false start }
+    ensures whole_words { (tree : Tree) (line : List ℕ) (found : Option ℕ) → MatchOption found (HasNoStart line tree true) (IsFirstStart line tree true)
+        → ContainsWholeWord tree line → (start : ℕ) × (found ≡ Some start) × IsFirstStart line tree true start }
 {}

@@ -2,10 +2,10 @@
 //!
 //! The matcher moves the set of all positions of the line through the tree: a position moves to wherever a word
 //! of the tree that begins there ends. POSIX.1-2017 XBD 9.4 says what the words of each form of tree are, and
-//! 9.4.9 those of anchors. Nothing is allocated.
+//! 9.4.9 those of anchors. Matching allocates nothing.
 #![tactic(auto)]
 
-mod each_span;
+mod anchored;
 mod laws;
 mod one_word;
 mod plain;
@@ -13,6 +13,7 @@ mod position_set;
 mod positions;
 mod spans;
 mod star_height;
+mod starts;
 mod steps;
 mod trees;
 mod walk;
@@ -28,11 +29,15 @@ use crate::position_set::PositionSet;
 use crate::positions::Positions;
 use crate::walk::advance;
 use crate::words::BITS;
-pub use each_span::SpansOf;
+pub use anchored::anchored_text;
 use ere::Ere;
-pub use laws::{one_list_of_spans, spans_are_words, whole_words_by_positions};
+pub use laws::{
+    matches_have_starts, no_starts_without_matches, one_list_of_spans, spans_are_words,
+    whole_words_by_positions,
+};
 use lines::MAX_LINE;
-pub use spans::{Span, first_span, spans_of};
+pub use spans::{Span, first_span};
+pub use starts::first_start;
 pub use steps::is_quick;
 pub use words::{WORDS, step};
 

@@ -3,7 +3,7 @@
 ghost use Rattle.std.specs.Prelude.{◌≡◌, ◌*◌, ◌↔◌, IsTrue, map, min, if◌then◌else◌};
 ghost use Rattle.ere.specs.Tree.{form, trees_of};
 ghost use Rattle.matcher.specs.StarHeight.{is_set};
-ghost use Rattle.matcher.specs.Steps.{has_end, some_has_end, rounds_of, steps, steps_in, IsQuick};
+ghost use Rattle.matcher.specs.Steps.{goes_far, some_go_far, rounds_of, steps, steps_in, IsQuick};
 
 use crate::star_height::has_star_height;
 use crate::trees::is_set;
@@ -13,7 +13,7 @@ use ere::Ere;
 /// second for each MiB of lines of the greatest length.
 const MOST_STEPS: u32 = 30_000;
 
-/// How many rounds a star can take whose body has a `$`: one for each byte of the longest line.
+/// How many rounds a star can take whose body has a `$` or a star: one for each byte of the longest line.
 const ROUNDS: u32 = 16_384;
 
 /// How many rounds any other star takes. The matcher goes through the line in windows of 64 positions. For each it takes
@@ -22,7 +22,8 @@ const ROUNDS: u32 = 16_384;
 const ROUNDS_BY_WINDOWS: u32 = 32;
 
 /// Whether a line costs `matches` few steps: no star (here a repeat without a greatest count) is inside another one, where a
-/// star of a single set does not count, and there are at most 30,000 steps. A step moves a set of positions over one set of
+/// star of a single set does not count, and there are at most 30,000 steps. A star around a star of a single set takes so many
+/// rounds that it is not quick either, unless it is the star alone. A step moves a set of positions over one set of
 /// bytes. The number of steps is a bound for a line of the greatest length; no answer depends on it.
 pub fn is_quick(tree: &Ere) -> bool
     ensures { IsTrue result ↔ IsQuick (form tree.now) }
@@ -70,37 +71,40 @@ fn capped_steps_in(members: &[Ere]) -> u32
 fn rounds_of(body: &Ere) -> u32
     ensures { result ≡ rounds_of (form body.now) }
 {
-    if has_end(body) {
+    if goes_far(body) {
         ROUNDS
     } else {
         ROUNDS_BY_WINDOWS
     }
 }
 
-/// Whether the tree has a `$`.
-#[cycle(ends)]
-fn has_end(tree: &Ere) -> bool
-    ensures { result ≡ has_end (form tree.now) }
+/// Whether the tree has a `$` or a star, so that one round can lead through the whole line.
+#[cycle(reach)]
+fn goes_far(tree: &Ere) -> bool
+    ensures { result ≡ goes_far (form tree.now) }
 {
     match tree {
         Ere::Empty => false,
         Ere::Set(_) => false,
         Ere::Start => false,
         Ere::End => true,
-        Ere::Cat(members) => some_has_end(members),
-        Ere::Alt(members) => some_has_end(members),
-        Ere::Repeat(body, _, _) => has_end(body),
+        Ere::Cat(members) => some_go_far(members),
+        Ere::Alt(members) => some_go_far(members),
+        Ere::Repeat(body, _, greatest) => match greatest {
+            None => true,
+            Some(_) => goes_far(body),
+        },
     }
 }
 
-/// Whether some member has a `$`.
-#[cycle(ends)]
-fn some_has_end(members: &[Ere]) -> bool
-    ensures { result ≡ some_has_end (trees_of (map form members.now)) }
+/// Whether some member has a `$` or a star.
+#[cycle(reach)]
+fn some_go_far(members: &[Ere]) -> bool
+    ensures { result ≡ some_go_far (trees_of (map form members.now)) }
 {
     let mut found = false;
     for i in (0..members.len()).rev() {
-        found = has_end(&members[i]) || found;
+        found = goes_far(&members[i]) || found;
     }
     found
 }

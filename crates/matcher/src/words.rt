@@ -271,7 +271,7 @@ pub(crate) fn from_bit(word: u64, first: usize) -> u64
     without(word, through_bit(first - 1))
 }
 
-/// The highest bit of the word below bit `limit`.
+/// The highest bit of the word below bit `limit`, or `None` if there is none.
 pub(crate) fn last_bit(word: u64, limit: usize) -> Option<usize>
     requires { limit ≤ 64 }
     ensures { MatchOption result ((b : ℕ) → b < limit → has_bit word b ≡ false) (λ last. (last < limit) × IsTrue (has_bit word last)

@@ -5,6 +5,8 @@
 #![tactic(auto)]
 
 #[cfg(test)]
+mod anchored;
+#[cfg(test)]
 mod filtering;
 #[cfg(test)]
 mod fixtures;
@@ -16,3 +18,5 @@ mod matching;
 mod patterns;
 #[cfg(test)]
 mod spans;
+#[cfg(test)]
+mod starts;

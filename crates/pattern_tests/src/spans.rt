@@ -3,7 +3,7 @@
 use crate::fixtures::{built, halves};
 use ere::{Ere, as_line, parse};
 use lines::MAX_LINE;
-use matcher::{first_span, spans_of};
+use matcher::first_span;
 use std::alloc::{AllocError, Global};
 use std::process::Abort;
 use std::test::Fail;
@@ -14,11 +14,17 @@ fn shown(alloc: Global, tree: &Ere, line: &[u8], words: bool) -> Result<Vec<u8>,
     if !tree.within_limits() || line.len() > MAX_LINE {
         return Ok(texts);
     }
-    for span in spans_of(tree, line, words) {
+    let mut from = 0;
+    // No span is empty.
+    for _ in 0..=line.len() {
+        let Some(span) = first_span(tree, line, from, words) else {
+            break;
+        };
         if let Some(part) = line.get(span.start..span.end) {
             texts.extend_from_slice(part)?;
         }
         texts.push(b'/')?;
+        from = span.end;
     }
     Ok(texts)
 }

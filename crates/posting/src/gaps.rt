@@ -1,4 +1,4 @@
-//! Numbers as they are stored: each as its distance from the one before it, in groups of seven bits.
+//! The bytes of a list, read and written. The head of list.rt says what they are.
 
 ghost use Rattle.std.specs.Prelude.{◌≡◌, ℕ, List, ◌+◌, ◌^◌, ◌<◌, ◌≤◌, ◌++◌, All, IfSome, IfNone, IsTrue, length, take, drop};
 ghost use Rattle.smallvec.specs.SmallVec.{HasRoomFor};

@@ -15,7 +15,9 @@ const FEW: usize = 4096;
 /// A list of numbers, and the trigram whose list it is.
 #[derive(Drop)]
 pub(crate) struct Owned {
+    /// The trigram.
     pub(crate) trigram: Trigram,
+    /// Its numbers.
     pub(crate) list: List,
 }
 

@@ -1,4 +1,4 @@
-//! A slot for each trigram, on pages that are made as they are needed.
+//! A slot for each trigram, on pages that are made as they are needed. The head of list.rt says how they lie in memory.
 
 ghost use Rattle.std.specs.Prelude.{◌≡◌, ℕ, ◌*◌, ◌<◌, ◌≤◌, if◌then◌else◌, ◌==◌, length, slice_index, IfOk, OnOk, OnErr};
 ghost use Rattle.std.specs.List.{list_all};
@@ -29,8 +29,7 @@ pub(crate) enum Slot {
     Listed(usize),
 }
 
-/// What a number in a slot says: 0 that it is free, a number with the high bit that this number without it is in the set,
-/// and any other one more than the place of the list.
+/// What a number in a slot says.
 fn decode(code: u32) -> Slot
     ensures { result ≡ slot_of_code code }
 {
@@ -83,8 +82,10 @@ fn lengthen(directory: &mut Vec<u32>, at: usize) -> Result<(), AllocError>
     Ok(())
 }
 
-/// Makes room for so many more items. Where there is none, the vector grows by an eighth, so that little room stands idle,
-/// and by 8 items at least.
+/// Makes room for so many more items. Where there is none, the vector grows by an eighth, so that little room stands
+/// idle, and by 8 items at least.
+///
+/// An `Err` means that memory ran out. The items stay in either case.
 pub(crate) fn reserve<T>(items: &mut Vec<T>, more: usize) -> Result<(), AllocError>
     ensures { items.new.items ≡ items.old.items }
 {
@@ -94,12 +95,10 @@ pub(crate) fn reserve<T>(items: &mut Vec<T>, more: usize) -> Result<(), AllocErr
     items.reserve_exact(more.max(items.len() / 8).max(8))
 }
 
-/// The slots of all trigrams. Those of 64 neighbours are on a page, which is made when the first of them is needed.
+/// The slots of all trigrams, and the directory that leads to their pages.
 #[derive(Drop)]
 pub(crate) struct Pages {
-    // for each 64 trigrams: 0, or one more than the place of their page
     directory: Vec<u32>,
-    // page after page
     slots: Vec<u32>,
     // how many slots are not free, and the most that were not since pages were last given back
     used: usize,

@@ -21,12 +21,8 @@ use std::marker::Model;
 
 /// A set of numbers for each trigram.
 ///
-/// A set of one number below 2^31 stands in a slot of 32 bits, and any other set that has numbers is a list. The slots of 64
-/// trigrams are on a page, which is made once one of these trigrams needs it. All pages and the directory that leads to them take at
-/// most 65 MiB. `withdraw` gives memory back: that of the list of a set that has at most one such number afterwards, and room
-/// of a list of which less than a quarter is used. Once less than a quarter of the room for lists is used, if it is for more
-/// than 4,096, the rest is given back, and once less than a quarter of the sets are left, if there were more than
-/// 4,096, the pages that no set needs.
+/// The head of list.rt says how the sets lie in memory. `withdraw` gives memory back: that of the list of a set that has at most
+/// one number below 2^31 afterwards, and room and pages that few sets use.
 ///
 /// Contracts see it as a table of sets by the trigrams' numbers. A set has its numbers, and a limit: `prepare` raises the limit
 /// above a number, and `add` puts the number in.
@@ -239,11 +235,13 @@ impl Postings {
             Some(trigram) => self.collect_by(alloc, *trigram, within)?,
             None => within.copy()?,
         };
-        for trigram in trigrams {
+        for (i, trigram) in trigrams.iter().enumerate() {
             if found.is_empty() {
                 return Ok(found);
             }
-            found = self.narrow_by(alloc, *trigram, &found)?;
+            if i != first {
+                found = self.narrow_by(alloc, *trigram, &found)?;
+            }
         }
         Ok(found)
     }

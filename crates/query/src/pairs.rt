@@ -73,6 +73,8 @@ impl Pairs {
     }
 
     /// The same texts again.
+    ///
+    /// An `Err` means that memory ran out.
     pub(crate) fn copy(&self, alloc: Global) -> Result<Pairs, AllocError>
         ensures { IfOk result (λ copy. texts_in copy ≡ texts_in self.now) }
     {

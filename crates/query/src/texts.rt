@@ -80,7 +80,8 @@ fn query_of_text(alloc: Global, text: &[u8]) -> Result<Query, AllocError>
     Ok(query)
 }
 
-/// The trigrams of the text, in turn.
+/// The trigrams of the text, one for each three bytes in a row, from the first on. A text of fewer than three bytes has
+/// none.
 ///
 /// An `Err` means that memory ran out.
 pub fn trigrams_in_turn(alloc: Global, text: &[u8]) -> Result<Vec<Trigram>, AllocError>

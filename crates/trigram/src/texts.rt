@@ -11,13 +11,15 @@ ghost use Rattle.trigram.specs.Analysis.{just_empty};
 use query::{Query, joined, query_of_joins};
 use std::alloc::{AllocError, Global};
 
-/// The greatest number of texts that are kept.
+/// The greatest number of texts that are kept (this program's choice).
 pub(crate) const MOST_TEXTS: usize = 16;
 
 /// One end of a text.
 #[derive(Clone, Copy)]
 pub(crate) enum Side {
+    /// Its front.
     Prefix,
+    /// Its back.
     Suffix,
 }
 
@@ -81,7 +83,9 @@ fn add_all(texts: &mut Vec<Vec<u8>>, others: Vec<Vec<u8>>) -> Result<(), AllocEr
     Ok(())
 }
 
-/// The texts of either set.
+/// The texts of either set: those of the left one first.
+///
+/// An `Err` means that memory ran out.
 #[tactic(auto, unfolding(crate::specs::Texts::with_texts))]
 pub(crate) fn union(
     alloc: Global,
@@ -97,6 +101,8 @@ pub(crate) fn union(
 }
 
 /// A copy of the set.
+///
+/// An `Err` means that memory ran out.
 pub(crate) fn copied_texts(alloc: Global, texts: &[Vec<u8>]) -> Result<Vec<Vec<u8>>, AllocError>
     ensures { IfOk result (λ copies. texts_of copies.items ≡ texts_of texts.now) }
 {
@@ -107,7 +113,9 @@ pub(crate) fn copied_texts(alloc: Global, texts: &[Vec<u8>]) -> Result<Vec<Vec<u
     Ok(copies)
 }
 
-/// Every text of the first set, followed by every text of the second, if these are at most 16 different texts.
+/// Every text of the first set, followed by every text of the second. `None` if these are more than 16 different texts.
+///
+/// An `Err` means that memory ran out.
 #[tactic(auto, unfolding(crate::specs::Texts::with_texts))]
 pub(crate) fn few_joins(
     alloc: Global,
@@ -143,8 +151,10 @@ fn add_joins(
 }
 
 /// The ends of the texts that are kept at one side. Each text is cut to 2, 1 or 0 bytes, the greatest of these that
-/// leaves at most 16 different ends; a shorter text stays whole. An end that has a shorter one as its own end is
-/// left out.
+/// leaves at most 16 different ends; a shorter text stays whole. An end that has a shorter one as its own end is left
+/// out.
+///
+/// An `Err` means that memory ran out.
 pub(crate) fn kept_ends(
     alloc: Global,
     side: Side,
@@ -235,6 +245,8 @@ fn has_shorter_end(side: Side, text: &[u8], texts: &[Vec<u8>]) -> bool
 }
 
 /// A plain query that a set of trigrams meets exactly if it has all trigrams of at least one of the texts.
+///
+/// An `Err` means that memory ran out.
 pub(crate) fn query_of_texts(alloc: Global, texts: &[Vec<u8>]) -> Result<Query, AllocError>
     ensures { IfOk result (λ query. IsPlainFor (has_all_of_one (texts_of texts.now)) (formula_of query)) }
 {
@@ -242,7 +254,9 @@ pub(crate) fn query_of_texts(alloc: Global, texts: &[Vec<u8>]) -> Result<Query, 
     query_of_joins(alloc, texts, nothing.as_slice())
 }
 
-/// The set of the empty text.
+/// The set of the empty text alone.
+///
+/// An `Err` means that memory ran out.
 pub(crate) fn just_empty(alloc: Global) -> Result<Vec<Vec<u8>>, AllocError>
     ensures { IfOk result (λ texts. texts_of texts.items ≡ just_empty) }
 {

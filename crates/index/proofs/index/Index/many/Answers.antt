@@ -1,52 +1,71 @@
-use Rattle.std.proofs.Common.{◌≡◌, ◌++◌, true, false, sym, ◌∙◌, ap, subst}
-use Rattle.std.specs.Prelude.{filter}
+use Rattle.std.proofs.Common.{◌≡◌, true, false, sym, ◌∙◌, ap, subst}
 use Rattle.posting.specs.ListValue.{has}
-use Rattle.index.specs.Documents.{number_of, IsInNameOrder}
+use Rattle.index.specs.Text.{begins_with}
+use Rattle.index.specs.Documents.{number_of}
 use Rattle.index.specs.State.{IsState}
 use Rattle.index.specs.Shared.{documents_shared}
-use Rattle.index.specs.Private.Chosen.{documents_numbered}
+use Rattle.index.specs.Private.Chosen.{IsFirstUnder}
 use Rattle.index.proofs.StoredLemmas.{Numbered-rise}
-use Rattle.index.proofs.OrderLemmas.{Named-pairs, many_in_order}
-use Rattle.index.proofs.ChosenLemmas.{numbered-more, numbered-end, filter-keep, filter-skip}
+use Rattle.index.proofs.UnderLemmas.{Behind-first}
+use Rattle.index.proofs.OrderLemmas.{Named-pairs, many_taken}
+use Rattle.index.proofs.ChosenLemmas.{taken-none, taken-keep, taken-skip, taken-stop, taken-end}
 use Rattle.index.proofs.index.Index.many.Goals as goal
 
-pub loop-number-init : goal.loop-number-init
-loop-number-init c =
-    let left = filter (has c.args.chosen.now.members) c.into_iter-number-iterator.result in
-    ap (λ xs. documents_shared xs ++ documents_numbered c.args.self.now.documents left) c.in_ok-shared.ensures.items
+pub loop-name-init : goal.loop-name-init
+loop-name-init c =
+    let text = c.args.prefix.now in
+    let all = c.into_iter-name-iterator.result in
+    let is = subst (IsFirstUnder text) (sym c.as_ref.ensures) c.requires in
+    taken-none c.args.self.now.documents (has c.args.chosen.now.members) text all (documents_shared c.in_ok-shared.shared.items)
+    (ap documents_shared c.in_ok-shared.ensures.items)
+    (Behind-first text _ is c.self.inside.numbers.entries all c.range-name-items.ensures.ordered
+    (c.into_iter-name-iterator.ensures.into_iter_gives ∙ c.range-name-items.ensures.between tt))
 
-pub loop-number-preserved : goal.loop-number-preserved
-loop-number-preserved c =
-    let members = c.args.chosen.now.members in
-    let other : has members c.in-Some.number.now ≡ false =
-    ap (λ ns. has ns c.in-Some.number.now) (sym c.in_ok-among.ensures) ∙ sym c.if-has.ensures in
-    let passed = filter-skip (has members) c.loop-number.number-iterator c.next.new.self c.in-Some.number.now c.in-Some.ensures.steps other in
-    ap (λ ns. documents_shared c.loop-number.shared.items ++ documents_numbered c.args.self.now.documents ns) (sym passed)
-    ∙ c.loop-number.invariant
-
-pub loop-number-preserved-in-Continue-branch-3 : goal.loop-number-preserved-in-Continue-branch-3
-loop-number-preserved-in-Continue-branch-3 c =
-    let members = c.args.chosen.now.members in
-    let ds = c.args.self.now.documents in
+pub loop-name-preserved : goal.loop-name-preserved
+loop-name-preserved c =
     let number = c.in-Some.number.now in
+    let members = c.args.chosen.now.members in
+    let other : has members number ≡ false = ap (λ ns. has ns number) (sym c.in_ok-among.ensures) ∙ sym c.if-has.ensures in
+    taken-skip c.args.self.now.documents (has members) c.args.prefix.now c.into_iter-name-iterator.result (documents_shared c.loop-name.shared.items)
+    c.loop-name.name-iterator c.next.new.self c.in-Some.name.now number c.in-Some.ensures.steps other c.loop-name.invariant
+
+pub loop-name-preserved-in-Continue-branch-3 : goal.loop-name-preserved-in-Continue-branch-3
+loop-name-preserved-in-Continue-branch-3 c =
+    let number = c.in-Some.number.now in
+    let members = c.args.chosen.now.members in
+    let text = c.args.prefix.now in
     let here : has members number ≡ true = ap (λ ns. has ns number) (sym c.in_ok-among.ensures) ∙ sym c.if-has.ensures in
-    let next = filter-keep (has members) c.loop-number.number-iterator c.next.new.self number c.in-Some.ensures.steps here in
-    numbered-more ds (documents_shared c.loop-number.shared.items) (documents_shared c.add.new.shared.items)
-    (documents_numbered ds (filter (has members) c.into_iter-number-iterator.result)) (filter (has members) c.loop-number.number-iterator)
-    (filter (has members) c.next.new.self) number next c.in_ok-add.ensures c.loop-number.invariant
+    let begins : begins_with text c.in-Some.name.now ≡ true = ap (begins_with text) (sym c.as_bytes.ensures.bytes) ∙ sym c.if-not-starts_with.ensures.value in
+    taken-keep c.args.self.now.documents (has members) text c.into_iter-name-iterator.result (documents_shared c.loop-name.shared.items)
+    (documents_shared c.add.new.shared.items) c.loop-name.name-iterator c.next.new.self c.in-Some.name.now number c.in-Some.ensures.steps here begins
+    c.in_ok-add.ensures c.loop-name.invariant
+
+pub returns-then-not-starts_with : goal.returns-then-not-starts_with
+returns-then-not-starts_with c =
+    let ds = c.args.self.now.documents in
+    let test = has c.args.chosen.now.members in
+    let text = c.args.prefix.now in
+    let all = c.into_iter-name-iterator.result in
+    let taken = documents_shared c.loop-name.shared.items in
+    let is = subst IsState c.self.view_is c.self.invariant.is_state in
+    let first = subst (IsFirstUnder text) (sym c.as_ref.ensures) c.requires in
+    let other : begins_with text c.in-Some.name.now ≡ false = ap (begins_with text) (sym c.as_bytes.ensures.bytes) ∙ sym c.if-not-starts_with.ensures.value in
+    many_taken ds (Numbered-rise ds is.rise) (Named-pairs ds is.names) test text c.self.inside.numbers
+    (λ name. c.self.invariant.number name ∙ ap (λ s. number_of name s.documents) c.self.view_is) c.range-name-items.ensures.ordered _ first all
+    (c.into_iter-name-iterator.ensures.into_iter_gives ∙ c.range-name-items.ensures.between tt) taken
+    (taken-stop ds test text all taken c.loop-name.name-iterator c.next.new.self c.in-Some.name.now c.in-Some.number.now c.in-Some.ensures.steps other
+    c.loop-name.invariant)
 
 pub returns : goal.returns
 returns c =
     let ds = c.args.self.now.documents in
     let test = has c.args.chosen.now.members in
+    let text = c.args.prefix.now in
+    let all = c.into_iter-name-iterator.result in
+    let taken = documents_shared c.loop-name.shared.items in
     let is = subst IsState c.self.view_is c.self.invariant.is_state in
-    let done =
-    numbered-end ds (documents_shared c.loop-number.shared.items)
-    (documents_numbered ds (filter test c.into_iter-number-iterator.result)) (filter test c.loop-number.number-iterator)
-    (ap (filter test) c.in-None.ensures.steps.0) c.loop-number.invariant in
-    let all =
-    ap (λ ns. documents_numbered ds (filter test ns))
-    (c.into_iter-number-iterator.ensures.into_iter_gives ∙ c.values-number-items.ensures.rest) in
-    subst (λ ds'. IsInNameOrder (filter (λ d. test d.number) ds) ds') (sym (done ∙ all))
-    (many_in_order ds (Numbered-rise ds is.rise) (Named-pairs ds is.names) test c.self.inside.numbers
-    (λ name. c.self.invariant.number name ∙ ap (λ s. number_of name s.documents) c.self.view_is) c.values-number-items.ensures.ordered)
+    let first = subst (IsFirstUnder text) (sym c.as_ref.ensures) c.requires in
+    many_taken ds (Numbered-rise ds is.rise) (Named-pairs ds is.names) test text c.self.inside.numbers
+    (λ name. c.self.invariant.number name ∙ ap (λ s. number_of name s.documents) c.self.view_is) c.range-name-items.ensures.ordered _ first all
+    (c.into_iter-name-iterator.ensures.into_iter_gives ∙ c.range-name-items.ensures.between tt) taken
+    (taken-end ds test text all taken c.loop-name.name-iterator c.in-None.ensures.steps.0 c.loop-name.invariant)
