@@ -20,7 +20,7 @@ if __name__ == "__main__":
         while os.write(1, b"> ") and (typed := sys.stdin.buffer.readline().rstrip(b"\n")):
             rows = [b"left out: %s: %s\n" % (name, reason.encode()) for name, reason in folder.refresh().left_out]
             try:
-                rows += [b"%s:%d:%s\n" % hit for hit in folder.find(typed)]
+                rows += [b"%s:%d:%s\n" % hit[:3] for hit in folder.find(typed)]
             except tsearch.PatternRefused as refused:
                 rows.append(b"refused: %s\n" % str(refused).encode())
             sys.stdout.buffer.writelines(rows)

@@ -3,11 +3,13 @@
 
 Work is counted in instructions, by `valgrind --tool=cachegrind`, and memory in requests, in the bytes that they ask for, in the most that
 is in use at once, and in what is in use when the last text is written. A library of a few lines, which the command cc builds and which is
-loaded before the C library, counts these. All runs have one thread, so every count is the same each time.
+loaded before the C library, counts these. Runs have one thread, so every count is the same each time; where threads are counted, or what is
+in use beside them, the count or its bound does not depend on which of them goes first.
 
 GROWTHS has what may grow. Each row is run with N and with 4N, and what the rest of the script takes by itself is taken off. What is left
 may grow to 4.8 times, or to what the row says: work that is quadratic grows to 16 times. CHECKS has exact counts: how often a body is
-copied, a document analysed, a pattern compiled, a line matched and a text written. As many runs go on at once as there are processors.
+copied, a document analysed, a pattern compiled, a line matched and a text written, and how many threads are started. As many runs go on at
+once as there are processors.
 
 Usage: tests/growth.py [--show] [NAME..]   The last line counts: N passed, M failed. --show prints all counts.
 """
@@ -28,7 +30,14 @@ from counted import Counted, Wrong
 
 SECONDS = 300
 SCRIPT, SESSION = "script", "session"
-WORDS = {SCRIPT: ["--readers", "0", "--max-commands", "1000000"], SESSION: ["--live", "--readers", "0"]}
+# These have threads, which only CHECKS count.
+SCRIPT_BESIDE, SESSION_BESIDE = "script with two readers", "session with two readers"
+WORDS = {
+    SCRIPT: ["--readers", "0", "--max-commands", "1000000"],
+    SESSION: ["--live", "--readers", "0"],
+    SCRIPT_BESIDE: ["--readers", "2"],
+    SESSION_BESIDE: ["--live", "--readers", "2"],
+}
 BOTH = (SCRIPT, SESSION)
 MOST = 4.8
 # What grows with a logarithm, or not at all.
@@ -37,7 +46,11 @@ LEVEL = 2
 COUNTS = [("instructions", 200_000), ("requests for memory", 100), ("bytes requested", 65_536), ("bytes in use at once", 65_536)]
 
 COUNTING = r"""
+#define _GNU_SOURCE
+#include <dlfcn.h>
 #include <malloc.h>
+#include <pthread.h>
+#include <stdatomic.h>
 #include <stddef.h>
 #include <stdio.h>
 #include <stdlib.h>
@@ -45,14 +58,17 @@ COUNTING = r"""
 #include <unistd.h>
 extern void *__libc_malloc(size_t), *__libc_realloc(void *, size_t);
 extern void __libc_free(void *);
-static long requests, bytes, large, writes, used, most, held, least;
+static _Atomic long requests, bytes, large, reads, writes, threads, used, most, held, least;
 static void count(size_t size) {
     if (!least) least = getenv("LEAST") ? atol(getenv("LEAST")) : -1;
     requests++;
     bytes += size;
     if (least > 0 && size >= (size_t)least) large++;
 }
-static void uses(long more) { used += more; if (used > most) most = used; }
+static void uses(long more) {
+    long now = (used += more), seen = most;
+    while (now > seen && !atomic_compare_exchange_weak(&most, &seen, now)) {}
+}
 void *malloc(size_t size) {
     count(size);
     void *made = __libc_malloc(size);
@@ -74,16 +90,27 @@ ssize_t write(int file, const void *from, size_t size) {
     if (file == 1) { writes++; held = used; }
     return syscall(SYS_write, file, from, size);
 }
+ssize_t read(int file, void *to, size_t size) {
+    if (file == 0) reads++;
+    return syscall(SYS_read, file, to, size);
+}
+int pthread_create(pthread_t *thread, const pthread_attr_t *how, void *(*run)(void *), void *with) {
+    static int (*create)(pthread_t *, const pthread_attr_t *, void *(*)(void *), void *);
+    if (!create) create = dlsym(RTLD_NEXT, "pthread_create");
+    threads++;
+    return create(thread, how, run, with);
+}
 __attribute__((destructor)) static void tell(void) {
-    dprintf(2, "counts %ld %ld %ld %ld %ld %ld\n", requests, bytes, most, held, large, writes);
+    dprintf(2, "counts %ld %ld %ld %ld %ld %ld %ld %ld\n", requests, bytes, most, held, large, reads, writes, threads);
 }
 void _exit(int status) { tell(); syscall(SYS_exit_group, status); __builtin_unreachable(); }
 """
 
 
 # What a run has taken: the requests for memory and their bytes, the most bytes in use at once, those in use when the last text was
-# written, the requests of at least so many bytes, how often text was written, and the text.
-Memory = collections.namedtuple("Memory", "requests bytes most held large writes text")
+# written, the requests of at least so many bytes, how often the input was read and text was written, how many threads were started, and the
+# text.
+Memory = collections.namedtuple("Memory", "requests bytes most held large reads writes threads text")
 
 
 class Runs:
@@ -117,6 +144,15 @@ class Runs:
         messages, _ = self.run([*tool, str(PROGRAM), *WORDS[way]], script, env)
         return int(re.search(r"I +refs: +([\d,]+)", messages)[1].replace(",", ""))
 
+    def instructions_of_threads(self, way, script):
+        """How many instructions each thread of a run executes, but for the first one, which takes the items."""
+        with tempfile.TemporaryDirectory(dir=self.folder) as folder:
+            out = pathlib.Path(folder) / "out"
+            tool = ["valgrind", "--tool=callgrind", "--separate-threads=yes", f"--callgrind-out-file={out}"]
+            self.run([*tool, str(PROGRAM), *WORDS[way]], script)
+            texts = [path.read_text(errors="replace") for path in sorted(out.parent.glob("out-*"))]
+        return [int(re.search(r"^totals: (\d+)", text, re.MULTILINE)[1]) for text in texts[1:]]
+
     def count_memory(self, way, script, least=0):
         """What memory a run takes, and how often it writes."""
         env = dict(os.environ, LD_PRELOAD=str(self.library), LEAST=str(least))
@@ -143,6 +179,8 @@ def documents(count):
 
 
 SMALL = put(b"a", b"hello world") + b"publish\n"
+# The options of each view but that of lines alone.
+VIEWS = [b"-C 0", b"-C 1", b"--column", b"--spans", b"-l", b"-c", b"-q"]
 
 
 def published(count):
@@ -271,12 +309,39 @@ def documents_with_hits(n):
     return after(published(n), b"search abcd\n")
 
 
+def documents_in_each_view(n):
+    return after(published(n), b"".join(b"find %s -- abcd\n" % words for words in VIEWS))
+
+
+def hits_in_each_view(n):
+    return after(put(b"a", b"some text\nno\nno\nno\n" * n) + b"publish\n", b"".join(b"find %s -- t\n" % words for words in VIEWS))
+
+
+def lines_behind_a_limit(n):
+    return after(put(b"a", b"some text\n" * n) + b"publish\n", b"".join(b"find -m 1 %s -- t\n" % words for words in VIEWS if words != b"-c"))
+
+
 def documents_whose_names_are_matched(n):
     return after(published(n), b"searchin 7$ abcd\n")
 
 
 def candidates_that_are_few(n):
     return after(published(n), b"search uvwxyz\n" * 10)
+
+
+def candidates_that_are_few_under_a_prefix(n):
+    """All names begin with the prefix, and four documents are candidates: these are looked up."""
+    return after(published(n), b"searchin ^f uvwxyz\n" * 10)
+
+
+def names_after_a_prefix(n):
+    """The names of all candidates begin with the prefix, and N others come after them."""
+    first = b"".join(put(b"a/%d" % number, b"qrst") for number in range(16))
+    return after(first + published(n), b"searchin ^a/ qrst\n" * 10)
+
+
+def puts_and_removes_beside_documents(n):
+    return after(published(n), b"put g 11\nhello world\nremove g\n" * 20 + b"publish\n")
 
 
 def few_candidates_with_common_trigrams(n):
@@ -362,8 +427,14 @@ GROWTHS = [
     Row(length_of_a_body_that_is_no_candidate, 10_000, (SESSION,), LEVEL, LEVEL),
     Row(hits, 10_000),
     Row(documents_with_hits, 500),
+    Row(documents_in_each_view, 300, (SESSION,)),
+    Row(hits_in_each_view, 2_000, (SESSION,)),
+    Row(lines_behind_a_limit, 10_000, (SESSION,), LEVEL, LEVEL),
     Row(documents_whose_names_are_matched, 500, (SESSION,)),
     Row(candidates_that_are_few, 1000, (SESSION,), LEVEL, LEVEL),
+    Row(candidates_that_are_few_under_a_prefix, 400, (SESSION,), LEVEL, LEVEL),
+    Row(names_after_a_prefix, 1000, (SESSION,), LEVEL, LEVEL),
+    Row(puts_and_removes_beside_documents, 1000, (SESSION,), LEVEL, LEVEL),
     Row(few_candidates_with_common_trigrams, 1000, (SESSION,), LEVEL, LEVEL),
     Row(union_of_lists, 1000, (SESSION,)),
     Row(intersection_of_lists, 1000, (SESSION,)),
@@ -455,6 +526,13 @@ def names_that_are_kept(runs):
     yield "bytes more after 1,000 names of 240 bytes are replaced", twice - once, -once, 120_000
 
 
+def room_under_a_prefix(runs):
+    """Where one name begins with the prefix and 4,001 documents are candidates, no room is made for as many documents."""
+    base = put(b"a/0", b"abcd") + documents(4_000) + b"publish\n" * 3
+    before, after_it = (runs.memory(SESSION, base + search, 80_000).large for search in (b"", b"searchin ^a/ abcd\n"))
+    yield "requests of at least 80,000 bytes for a name of 4,001", after_it - before, 0, 0
+
+
 def patterns_are_compiled_once(runs):
     """A pattern is compiled for the first large body, not again for the next, and not at all if no document is left."""
     large = [b"".join(put(b"f%d" % number, b"some text\n" * 2000) for number in range(count)) + b"publish\n" * 3 for count in (1, 4)]
@@ -490,6 +568,68 @@ def texts_are_written_once(runs):
 def publishes_of_nothing_hold_nothing(runs):
     few, many = (runs.memory(SESSION, SMALL + b"publish\n" * count + b"search y\n").held for count in (1_000, 20_000))
     yield "bytes in use after 20,000 publishes", many, 0, few
+    few, many = (runs.memory(SESSION, SMALL + (put(b"a", b"x") + b"publish\n") * count + b"search y\n").held for count in (1_000, 20_000))
+    yield "bytes in use after 19,000 more replacements", many - few, -few, 16_384
+
+
+def searches_beside_others(runs):
+    """A search that is asked while no other is open goes on in as many threads as there are readers, and one more; others in one. Its reader
+    is one of them. A session reads in a thread of its own."""
+    large = b"".join(put(b"f%d" % number, b"some text\n" * 100_000) for number in range(20)) + b"publish\n"
+    small = put(b"a", b"some text\n" * 100) + b"publish\n"
+    for way, own in (SCRIPT_BESIDE, 2), (SESSION_BESIDE, 3):
+        for what, script, more in ("a small search", small + b"search e.*z\n", 0), ("a large search", large + b"search e.*z\n", 2):
+            yield f"threads of a {way} with {what}", runs.memory(way, script).threads, own + more, own + more
+    many = large + b"search e.*z\n" * 20
+    yield f"threads of a {SCRIPT_BESIDE} with many searches", runs.memory(SCRIPT_BESIDE, many).threads, 4, 4
+    for way in BOTH:
+        yield f"threads of a {way} without readers", runs.memory(way, many).threads, 0, 0
+
+
+def parts_of_a_search_are_even(runs):
+    """Of a search of nine bodies of one length in three threads, each looks at three bodies."""
+    large = b"".join(put(b"f%d" % number, b"some text\n" * 60_000) for number in range(9)) + b"publish\n"
+    counts = runs.instructions_of_threads(SCRIPT_BESIDE, large + b"search e.*z\n")
+    yield "instructions of the thread that does most of a search", max(counts), sum(counts) // 4, sum(counts) // 2
+
+
+def publishes_change_one_copy(runs):
+    """A publish changes the copy that no reader sees. The other one is changed by the next publish."""
+    pending, once, twice = (runs.instructions(SCRIPT, documents(1000) + b"publish\n" * count) for count in (0, 1, 2))
+    yield "instructions of a publish of nothing behind another", twice - once, (once - pending) // 2, 2 * (once - pending)
+
+
+def small_documents_are_searched_as_a_large_one(runs):
+    """Beyond the first 8 KiB, lines are not looked at one by one, however small the documents are."""
+    one = put(b"a", b"some text\n" * 20_000) + b"publish\n" * 3
+    many = b"".join(put(b"f%d" % number, b"some text\n" * 50) for number in range(400)) + b"publish\n" * 3
+    large, small = (runs.instructions(SESSION, script + b"search [a-z]*x$\n" * 10) - runs.instructions(SESSION, script) for script in (one, many))
+    yield "instructions of searches of small documents", small, 0, 2 * large
+
+
+def memory_of_what_is_short(runs):
+    """What takes little memory, or gives it back."""
+    yield "bytes in use at once by a session with nothing", runs.memory(SESSION, b"").most, 0, 262_144
+    yield "requests of 2 MiB for a put of 20 MB", runs.memory(SESSION, put(b"a", b"x" * 20_000_000), 2 << 20).large, 0, 0
+    line = b"find " + b"-i " * 400_000 + b"-- x\n"
+    yield "bytes in use at once by a line of 1.2 MB", runs.memory(SESSION, line).most, len(line), 4 * len(line)
+    loads = [b"".join(b"load f%d examples/tree/README\n" % number for number in range(count)) for count in (100, 200)]
+    few, many = (runs.memory(SESSION, script + b"publish\n" * 3 + b"search y\n").held for script in loads)
+    yield "bytes in use after 100 more loads of a small file", many - few, 0, 100 * 4_096
+    short, long = (runs.memory(SESSION, put(name, b"\n" * 100_000) + b"publish\nsearch ^\n").most for name in (b"n", b"n" * 240))
+    yield "bytes in use at once for an answer with a long name", long - short, -short, 300_000
+    lines = put(b"a", b"\n" * 500_000) + b"publish\n"
+    none, all_lines = (runs.memory(SCRIPT, lines + search).held for search in (b"search y\n", b"search ^\n"))
+    yield "bytes in use after the text of a run is written", all_lines - none, -none, 300_000
+    wide = put(b"a", (b"x" * 16_000 + b"\n") * 64) + b"publish\n"
+    one, many = (runs.memory(SCRIPT_BESIDE, wide + b"search x\n" * count).most for count in (1, 16))
+    yield "bytes in use at once for 15 more answers of 1 MB in a run", many - one, -one, 3_000_000
+
+
+def input_is_read_in_large_pieces(runs):
+    script = put(b"a", b"some text\n" * 100_000) + b"# a comment\n" * 10_000
+    for way in BOTH:
+        yield f"reads of a {way} of {len(script)} bytes", runs.memory(way, script).reads, 1, len(script) // 32_768 + 40
 
 
 LETTERS = bytes([*range(65, 91), *range(97, 123), *range(48, 58)])
@@ -525,10 +665,17 @@ CHECKS = [
     documents_are_analysed_once,
     trigrams_that_are_kept,
     names_that_are_kept,
+    room_under_a_prefix,
     patterns_are_compiled_once,
     lines_are_matched_once,
     texts_are_written_once,
     publishes_of_nothing_hold_nothing,
+    searches_beside_others,
+    parts_of_a_search_are_even,
+    publishes_change_one_copy,
+    small_documents_are_searched_as_a_large_one,
+    memory_of_what_is_short,
+    input_is_read_in_large_pieces,
 ]
 
 

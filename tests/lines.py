@@ -9,6 +9,7 @@ lines were found one by one. The rows below, which are too long for a file, are 
 Usage: tests/lines.py   The last line counts: N passed, M failed.
 """
 
+import random
 import re
 import subprocess
 
@@ -119,6 +120,15 @@ def large_counts_beside_stars():
         yield documents_of_lines([line]), rb"x(a|([ab]?){255}{15}c|d$)*e", hits_of_lines([line], hits)
 
 
+def stars_of_a_set_in_stars():
+    """Stars of a single set inside stars, and many copies, over two megabytes of long lines. By the matcher they take over a minute,
+    so the search ends only if it goes by the simulation."""
+    chance = random.Random(1)
+    line = bytes(chance.choices(b"aaabbbcdx", k=16_000)) + b"\n"
+    last = b"x" * 60 + b"e"
+    yield [(name, line * 62 + last) for name in (b"f", b"g")], rb"(x|(.(^x|c*)|^)*cc){60}[ef]", [b"%s:63:%s" % (name, last) for name in (b"f", b"g")]
+
+
 def documents_of_lines(lines):
     return [(b"f", b"".join(line + b"\n" for line in lines))]
 
@@ -164,6 +174,7 @@ LONG_ROWS = [
     many_stars,
     large_counts_over_long_lines,
     large_counts_beside_stars,
+    stars_of_a_set_in_stars,
     patterns_about_the_greatest_size,
     several_hits_in_each_of_many_documents,
     a_megabyte_of_line_feeds,

@@ -42,11 +42,15 @@ ROWS = [
     Row("few apart", "few", 4_000),
     Row("trigrams kept", "trigrams", 4_000),
     Row("trigrams with sets", "trigrams", 2_000),
+    Row("trigrams taken out one by one", "trigrams", 5_000),
     Row("documents", "nothing", 500),
     Row("documents withdrawn", "documents", 500),
     Row("documents with all", "documents", 500),
     Row("documents with some", "documents", 500),
 ]
+
+# Operations, and how many bytes may be in use at once for each number of 4N: a set has a quarter more room than bytes, and eleven bytes.
+BYTES_EACH = {"set": 1.3}
 
 # What is counted, and how much of it is so little that it does not matter how it grew.
 COUNTS = [("instructions", 50_000), ("requests for memory", 50), ("bytes requested", 65_536), ("bytes in use at once", 65_536)]
@@ -59,9 +63,9 @@ def run(command, env=None):
     return done.stderr
 
 
-def counts_of(program, library, operation, n):
-    """What a run takes: instructions, requests, bytes, and bytes in use at once."""
-    words = [str(program), operation, str(n)]
+def counts_of(program, library, *words):
+    """What a run of the program on these words takes: instructions, requests, bytes, and bytes in use at once."""
+    words = [str(program), *map(str, words)]
     tool = ["valgrind", "--tool=cachegrind", "--cache-sim=no", "--cachegrind-out-file=/dev/null"]
     instructions = re.search(r"I +refs: +([\d,]+)", run([*tool, *words]))[1].replace(",", "")
     told = re.search(r"counts ([\d ]+)", run(words, dict(os.environ, LD_PRELOAD=library)))[1].split()
@@ -83,6 +87,9 @@ def faults_of(program, library, row, show):
     for (what, few), fewer, more in zip(COUNTS, small, large):
         told = f"{row.operation}: {fewer} {what} with {row.n}, and {more} with {4 * row.n}"
         faults.append(told if more > max(few, row.most * fewer) else None)
+    if row.operation in BYTES_EACH:
+        most = int(BYTES_EACH[row.operation] * 4 * row.n) + 64
+        faults.append(f"{row.operation}: {large[3]} {COUNTS[3][0]}, and at most {most} are allowed" if large[3] > most else None)
     return faults
 
 

@@ -68,7 +68,6 @@ TALK = [
     (b"status\n", b"line 30 status version 4 documents 2 bytes 6 accepted 4 of 1000000 open 0\n"),
 ]
 TALK_SCRIPT = b"".join(item for item, _ in TALK)
-TALK_PATTERNS = {b"(": "group not closed at 0"}
 
 
 class Session:
@@ -235,7 +234,7 @@ def faults_end_a_session_whose_input_is_open(start):
                 session.end(2, close=False)
 
 
-def check_cut(script, patterns, cut):
+def check_cut(script, cut):
     """A session without readers over the beginning of a script must write what a run of it writes, and that must be legal. So must
     what a session with readers writes."""
     begin = script[:cut]
@@ -243,19 +242,15 @@ def check_cut(script, patterns, cut):
     same(f"status and text, cut at {cut}", alone, run(["--readers", "0"], begin))
     for readers, (status, text, messages) in (0, alone), (2, run(["--live"], begin)):
         same(f"messages, cut at {cut}", messages, b"")
-        options = {"readers": readers, "files": transcripts.Files(), "table": patterns}
-        try:
-            fault = transcripts.fault_of(begin, text, status, session=True, **options)
-        except transcripts.NotPlain:
-            return
+        fault = transcripts.fault_of(begin, text, status, session=True, readers=readers, files=transcripts.Files())
         if fault:
             raise Wrong(f"cut at {cut}, with {readers} readers: {fault}")
 
 
 def input_cut_at_every_byte():
-    scripts = [(path.read_bytes(), {}) for path in EXAMPLES] + [(TALK_SCRIPT, TALK_PATTERNS)]
+    scripts = [path.read_bytes() for path in EXAMPLES] + [TALK_SCRIPT]
     with concurrent.futures.ThreadPoolExecutor(os.cpu_count()) as pool:
-        jobs = [pool.submit(check_cut, script, patterns, cut) for script, patterns in scripts for cut in range(len(script) + 1)]
+        jobs = [pool.submit(check_cut, script, cut) for script in scripts for cut in range(len(script) + 1)]
         for job in jobs:
             job.result()
 

@@ -27,13 +27,13 @@ a script is judged (judge/transcripts.py): the entries must be those of NAME.std
 bash script of SEVERAL_ANSWERS compares its answers in their order itself, and is run as a session without readers only.
 
 The case `architecture` runs nothing: it compares docs/ARCHITECTURE.md with the sources. Each line of an example must be in
-the test that the document names, each function of the ways of a put, a search and a session in one of the files that are
-named next to it, and each file that it names must be there.
+the test that the document names, and each function of the ways of a put, a search and a session in one of the files that are
+named next to it. Each file that this document or another one of PAGES names must be there.
 
 The case `README` runs each command that README.md shows after `$ `, at the top of a copy of what the repository shows there.
 The command must write the lines below it, and nothing to standard error. Lines that are typed are not compared: those of a session
 up to the first answer, and those after the prompt `> ` of the client, which an empty line ends. There must be a command of each
-way: with the script on standard input, a session, and the client.
+way: with the script on standard input, a session, a folder at the terminal, and the client.
 
 With --compiled, the cases run on the program that is compiled with checks, with no readers and as sessions, and nothing else runs.
 With --again, each case and example runs N times with 16 readers, as a run and as a session, or 50 times without N; nothing else runs.
@@ -74,6 +74,7 @@ EXAMPLES = TOP / "examples"
 CLIENTS = TOP / "clients"
 ARCHITECTURE = TOP / "docs/architecture"
 README = TOP / "README"
+PAGES = ["README.md", "docs/ARCHITECTURE.md", "docs/GLOSSARY.md", "docs/LIMITS.md", "docs/PROVED.md", "docs/TESTING.md"]
 FIRST_WAY = "## A put, from the script to the index\n"
 EMBEDDING = "## Using the crates by themselves\n"
 READERS = ["0"] if GIVEN.compiled else ["16"] if GIVEN.again else ["0", "1", "2", "16"]
@@ -312,21 +313,22 @@ def compare_examples(text):
             raise Wrong(f"{name} in {path} does not have the lines {lines}")
 
 
-def compare_files(text):
-    """Looks for each file that is named: by its path from the top, or by the end of it."""
+def compare_files(pages):
+    """Looks for each file that these pages name: by its path from the top, or by the end of it."""
     folders = ["bench", "building", "clients", "crates", "docs", "examples", "tests"]
     paths = [path.relative_to(TOP).parts for folder in folders for path in (TOP / folder).rglob("*.*")]
     ends = {"/".join(parts[at:]) for parts in paths if "out" not in parts for at in range(len(parts))}
-    missing = set(re.findall(r"`([\w/]+\.(?:rt|antt|py|md))`", text)) - ends
-    if missing:
-        raise Wrong(f"there is no file {', '.join(sorted(missing))}")
+    for page in pages:
+        missing = set(re.findall(r"`([\w/]+\.(?:rt|antt|py|md))`", (TOP / page).read_text())) - ends
+        if missing:
+            raise Wrong(f"{page}: there is no file {', '.join(sorted(missing))}")
 
 
 def compare_architecture(base):
     text = base.with_name("ARCHITECTURE.md").read_text()
     compare_stops(text)
     compare_examples(text)
-    compare_files(text)
+    compare_files(PAGES)
 
 
 def commands_shown(text):
@@ -360,7 +362,7 @@ def compare_command(folder, command, lines):
 
 def compare_readme(base):
     shown = list(commands_shown(base.with_name("README.md").read_text()))
-    for way in ("| ./tsearch", "./tsearch --live", "examples/live_folder.py"):
+    for way in ("| ./tsearch", "./tsearch --live", "python3 -m tsearch ", "examples/live_folder.py"):
         if not any(way in command for command, _ in shown):
             raise Wrong(f"no command has {way!r}")
     with tempfile.TemporaryDirectory() as folder:

@@ -204,7 +204,8 @@ def difference_of_entries(got, wanted):
     """How the text of a session with readers differs from that of a run: it must have the same entries, and those of lines in the same
     order. The order in which answers may come is judged elsewhere."""
     try:
-        entries, others = entries_of(got), entries_of(wanted)
+        # No script here has a search whose lines are counted and not shown, so its items are not needed.
+        entries, others = entries_of(got, []), entries_of(wanted, [])
     except Illegal as illegal:
         return str(illegal)
     for text, other in itertools.zip_longest(sorted(entry[4] for entry in entries), sorted(entry[4] for entry in others)):

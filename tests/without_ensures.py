@@ -1,15 +1,16 @@
 #!/usr/bin/env python3
-"""Finds the public functions without an `ensures`, and compares them with the list of README.md.
+"""Finds the public functions without an `ensures`, and compares them with the list of docs/PROVED.md.
 
-A function without an `ensures` meets its contract with any body, so README.md ("What is only tested") names each one that can be called
-from outside its crate: a `pub fn` that the crate's lib.rs shows by `pub mod` or `pub use`, a `pub fn` of a type that is `pub`, and a
+A function without an `ensures` meets its contract with any body, so docs/PROVED.md ("What is only tested") names each one that can be
+called from outside its crate: a `pub fn` that the crate's lib.rs shows by `pub mod` or `pub use`, a `pub fn` of a type that is `pub`, and a
 function of a trait that is `pub`. What a type does for a trait has the trait's contract and is not looked at. Tests (`#[cfg(test)]`,
 and crates whose names end in `_tests`) are skipped, and so is a crate without lib.rs, which nothing can call.
 
-The list of README.md is one item that says how many public functions have no `ensures`; it names each as `NAME` of `CRATE`, where
+The list of docs/PROVED.md is one item that says how many public functions have no `ensures`; it names each as `NAME` of `CRATE`, where
 NAME is that of a function, or TYPE::FUNCTION.
 
-Usage: tests/without_ensures.py [--print]   The last line counts: N passed, M failed. --print shows the functions as README.md has them.
+Usage: tests/without_ensures.py [--print]   The last line counts: N passed, M failed. --print shows the functions as the
+page has them.
 """
 
 import re
@@ -19,7 +20,7 @@ from built import TOP
 from counted import Counted
 from made_by_hand import Source, test_files
 
-README = TOP / "README.md"
+PAGE = TOP / "docs/PROVED.md"
 ITEM = re.compile(r"^- (\w+) public functions have no `ensures`.*$", re.MULTILINE)
 NAMED = re.compile(r"`([\w:]+)` of `(\w+)`")
 NUMBERS = "No One Two Three Four Five Six Seven Eight Nine Ten Eleven Twelve".split()
@@ -148,10 +149,10 @@ def public_functions():
 
 
 def listed():
-    """The functions that README.md names, and the number that it gives; None if there is no such item."""
-    item = ITEM.search(README.read_text(encoding="utf-8"))
+    """The functions that the page names, and the number that it gives; None if there is no such item."""
+    item = ITEM.search(PAGE.read_text(encoding="utf-8"))
     if item is None:
-        sys.exit("tests/without_ensures.py: README.md has no item that begins with: - N public functions have no `ensures`")
+        sys.exit("tests/without_ensures.py: docs/PROVED.md has no item that begins with: - N public functions have no `ensures`")
     count = NUMBERS.index(item[1]) if item[1] in NUMBERS else None
     return count, [(crate, name) for name, crate in NAMED.findall(item[0])]
 
@@ -167,12 +168,12 @@ def main():
     counted = Counted()
     count, named = listed()
     for crate, name in without:
-        counted.judge([None if (crate, name) in named else f"README.md does not name `{name}` of `{crate}`, which has no `ensures`"])
+        counted.judge([None if (crate, name) in named else f"docs/PROVED.md does not name `{name}` of `{crate}`, which has no `ensures`"])
     for crate, name in named:
         if (crate, name) not in without:
-            counted.fails(f"README.md names `{name}` of `{crate}`, which has an `ensures` or is not public")
+            counted.fails(f"docs/PROVED.md names `{name}` of `{crate}`, which has an `ensures` or is not public")
     right = count == len(named) == len(set(named))
-    counted.judge([None if right else f"README.md says {count} and names {len(named)}"])
+    counted.judge([None if right else f"docs/PROVED.md says {count} and names {len(named)}"])
     print(f"{len(found)} public functions, {len(without)} without an `ensures`")
     counted.end()
 

@@ -1,11 +1,12 @@
 #!/usr/bin/env python3
 """Judges texts of the built program by the plain conditions of transcripts.py.
 
-First the judge itself is tested: it must accept the texts of tests/cases and examples, which are written by hand, and refuse each
-text of a table, each wrong in one thing. Then every beginning of a script with a replacement, a pending put and syncs is run with
-several numbers of readers, and is sent to sessions with as many. So are random scripts, with few syncs between searches and later
-publishes, with cancels and statuses, and some of them with a limit of time. Every text must be legal, and in some of them searches must
-be cancelled, and be open at a status. As many scripts are tried at once as there are processors.
+First the judge itself is tested: it must read and match the patterns of tests/patterns.rows and tests/lines.rows, accept the texts of
+tests/cases, which are written by hand, and refuse each text of a table, each wrong in one thing. Then every beginning of a script with a
+replacement, a pending put and syncs is run with several numbers of readers, and is sent to sessions with as many. So are random scripts,
+with few syncs between searches and later publishes, with searches of all kinds, cancels and statuses, and some of them with a limit of
+time. Every text must be legal, and in some of them searches must be cancelled, be open at a status, be cut off at a limit, have lines
+around their lines, and be refused for their options. As many scripts are tried at once as there are processors.
 
 Usage: tests/judge/check_transcripts.py [--scripts N]   The last line counts: N passed, M failed. N is the number of random scripts.
 """
@@ -22,9 +23,11 @@ import sys
 
 sys.path.insert(0, str(pathlib.Path(__file__).resolve().parent.parent))
 
-from built import PROGRAM, TOP, need_program  # noqa: E402
+import patterns  # noqa: E402
+from built import PROGRAM, TOP, need_program, rows_of  # noqa: E402
 from counted import Counted  # noqa: E402
-from judge import transcripts  # noqa: E402
+from judge import searches, transcripts, trees  # noqa: E402
+from judge.random_finds import random_find  # noqa: E402
 
 READERS = [0, 1, 2, 16]
 RANDOM_SCRIPTS = 5000
@@ -122,16 +125,217 @@ def crowd(count, shown):
     return b"".join(answers[:count]) + OPEN % (1_101, shown) + b"".join(answers[count:])
 
 
-# The patterns of the judged tests/cases that are not plain, each with its spelling for `re` or the reason of its refusal.
-TABLE = {
-    b"[[:upper:]]1": b"[A-Z]1",
-    b"^[Mm]AIN": b"^(M|m)AIN",
-    b"[a-Z]": "bad range at 2",
-    b"[z-A]": "bad range at 2",
-    b"[b-A]": "bad range at 2",
-    b"a{2,1}": "bad interval at 1",
-    b"x{300}": "bad interval at 1",
-}
+# Two documents, and searches of them by `find`: the line, the text that may be written for it, and texts that may not.
+FIND_BODIES = b"put a 31\none\ntwo\none one\n\nfive\nsix\nstone\nput b 8\nONE\none_\npublish\n"
+A1, A3, A7, B2 = b"a:1:one", b"a:3:one one", b"a:7:stone", b"b:2:one_"
+A2, A4, A6, B1 = b"a-2-two", b"a-4-", b"a-6-six", b"b-1-ONE"
+
+
+def found(head, *rows):
+    return b"search 1 version 2 %s\n%s" % (head, b"".join(row + b"\n" for row in rows))
+
+
+ALL = found(b"lines 4", A1, A3, A7, B2)
+AROUND = [A1, A2, A3, A4, b"--", A6, A7, b"--", B1, B2]
+FINDS = [
+    (b"find -- one", ALL, found(b"lines 4 rows 4", A1, A3, A7, B2), found(b"names 4", A1, A3, A7, B2), found(b"lines 3", A1, A3, A7)),
+    # one too few at the limit, one too many, another line, more where nothing is left, nothing more where something is
+    (
+        b"find -m 2 -- one",
+        found(b"lines 2 and more", A1, A3),
+        found(b"lines 1 and more", A1),
+        found(b"lines 3 and more", A1, A3, A7),
+        found(b"lines 2 and more", A1, A7),
+        found(b"lines 2", A1, A3),
+        found(b"lines 4 and more", A1, A3),
+        ALL,
+    ),
+    (b"find -m 4 -- one", ALL, found(b"lines 4 and more", A1, A3, A7, B2), found(b"lines 3 and more", A1, A3, A7)),
+    (b"find -m 5 -- one", ALL, found(b"lines 4 and more", A1, A3, A7, B2)),
+    (b"find -m 1 -- three", found(b"lines 0"), found(b"lines 0 and more")),
+    # a name twice, once for each line, or without a line; the counts of what is shown or of all lines
+    (b"find -l -- one", found(b"names 2", b"a", b"b"), found(b"names 4", b"a", b"a", b"a", b"b"), found(b"lines 2", b"a", b"b"), found(b"names 1", b"a")),
+    (b"find -l -- two", found(b"names 1", b"a"), found(b"names 2", b"a", b"b")),
+    (b"find -l -m 1 -- one", found(b"names 1 and more", b"a"), found(b"names 1", b"a"), found(b"names 2", b"a", b"b")),
+    (b"find -l -m 2 -- one", found(b"names 2", b"a", b"b"), found(b"names 2 and more", b"a", b"b")),
+    (b"find -c -- one", found(b"names 2", b"a:3", b"b:1"), found(b"names 2", b"a:4", b"b:1"), found(b"names 2", b"a", b"b"), found(b"lines 4", b"a:3", b"b:1")),
+    (b"find -c -- two", found(b"names 1", b"a:1"), found(b"names 2", b"a:1", b"b:0")),
+    (b"find -c -m 1 -- one", found(b"names 1 and more", b"a:3"), found(b"names 1 and more", b"a:1")),
+    (b"find -q -- one", found(b"lines 4"), ALL, found(b"lines 0"), found(b"names 2")),
+    (b"find -q -m 1 -- one", found(b"lines 1 and more"), found(b"lines 1"), found(b"lines 4"), found(b"lines 1 and more", A1)),
+    (b"find -q -m 4 -- one", found(b"lines 4"), found(b"lines 4 and more")),
+    # a hit that is a context line, or is there twice; stretches that touch or do not, in one document or two; lines that are not counted
+    (
+        b"find -C 1 -- one",
+        found(b"lines 4 rows 10", *AROUND),
+        found(b"lines 4", *AROUND),
+        found(b"lines 10 rows 10", *AROUND),
+        found(b"lines 4 rows 8", A1, A2, A3, A4, A6, A7, B1, B2),
+        found(b"lines 4 rows 9", *AROUND[:7], *AROUND[8:]),
+        found(b"lines 4 rows 11", *AROUND, b"--"),
+        found(b"lines 4 rows 11", b"--", *AROUND),
+        found(b"lines 4 rows 12", A1, A2, b"--", A2, *AROUND[2:]),
+        found(b"lines 4 rows 11", A1, A2, A2, *AROUND[2:]),
+        found(b"lines 4 rows 11", A1, A2, b"a-3-one one", A3, *AROUND[3:]),
+        found(b"lines 4 rows 10", A1, A2, b"a-3-one one", *AROUND[3:]),
+        found(b"lines 4 rows 10", A1, b"a:2:two", *AROUND[2:]),
+        found(b"lines 4 rows 8", *AROUND[:8]),
+        found(b"lines 4 rows 10", *AROUND[:9], b"b-2-one_"),
+    ),
+    (b"find -C 0 -- one", found(b"lines 4 rows 7", A1, b"--", A3, b"--", A7, b"--", B2), found(b"lines 4 rows 4", A1, A3, A7, B2), ALL),
+    (b"find -C 0 -- [wx]", found(b"lines 2 rows 3", b"a:2:two", b"--", b"a:6:six"), found(b"lines 2 rows 2", b"a:2:two", b"a:6:six")),
+    (b"find -C 0 -- t", found(b"lines 2 rows 3", b"a:2:two", b"--", A7)),
+    (b"find -C 0 -n a -- ^(one|two)$", found(b"lines 2 rows 2", A1, b"a:2:two"), found(b"lines 2 rows 3", A1, b"--", b"a:2:two")),
+    (b"find -C 0 -m 1 -- one", found(b"lines 1 and more rows 1", A1), found(b"lines 1 rows 1 and more", A1)),
+    (
+        b"find -C 2 -m 1 -- one",
+        found(b"lines 1 and more rows 3", A1, A2, b"a-3-one one"),
+        found(b"lines 1 and more rows 3", A1, A2, A3),
+        found(b"lines 2 and more rows 3", A1, A2, A3),
+        found(b"lines 1 and more rows 2", A1, A2),
+    ),
+    (b"find -C 9 -- three", found(b"lines 0 rows 0"), found(b"lines 0"), found(b"lines 0 rows 1", b"--")),
+    # a column from 0, of a later match, or of the byte before it
+    (
+        b"find --column -m 3 -- one",
+        found(b"lines 3 and more", b"a:1:1:one", b"a:3:1:one one", b"a:7:3:stone"),
+        found(b"lines 3 and more", b"a:1:0:one", b"a:3:0:one one", b"a:7:2:stone"),
+        found(b"lines 3 and more", b"a:1:1:one", b"a:3:5:one one", b"a:7:3:stone"),
+        found(b"lines 3 and more", b"a:1:1:one", b"a:3:1:one one", b"a:7:4:stone"),
+        found(b"lines 3 and more", A1, A3, A7),
+    ),
+    (b"find --column -w -- (x|e)one|one$", found(b"lines 2", b"a:1:1:one", b"a:3:5:one one"), found(b"lines 2", b"a:1:1:one", b"a:3:4:one one")),
+    (b"find --column -- $", found(b"lines 9", *[b"a:1:4:one", b"a:2:4:two", b"a:3:8:one one", b"a:4:1:", b"a:5:5:five", b"a:6:4:six", b"a:7:6:stone"], b"b:1:4:ONE", b"b:2:5:one_")),
+    # a span that is not the longest, from 0, behind its last byte, with others left out, without one, or with an empty one
+    (
+        b"find --spans -m 2 -- o|on|one|ne",
+        found(b"lines 2 and more", b"a:1:1-3:one", b"a:2:3-3:two"),
+        found(b"lines 2 and more", b"a:1:1-1:one", b"a:2:3-3:two"),
+        found(b"lines 2 and more", b"a:1:1-2:one", b"a:2:3-3:two"),
+        found(b"lines 2 and more", b"a:1:1-1,2-3:one", b"a:2:3-3:two"),
+        found(b"lines 2 and more", b"a:1:0-2:one", b"a:2:2-2:two"),
+        found(b"lines 2 and more", b"a:1:1-4:one", b"a:2:3-4:two"),
+        found(b"lines 2 and more", b"a:1:1:one", b"a:2:3:two"),
+    ),
+    (b"find --spans -- one one|ne|o", found(b"lines 5", b"a:1:1-1,2-3:one", b"a:2:3-3:two", b"a:3:1-7:one one", b"a:7:3-3,4-5:stone", b"b:2:1-1,2-3:one_")),
+    (b"find --spans -n ^b -- E*", found(b"lines 2", b"b:1:3-3:ONE", b"b:2::one_"), found(b"lines 2", b"b:1:3-3:ONE", B2), found(b"lines 2", b"b:1:1-0,3-3:ONE", b"b:2:1-0:one_")),
+    (b"find --spans -w -- [a-z ]+|one", found(b"lines 6", b"a:1:1-3:one", b"a:2:1-3:two", b"a:3:1-7:one one", b"a:5:1-4:five", b"a:6:1-3:six", b"a:7:1-5:stone")),
+    (b"find --spans -w -- on|one|e o", found(b"lines 2", b"a:1:1-3:one", b"a:3:1-3,5-7:one one"), found(b"lines 2", b"a:1:1-3:one", b"a:3:1-3:one one")),
+    (b"find -x --spans -- o.*|one", found(b"lines 3", b"a:1:1-3:one", b"a:3:1-7:one one", b"b:2:1-4:one_"), found(b"lines 3", b"a:1:1-3:one", b"a:3:1-3:one one", b"b:2:1-3:one_")),
+    # words, whole lines, lines without a match, literal texts and case
+    (b"find -w -- one", found(b"lines 2", A1, A3), ALL),
+    (b"find -w -v -- one|.*e_?|[^o]*", found(b"lines 1", b"a:2:two"), found(b"lines 0")),
+    (b"find -x -- one", found(b"lines 1", A1), ALL),
+    (b"find -x -w -- s.*e|one.", found(b"lines 2", A7, B2), found(b"lines 1", A7)),
+    (b"find -v -- e|o", found(b"lines 3", b"a:4:", b"a:6:six", b"b:1:ONE"), found(b"lines 6", A1, b"a:2:two", A3, b"a:5:five", A7, B2)),
+    (b"find -v -- ", found(b"lines 0"), found(b"lines 1", b"a:4:")),
+    (b"find -F -- o.e", found(b"lines 0"), ALL),
+    (b"find -F -- ne o", found(b"lines 1", A3)),
+    (b"find -i -- ON|w", found(b"lines 6", A1, b"a:2:two", A3, A7, b"b:1:ONE", B2), ALL),
+    (b"find -i -F -x -- oNe", found(b"lines 2", A1, b"b:1:ONE"), found(b"lines 1", A1)),
+    # names that must and must not match, with case and without it
+    (b"find -N b -- one", found(b"lines 3", A1, A3, A7), found(b"lines 1", B2), ALL),
+    (b"find -n a -n b -- one", found(b"lines 0"), ALL),
+    (b"find -n a|b -N A -- one", ALL, found(b"lines 1", B2)),
+    (b"find -I -n B -N A -- ONE", found(b"lines 1", b"b:1:ONE"), found(b"lines 0"), found(b"lines 2", b"b:1:ONE", B2)),
+    (b"find -n -- -- one", found(b"lines 0")),
+    (b"find -n  -i -- one_", found(b"lines 1", B2)),
+    # a zero byte after a name
+    (b"find -Z -n b -- E", found(b"lines 1", b"b\x001:ONE"), found(b"lines 1", b"b:1:ONE"), found(b"lines 1", b"b\x001\0ONE")),
+    (b"find -l -Z -- one_", found(b"names 1", b"b\0"), found(b"names 1", b"b")),
+    (b"find -c -Z -- one_", found(b"names 1", b"b\x001"), found(b"names 1", b"b\0:1"), found(b"names 1", b"b:1")),
+    (b"find -C 1 -Z -- one_", found(b"lines 1 rows 2", b"b\x001-ONE", b"b\x002:one_"), found(b"lines 1 rows 2", B1, b"b\x002:one_")),
+    (b"find -Z --column -- _", found(b"lines 1", b"b\x002:4:one_"), found(b"lines 1", b"b\x002\x004:one_")),
+    (b"find -Z --spans -- _", found(b"lines 1", b"b\x002:4-4:one_")),
+]
+
+# Lines of `find` that are refused, each with its reason: the first fault from the left, and then the patterns.
+FIND_FAULTS = [
+    (b"find", b"no -- before the pattern"),
+    (b"find ", b"no -- before the pattern"),
+    (b"find -i", b"no -- before the pattern"),
+    (b"find -i ", b"no -- before the pattern"),
+    (b"find -n", b"no -- before the pattern"),
+    (b"find -N ", b"no -- before the pattern"),
+    (b"find -n --", b"no -- before the pattern"),
+    (b"find one", b"bad option one"),
+    (b"find  -- one", b"bad option "),
+    (b"find -i  -- one", b"bad option "),
+    (b"find -z -l -c", b"bad option -z"),
+    (b"find -il -- one", b"bad option -il"),
+    (b"find ---- one", b"bad option ----"),
+    (b"find -m 2 -m 0", b"option -m twice"),
+    (b"find -l -l -- (", b"option -l twice"),
+    (b"find -Z -i -Z", b"option -Z twice"),
+    (b"find -m 0 -m 0 -- one", b"option -m needs a number from 1 to 4294967295"),
+    (b"find -m", b"option -m needs a number from 1 to 4294967295"),
+    (b"find -m -- one", b"option -m needs a number from 1 to 4294967295"),
+    (b"find -m  1 -- one", b"option -m needs a number from 1 to 4294967295"),
+    (b"find -m 4294967296 -- one", b"option -m needs a number from 1 to 4294967295"),
+    (b"find -m 4294967296000000000000000001 -- one", b"option -m needs a number from 1 to 4294967295"),
+    (b"find -m +1 -- one", b"option -m needs a number from 1 to 4294967295"),
+    (b"find -m 1x -- one", b"option -m needs a number from 1 to 4294967295"),
+    (b"find -C 1001 -- one", b"option -C needs a number from 0 to 1000"),
+    (b"find -C -1 -- one", b"option -C needs a number from 0 to 1000"),
+    (b"find -l -c -- one", b"-l and -c exclude each other"),
+    (b"find -c -l -z", b"-c and -l exclude each other"),
+    (b"find -q -C -- one", b"-q and -C exclude each other"),
+    (b"find --spans -m 1 -l -- one", b"--spans and -l exclude each other"),
+    (b"find --column --spans -- one", b"--column and --spans exclude each other"),
+    (b"find -v --column -- one", b"-v and --column exclude each other"),
+    (b"find --spans -v -- one", b"--spans and -v exclude each other"),
+    (b"find -C 3 -v --spans -- one", b"-C and --spans exclude each other"),
+    (b"find -v -C 3 --spans -- one", b"-v and --spans exclude each other"),
+    (b"find " + b"-n a " * 17 + b"-- one", b"option -n over 16 times"),
+    (b"find " + b"-N a " * 17 + b"-z", b"option -N over 16 times"),
+    (b"find -n ( -- (", b"name pattern 1: group not closed at 0"),
+    (b"find -N a -n a( -- (", b"name pattern 2: group not closed at 1"),
+    (b"find " + b"-n a " * 16 + b"-N [ -- (", b"name pattern 17: bracket not closed at 0"),
+    (b"find -n a -- ab(", b"group not closed at 2"),
+    (b"find -F -n * -- *", b"name pattern 1: nothing to repeat at 0"),
+    (b"find -F -- a\0", b"bad byte at 1"),
+    (b"find -F -- " + b"(" * 1025, b"pattern too long at 1024"),
+    (b"find -x -- (a{64}){64}", b"too large (over 4096 leaves) at 0"),
+    (b"find -w -- a{255}{16}abcdefghijklm", b"too large (over 4096 leaves) at 0"),
+    (b"find -x -- a" + b"*" * 63, b"too deep (over 64 levels) at 0"),
+    (b"find -w -- a" + b"*" * 63, b"too deep (over 64 levels) at 0"),
+]
+# Lines of `find` that come near to a fault, and find nothing.
+FIND_NO_FAULTS = [
+    b"find --",
+    b"find -- ",
+    b"find " + b"-n a " * 16 + b"-N b " * 16 + b"-- q",
+    b"find -m 0000000000000000000000000000000000000000000000000000004294967295 -- q",
+    b"find -q -m 1 -- q",
+    b"find -F -- ((((",
+    b"find -F -- " + b"(" * 1024,
+    b"find -x -- a{255}{16}abcdefghijklmn",
+    b"find -w -- a{255}{16}abcdefghijkl",
+    b"find -x -- a" + b"*" * 61,
+]
+
+
+def texts_of_finds():
+    """The scripts of these tables, each with a text and its status, that may be written and that may not."""
+    right, wrong = [], []
+    for line, text, *others in FINDS:
+        script, status = FIND_BODIES + line + b"\n", 1 if text.startswith(b"search 1 version 2 lines 0") else 0
+        right.append((script, {}, text, status))
+        wrong += [(script, {}, other, status) for other in others]
+        wrong.append((script, {}, text, 1 - status))
+        wrong.append((script, {}, b"search 1 refused: bad option \n", 2))
+    for line, reason in FIND_FAULTS:
+        text = b"search 1 refused: %s\n"
+        right.append((line + b"\n", {}, text % reason, 2))
+        wrong += [(line + b"\n", {}, text % other, 2) for other in (reason + b" ", reason[1:], b"out of memory")]
+        wrong += [(line + b"\n", {}, other, 2) for other in (AT_0 % 1, b"line 1 refused: bad line\n", b"")]
+    for line in FIND_NO_FAULTS:
+        right.append((line + b"\n", {}, AT_0 % 1, 1))
+    for line in b"findx", b"Find -- x", b"find\t-- x", b" find -- x":
+        right.append((line + b"\n", {}, b"line 1 refused: bad line\n", 2))
+        wrong.append((line + b"\n", {}, AT_0 % 1, 1))
+    return right, wrong
+
 
 # Scripts with their options, a text, and its status.
 LEGAL = [
@@ -286,6 +490,10 @@ WRONG = [
     (CROWD, {}, crowd(1_100, 1_024), 1),
 ] + [(REFUSALS, {"max_commands": 1}, b"".join(REFUSED[:left_out] + REFUSED[left_out + 1 :]), 2) for left_out in range(len(REFUSED))]
 WRONG += [(STATUSES, {"max_commands": 5}, status_text(shown), 2) for shown in off_by_one()]
+
+LEGAL_FINDS, WRONG_FINDS = texts_of_finds()
+LEGAL += LEGAL_FINDS
+WRONG += WRONG_FINDS
 
 
 # The same for sessions, whose answers come when they are there.
@@ -447,6 +655,8 @@ WRONG_SESSIONS = [
     (TWO_OPEN, {}, OPEN % (3, 2) + AT_0 % 2 + AT_0 % 1, 2),
 ]
 WRONG_SESSIONS += [(STATUSES, {"max_commands": 5}, status_text(shown), 2) for shown in off_by_one()]
+LEGAL_SESSIONS += LEGAL_FINDS
+WRONG_SESSIONS += WRONG_FINDS
 
 
 def judged_sessions():
@@ -467,23 +677,62 @@ def judged_by_hand():
             continue
         text = path.with_suffix(".stdout").read_bytes() if path.with_suffix(".stdout").exists() else b""
         status = int(path.with_suffix(".status").read_text()) if path.with_suffix(".status").exists() else 0
-        try:
-            fault = transcripts.fault_of(path.read_bytes(), text, status, stats="--stats" in words, table=TABLE)
-        except transcripts.NotPlain:
-            continue
+        fault = transcripts.fault_of(path.read_bytes(), text, status, stats="--stats" in words)
         count += 1
         wrong += ["refuses the text of %s: %s" % (path.name, fault)] if fault else []
     return wrong, count
 
 
-# What is counted in the texts, by what shows it.
-SEEN = {"searches cancelled": rb"refused: cancelled\n", "too slow": rb"refused: too slow\n", "statuses with open searches": rb" open [1-9]\d*\n"}
+def fault_of_pattern(pattern, ignores_case):
+    """The reason for which the judge refuses a pattern, or None."""
+    try:
+        trees.tree_of(pattern, ignores_case)
+    except trees.Refused as refused:
+        return str(refused).encode()
+    return None
+
+
+def lines_found(body, pattern, ignores_case):
+    """The rows of the lines in which the judge finds a pattern, in a document f."""
+    lines = searches.Test(pattern, ignores_case).lines_with_match(body)
+    return b"".join(b"f:%d:%s\n" % (line + 1, searches.lines_of(body).texts[line]) for line in lines)
+
+
+def judged_patterns():
+    """What the judge makes of patterns otherwise than tests/patterns.rows and tests/lines.rows have it, and how many rows there are."""
+    every, faults = sorted(trees.LINE_BYTES), []
+    body = b"\n".join(bytes([byte]) for byte in every)
+    for pattern, fault in patterns.LIMITS:
+        faults.append(None if fault_of_pattern(pattern, False) == fault else pattern)
+    for kind, pattern, *fields in rows_of(patterns.ROWS):
+        if kind == b"refused":
+            faults += [None if fault_of_pattern(pattern, ignored) == fields[0] else pattern for ignored in (False, True)]
+        elif kind != b"asks":
+            members = [byte for byte in every if (byte in fields[0]) == kind.endswith(b"set")]
+            found = b"".join(b"f:%d:%c\n" % (every.index(byte) + 1, byte) for byte in members)
+            faults.append(None if lines_found(body, b"^(%s)$" % pattern, kind.startswith(b"i")) == found else pattern)
+    for body, pattern, found, *ignored in rows_of(TOP / "tests/lines.rows"):
+        faults.append(None if lines_found(body, pattern, ignored == [b"i"]) == found else pattern)
+    return ["%r" % pattern for pattern in faults if pattern is not None], len(faults)
+
+
+# What is counted in the texts, by what shows it, and what must be seen in the texts of random scripts.
+SEEN = {
+    "searches cancelled": rb"refused: cancelled\n",
+    "too slow": rb"refused: too slow\n",
+    "statuses with open searches": rb" open [1-9]\d*\n",
+    "answers cut off": rb" and more[ \n]",
+    "answers with lines around": rb" rows [2-9]",
+    "finds refused": rb"refused: (?:bad option|option|-|no --|name pattern \d)",
+}
+WANTED = [what for what in SEEN if what != "too slow"]
 
 
 def fault_of_way(start, script, how, options):
     """What is wrong with what the program does with a script if it is started with these words, or None; and what is seen in its text."""
     words = [b"--max-commands", b"%d" % options["max_commands"]] if "max_commands" in options else []
     words += [b"--search-ms", b"%d" % options["search_ms"]] if options.get("search_ms") else []
+    words += [b"--stats"] if options.get("stats") else []
     done = subprocess.run([PROGRAM] + start + words, input=script, capture_output=True, check=False, timeout=SECONDS)
     judged = {name: value for name, value in options.items() if name != "search_ms"}
     judged["timed"] = options.get("search_ms") == SEARCH_MS[0]
@@ -536,6 +785,7 @@ def random_item(chance, asked):
         + [b"searchin %s b" % chance.choice([b"^a", b"b$|c"])]
         + [b"isearch " + chance.choice([b"aB", b"^B|A$", b"[^b]", b"B+$"])] * 2
         + [b"isearchin %s B" % chance.choice([b"^a", b"^A|c"])]
+        + [random_find(chance, [b"aB", b"ab", b"^b|a$", b"(ab)*", b"[^b]", b"a", b"a|ab|ba", b"zz", b""], [b"^a", b"^A|c", b"b$", b"/", b"^a/", b""])] * 8
         + [random_cancel(chance, asked)] * 5
         + [b"status"] * 2
         + [b"sync", b"load a /nothing/here", b"pull", b"cancel", b"cancel %dx" % asked, b"status %d" % asked]
@@ -546,15 +796,16 @@ def random_script(chance):
     items, asked = [], 0
     for _ in range(chance.randrange(60)):
         items.append(random_item(chance, asked) + b"\n")
-        asked += items[-1].startswith((b"search", b"isearch"))
+        asked += items[-1].startswith((b"search", b"isearch", b"find"))
     return b"".join(items)
 
 
 def random_scripts(count):
-    """So many random scripts, each with one number of readers as a run and with all as sessions. A third of them has a limit of time."""
+    """So many random scripts, each with one number of readers as a run and with all as sessions. A third of them has a limit of time, and
+    a fifth shows the candidates."""
     chance = random.Random(1)
     for number in range(count):
-        options = {"max_commands": chance.choice([5, 1000])}
+        options = {"max_commands": chance.choice([5, 1000]), "stats": number % 5 == 0}
         if number % 3 == 0:
             options["search_ms"] = chance.choice(SEARCH_MS)
         yield (random_script(chance), READERS[number % len(READERS)], READERS), options
@@ -568,10 +819,11 @@ def main():
     counted = Counted()
     with concurrent.futures.ThreadPoolExecutor(os.cpu_count()) as pool:
         parts = [
+            ("the judge of patterns", judged_patterns),
             ("the judge", judged_by_hand),
             ("the judge of sessions", judged_sessions),
             ("beginnings", lambda: judged_scripts(pool, beginnings())),
-            ("random scripts", lambda: judged_scripts(pool, random_scripts(scripts), ["searches cancelled", "statuses with open searches"])),
+            ("random scripts", lambda: judged_scripts(pool, random_scripts(scripts), WANTED)),
         ]
         for name, part in parts:
             wrong, count = part()

@@ -6,29 +6,23 @@ in the run, no older than what its reader knew, and with exactly the lines that 
 refused, `cancelled` by a cancel that finds it open, and `too slow` only where searches have a limit of time. A status shows what is so
 in its place.
 
-Lines are matched by Python's `re`, but only for plain patterns: bytes, `.`, sets of letters and digits, `*`, `+`, `?`, groups that
-contain no other group, `|`, `^`, `$`, and a backslash before one of these marks. For these, `re` and an extended regular expression
-mean the same, since the only question is whether a line has a match: which match is found does not matter; a line contains no line
-feed, so `.` and `[^a]` mean the same and `$` matches only at the end of the line; and both take an anchor in a group as an anchor.
-All other patterns must be in a table, written by hand by the caller, that says what the program makes of them. A caller that knows a
-text of the script gives it instead: its searches must then have the same entries, and only the order of the entries is judged.
+What a search asks for, and its answer for some documents, is in searches.py, and what a pattern matches is in trees.py. A caller that knows
+a text of the script gives it: its searches must then have the same entries, and only the order of the entries is judged. A pattern that takes
+too long here can be in a table, with another that finds the same lines.
 """
 
+import collections
 import os
 import re
 
 from built import TOP
+from judge import searches
 
-MAX_BODY, MAX_LINE, MAX_PATTERN = 1_048_576, 16_384, 1_024
+MAX_BODY, MAX_LINE = 1_048_576, 16_384
 # While so many searches are open, no item is taken.
 MOST_OPEN = 1_024
 
-ATOM = rb"(?:[^\x00\n.\[\\()*+?{|^$]|\.|\[\^?(?:a-z|A-Z|0-9|[0-9A-Za-z_ ])+\]|\\[.\[\\()*+?{|^$])"
-PIECES = rb"(?:%s[*+?]?|[\^$])*" % ATOM
-GROUP = rb"\(%s(?:\|%s)*\)" % (PIECES, PIECES)
-PLAIN = re.compile(rb"(?:(?:%s|%s)[*+?]?|[\^$|])*" % (ATOM, GROUP))
-
-HEAD = re.compile(rb"search (\d+) version (\d+) lines (\d+)( candidates (\d+) of (\d+))?\n")
+HEAD = re.compile(rb"search (\d+) version (\d+) (?:lines|names) (\d+)(?: and more)?(?: rows (\d+))?( candidates (\d+) of (\d+))?\n")
 REFUSED = re.compile(rb"(search|line) (0|[1-9]\d*) refused: ([^\n]*)\n")
 STATUS = re.compile(rb"line (\d+) status version \d+ documents \d+ bytes \d+ accepted \d+ of \d+ open (\d+)\n")
 
@@ -36,12 +30,9 @@ STATUS = re.compile(rb"line (\d+) status version \d+ documents \d+ bytes \d+ acc
 GIVEN_UP = ("cancelled", "too slow", "out of memory")
 
 
-# The words of a search: whether it has a name pattern, and whether it ignores case in its pattern.
-SEARCHES = {"search": (False, False), "searchin": (True, False), "isearch": (False, True), "isearchin": (True, True)}
-
-
-class NotPlain(Exception):
-    """A pattern that is neither plain nor in the table."""
+# An entry of a text: what it is for, its number, the reason if it is a refusal, the version if it is an answer, and all its bytes. Only that
+# of a status is for a line and has no reason.
+Entry = collections.namedtuple("Entry", "what number reason version text")
 
 
 class Illegal(Exception):
@@ -69,15 +60,15 @@ class Files:
 
 
 class Item:
-    """A line of a script that asks for something, with its words. A search has its number, anything else its line. A cancel has the
-    number of a search, and whether one of that number was asked before it."""
+    """A line of a script that asks for something, with its words. A search has its number, and its line as its word; anything else has the
+    number of its line. A cancel has the number of a search, and whether one of that number was asked before it."""
 
     def __init__(self, kind, number, **words):
         self.kind, self.number, self.words = kind, number, words
         self.known = None  # the entry of a search, where a text of the script is known
 
     def is_search(self):
-        return self.kind in SEARCHES
+        return self.kind == "search"
 
     def cancels(self, number):
         return self.kind == "cancel" and self.words["search"] == number
@@ -90,7 +81,7 @@ def number_of(digits):
 
 def items_of(script):
     """The items of a script."""
-    items, at, counted, line_number, searches = [], 0, 0, 1, 0
+    items, at, counted, line_number, asked = [], 0, 0, 1, 0
     while at < len(script):
         line_number += script.count(b"\n", counted, at)
         counted, end = at, script.find(b"\n", at)
@@ -103,12 +94,10 @@ def items_of(script):
             items.append(Item(line.decode(), line_number))
         elif word == b"cancel" and re.fullmatch(rb"[0-9]+", rest):
             number = number_of(rest)
-            items.append(Item("cancel", line_number, search=number, is_asked=0 < number <= searches))
-        elif word in (b"search", b"isearch") or word in (b"searchin", b"isearchin") and b" " in rest:
-            searches += 1
-            named, ignores_case = SEARCHES[word.decode()]
-            name, _, pattern = rest.partition(b" ") if named else (None, None, rest)
-            items.append(Item(word.decode(), searches, name=name, pattern=pattern, ignores_case=ignores_case))
+            items.append(Item("cancel", line_number, search=number, is_asked=0 < number <= asked))
+        elif searches.is_search(line):
+            asked += 1
+            items.append(Item("search", asked, line=line))
         elif word == b"load" and re.fullmatch(rb"[^ ]* .+", rest):
             name, _, path = rest.partition(b" ")
             items.append(Item("load", line_number, name=name, path=path))
@@ -129,29 +118,41 @@ def items_of(script):
     return items
 
 
-def entries_of(text):
-    """The entries of a text in order, as (what it is for, its number, the reason or None, the version or None, all its bytes). Only
-    that of a status is for a line and has no reason."""
-    entries, at = [], 0
+def rows_of(head, asked):
+    """How many lines follow the header of an answer. That of a `find` with -q counts lines that are not shown."""
+    item = asked.get(int(head[1]))
+    if item and not fault_of_search(item) and searches.read(item.words["line"]).view == b"-q":
+        return 0
+    return int(head[4] or head[3])
+
+
+def entries_of(text, items):
+    """The entries of a text in order. The items are those of its script."""
+    entries, at, asked = [], 0, {item.number: item for item in items if item.is_search()}
     while at < len(text):
         refused, head, status = REFUSED.match(text, at), HEAD.match(text, at), STATUS.match(text, at)
         if status:
             end = status.end()
-            entries.append(("line", int(status[1]), None, None, text[at:end]))
+            entries.append(Entry("line", int(status[1]), None, None, text[at:end]))
         elif refused:
             end = refused.end()
-            entries.append((refused[1].decode(), int(refused[2]), refused[3].decode("latin-1"), None, text[at:end]))
+            entries.append(Entry(refused[1].decode(), int(refused[2]), refused[3].decode("latin-1"), None, text[at:end]))
         elif head:
             end = head.end()
-            for _ in range(int(head[3])):
+            for _ in range(rows_of(head, asked)):
                 end = text.find(b"\n", end) + 1
                 if end == 0:
                     raise Illegal("an answer ends before its last line")
-            entries.append(("search", int(head[1]), None, int(head[2]), text[at:end]))
+            entries.append(Entry("search", int(head[1]), None, int(head[2]), text[at:end]))
         else:
             raise Illegal("no entry begins as %r" % text[at : at + 60])
         at = end
     return entries
+
+
+def is_hit(entry):
+    """Whether an entry is an answer that found something."""
+    return entry.version is not None and int(HEAD.match(entry.text)[3]) > 0
 
 
 def fault_of_name(name):
@@ -168,25 +169,6 @@ def fault_of_body(body):
     return "line too long" if any(len(line) > MAX_LINE for line in body.split(b"\n")) else None
 
 
-def fault_of_pattern(pattern, table):
-    """The reason with which the program must refuse a pattern, or None."""
-    if len(pattern) > MAX_PATTERN:
-        return "pattern too long at %d" % MAX_PATTERN
-    if 0 in pattern:
-        return "bad byte at %d" % pattern.index(0)
-    if pattern in table:
-        return table[pattern] if isinstance(table[pattern], str) else None
-    if not PLAIN.fullmatch(pattern):
-        raise NotPlain(pattern)
-    return None
-
-
-def test_of(pattern, table, ignores_case=False):
-    """The test whether a line has a match of a pattern that has no fault. In bytes `re` ignores the case of the ASCII letters alone,
-    and `[^a]` then has neither case of `a`, as here."""
-    return re.compile(table.get(pattern, pattern), re.IGNORECASE if ignores_case else 0).search
-
-
 class Run:
     """What is known of a run at one of its items: what is accepted so far, and which versions were published and where."""
 
@@ -194,6 +176,7 @@ class Run:
         self.files, self.max_commands, self.scarce, self.timed = files, max_commands, scarce, timed
         self.states = [{}]  # the documents after each number of accepted commands
         self.published = []  # pairs of a place among the items and a version
+        self.answers = {}  # what searches find, by their lines and versions
 
     def reasons(self, item):
         """The reasons of which this item, which is not a search, must have one; None means that it is not refused."""
@@ -239,9 +222,15 @@ class Run:
         """The place of the first publish of a version, or -1 for version 0, which needs none."""
         return min(at for at, published in self.published if published == version) if version else -1
 
+    def answer(self, line, version):
+        """What a search finds at a version: the words of its header, and its rows."""
+        if (line, version) not in self.answers:
+            self.answers[line, version] = searches.read(line).answer(self.states[version])
+        return self.answers[line, version]
+
     def may_give_up(self, item, reason):
         """Whether a search whose patterns have no fault may be refused for this reason, if no cancel refuses it."""
-        is_known = bool(item.known) and item.known[2] == reason
+        is_known = bool(item.known) and item.known.reason == reason
         if reason == "too slow":
             return self.timed and (is_known or not item.known)
         return reason == "out of memory" and (self.scarce or is_known)
@@ -253,61 +242,61 @@ class Run:
         documents = self.states[version].values()
         counts = version, len(documents), sum(map(len, documents)), len(self.states) - 1, self.max_commands
         begin = b"line %d status version %d documents %d bytes %d accepted %d of %d open " % (item.number, *counts)
-        found = entry and STATUS.fullmatch(entry[4])
-        if not found or entry[4] != begin + b"%d\n" % int(found[2]):
-            raise Illegal("line %d, a status, has %r, and should have %r" % (item.number, entry and entry[4], begin))
+        found = entry and STATUS.fullmatch(entry.text)
+        if not found or entry.text != begin + b"%d\n" % int(found[2]):
+            raise Illegal("line %d, a status, has %r, and should have %r" % (item.number, entry and entry.text, begin))
         return int(found[2])
 
 
-def answer(item, documents, version, table):
-    """The lines of a search's answer as they are written, and the names of the documents that have them."""
-    lines, names = [], set()
-    test, test_name = test_of(item.words["pattern"], table, item.words["ignores_case"]), item.words["name"]
-    for name in sorted(documents):
-        if test_name is not None and not test_of(test_name, table)(name):
-            continue
-        texts = documents[name].split(b"\n")
-        for number, text in enumerate(texts if texts[-1] else texts[:-1], 1):
-            if test(text):
-                lines.append(b"%s:%d:%s\n" % (name, number, text))
-                names.add(name)
-    return b"search %d version %d lines %d" % (item.number, version, len(lines)), b"".join(lines), names
+def fault_of_search(item):
+    """The reason for which a search must be refused for its words or its patterns, or None."""
+    try:
+        searches.read(item.words["line"])
+    except searches.Refused as refused:
+        return str(refused)
+    return None
 
 
-def check_answer(item, entry, documents, stats, table):
-    version, text = entry[3], entry[4]
+def check_answer(item, entry, run, stats):
     if item.known:
-        if text != item.known[4]:
-            raise Illegal("search %d is answered by %r, and should be by %r" % (item.number, text[:300], item.known[4][:300]))
+        if entry.text != item.known.text:
+            raise Illegal("search %d is answered by %r, and should be by %r" % (item.number, entry.text[:300], item.known.text[:300]))
         return
-    head, lines, names = answer(item, documents, version, table)
-    first, _, rest = text.partition(b"\n")
-    counts = HEAD.match(text)
-    if stats:
-        if not counts[4] or int(counts[6]) != len(documents) or not len(names) <= int(counts[5]) <= len(documents):
-            raise Illegal("search %d counts other documents" % item.number)
-        head += counts[4]
-    if (first, rest) != (head, lines):
-        raise Illegal("search %d is answered by %r, and at version %d should be by %r" % (item.number, text[:300], version, (head + b"\n" + lines)[:300]))
+    found, rows = run.answer(item.words["line"], entry.version)
+    counts = HEAD.match(entry.text)
+    candidates = counts[5] if stats else b""
+    if stats and not (counts[5] and are_candidates(item, run.states[entry.version], int(counts[6]), int(counts[7]))):
+        raise Illegal("search %d counts other documents" % item.number)
+    wanted = b"search %d version %d %s%s\n%s" % (item.number, entry.version, found, candidates, rows)
+    if entry.text != wanted:
+        raise Illegal("search %d is answered by %r, and at version %d should be by %r" % (item.number, entry.text[:300], entry.version, wanted[:300]))
 
 
-def reason_of_search(item, table):
-    """The reason for which a search must be refused when it is asked, or None. The name pattern is looked at first."""
+def are_candidates(item, documents, candidates, count):
+    """Whether an answer may count so many candidates of so many documents. Each document with a match is one, whatever its name; and where
+    lines without a match are looked for, all are."""
+    search = searches.read(item.words["line"])
+    matching = [name for name in documents if search.test.lines_with_match(documents[name])]
+    return count == len(documents) and (count if search.inverts else len(matching)) <= candidates <= count
+
+
+def reason_of_search(item):
+    """The reason for which a search must be refused when it is asked, or None."""
     if item.known:
-        return item.known[2] if item.known[2] not in GIVEN_UP else None
-    if item.words["name"] is not None:
-        reason = fault_of_pattern(item.words["name"], table)
-        if reason:
-            return "name pattern: " + reason
-    return fault_of_pattern(item.words["pattern"], table)
+        return item.known.reason if item.known.reason not in GIVEN_UP else None
+    return fault_of_search(item)
 
 
-def items_with_entries(script, known):
+def items_with_entries(script, known, table):
     """The items of a script, and their places by what entries name them by. If a text is known, each search has its entry."""
     items = items_of(script)
     places = {("search" if item.is_search() else "line", item.number): place for place, item in enumerate(items)}
-    for entry in entries_of(known or b""):
-        if entry[0] == "search":
+    for item in items:
+        for pattern, other in table.items():
+            if item.is_search() and item.words["line"].endswith(b" " + pattern):
+                item.words["line"] = item.words["line"].removesuffix(pattern) + other
+    for entry in entries_of(known or b"", items):
+        if entry.what == "search":
             items[places[entry[:2]]].known = entry
     return items, places
 
@@ -316,20 +305,20 @@ def pair(items, text):
     """The entry of each item, or None if it has none."""
     places = {("search" if item.is_search() else "line", item.number): place for place, item in enumerate(items)}
     entries, last = [None] * len(items), -1
-    for entry in entries_of(text):
+    for entry in entries_of(text, items):
         place = places.get(entry[:2])
         if place is None or place <= last:
-            raise Illegal("the entry %r is out of its place" % entry[4][:60])
+            raise Illegal("the entry %r is out of its place" % entry.text[:60])
         entries[place], last = entry, place
     return entries
 
 
 def check(script, text, readers=2, max_commands=1_000_000, stats=False, files=None, table=None, scarce=False, known=None, timed=False):
     """Returns the status with which the run must end if the text is legal, and raises Illegal if it is not. `files` are the
-    bytes by their paths, `table` the patterns that are not plain, each with the reason of its refusal or its spelling for `re`.
+    bytes by their paths, `table` patterns that take too long here, each with another that finds the same lines.
     Where memory is scarce, it may be refused to any item, and any reader may answer a search. `known` is a text whose entries the
     searches must have. `timed` is whether searches have a limit of time."""
-    items, table = items_with_entries(script, known)[0], table or {}
+    items = items_with_entries(script, known, table or {})[0]
     entries = pair(items, text)
     run, statuses = Run(files or {}, max_commands, scarce, timed), []
     for place, (item, entry) in enumerate(zip(items, entries)):
@@ -338,18 +327,18 @@ def check(script, text, readers=2, max_commands=1_000_000, stats=False, files=No
         if item.kind == "status":
             statuses.append((place, run.shown_open(place, item, entry)))
             continue
-        reason = entry[2] if entry else None
+        reason = entry.reason if entry else None
         if reason not in run.reasons(item) or entry and not reason:
             raise Illegal("line %d, a %s, is %s, and should be %s" % (item.number, item.kind, reason or "accepted", " or ".join(map(str, run.reasons(item)))))
         if reason is None:
             run.carry_out(place, item)
-    shares, spans = Shares(0 if scarce else readers), []
+    shares, spans, ends = Shares(0 if scarce else readers), [], ends_of(items, readers)
     for place, (item, entry) in enumerate(zip(items, entries)):
         if not item.is_search():
             continue
         if entry is None:
             raise Illegal("search %d has no entry" % item.number)
-        fault, reason, (end, is_cancel) = reason_of_search(item, table), entry[2], end_of(items, place, readers)
+        fault, reason, (end, is_cancel) = reason_of_search(item), entry.reason, ends[place]
         if fault:
             if reason != fault and not (scarce and reason == "out of memory"):
                 raise Illegal("search %d is refused by %r, and should be by %r" % (item.number, reason, fault))
@@ -360,28 +349,32 @@ def check(script, text, readers=2, max_commands=1_000_000, stats=False, files=No
                 raise Illegal("search %d is refused by %r" % (item.number, reason))
             spans.append((place, place, end))
         else:
-            if entry[3] not in run.versions(place, end):
-                raise Illegal("search %d is answered at version %d" % (item.number, entry[3]))
-            shares.take(item.number, entry[3])
-            check_answer(item, entry, run.states[entry[3]], stats, table)
-            spans.append((place, max(place, run.first_published(entry[3])), end))
+            if entry.version not in run.versions(place, end):
+                raise Illegal("search %d is answered at version %d" % (item.number, entry.version))
+            shares.take(item.number, entry.version)
+            check_answer(item, entry, run, stats)
+            spans.append((place, max(place, run.first_published(entry.version)), end))
     check_open(statuses, spans)
-    if any(entry and entry[2] for entry in entries):
+    if any(entry and entry.reason for entry in entries):
         return 2
-    return 0 if any(entry and entry[4].count(b"\n") > 1 for entry in entries) else 1
+    return 0 if any(entry and is_hit(entry) for entry in entries) else 1
 
 
-def end_of(items, place, readers):
-    """The place before which a search at this place has its entry, and whether a cancel is there, which refuses it if it has none. It is
-    that of the first cancel of the search or sync after it, or the end. Without readers it is the search's own."""
+def ends_of(items, readers):
+    """For each item, if it is a search, the place before which it has its entry, and whether a cancel is there, which refuses it if it has none.
+    It is that of the first cancel of the search or sync after it, or the end. Without readers it is the search's own."""
     if readers == 0:
-        return place, False
-    for at in range(place + 1, len(items)):
-        if items[at].cancels(items[place].number):
-            return at, True
-        if items[at].kind == "sync":
-            return at, False
-    return len(items), False
+        return [(place, False) for place in range(len(items))]
+    ends, cancels, sync = [], {}, len(items)
+    for place in reversed(range(len(items))):
+        item = items[place]
+        if item.kind == "sync":
+            sync = place
+        elif item.kind == "cancel":
+            cancels[item.words["search"]] = place
+        cancel = cancels.get(item.number, sync)
+        ends.append((min(cancel, sync), cancel < sync))
+    return ends[::-1]
 
 
 def check_open(statuses, spans):
@@ -427,8 +420,8 @@ class Steps:
     forbids that they were taken earlier. So it is legal if any order of steps is. A cancel of a search that is open has its entry when
     it is taken, so it is taken only for that entry."""
 
-    def __init__(self, items, run, readers, table):
-        self.items, self.run, self.readers, self.table = items, run, readers, table
+    def __init__(self, items, run, readers):
+        self.items, self.run, self.readers = items, run, readers
         self.at = 0  # the next item
         self.open = {}  # the open searches by their numbers, each with its item and the least version that it may get
         self.shares = Shares(0 if run.scarce else readers)
@@ -443,7 +436,7 @@ class Steps:
         item = self.items[self.at]
         self.may_take(item)
         if item.is_search():
-            if reason_of_search(item, self.table):
+            if reason_of_search(item):
                 raise Illegal("search %d is not refused" % item.number)
             self.open[item.number] = item, self.run.last_published(self.at)
         elif item.kind == "status":
@@ -473,7 +466,7 @@ class Steps:
         self.take_before(place)
         item = self.items[place]
         self.may_take(item)
-        reasons = [reason_of_search(item, self.table)] if item.is_search() else self.run.reasons(item)
+        reasons = [reason_of_search(item)] if item.is_search() else self.run.reasons(item)
         if reason not in reasons and not (item.is_search() and reason == "out of memory" and self.run.may_give_up(item, reason)):
             raise Illegal("%s %d is refused by %r, and should be by %r" % (item.kind, item.number, reason, reasons[0]))
         self.at += 1
@@ -499,12 +492,12 @@ class Steps:
         item = self.items[place]
         self.may_take(item)
         if item.kind != "status" or self.run.shown_open(place, item, entry) != len(self.open):
-            raise Illegal("line %d, a %s, has %r, and %d searches are open" % (item.number, item.kind, entry[4], len(self.open)))
+            raise Illegal("line %d, a %s, has %r, and %d searches are open" % (item.number, item.kind, entry.text, len(self.open)))
         self.at += 1
 
     def answer(self, place, entry, stats):
         """Answers a search at a version that is published by now, and not older than when it was asked."""
-        number, version = self.items[place].number, entry[3]
+        number, version = self.items[place].number, entry.version
         self.take_search(place)
         item, least = self.open[number]
         while version and version not in (published for _, published in self.run.published):
@@ -513,7 +506,7 @@ class Steps:
             self.take()
         if version < least:
             raise Illegal("search %d is answered at version %d, and should be at %d or later" % (number, version, least))
-        check_answer(item, entry, self.run.states[version], stats, self.table)
+        check_answer(item, entry, self.run, stats)
         del self.open[number]
         self.shares.take(number, version)
 
@@ -534,15 +527,15 @@ def check_session(script, text, readers=2, max_commands=1_000_000, stats=False, 
     """As `check`, for a session: each answer is written as soon as it is there, and only the other entries keep the order of
     their items. An answer has a version that is published by then. If the text is not whole, since the session ended early, searches
     may still be open and items left."""
-    items, places = items_with_entries(script, known)
-    steps, refused, hit = Steps(items, Run(files or {}, max_commands, scarce, timed), readers, table or {}), False, False
-    for entry in entries_of(text):
+    items, places = items_with_entries(script, known, table or {})
+    steps, refused, hit = Steps(items, Run(files or {}, max_commands, scarce, timed), readers), False, False
+    for entry in entries_of(text, items):
         place = places.get(entry[:2])
         if place is None:
-            raise Illegal("there is no item for the entry %r" % entry[4][:60])
+            raise Illegal("there is no item for the entry %r" % entry.text[:60])
         steps.write(place, entry, stats)
-        refused = refused or entry[2] is not None
-        hit = hit or entry[4].count(b"\n") > 1
+        refused = refused or entry.reason is not None
+        hit = hit or is_hit(entry)
     if not whole:
         return 2
     steps.take_before(len(items))

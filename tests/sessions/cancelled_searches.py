@@ -42,8 +42,6 @@ DOCUMENTS = b"".join(put(*pair) for pair in BODIES.items()) + b"publish\n"
 VERSION, BYTES = len(BODIES), sum(map(len, BODIES.values()))
 
 LONG_SEARCH, SLOW_SEARCH, QUICK_SEARCH = b"searchin ^long " + SLOW + b"\n", b"searchin ^slow$ " + SLOW + b"\n", b"searchin ^quick$ hello\n"
-# The patterns that are not plain, each with its spelling for the judge or the reason of its refusal.
-PATTERNS = {**TABLE, b"(": "group not closed at 0"}
 QUICK = b"search %%d version %d lines 1\nquick:1:hello\n" % VERSION
 FOUND = b"search %%d version %d lines 1\nslow:3:end\n" % VERSION
 CANCELLED, TOO_SLOW = b"search %d refused: cancelled\n", b"search %d refused: too slow\n"
@@ -97,19 +95,19 @@ class Talk:
         line = self.send(b"status\n")
         self.expect(STATUS % (line, version, documents, size, accepted, count))
 
-    def ask_until_answered(self):
+    def ask_until_answered(self, answer=QUICK):
         """Asks a quick search again and again while it is too slow."""
         for _ in range(100):
             number, = self.ask(QUICK_SEARCH)
             entry = self.read()
             if entry != TOO_SLOW % number:
-                same("the answer", entry, QUICK % number)
+                same("the answer", entry, answer % number)
                 return
         raise Wrong("a quick search is too slow a hundred times")
 
     def judge(self, status, **how):
         script, text = b"".join(self.sent), b"".join(self.written)
-        fault = transcripts.fault_of(script, text, status, session=True, table=PATTERNS, **self.how, **how)
+        fault = transcripts.fault_of(script, text, status, session=True, table=TABLE, **self.how, **how)
         if fault:
             raise Wrong(f"{fault}: {text!r}")
 
@@ -173,15 +171,16 @@ def cancel_right_behind_its_search(start):
         talk.end(2)
 
 
-def search_is_given_up_within_a_document():
-    """Two readers have a document each, and the first document takes twice as long as the second. The search of the first is cancelled.
-    Then its reader has the next search before the second is done with its document, which takes half a minute."""
-    with Session("--readers", "2") as session:
-        session.send(put(b"a", slow_body(64, 16_000)) + put(b"b", slow_body(32, 16_000)) + b"publish\n")
-        session.send(b"".join(b"searchin ^%s$ %s\n" % (name, SLOW) for name in (b"a", b"b")) + b"searchin ^c$ x\n")
-        session.expect_quiet()
-        session.ask(b"cancel 1\n", CANCELLED % 1 + b"search 3 version 2 lines 0\n")
-        session.ask(b"cancel 2\n", CANCELLED % 2)
+def spans_are_given_up_within_a_line():
+    """The spans of a line of one letter take minutes, since each is looked for in all that follows it. The search is cancelled,
+    and then one like it is too slow; each time its reader has the next search at once."""
+    lines = (b"a" * 16_384 + b"\n") * 8
+    find = b"find --spans -- (a|aa)*b|a\n"
+    with Session("--readers", "1", "--search-ms", "2000") as session:
+        session.send(put(b"a", lines) + b"publish\n" + find)
+        session.ask(b"cancel 1\nsearchin ^c$ x\n", CANCELLED % 1 + b"search 2 version 1 lines 0\n")
+        session.ask(find, TOO_SLOW % 3)
+        session.ask(b"searchin ^c$ x\n", b"search 4 version 1 lines 0\n")
         session.end(2)
 
 
@@ -366,15 +365,17 @@ def searches_have_much_time(start):
 
 
 def time_of_a_search_that_waits_for_a_reader():
-    """It counts too: behind a slow search, which its reader does not give up within a line, a quick one is too slow."""
-    with Session("--readers", "1", "--search-ms", "100") as session:
-        talk = Talk(session, 1, timed=True)
+    """It counts too: behind a slow search, which its reader does not give up within 64 KiB, a quick one is too slow. The slow one
+    takes some tenths of a second."""
+    documents = put(b"slow", slow_body(4, 16_000)) + put(b"quick", b"hello\n") + b"publish\n"
+    with Session("--readers", "1", "--search-ms", "20") as session:
+        talk = Talk(session, 1, timed=True, documents=documents)
         talk.ask(SLOW_SEARCH, QUICK_SEARCH)
         first = talk.read()
-        if first not in (FOUND % 1, TOO_SLOW % 1):
+        if first not in (b"search 1 version 2 lines 1\nslow:5:end\n", TOO_SLOW % 1):
             raise Wrong(f"the slow search has the entry {first!r}")
         talk.expect(TOO_SLOW % 2)
-        talk.ask_until_answered()
+        talk.ask_until_answered(b"search %d version 2 lines 1\nquick:1:hello\n")
         talk.end(2)
 
 
@@ -431,7 +432,7 @@ def judge(words, readers, script):
     done = subprocess.run([PROGRAM, *words], input=script, capture_output=True, check=False, timeout=SECONDS)
     same("standard error", done.stderr, b"")
     how = {"session": "--live" in words, "timed": "--search-ms" in words, "readers": readers}
-    fault = transcripts.fault_of(script, done.stdout, done.returncode, table=PATTERNS, **how)
+    fault = transcripts.fault_of(script, done.stdout, done.returncode, table=TABLE, **how)
     if fault:
         raise Wrong(f"{words}: {fault}: {done.stdout!r}")
 
@@ -462,7 +463,7 @@ WITH_READERS = [
 ]
 WITH_EACH = [long_searches_are_too_slow, searches_have_much_time]
 ONCE = [
-    search_is_given_up_within_a_document,
+    spans_are_given_up_within_a_line,
     time_of_a_search_that_waits_for_a_reader,
     status_behind_very_many_searches_that_are_too_slow,
     run_that_cancels_long_searches,

@@ -26,7 +26,7 @@ from live import GREATEST_LINE, MEBIBYTE, SECONDS, Session, faults_with_each, sa
 # Large counts in a row inside a star: the simulation, which is the way for such a pattern, looks at some 3,000 places for each
 # byte, which takes seconds for each MB.
 SLOW = rb"x(" + rb"([ab]{0,20}c?){3}" * 50 + rb"d$|[ab])*e|^end$"
-# What the pattern finds in the bodies below.
+# Another that finds the same lines in the bodies below.
 TABLE = {SLOW: b"^end$"}
 SLOW_SEARCH = b"searchin ^slow " + SLOW + b"\n"
 # How many documents a long search goes through, of a MiB each. Readers that are idle share them.

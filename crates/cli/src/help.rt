@@ -34,6 +34,8 @@ A script is a list of lines:
   searchin NAMES ERE  lists them only in documents whose names match the expression NAMES
   isearch ERE, isearchin NAMES ERE
                       do the same with the case of letters ignored in ERE
+  find OPTIONS -- ERE searches with options as grep has them: -i -F -w -x -v -m N -l -c -q -C N,
+                      and -n NAMES, -N NAMES, -I, --column, --spans and -Z
   sync                waits until the searches before it are answered
   cancel K            gives up search K, if it has no answer yet
   status              shows the version, documents, bytes, commands and open searches
@@ -46,7 +48,7 @@ Each search prints `search K version V lines L`, and then each line as NAME:LINE
 What is refused is printed too, with its reason, and the script goes on. Only a put
 with no count or a wrong one ends the script.
 
-The status is 0 if a search listed a line, 1 if none did, 2 if anything was refused.
+The status is 0 if a search found a line, 1 if none did, 2 if anything was refused.
 
 Scripts are described in docs/SCRIPT.md, and patterns in docs/PATTERNS.md.
 

@@ -1,4 +1,4 @@
-//! The limits and the defaults of the options.
+//! The limits and the defaults of the options. They are this program's choice.
 
 /// The greatest number of readers.
 pub const MAX_READERS: u32 = 16;

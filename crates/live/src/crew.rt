@@ -21,7 +21,9 @@ const TEXT_AHEAD: usize = 1_048_576;
 /// What a session waits for: an item or the end of the reading, or an answer.
 #[derive(Drop)]
 pub(crate) enum Event<J: service::Naming, K: reads::Naming> {
+    /// An item, or the end of the reading.
     Read(Next<K>),
+    /// An answer.
     Answer(Done<J>),
 }
 
@@ -283,7 +285,7 @@ impl<J: service::Naming, K: reads::Naming, I: BufRead + Drop> Crew<J, K, I> {
         }
     }
 
-    /// Hands a search to the readers. It comes back if they cannot have it.
+    /// Hands a search to the readers. `None` means that they have it; if they cannot have it, it comes back.
     pub(crate) fn hand_out<R: Wait>(&self, rt: &R, task: Task) -> Option<Task> {
         match self {
             Crew::Alone(_) => Some(task),

@@ -22,8 +22,12 @@ use transcript::Entry;
 /// How many searches are open at most. No further item is taken until one of them is answered.
 const MAX_OPEN: usize = 1024;
 
-/// Takes the next item, or waits for the next event. Returns whether the session goes on. If it does not, the reading has
-/// ended, all items are taken, and no search is open.
+/// Takes the next item, or waits for the next event. Returns whether the session goes on. If it does not, the reading
+/// has ended, all items are taken, and no search is open.
+///
+/// An `Err` says why the session ends early: `TooManySearches`; `CannotWrite`, `OutputClosed` or `OutOfMemory` if the
+/// text of an entry was not written whole; `OutOfMemory` if there is no room for an item that was read; or `CannotRead`
+/// if an event did not come, which never happens.
 pub(crate) fn step<
     J: service::Naming,
     K: reads::Naming,

@@ -9,7 +9,9 @@ use transcript::{Entry, has_hit, is_refusal};
 /// Whether any entry so far refuses something, and whether any has a hit.
 #[derive(Clone, Copy, Debug, PartialEq, Eq)]
 pub(crate) struct Marks {
+    /// Whether any entry refuses something.
     pub(crate) refused: bool,
+    /// Whether any entry has a hit.
     pub(crate) hit: bool,
 }
 
@@ -24,7 +26,8 @@ impl Marks {
         }
     }
 
-    /// The status of a session with these entries.
+    /// The status of a session with these entries: 2 if anything was refused, otherwise 0 if some search has a hit, and
+    /// otherwise 1.
     pub(crate) fn status(self) -> u8
         ensures { result ≡ status_by self }
     {

@@ -18,14 +18,18 @@ use transcript::Entry;
 /// What a session needs throughout.
 #[derive(Drop)]
 pub(crate) struct Plan<'a, R> {
+    /// The runtime.
     pub(crate) rt: &'a R,
+    /// The allocator.
     pub(crate) alloc: Global,
+    /// How the session is run.
     pub(crate) options: LiveOptions,
 }
 
 /// What the entries that were written say of the status, and a buffer for the text of an entry.
 #[derive(Drop)]
 pub(crate) struct Written {
+    /// What they say of the status.
     pub(crate) marks: Marks,
     text: Vec<u8>,
 }
@@ -45,6 +49,9 @@ impl Written {
     }
 
     /// Notes an entry and writes its text.
+    ///
+    /// An `Err` is `CannotWrite` if the output failed or took no byte, `OutputClosed` if nobody reads it any more, or
+    /// `OutOfMemory` if there is no memory for the text. A beginning of the text is then written.
     pub(crate) fn show<R: Threads + Sync, O: Write>(
         &mut self,
         plan: &Plan<'_, R>,

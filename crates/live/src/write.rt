@@ -16,6 +16,9 @@ const THREADS: usize = 1;
 
 /// Writes the text of an entry and flushes it. For an entry without text, nothing is written or flushed. `text` is a
 /// buffer; its old bytes do not matter.
+///
+/// An `Err` is `CannotWrite` if the output failed or took no byte, `OutputClosed` if nobody reads it any more, or
+/// `OutOfMemory` if there is no memory for the text. A beginning of the text is then written.
 pub(crate) fn write_now<R: Threads + Sync, O: Write>(
     rt: &R,
     alloc: Global,

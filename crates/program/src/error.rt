@@ -24,7 +24,7 @@ pub enum ProgramError {
     /// The session ended early.
     #[error(transparent)]
     Live(LiveError),
-    /// Standard output failed.
+    /// Standard output failed, or took no byte.
     #[error("tsearch: cannot write")]
     CannotWrite,
     /// Nobody reads standard output any more. Nothing is said of it on standard error.

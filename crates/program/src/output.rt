@@ -12,11 +12,11 @@ use std::io::Write;
 use std::thread::Threads;
 use transcript::{Transcript, WriteError, flush_whole, write_transcript, write_whole};
 
-/// Writes the text of a transcript, and flushes it. The text of a large answer is formed in up to `threads` threads, if these
-/// are two or more.
+/// Writes the text of a transcript, and flushes it. The text of a large answer is formed in up to `threads` threads, if
+/// these are two or more.
 ///
-/// `OutOfMemory` means that memory ran out for text, `CannotWrite` that the output failed, and `OutputClosed`
-/// that nobody reads it any more. A beginning of the text is then written.
+/// `OutOfMemory` means that memory ran out for text, `CannotWrite` that the output failed or took no byte, and
+/// `OutputClosed` that nobody reads it any more. A beginning of the text is then written.
 #[tactic(auto, using(crate::proofs::OutputLemmas::written_and_kept, crate::proofs::OutputLemmas::whole_and_kept))]
 pub fn write_text<R: Threads + Sync, W: Write>(
     rt: &R,
@@ -39,8 +39,10 @@ pub fn write_text<R: Threads + Sync, W: Write>(
     }
 }
 
-/// Writes a text, and flushes it. Returns the status, 0. `CannotWrite` means that the output failed, and `OutputClosed` that nobody reads it
-/// any more. A beginning of the text is then written.
+/// Writes a text, and flushes it. Returns the status, 0.
+///
+/// `CannotWrite` means that the output failed or took no byte, and `OutputClosed` that nobody reads it any more. A
+/// beginning of the text is then written.
 #[tactic(auto, using(crate::proofs::OutputLemmas::written_and_kept, crate::proofs::OutputLemmas::whole_and_kept))]
 pub fn show<W: Write>(text: &str, out: &mut W) -> Result<u8, ProgramError>
     ensures ok { IfOk result (λ status. (status ≡ 0) × Appends (W.contents out.old) (W.contents out.new) text.now) }

@@ -58,16 +58,13 @@ impl<K: Naming, I: BufRead + Drop> Feed<K, I> {
         }
     }
 
-    /// What was read: the items of all messages so far.
-    pub fn front(&self) -> Front<K>
-        ensures { result ≡ self.now.read }
-    {
-        self.read.again()
-    }
-
-    /// Reads the next item, as `stream::ItemStream::next_item` does, and returns its message, or how the reading ended: at the
-    /// end of the input, after a fault that ends it, or with an error. The errors are those of `next_item`, and `OutOfMemory`
-    /// also if there is no memory for the item. Nothing is read after the end, and each later call returns the same end.
+    /// Reads the next item, as `stream::ItemStream::next_item` does, and returns its message, or how the reading ended:
+    /// at the end of the input, after a fault that ends it, or with an error. Nothing is read after the end, and each
+    /// later call returns the same end.
+    ///
+    /// The error is `CannotRead` if the input cannot be read, `OutOfMemory` if there is no memory for a line or for the
+    /// item, `LineTooLong` if a line has more than `script::MAX_SCRIPT` bytes, or `TooManyLines` if the number of the
+    /// line after the item, or after a skipped line, would not fit in 32 bits.
     pub fn next(&mut self) -> Next<K>
         ensures comes { Comes self.old result self.new }
         ensures over { HasEnded self.old → (result ≡ Next.End (end_state self.old.read self.old.failed)) × (self.new.left ≡ self.old.left) }

@@ -35,7 +35,8 @@ impl<K: Naming> Model for Inbox<K> {
 /// Why a message is not taken in.
 #[derive(Clone, Copy, Debug, PartialEq, Eq)]
 pub enum InboxError {
-    /// It is not the one after the last that came. It never happens to messages of one reading that come in order.
+    /// It is not the one after the last that came, or the reading has ended already. It never happens to messages of
+    /// one reading that come in order.
     Lost,
     /// Memory ran out.
     OutOfMemory,
@@ -55,7 +56,10 @@ impl<K: Naming> Inbox<K> {
         }
     }
 
-    /// Takes in what came next. After an `Err` nothing has changed.
+    /// Takes in what came next.
+    ///
+    /// An `Err` is `Lost` if that is not the message after the last one that came, or if the reading has ended already,
+    /// and `OutOfMemory` if there is no memory to hold it. Nothing has changed then.
     pub fn take_in(&mut self, next: Next<K>) -> Result<(), InboxError>
         ensures ok { OnOk result (CameIn self.old self.new) }
         ensures err { OnErr result (self.new ≡ self.old) }
@@ -102,7 +106,8 @@ impl<K: Naming> Inbox<K> {
         Ok(())
     }
 
-    /// The next item that can be taken. A sync cannot be taken unless the searches before it are answered.
+    /// Takes out the next item, and returns it. `None` if there is none, or if it is a sync and the searches before it
+    /// are not answered, as `are_answered` says.
     pub fn next_ready(&mut self, are_answered: bool) -> Option<ReadItem>
         ensures some { IfSome result (λ read. self.old.held ≡ read ∷ self.new.held) }
         ensures no_sync { are_answered ≡ false → IfSome result (λ read. read.item ≢ sync) }
@@ -127,7 +132,7 @@ impl<K: Naming> Inbox<K> {
         }
     }
 
-    /// How the reading ended, if it did: the error, or `Some(None)`.
+    /// How the reading ended: by an error, or by none, which is `Some(None)`. `None` if it goes on.
     pub fn over(&self) -> Option<Option<StreamError>>
         ensures over { result ≡ self.now.over }
         ensures ends { EndsIf K.input self.now.came self.now.over }

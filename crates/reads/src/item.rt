@@ -1,3 +1,5 @@
+//! Items that were read.
+
 use stream::OwnedItem;
 
 /// An item that was read, and the number of its line.

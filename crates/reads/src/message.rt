@@ -11,6 +11,7 @@ use stream::StreamError;
 /// An item, and all that was read up to it.
 #[derive(Drop)]
 pub struct Sent<K: Naming> {
+    /// The item.
     pub item: ReadItem,
     /// What was read. It ends with the item.
     pub read: Front<K>,
@@ -31,7 +32,8 @@ impl<K: Naming> Sent<K> {
         came.begins(&self.read)
     }
 
-    /// The message of an item that was read after those of this front. `None` for the reasons of `Front::with`.
+    /// The message of an item that was read after those of this front. `None` if the history continues after this
+    /// front, or the number of items would not fit in 64 bits. The one who reads meets neither.
     pub(crate) fn after(read: &Front<K>, book: &Book<K>, item: ReadItem) -> Option<Sent<K>>
         requires { IsReadOf K.input (read.now ++ item ∷ []) }
         ensures { IfSome result (λ sent. (sent.item ≡ item) × (sent.read ≡ read.now ++ item ∷ [])) }
@@ -46,6 +48,7 @@ impl<K: Naming> Sent<K> {
 /// The end of a reading, after all that was read. Contracts see it as an `EndState`.
 #[derive(Drop)]
 pub struct Ended<K: Naming> {
+    /// All that was read.
     pub(crate) read: Front<K>,
     /// The error that ended the reading, if one did.
     pub(crate) failed: Option<StreamError>,
@@ -64,6 +67,8 @@ impl<K: Naming> Model for Ended<K> {
 /// What comes of a reading.
 #[derive(Drop)]
 pub enum Next<K: Naming> {
+    /// An item.
     Item(Sent<K>),
+    /// The end of the reading.
     End(Ended<K>),
 }

@@ -48,12 +48,13 @@ abbrev pub view_in : OptionName → Argument → Option View
 view_in option.Names _ = Some view.Names
 view_in option.Counts _ = Some view.Counts
 view_in option.Header _ = Some view.Header
-view_in option.Context (argument.number n) = Some (view.Lines n)
+view_in option.Context (argument.number n) = Some (view.Context n)
 view_in option.Column _ = Some view.Column
 view_in option.Spans _ = Some view.Spans
 view_in _ _ = None
 
--- the options that settings say: without one that names it, case counts, every document is searched, and whole lines are shown
+-- the options that settings say: without one that names it, case counts, every document is searched, and each line is shown alone;
+-- `-C 0` shows lines alone too, but sets stretches of them apart, so it is another view
 abbrev pub options_of : List Setting → Options
 options_of settings = record {
   case = case_if (has_option option.IgnoreCase settings);
@@ -64,7 +65,7 @@ options_of settings = record {
   names = filter_map (λ setting. test_in setting.name setting.argument) settings;
   name_case = case_if (has_option option.IgnoreNameCase settings);
   limit = slice_get (filter_map (λ setting. limit_in setting.name setting.argument) settings) 0;
-  view = unwrap_or (slice_get (filter_map (λ setting. view_in setting.name setting.argument) settings) 0) (view.Lines 0);
+  view = unwrap_or (slice_get (filter_map (λ setting. view_in setting.name setting.argument) settings) 0) view.Lines;
   zero = has_option option.Zero settings;
 }
 

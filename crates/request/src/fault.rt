@@ -9,7 +9,7 @@ use std::alloc::{AllocError, AllocFailed};
 /// Why a `find` is refused: the first fault from the left.
 #[derive(Clone, Copy, Debug, PartialEq, Eq)]
 pub enum FindFault<'t> {
-    /// A word before the pattern is no option.
+    /// This word before the pattern names no option. It can be empty.
     BadOption(&'t [u8]),
     /// The option is there already.
     Twice(OptionName),
@@ -17,7 +17,7 @@ pub enum FindFault<'t> {
     TooOften(OptionName),
     /// The option is not followed by a number within its range.
     NeedsNumber(OptionName),
-    /// An earlier option, and one that cannot be there as well.
+    /// The first option is there already, and the second cannot be there as well.
     Exclude(OptionName, OptionName),
     /// There is no `--` before the pattern.
     NoSeparator,
@@ -38,8 +38,9 @@ impl<T: Drop> From<AllocFailed<T>> for FindFault<'_> {
 impl FindFault<'_> {
     ghost use Rattle.request.specs.Faults.{reason_of};
 
-    /// Writes the fault in words to the end of a text, as in `option -m twice`. If memory runs out, the text's end is
-    /// left open.
+    /// Writes the fault in words to the end of a text, as in `option -m twice`.
+    ///
+    /// An `Err` means that memory ran out. Some of the words can then be at the text's end.
     pub fn write_reason(&self, text: &mut Vec<u8>) -> Result<(), AllocError>
         ensures { OnOk result (text.new.items ≡ text.old.items ++ reason_of self.now) }
     {

@@ -67,11 +67,11 @@ pub enum Takes {
     Nothing,
     /// A word.
     Word,
-    /// A number from the first to the second.
+    /// A number from the first to the second, both included.
     Number(u32, u32),
 }
 
-/// The option of a word, if it is one's.
+/// The option that this word names, or `None` if it names none.
 pub fn option_named(word: &[u8]) -> Option<OptionName>
     ensures { result ≡ option_named word.now }
 {
@@ -105,7 +105,8 @@ impl OptionName {
         }
     }
 
-    /// What follows the word of the option.
+    /// What follows the word of the option: a word after `-n` and `-N`, a number from 1 to 4,294,967,295 after `-m`, a
+    /// number from 0 to 1,000 after `-C`, and nothing after any other.
     pub fn takes(self) -> Takes
         ensures { result ≡ takes self }
     {
@@ -125,7 +126,7 @@ impl OptionName {
         self.text().as_bytes() == other.text().as_bytes()
     }
 
-    /// Whether the option can be there more than once.
+    /// Whether the option can be there more than once: `-n` or `-N`.
     pub fn is_repeatable(self) -> bool
         ensures { result ≡ is_repeatable self }
     {
@@ -136,7 +137,8 @@ impl OptionName {
         }
     }
 
-    /// Whether the two options exclude each other.
+    /// Whether the two options exclude each other: two of `-l`, `-c`, `-q`, `-C`, `--column` and `--spans`, or `-v` and
+    /// one of the last two. Each of the six excludes itself.
     pub fn excludes(self, other: OptionName) -> bool
         ensures { result ≡ excludes self other }
     {

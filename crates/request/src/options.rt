@@ -17,15 +17,18 @@ use std::alloc::Global;
 pub struct NameTest<'t> {
     /// The pattern, not read yet.
     pub pattern: &'t [u8],
-    /// Whether names must match it.
+    /// Whether names must match it. If not, they must not match it.
     pub wanted: bool,
 }
 
 /// What is shown of the lines that are found.
 #[derive(Clone, Copy, Debug, PartialEq, Eq)]
 pub enum View {
-    /// Each line, with as many lines before it and after it.
-    Lines(u32),
+    /// Each line. This is shown if no option says another view.
+    Lines,
+    /// Each line, with as many lines before it and after it, 0 to 1000. Even with 0 this is not `Lines`: stretches of
+    /// lines that do not touch are set apart, as `grep -C 0` does.
+    Context(u32),
     /// Each line, and where its first match is.
     Column,
     /// Each line, and where its matches are.
@@ -51,11 +54,11 @@ pub struct FindOptions<'t> {
     pub whole_lines: bool,
     /// Whether the lines that contain no match are found.
     pub invert: bool,
-    /// What the names of the documents must match and must not match, all of it.
+    /// The tests of names, in the order of the settings. A name must pass all of them.
     pub names: Vec<NameTest<'t>>,
     /// Whether case counts in the patterns of names.
     pub name_case: Case,
-    /// How many lines, or names, are shown at most.
+    /// How many lines, or names, are shown at most, from 1. `None` if all are.
     pub limit: Option<u32>,
     /// What is shown.
     pub view: View,
@@ -64,6 +67,8 @@ pub struct FindOptions<'t> {
 }
 
 /// The options that these settings say.
+///
+/// An `Err` is `OutOfMemory`: there is no memory for the tests of names.
 pub fn options_of<'t>(
     alloc: Global,
     settings: &[Setting<'t>],
@@ -154,16 +159,16 @@ fn limit_in(setting: &Setting<'_>) -> Option<u32>
     }
 }
 
-/// What is shown: what a setting says, or lines alone.
+/// What is shown: what a setting says, or `Lines` if none says it.
 fn view_of(settings: &[Setting<'_>]) -> View
-    ensures { result ≡ unwrap_or (slice_get (filter_map (λ setting. view_in setting.name setting.argument) (shown_settings settings.now)) 0) (View.Lines 0) }
+    ensures { result ≡ unwrap_or (slice_get (filter_map (λ setting. view_in setting.name setting.argument) (shown_settings settings.now)) 0) View.Lines }
 {
     for setting in settings {
         if let Some(view) = view_in(setting) {
             return view;
         }
     }
-    View::Lines(0)
+    View::Lines
 }
 
 /// What is shown by a setting.
@@ -174,7 +179,7 @@ fn view_in(setting: &Setting<'_>) -> Option<View>
         (OptionName::Names, _) => Some(View::Names),
         (OptionName::Counts, _) => Some(View::Counts),
         (OptionName::Header, _) => Some(View::Header),
-        (OptionName::Context, Argument::Number(lines)) => Some(View::Lines(lines)),
+        (OptionName::Context, Argument::Number(lines)) => Some(View::Context(lines)),
         (OptionName::Column, _) => Some(View::Column),
         (OptionName::Spans, _) => Some(View::Spans),
         _ => None,

@@ -43,7 +43,12 @@ pub struct Taken<'t> {
     pub rest: &'t [u8],
 }
 
-/// Takes the setting at the front of a text, which comes after these settings.
+/// Takes the setting at the front of a text, which comes after these settings. The text does not begin with the word
+/// `--`.
+///
+/// An `Err` is the first fault of the setting: `NoSeparator` if the text is empty, or ends where `-n` or `-N` needs a
+/// word; `BadOption` if its first word names no option; `Twice`, `TooOften` or `Exclude` if the option cannot follow
+/// the earlier ones; or `NeedsNumber` if no number within its range follows it. It is never `OutOfMemory`.
 pub fn take_setting<'t>(earlier: &[Setting<'t>], text: &'t [u8]) -> Result<Taken<'t>, FindFault<'t>>
     requires { first_word text.now ≢ codes "--" }
     ensures ok { IfOk result (λ taken. SpellsSetting text.now taken.rest.now (shown_setting taken.setting)) }

@@ -15,11 +15,11 @@ const TOO_LARGE: u64 = 4_294_967_296;
 pub struct CutWord<'t> {
     /// The word.
     pub word: &'t [u8],
-    /// What is after the space behind the word.
+    /// What is after the space behind the word. It is empty if there is no space.
     pub after: &'t [u8],
 }
 
-/// Cuts a text after its first word.
+/// Cuts a text after its first word, which ends at the first space or at the text's end.
 pub fn cut_word(text: &[u8]) -> CutWord<'_>
     ensures word { result.word.now ≡ first_word text.now }
     ensures after { result.after.now ≡ after_word text.now }
@@ -50,7 +50,8 @@ fn space_at(text: &[u8]) -> usize
     text.len()
 }
 
-/// The number that a word spells, if it is one from `least` to `greatest`.
+/// The number that a word of decimal digits spells, if it is one from `least` to `greatest`, both included. `None` for
+/// any other word.
 pub fn number_in(word: &[u8], least: u32, greatest: u32) -> Option<u32>
     ensures { MatchOption result ((n : ℕ) → SpellsNumber word.now n → least ≤ n → n ≤ greatest → ⊥)
         (λ n. SpellsNumber word.now n × (least ≤ n) × (n ≤ greatest)) }

@@ -44,7 +44,8 @@ fn add_number(text: &mut Vec<u8>, word: &[u8], number: u32) -> Result<(), Fail> 
 
 fn add_view(text: &mut Vec<u8>, view: View) -> Result<(), Fail> {
     match view {
-        View::Lines(around) => add_number(text, b" C", around)?,
+        View::Lines => text.extend_from_slice(b" lines")?,
+        View::Context(around) => add_number(text, b" C", around)?,
         View::Column => text.extend_from_slice(b" column")?,
         View::Spans => text.extend_from_slice(b" spans")?,
         View::Names => text.extend_from_slice(b" names")?,
@@ -102,25 +103,26 @@ fn expect_rows(rt: &impl Abort, alloc: Global, table: &[u8]) -> Result<(), Fail>
 }
 
 /// The rows are `TEXT~READING`, as `shown` writes it.
-const ASKED: &[u8] = b"-- a~ C0/a
---~ C0/
--- ~ C0/
--- -i a  b ~ C0/-i a  b 
--i -- -- a~i C0/-- a
--F -w -x -v -I -Z -- a~FwxvIZ C0/a
--Z -v -i -- a~ivZ C0/a
--m 1 -- a~ m1 C0/a
--m 0004294967295 -- a~ m4294967295 C0/a
+const ASKED: &[u8] = b"-- a~ lines/a
+--~ lines/
+-- ~ lines/
+-- -i a  b ~ lines/-i a  b 
+-i -- -- a~i lines/-- a
+-F -w -x -v -I -Z -- a~FwxvIZ lines/a
+-Z -v -i -- a~ivZ lines/a
+-m 1 -- a~ m1 lines/a
+-m 0004294967295 -- a~ m4294967295 lines/a
 -C 0 -- a~ C0/a
+-v -C 00 -- a~v C0/a
 -C 1000 -m 7 -- a~ m7 C1000/a
 -l -v -- a~v names/a
 -c -Z -- a~Z counts/a
 -q -- a~ header/a
 --column -i -- a~i column/a
 --spans -w -- a~w spans/a
--n a -N b -n c$ -- d~ C0 +a -b +c$/d
--n -- -N -i -- d~ C0 +-- --i/d
--n  -i -- d~i C0 +/d";
+-n a -N b -n c$ -- d~ lines +a -b +c$/d
+-n -- -N -i -- d~ lines +-- --i/d
+-n  -i -- d~i lines +/d";
 
 /// The rows are `TEXT~REASON`.
 const REFUSED: &[u8] = b"~no -- before the pattern
@@ -180,7 +182,7 @@ fn with_tests(alloc: Global, count: u32) -> Result<Vec<u8>, Fail> {
 #[test]
 fn many_tests(rt: HostRuntime) -> Result<(), Fail> {
     let most = with_tests(rt.alloc(), 16)?;
-    assert!(rt; most.starts_with(b" C0 +a +a") && most.ends_with(b" +a -b/c"));
+    assert!(rt; most.starts_with(b" lines +a +a") && most.ends_with(b" +a -b/c"));
     let more = with_tests(rt.alloc(), 17)?;
     assert!(rt; more.as_slice() == b"option -n over 16 times".as_slice());
     Ok(())

@@ -105,6 +105,14 @@ const CASES: &[(&[u8], &[u8])] = &[
         b"1:bad line;2:bad line;3:isearchin|a|;4:isearchin|A|b c;5:isearchin||B;",
     ),
     (
+        b"find -l -- a b\nfind\nfind \nfind  --  a \nfind -z\nfind\r\n",
+        b"1:find|-l -- a b;2:find|;3:find|;4:find| --  a ;5:find|-z;6:bad line;",
+    ),
+    (
+        b"finds\nfindx -- a\nFIND -- a\n find -- a\nfin",
+        b"1:bad line;2:bad line;3:bad line;4:bad line;5:bad line;",
+    ),
+    (
         b"load\nload a\nload a \nload a b c\nload  p",
         b"1:bad line;2:bad line;3:bad line;4:load|a|b c;5:load||p;",
     ),

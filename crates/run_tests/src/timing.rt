@@ -5,7 +5,7 @@ use crate::cases::{Case, Lasts, expect, expect_always, transcript_of};
 use crate::gates::{Overtaking, Points, Rule, Turns};
 use crate::sources::{FILES, Table};
 use crate::words::repeated;
-use search::Answer;
+use search::{Part, PartText, Shown};
 use std::alloc::Global;
 use std::process::Abort;
 use std::sync::Wait;
@@ -297,7 +297,7 @@ impl Course {
     }
 
     /// The answer is for the next search, and of a whole publish that is no older than the last one before the search.
-    fn is_answered(&mut self, search: u32, answer: &Answer) -> bool {
+    fn is_answered(&mut self, search: u32, answer: &Shown) -> bool {
         let asked = self.searches;
         self.searches = search;
         search.checked_sub(1) == Some(asked)
@@ -307,14 +307,30 @@ impl Course {
 }
 
 /// An even version 2k, and two lines with the byte of k.
-fn is_whole(answer: &Answer) -> bool {
+fn is_whole(answer: &Shown) -> bool {
     let version = answer.version();
-    if version % 2 != 0 || version > 400 || answer.hit_count() != 2 {
+    if version % 2 != 0 || version > 400 || answer.count() != 2 {
         return false;
     }
     let want = [byte_of((version / 2) as u8)];
-    for hit in answer.hits() {
-        if hit.text != want.as_slice() {
+    answer
+        .parts()
+        .iter()
+        .all(|part| has_lines(part, want.as_slice()))
+}
+
+/// Each line of the part is this text. A run's reader forms no text.
+fn has_lines(part: &Part, want: &[u8]) -> bool {
+    let PartText {
+        formed,
+        lines,
+        zero: _,
+    } = part.text();
+    if !formed.is_empty() {
+        return false;
+    }
+    for hit in lines {
+        if hit.text != want {
             return false;
         }
     }

@@ -56,6 +56,7 @@ fn words_of(item: Item<'_>) -> Words<'_> {
             name_pattern,
             pattern,
         ),
+        Item::Find { request } => one_word(b"find", request),
         Item::Publish => no_word(b"publish"),
         Item::Sync => no_word(b"sync"),
         Item::Cancel { search } => one_word(b"cancel", number_text(search)),

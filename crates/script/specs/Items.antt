@@ -17,6 +17,8 @@ pub data Item : Type 0 where
   publish : Item
   search : (case : Case) (pattern : List ℕ) → Item
   search_in : (case : Case) (name_pattern pattern : List ℕ) → Item
+  -- everything after `find `, whatever it asks for; nothing if the line is `find` alone
+  find : (request : List ℕ) → Item
   sync : Item
   -- a search's number is 1 to 2^32 - 1, so 0 is that of no search
   cancel : (search : ℕ) → Item
@@ -81,7 +83,8 @@ item_of_keyword keyword =
     else (if is_keyword keyword (codes "status") then status
     else (if is_keyword keyword (codes "search") then search Exact []
     else (if is_keyword keyword (codes "isearch") then search Ignore []
-    else bad_line))))
+    else (if is_keyword keyword (codes "find") then find []
+    else bad_line)))))
 
 -- the item of a line with a keyword, a space and more after it
 abbrev pub item_of_keyword_and_others : List ℕ → List ℕ → Item
@@ -90,10 +93,11 @@ item_of_keyword_and_others keyword others =
     else (if is_keyword keyword (codes "isearch") then search Ignore others
     else (if is_keyword keyword (codes "searchin") then search_in_of Exact (fields_of others).first (fields_of others).others
     else (if is_keyword keyword (codes "isearchin") then search_in_of Ignore (fields_of others).first (fields_of others).others
+    else (if is_keyword keyword (codes "find") then find others
     else (if is_keyword keyword (codes "remove") then remove others
     else (if is_keyword keyword (codes "load") then load_of (fields_of others).first (fields_of others).others
     else (if is_keyword keyword (codes "cancel") then cancel_of others
-    else bad_line))))))
+    else bad_line)))))))
 
 -- the item of a line with this keyword, and with what follows the space after it
 abbrev pub item_of : List ℕ → Option (List ℕ) → Item

@@ -1,6 +1,6 @@
 -- What the reader of a script does: it takes one item at a time from the front of what is left.
 use Rattle.std.specs.Prelude.{List, ◌∷◌}
-use Rattle.script.specs.Items.{Item, Numbered, ItemsFrom, put, load, remove, publish, search, search_in, sync}
+use Rattle.script.specs.Items.{Item, Numbered, ItemsFrom, put, load, remove, publish, search, search_in, find, sync}
 use Rattle.script.specs.Items.{cancel, status, bad_line, bad_put, truncated, body_not_closed}
 use Rattle.script.specs.Position.{Position}
 use Rattle.script.specs.declared.item.Item as program
@@ -18,6 +18,7 @@ shown_item (variants.Remove name) = remove name.now
 shown_item variants.Publish = publish
 shown_item (variants.Search case pattern) = search case pattern.now
 shown_item (variants.SearchIn case name_pattern pattern) = search_in case name_pattern.now pattern.now
+shown_item (variants.Find request) = find request.now
 shown_item variants.Sync = sync
 shown_item (variants.Cancel number) = cancel number
 shown_item variants.Status = status

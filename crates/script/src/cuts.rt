@@ -53,7 +53,8 @@ pub fn cut_line(text: &[u8]) -> CutLine<'_>
     }
 }
 
-/// The first field of a line, up to its first space, and what follows that space.
+/// The first field of a line, up to its first space, and what follows that space. `None` in place of the latter if the
+/// line has no space.
 pub fn cut_at_space(line: &[u8]) -> (&[u8], Option<&[u8]>)
     ensures { fields_of line.now ≡ shown_fields result.0.now (option_map (λ rest. rest.now) result.1) }
 {

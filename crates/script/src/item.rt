@@ -35,6 +35,11 @@ pub enum Item<'a> {
         name_pattern: &'a [u8],
         pattern: &'a [u8],
     },
+    /// `find REQUEST`. The request is everything after the space, and is not read here: it may be empty, have spaces,
+    /// or ask for nothing. A line with only `find` has the empty request.
+    Find {
+        request: &'a [u8],
+    },
     /// `sync`.
     Sync,
     /// `cancel K`. The number is K, or 0 if K is 2^32 or more: 0 means a number that no search has.

@@ -21,7 +21,8 @@ pub enum Line<'a> {
     Other(Item<'a>),
 }
 
-/// Reads a line, given without its line feed. It takes no memory and never fails.
+/// Reads a line, given without its line feed. It takes no memory and never fails: a line of no known form is `BadPut`,
+/// or an `Item::BadLine`.
 pub fn read_line(line: &[u8]) -> Line<'_>
     requires { IsLine line.now }
     ensures { Says line.now result }

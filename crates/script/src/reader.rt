@@ -14,7 +14,7 @@ use crate::item::{Item, Numbered};
 use ere::Case;
 use std::marker::Model;
 
-/// The greatest length of a script, in bytes.
+/// The greatest length of a script, in bytes (this program's choice).
 pub const MAX_SCRIPT: usize = 67_108_864;
 
 /// What is left of a script, from the first line that has not been read yet.
@@ -112,7 +112,7 @@ fn skip_blank(text: &[u8], line: u32) -> Start<'_>
     start
 }
 
-/// Whether a line is blank: empty, or a comment.
+/// Whether a line, given without its line feed, is blank: empty, or a comment, which begins with `#`.
 pub fn is_blank_line(line: &[u8]) -> bool
     ensures { result ≡ is_blank line.now }
 {
@@ -154,7 +154,8 @@ fn take_item(start: Start<'_>) -> TakenItem<'_>
     }
 }
 
-/// The item of a line that is not a put, from its keyword and what follows the space after it.
+/// The item of a line that is not a put, from its keyword and what follows the space after it, if there is one. It is
+/// `BadLine` if no item has this form.
 pub fn item_of<'a>(keyword: &'a [u8], others: Option<&'a [u8]>) -> Item<'a>
     ensures { shown_item result ≡ item_of keyword.now (option_map (λ rest. rest.now) others.entry) }
 {
@@ -184,6 +185,10 @@ fn item_of_keyword(keyword: &[u8]) -> Item<'_>
             case: Case::Ignore,
             pattern: &keyword[keyword.len()..],
         }
+    } else if keyword == b"find".as_slice() {
+        Item::Find {
+            request: &keyword[keyword.len()..],
+        }
     } else {
         Item::BadLine
     }
@@ -207,6 +212,8 @@ fn item_of_keyword_and_others<'a>(keyword: &[u8], others: &'a [u8]) -> Item<'a>
         search_in(Case::Exact, others)
     } else if keyword == b"isearchin".as_slice() {
         search_in(Case::Ignore, others)
+    } else if keyword == b"find".as_slice() {
+        Item::Find { request: others }
     } else if keyword == b"remove".as_slice() {
         Item::Remove { name: others }
     } else if keyword == b"load".as_slice() {
@@ -257,7 +264,7 @@ fn cancel(digits: &[u8]) -> Item<'_>
 pub struct Header<'a> {
     /// The name, not checked yet.
     pub name: &'a [u8],
-    /// How many bytes the body has.
+    /// How many bytes the body has, 0 to 999,999,999.
     pub size: usize,
 }
 
@@ -274,7 +281,7 @@ fn put_header(fields: &[u8]) -> Option<Header<'_>>
     })
 }
 
-/// The name and the size of a put, from what follows the space after `put`, if there is one.
+/// The name and the size of a put, from what follows the space after `put`, if there is one. `None` for a bad put.
 pub fn header_in(others: Option<&[u8]>) -> Option<Header<'_>>
     ensures { MatchOption result
         (LacksHeader (option_map (λ rest. rest.now) others.entry))

@@ -1,5 +1,5 @@
 -- The candidates of a pattern, and those of them that are wanted.
-use Rattle.std.proofs.Common.{◌≡◌, ℕ, ◌≤◌, Bool, true, false, cond, List, [], ◌∷◌, map, length, ◌∙◌, ap, subst, arith}
+use Rattle.std.proofs.Common.{◌≡◌, ℕ, ◌≤◌, ◌&&◌, Bool, true, false, cond, List, [], ◌∷◌, map, length, refl, sym, ◌∙◌, ap, subst, arith}
 use Rattle.std.specs.Prelude.{filter, All}
 use Rattle.std.proofs.lemmas.List.{length-map}
 use Rattle.std.proofs.lemmas.List.Elements.{filter_agree}
@@ -7,12 +7,14 @@ use Rattle.query.specs.Trigrams.{TrigramSet, trigrams_of_body}
 use Rattle.query.specs.Query.{Formula, is_met}
 use Rattle.posting.specs.ListValue.{has}
 use Rattle.index.specs.declared.document.SharedDocument.{SharedDocument}
-use Rattle.index.specs.Documents.{Document, meets, IsInNameOrder}
+use Rattle.index.specs.Documents.{Document, meets, IsInNameOrder, is_chosen, is_under}
 use Rattle.index.specs.Shared.{document_of, documents_shared}
 use Rattle.index.specs.State.{State}
+use Rattle.search.specs.Front.{AreFronted}
 use Rattle.search.specs.Pattern.{Test, Passes, Pattern}
 use Rattle.search.specs.Scan.{can_have, candidates_of}
-use Rattle.search.specs.Private.Selects.{Selects, IsNamedForAll}
+use Rattle.search.specs.Selects.{Selects, IsNamedForAll}
+use Rattle.index.proofs.DocumentLemmas.{filter-Contains, Contains-filter}
 use Rattle.index.proofs.StoredLemmas.{Numbered}
 use Rattle.index.proofs.OrderLemmas.{chosen_are}
 use Rattle.search.proofs.SelectsLemmas.{Selects-map, rises-Selects, Contains-kept, kept-Contains}
@@ -26,27 +28,46 @@ candidates_are : (s : State) (test : Test) (formula : Formula) → IsMetAs test 
 candidates_are s test formula same =
     filter_agree (meets formula) (λ d. can_have test (trigrams_of_body d.body)) (λ d. same (trigrams_of_body d.body)) s.documents
 
--- the documents that have the numbers of the candidates are the candidates
+-- one test after the other
+filter_both : (p q : Document → Bool) (ds : List Document) → filter q (filter p ds) ≡ filter (λ d. p d && q d) ds
+filter_both p q [] = refl
+filter_both p q (d ∷ ds) = go (p d) (filter_both p q ds)
+  where
+    go : (t : Bool) → filter q (filter p ds) ≡ filter (λ x. p x && q x) ds
+        → filter q (cond t (d ∷ filter p ds) (filter p ds)) ≡ cond (t && q d) (d ∷ filter (λ x. p x && q x) ds) (filter (λ x. p x && q x) ds)
+    go true rest = ap (λ kept. cond (q d) (d ∷ kept) kept) rest
+    go false rest = rest
+
+-- the documents under a text that have the numbers of the candidates are the candidates under it
 pub candidates_in_order : (s : State) (pattern : Pattern) (formula : Formula) → Numbered s.documents → IsMetAs pattern.line formula
-    → (members : List ℕ) → members ≡ map (λ d. d.number) (filter (meets formula) s.documents) → (ordered : List Document)
-    → IsInNameOrder (filter (λ d. has members d.number) s.documents) ordered → IsInNameOrder (candidates_of s pattern.line) ordered
-candidates_in_order s pattern formula rise same members are ordered order =
+    → (members : List ℕ) → members ≡ map (λ d. d.number) (filter (meets formula) s.documents) → (front : List ℕ) (ordered : List Document)
+    → IsInNameOrder (filter (is_chosen members front) s.documents) ordered
+    → IsInNameOrder (filter (is_under front) (candidates_of s pattern.line)) ordered
+candidates_in_order s pattern formula rise same members are front ordered order =
     subst (λ ds. IsInNameOrder ds ordered)
+    (sym (filter_both (λ d. has members d.number) (is_under front) s.documents)
+    ∙ ap (filter (is_under front))
     (ap (λ ns. filter (λ d. has ns d.number) s.documents) are
-    ∙ (chosen_are s.documents rise (meets formula) ∙ candidates_are s pattern.line formula same)) order
+    ∙ (chosen_are s.documents rise (meets formula) ∙ candidates_are s pattern.line formula same))) order
 
 -- The wanted documents are the candidates whose names match, in the order of their names.
 pub wanted_are : (s : State) (pattern : Pattern) (taken kept : List SharedDocument)
-    → IsInNameOrder (candidates_of s pattern.line) (documents_shared taken) → Selects (IsNamedForAll pattern.names) taken kept
+    → AreFronted s pattern (documents_shared taken) → Selects (IsNamedForAll pattern.names) taken kept
     → AreWanted s pattern (documents_shared kept)
-wanted_are s pattern taken kept order named =
+wanted_are s pattern taken kept fronted named =
+    let order = fronted.in_order in
+    let candidates = candidates_of s pattern.line in
     let selected : Selects (λ d. All (λ test. Passes test d.name) pattern.names) (documents_shared taken) (documents_shared kept) =
     Selects-map document_of (λ d. All (λ test. Passes test d.name) pattern.names) named in
     record {
       rises = rises-Selects selected order.rises;
       exact = λ d. (
-        λ h. (let at = Contains-kept d selected h in record { candidate = (order.same d).0 at.0; name_hits = at.1 }),
-        λ w. kept-Contains d selected ((order.same d).1 w.candidate) w.name_hits,
+        λ h. (
+            let at = Contains-kept d selected h in
+            record { candidate = (filter-Contains (is_under fronted.front) candidates d ((order.same d).0 at.0)).0; name_hits = at.1 }
+            ),
+        λ w. kept-Contains d selected
+            ((order.same d).1 (Contains-filter (is_under fronted.front) candidates d w.candidate (fronted.named d.name w.name_hits))) w.name_hits,
       );
     }
 

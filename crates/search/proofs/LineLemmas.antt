@@ -7,7 +7,7 @@ use Rattle.lines.specs.Lines.{lines_of}
 use Rattle.memchr.specs.Find.{is_byte, Nowhere, NoneBefore, Passes}
 use Rattle.index.specs.Text.{has_long_line}
 use Rattle.index.proofs.LineLemmas.{rest-after}
-use Rattle.search.specs.Private.Selects.{found, numbered}
+use Rattle.search.specs.Selects.{found, numbered}
 use Rattle.search.proofs.LineEnds.{lines_of-memchr, lines_of-none, long-first, long-last}
 
 -- the first line feed is at this place
@@ -62,3 +62,15 @@ pub room-rest : (line most : ℕ) (text : List ℕ) (place : ℕ) → EndsAt tex
 room-rest line most text place first room =
     let below : place < length text = first.0.high in
     omega (arith, length-take (length text - (place + 1)) (drop (place + 1) text), length-drop (place + 1) text)
+
+-- ---- the first line and what is after it
+
+pub split_first : (text : List ℕ) (place : ℕ) → EndsAt text place
+    → lines_of text ≡ take place text ∷ lines_of (take (length text - (place + 1)) (drop (place + 1) text))
+split_first text place first =
+    lines_of-memchr text place first ∙ ap (λ rest. take place text ∷ lines_of rest) (sym (rest-after text place))
+
+pub split_last : (text : List ℕ) → 0 < length text → HasNoEnd text → lines_of text ≡ text ∷ lines_of []
+unfolding lines_of
+split_last [] some none = absurd (omega arith)
+split_last (b ∷ text) some none = lines_of-none (b ∷ text) none

@@ -6,7 +6,7 @@ use Rattle.std.proofs.lemmas.List.{append-nil}
 use Rattle.std.proofs.lemmas.Bool.{false≢true, true≢false}
 use Rattle.index.specs.Text.{IsName, is_name_byte}
 use Rattle.index.specs.declared.document.SharedDocument.{SharedDocument}
-use Rattle.search.specs.Private.Selects.{Selects, done, keep, skip}
+use Rattle.search.specs.Selects.{Selects, done, keep, skip}
 
 -- ---- a name is a line
 

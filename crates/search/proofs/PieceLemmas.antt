@@ -11,7 +11,7 @@ use Rattle.finder.specs.FirstLine.{IsWholeLines, HasNoFeed, IsLineStart}
 use Rattle.finder.proofs.LineLemmas.{lines-append}
 use Rattle.finder.proofs.CutLemmas.{lines_few}
 use Rattle.search.specs.Private.Pieces.{IsPiece, greatest_piece}
-use Rattle.search.specs.Private.Selects.{found, numbered}
+use Rattle.search.specs.Selects.{found, numbered}
 
 -- what is after the first `end` bytes of a text
 abbrev pub rest_of : List ℕ → ℕ → List ℕ

@@ -1,16 +1,16 @@
 -- Places in the bodies of documents, and places that are added.
-use Rattle.std.proofs.Common.{◌≡◌, ℕ, ◌+◌, ◌-◌, ◌<◌, ◌≤◌, List, [], ◌∷◌, ◌++◌, map, length, take, drop, refl, sym, ◌∙◌, ap, subst, arith, append_assoc}
+use Rattle.std.proofs.Common.{◌≡◌, ℕ, ◌+◌, ◌-◌, ◌<◌, ◌≤◌, ◌⊎◌, inl, inr, Option, List, [], ◌∷◌, ◌++◌, map, length, take, drop, refl, sym, ◌∙◌, ap, subst, arith, append_assoc}
 use Rattle.std.specs.Prelude.{slice_range, All}
-use Rattle.std.proofs.lemmas.List.{append-nil, map-append, length-append, length-take, length-drop, drop-take, drop-drop, take-take, take_all, get_or_append_left, get_or_push, nil_from_length}
+use Rattle.std.proofs.lemmas.List.{append-nil, map-append, length-append, length-map, length-take, length-drop, drop-take, drop-drop, take-take, take_all, get_or_append_left, get_or_push, nil_from_length}
 use Rattle.std.proofs.lemmas.List.Elements.{All-nil, All-cons, All-head, All-tail, All-append, All-weaker}
 use Rattle.index.specs.declared.document.SharedDocument.{SharedDocument}
 use Rattle.search.specs.declared.places.Place.{Place}
 use Rattle.search.specs.Pattern.{Test, Passes}
 use Rattle.search.specs.Scan.{Hit}
 use Rattle.search.specs.Places.{hit_in, home_of, hit_at, hits_at, IsPlaced}
-use Rattle.search.specs.Private.Selects.{Selects, done, keep, Adds, IsAsked, found, lines_of_document}
+use Rattle.search.specs.Selects.{Selects, done, keep, IsAsked, found, lines_of_document}
 use Rattle.search.specs.Private.Documents.{lines_of_taken}
-use Rattle.search.specs.Private.Added.{HasTextAt, IsPlaceIn, AddsPlaces}
+use Rattle.search.specs.Private.Added.{HasTextAt, IsPlaceIn, IsReached, AddsPlaces, AddsPlacesUpTo, AddsUpTo}
 use Rattle.search.proofs.SelectsLemmas.{Selects-append}
 
 -- ---- texts at offsets of a body
@@ -182,16 +182,17 @@ hits-last documents last (place ∷ places) are =
     (hits-last documents last places (All-tail (IsPlaceIn (length documents) last.held) place places are))
 
 -- what is added for a body, with the number, the name and the body of its document
-pub adds_as : (test : Test) (number : ℕ) (documents : List SharedDocument) (last : SharedDocument) (body : List ℕ) (old new : List Place)
-    → number ≡ length documents → body ≡ last.held
-    → ((name : List ℕ) → AddsPlaces test number name body (lines_of_document name body) old new)
-    → AddsPlaces test (length documents) last.name last.held (lines_of_taken last) old new
-adds_as test number documents last body old new count same adds =
-    subst (λ n. AddsPlaces test n last.name last.held (lines_of_taken last) old new) count
-    (subst (λ text. AddsPlaces test number last.name text (lines_of_document last.name text) old new) same (adds last.name))
+pub adds_as : (most : Option ℕ) (test : Test) (number : ℕ) (documents : List SharedDocument) (last : SharedDocument) (body : List ℕ)
+    (old new : List Place) → number ≡ length documents → body ≡ last.held
+    → ((name : List ℕ) → AddsPlacesUpTo most test number name body (lines_of_document name body) old new)
+    → AddsPlacesUpTo most test (length documents) last.name last.held (lines_of_taken last) old new
+adds_as most test number documents last body old new count same adds =
+    subst (λ n. AddsPlacesUpTo most test n last.name last.held (lines_of_taken last) old new) count
+    (subst (λ text. AddsPlacesUpTo most test number last.name text (lines_of_document last.name text) old new) same (adds last.name))
 
-module _ (test : Test) (documents : List SharedDocument) (last : SharedDocument) (old new : List Place) (placed : All (IsPlaced documents) old)
-    (adds : AddsPlaces test (length documents) last.name last.held (lines_of_taken last) old new) where
+module _ (most : Option ℕ) (test : Test) (documents : List SharedDocument) (last : SharedDocument) (old new : List Place)
+    (placed : All (IsPlaced documents) old)
+    (adds : AddsPlacesUpTo most test (length documents) last.name last.held (lines_of_taken last) old new) where
   pub placed_with : All (IsPlaced (documents ++ last ∷ [])) new
   placed_with =
       subst (λ places. All (IsPlaced (documents ++ last ∷ [])) places) (sym adds.appended)
@@ -200,7 +201,10 @@ module _ (test : Test) (documents : List SharedDocument) (last : SharedDocument)
       (All-weaker (IsPlaceIn (length documents) last.held) (IsPlaced (documents ++ last ∷ [])) (placed-last documents last) adds.added
       adds.inside))
 
-  pub adds_with : Adds (IsAsked test) (lines_of_taken last) (hits_at documents old) (hits_at (documents ++ last ∷ []) new)
+  ended_at : (hits : List Hit) → length hits ≡ length new → (adds.rest ≡ []) ⊎ IsReached most (length hits)
+  ended_at hits same = elim adds.ended [ inl none ↦ inl none | inr full ↦ inr (subst (λ n. IsReached most n) (sym same) full) ]
+
+  pub adds_with : AddsUpTo most (IsAsked test) (lines_of_taken last) (hits_at documents old) (hits_at (documents ++ last ∷ []) new)
   adds_with = record {
     added = map (hit_in last.name last.held) adds.added;
     appended =
@@ -208,7 +212,9 @@ module _ (test : Test) (documents : List SharedDocument) (last : SharedDocument)
         ∙ (map-append (hit_at (documents ++ last ∷ [])) old adds.added
         ∙ (ap (λ hits. hits ++ hits_at (documents ++ last ∷ []) adds.added) (hits-before documents (last ∷ []) old placed)
         ∙ ap (λ hits. hits_at documents old ++ hits) (hits-last documents last adds.added adds.inside)));
+    rest = adds.rest;
     selected = adds.selected;
+    ended = ended_at (hits_at (documents ++ last ∷ []) new) (length-map new (hit_at (documents ++ last ∷ [])));
   }
 
   nothing_added : length new ≡ length old → adds.added ≡ []
@@ -219,3 +225,14 @@ module _ (test : Test) (documents : List SharedDocument) (last : SharedDocument)
 
   pub placed_none : length new ≡ length old → All (IsPlaced documents) new
   placed_none same = subst (λ places. All (IsPlaced documents) places) (sym (no_more same)) placed
+
+  pub adds_none : length new ≡ length old → AddsUpTo most (IsAsked test) (lines_of_taken last) (hits_at documents old) (hits_at documents new)
+  adds_none same = record {
+    added = [];
+    appended = ap (λ places. hits_at documents places) (no_more same) ∙ sym (append-nil (hits_at documents old));
+    rest = adds.rest;
+    selected =
+        subst (λ places. Selects (IsAsked test) (lines_of_taken last) (map (hit_in last.name last.held) places ++ adds.rest))
+        (nothing_added same) adds.selected;
+    ended = ended_at (hits_at documents new) (length-map new (hit_at documents));
+  }

@@ -1,11 +1,7 @@
 -- The lines of documents, and the scan of all of them.
-use Rattle.std.proofs.Common.{◌≡◌, ℕ, zero, suc, ◌+◌, ◌-◌, ◌<◌, ◌≤◌, ◌⊎◌, inl, inr, List, [], ◌∷◌, ◌++◌, map, length, length-drop, drop}
-use Rattle.std.proofs.Common.{take, get_or, Some, Contains, refl, sym, ◌∙◌, ap, subst, arith}
+use Rattle.std.proofs.Common.{◌≡◌, ℕ, zero, suc, ◌+◌, ◌-◌, ◌<◌, ◌⊎◌, inl, inr, List, [], ◌∷◌, ◌++◌, map}
+use Rattle.std.proofs.Common.{Some, Contains, refl, sym, ◌∙◌, ap, subst, arith}
 use Rattle.std.specs.Prelude.{◌↔◌, slice_get, flat_map, All, Bool, true, false}
-use Rattle.std.proofs.Math.Seq.{drop-cons}
-use Rattle.std.proofs.Math.ListN.{drop_of_length-le}
-use Rattle.std.proofs.lemmas.List.{append-nil, take-append-drop, take_all}
-use Rattle.std.proofs.lemmas.Grind.{flat_map-append}
 use Rattle.std.specs.Ordering.{nat_cmp}
 use Rattle.std.specs.Cmp.Lexicographic.{slice_cmp, nat_list_cmp_total}
 use Rattle.std.proofs.lemmas.Cmp.{tied_itself}
@@ -23,13 +19,13 @@ use Rattle.index.proofs.DocumentLemmas.{Contains-cons, Contains-head, Contains-t
 use Rattle.ere.specs.Tree.{Tree}
 use Rattle.search.specs.Pattern.{Passes, Pattern}
 use Rattle.search.specs.Scan.{Hit, IsHit, hit_cmp, IsScanOf, can_have, candidates_of}
-use Rattle.search.specs.Private.Selects.{found, numbered, lines_of_document, Selects, done, Adds, IsAsked}
+use Rattle.search.specs.Selects.{found, numbered, lines_of_document, Selects, IsAsked}
 use Rattle.index.proofs.DocumentLemmas.{filter-Contains, Contains-filter}
-use Rattle.search.proofs.SelectsLemmas.{sorted-Selects, Contains-kept, kept-Contains, Selects-append, Selects-after, Adds-none}
+use Rattle.search.proofs.SelectsLemmas.{sorted-Selects, Contains-kept, kept-Contains}
 
 -- ---- the lines of one document
 
-numbered-named : (name : List ℕ) (line : ℕ) (texts : List (List ℕ)) (P : Hit → Type 0)
+pub numbered-named : (name : List ℕ) (line : ℕ) (texts : List (List ℕ)) (P : Hit → Type 0)
     → ((line : ℕ) (text : List ℕ) → P (found name line text)) → AllByRecursion P (numbered name line texts)
 unfolding numbered
 numbered-named name line [] P each = tt
@@ -181,46 +177,6 @@ all_lines-sorted (d ∷ documents) rises =
     (all_lines-sorted documents rises.1)
     (numbered-named d.name 1 (lines_of d.body) (λ x. AllByRecursion (λ y. hit_cmp x y ≡ Less) (all_lines documents))
     (λ line text. all-lines-above d.name (found d.name line text) refl documents rises.0))
-
--- ---- from one member of a list to the next
-
-pub lines-next : {X : Type 0} (lines : X → List Hit) (xs : List X) (i : ℕ) (x : X) → i < length xs → x ≡ get_or xs i x
-    → flat_map lines (drop i xs) ≡ lines x ++ flat_map lines (drop (i + 1) xs)
-lines-next lines xs i x h is =
-    let moved : suc i ≡ i + 1 = omega arith in
-    ap (λ ys. flat_map lines ys) (drop-cons xs i x h)
-    ∙ (ap (λ y. lines y ++ flat_map lines (drop (suc i) xs)) (sym is) ∙ ap (λ n. lines x ++ flat_map lines (drop n xs)) moved)
-
-pub lines-step : {X : Type 0} (Has : Hit → Type 0) (lines : X → List Hit) (xs : List X) (i : ℕ) (x : X) (whole old now new : List Hit)
-    → i < length xs → x ≡ get_or xs i x → Adds Has (lines x) now new
-    → ((more : List Hit) → Selects Has (flat_map lines (drop i xs)) more → Adds Has whole old (now ++ more)) → (more : List Hit)
-    → Selects Has (flat_map lines (drop (i + 1) xs)) more → Adds Has whole old (new ++ more)
-lines-step Has lines xs i x whole old now new h is step before =
-    Selects-after Has (lines x) (flat_map lines (drop (i + 1) xs)) whole now old new step
-    (λ more s. before more (subst (λ all. Selects Has all more) (sym (lines-next lines xs i x h is)) s))
-
-pub lines-end : {X : Type 0} (Has : Hit → Type 0) (lines : X → List Hit) (xs : List X) (i : ℕ) (whole old now : List Hit) → length xs ≤ i
-    → ((more : List Hit) → Selects Has (flat_map lines (drop i xs)) more → Adds Has whole old (now ++ more)) → Adds Has whole old now
-lines-end Has lines xs i whole old now h before =
-    let none : drop i xs ≡ [] = drop_of_length-le xs h in
-    subst (λ ys. Adds Has whole old ys) (append-nil now) (before [] (subst (λ ys. Selects Has (flat_map lines ys) []) (sym none) done))
-
--- the first few members of a list, and then the others
-pub two-parts : {X : Type 0} (Has : Hit → Type 0) (lines : X → List Hit) (xs : List X) (few : ℕ) (one two : List Hit)
-    → Adds Has (flat_map lines (take few xs)) [] one → Adds Has (flat_map lines (take (length xs - few) (drop few xs))) one two
-    → Selects Has (flat_map lines xs) two
-two-parts Has lines xs few one two first rest =
-    let whole : take few xs ++ take (length xs - few) (drop few xs) ≡ xs =
-    ap (λ ys. take few xs ++ ys) (take_all (length xs - few) (drop few xs) (omega (arith, length-drop few xs))) ∙ take-append-drop few xs in
-    let joined = sym (flat_map-append lines (take few xs) (take (length xs - few) (drop few xs))) ∙ ap (λ ys. flat_map lines ys) whole in
-    subst (λ all. Selects Has all two) joined
-    (subst (λ hits. Selects Has (flat_map lines (take few xs) ++ flat_map lines (take (length xs - few) (drop few xs))) hits)
-    (sym (rest.appended ∙ ap (λ ys. ys ++ rest.added) first.appended))
-    (Selects-append first.selected rest.selected))
-
-pub no-lines : {X : Type 0} (Has : Hit → Type 0) (lines : X → List Hit) (xs : List X) (old : List Hit) → length xs ≡ 0 → Adds Has (flat_map lines xs) old old
-no-lines Has lines [] old e = Adds-none Has [] old done
-no-lines Has lines (x ∷ xs) old e = absurd (omega arith)
 
 -- ---- the scan
 

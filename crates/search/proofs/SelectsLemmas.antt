@@ -1,34 +1,20 @@
 -- What is kept of a list: lines, one document after another, and documents.
-use Rattle.std.proofs.Common.{◌≡◌, ℕ, inl, inr, List, [], ◌∷◌, ◌++◌, map, Contains, sym, ◌∙◌, ap, subst, arith, append_assoc}
+use Rattle.std.proofs.Common.{◌≡◌, ℕ, inl, inr, List, [], ◌∷◌, ◌++◌, map, Contains, sym, subst, arith}
 use Rattle.std.specs.Ordering.{nat_cmp}
 use Rattle.std.specs.Cmp.Lexicographic.{slice_cmp}
 use Rattle.std.specs.List.{AllByRecursion}
 use Rattle.std.specs.List.Sorted.{IsStrictlySortedBy}
 use Rattle.std.specs.declared.cmp.Ordering.{Ordering}
 use Rattle.std.specs.declared.cmp.Ordering.TheVariants.{Less}
-use Rattle.std.proofs.lemmas.List.{append-nil}
 use Rattle.index.specs.Documents.{Document, RisesByName}
 use Rattle.index.proofs.DocumentLemmas.{Contains-cons, Contains-head, Contains-tail}
 use Rattle.search.specs.Scan.{Hit}
-use Rattle.search.specs.Private.Selects.{Selects, done, keep, skip, Adds}
+use Rattle.search.specs.Selects.{Selects, done, keep, skip}
 
 pub Selects-append : {X : Type 0} {Has : X → Type 0} {xs ys a b : List X} → Selects Has xs a → Selects Has ys b → Selects Has (xs ++ ys) (a ++ b)
 Selects-append done s = s
 Selects-append (keep h r) s = keep h (Selects-append r s)
 Selects-append (skip h r) s = skip h (Selects-append r s)
-
--- nothing is added
-pub Adds-none : (Has : Hit → Type 0) (all old : List Hit) → Selects Has all [] → Adds Has all old old
-Adds-none Has all old s = record { added = []; appended = sym (append-nil old); selected = s }
-
--- what is added first, followed by what is kept of the rest
-pub Selects-after : (Has : Hit → Type 0) (first rest whole now : List Hit) (old new : List Hit) → Adds Has first now new
-    → ((more : List Hit) → Selects Has (first ++ rest) more → Adds Has whole old (now ++ more)) → (more : List Hit) → Selects Has rest more
-    → Adds Has whole old (new ++ more)
-Selects-after Has first rest whole now old new step before more s =
-    let joined = before (step.added ++ more) (Selects-append step.selected s) in
-    let same : now ++ (step.added ++ more) ≡ new ++ more = sym (append_assoc now step.added more) ∙ ap (λ xs. xs ++ more) (sym step.appended) in
-    subst (λ xs. Adds Has whole old xs) same joined
 
 -- all are kept if each has the property
 pub Selects-all : {X : Type 0} (Has : X → Type 0) (xs : List X) → ((x : X) → Has x) → Selects Has xs xs

@@ -10,7 +10,7 @@ use Rattle.finder.specs.FirstLine.{IsFirstLine, IsInside}
 use Rattle.finder.specs.declared.finding.FirstLine.{FirstLine}
 use Rattle.search.specs.declared.places.Place.{Place}
 use Rattle.search.specs.Pattern.{with_match}
-use Rattle.search.specs.Private.Selects.{found, numbered, IsAsked, Selects, done, keep, skip}
+use Rattle.search.specs.Selects.{found, numbered, IsAsked, Selects, done, keep, skip}
 use Rattle.search.specs.Private.Added.{HasTextAt, AddsPlaces}
 use Rattle.search.proofs.LineLemmas.{numbered-empty}
 use Rattle.search.proofs.PieceLemmas.{numbered-append}

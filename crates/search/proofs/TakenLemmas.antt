@@ -2,12 +2,12 @@
 use Rattle.std.proofs.Common.{◌≡◌, List, [], ◌∷◌, ◌++◌, refl, ◌∙◌, ap, subst}
 use Rattle.std.specs.Prelude.{flat_map}
 use Rattle.index.specs.declared.document.SharedDocument.{SharedDocument}
-use Rattle.index.specs.Documents.{IsInNameOrder}
 use Rattle.index.specs.Shared.{documents_shared}
 use Rattle.index.specs.State.{State}
+use Rattle.search.specs.Front.{AreFronted}
 use Rattle.search.specs.Pattern.{Pattern}
-use Rattle.search.specs.Scan.{Hit, IsScanOf, candidates_of}
-use Rattle.search.specs.Private.Selects.{Selects, IsAsked, IsNamedForAll}
+use Rattle.search.specs.Scan.{Hit, IsScanOf}
+use Rattle.search.specs.Selects.{Selects, IsAsked, IsNamedForAll}
 use Rattle.search.specs.Private.Documents.{lines_of_taken}
 use Rattle.search.proofs.CandidateLemmas.{wanted_are}
 use Rattle.search.proofs.ScanLemmas.{all_lines, IsScanOf-wanted}
@@ -19,7 +19,7 @@ lines-shared (document ∷ taken) = ap (λ lines. lines_of_taken document ++ lin
 -- The lines with a match in the documents that are kept of those that were taken are the scan. `own` is the pattern of what was
 -- prepared, and `shown` the documents whose lines are matched.
 pub found_hits : (state : State) (pattern own : Pattern) (taken kept shown : List SharedDocument) (hits : List Hit) → own ≡ pattern
-    → IsInNameOrder (candidates_of state pattern.line) (documents_shared taken) → Selects (IsNamedForAll own.names) taken kept → shown ≡ kept
+    → AreFronted state pattern (documents_shared taken) → Selects (IsNamedForAll own.names) taken kept → shown ≡ kept
     → Selects (IsAsked own.line) (flat_map lines_of_taken shown) hits → IsScanOf state pattern hits
 found_hits state pattern own taken kept shown hits prepared candidates named is found =
     IsScanOf-wanted state pattern (documents_shared kept) hits

@@ -7,7 +7,7 @@ use Rattle.std.proofs.lemmas.List.Elements.{All-nil, All-push, All-pop}
 use Rattle.ere.specs.Language.{ContainsMatch}
 use Rattle.index.specs.declared.document.SharedDocument.{SharedDocument}
 use Rattle.search.specs.Pattern.{Test, Passes, with_match}
-use Rattle.search.specs.Private.Selects.{Selects, done, keep, skip, IsNamed, IsNamedForAll}
+use Rattle.search.specs.Selects.{Selects, done, keep, skip, IsNamed, IsNamedForAll}
 use Rattle.search.specs.declared.asked.Test.{Test as PreparedTest}
 use Rattle.search.specs.Tests.{test_of}
 
@@ -50,7 +50,7 @@ Selects-same same (skip {x} none s) = skip (λ h. none ((same x).1 h)) (Selects-
 abbrev pub first_tests : List PreparedTest → ℕ → List Test
 first_tests tests count = map test_of (take count tests)
 
-next_tests : (tests : List PreparedTest) (at : ℕ) (test : PreparedTest) → at < length tests → test ≡ get_or tests at test
+pub next_tests : (tests : List PreparedTest) (at : ℕ) (test : PreparedTest) → at < length tests → test ≡ get_or tests at test
     → first_tests tests (at + 1) ≡ first_tests tests at ++ test_of test ∷ []
 next_tests tests at test low is =
     let next : at + 1 ≡ suc at = omega arith in

@@ -1,12 +1,17 @@
 pub mod Pattern
 pub mod Tests
 pub mod Prepared
+pub mod Request
 pub mod Scan
+pub mod Front
+pub mod Selects
 pub mod Commands
 pub mod Hits
 pub mod Places
 pub mod Parts
+pub mod View
 pub mod Text
+pub mod Shown
 pub mod Queries
 pub mod Taken
 pub mod Private

@@ -1,6 +1,9 @@
 -- What only the contracts of private functions cite. The modules are `pub` because a clause can cite no others.
-pub mod Selects
 pub mod Ways
+pub mod Seekers
 pub mod Documents
 pub mod Added
 pub mod Pieces
+pub mod Rows
+pub mod Gathered
+pub mod Parts

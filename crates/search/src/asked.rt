@@ -9,7 +9,9 @@ use ere::Ere;
 /// A test of a line or a name: whether it contains a match of the tree or, if the test is inverted, whether it contains none.
 #[derive(Debug, Drop)]
 pub struct Test {
+    /// The tree, which is within the limits.
     pub(crate) tree: Ere,
+    /// Whether the test is inverted.
     pub(crate) inverted: bool,
     pub ghost limits: { IsWithinLimits (form tree) } by { IsWithinLimits-prop (form tree) },
 }

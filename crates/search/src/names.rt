@@ -5,7 +5,7 @@ ghost use Rattle.ere.specs.Tree.{form};
 ghost use Rattle.ere.specs.Limits.{IsWithinLimits};
 ghost use Rattle.search.specs.Prepared.{pattern_of};
 ghost use Rattle.search.specs.Tests.{test_of};
-ghost use Rattle.search.specs.Private.Selects.{Selects, IsNamed, IsNamedForAll};
+ghost use Rattle.search.specs.Selects.{Selects, IsNamed, IsNamedForAll};
 ghost use Rattle.search.specs.Private.Ways.{Finds};
 
 use crate::asked::Test;
@@ -17,8 +17,11 @@ use index::SharedDocument;
 use matcher::is_quick;
 use std::alloc::Global;
 
-/// Those of the documents whose names, each taken as a line, pass the tests of names, in the same order. If there are none,
-/// these are all of the documents. `watch` is asked whether the answer is wanted before each name that is matched.
+/// Those of the documents whose names, each taken as a line, pass the tests of names, in the same order. Without such
+/// tests these are all documents. `watch` is asked whether the answer is wanted before each name that is matched.
+///
+/// `CalledOff` is returned once `watch` says that the answer is not wanted, and `OutOfMemory` means that memory ran
+/// out.
 pub(crate) fn named<W: Watch>(
     alloc: Global,
     prepared: &Prepared,

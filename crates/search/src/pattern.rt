@@ -1,4 +1,4 @@
-//! Patterns, read once and used by many searches.
+//! What searches ask for, read once and used by many searches.
 
 ghost use Rattle.std.specs.Prelude.{◌≡◌, ◌≢◌, ◌∷◌, [], map, IfOk, IfErr, MatchBool};
 ghost use Rattle.ere.specs.Tree.{Tree};
@@ -12,10 +12,11 @@ ghost use Rattle.search.specs.Tests.{test_of};
 
 use crate::asked::Test;
 use ere::{Case, Ere, EreError, EreErrorKind, parse, parse_with};
+use request::View;
 use std::alloc::Global;
 use trigram::{Query, analyse};
 
-/// What a search asks for, read and ready to search: a test of lines, and tests of names.
+/// What a search asks for, read and ready to search: a test of lines, tests of names, and what is shown of the lines.
 ///
 /// A search never changes it, so one value can serve many searches at a time.
 #[derive(Debug, Drop)]
@@ -26,6 +27,14 @@ pub struct Prepared {
     pub(crate) names: Vec<Test>,
     /// The condition of the test of lines: the trigrams of every document with a hit meet it.
     pub(crate) query: Query,
+    /// If only whole words count, the test of lines without the edges of words.
+    pub(crate) word: Option<Test>,
+    /// What is shown of the lines.
+    pub(crate) view: View,
+    /// The most lines, or names, that are shown.
+    pub(crate) limit: Option<u32>,
+    /// Whether a zero byte comes after each name.
+    pub(crate) zero: bool,
     pub ghost filter: { IsQueryOf (test_of line) query } by { same-prop (is_met (formula_of query)) (can_have (test_of line)) },
 }
 
@@ -39,43 +48,52 @@ pub struct WithinError {
 }
 
 impl Prepared {
-    ghost use Rattle.std.specs.Prelude.{◌≢◌, IfOk, IfErr, MatchBool};
+    ghost use Rattle.std.specs.Prelude.{◌≡◌, ◌≢◌, map, IfOk, IfErr, MatchBool};
     ghost use Rattle.ere.specs.Limits.{HasNoTree};
     ghost use Rattle.search.specs.Pattern.{IsPatternOf, IsPatternWithin, HasTree};
-    ghost use Rattle.search.specs.Prepared.{pattern_of};
+    ghost use Rattle.search.specs.Prepared.{pattern_of, request_of};
+    ghost use Rattle.search.specs.Queries.{IsQueryOf};
+    ghost use Rattle.search.specs.Request.{all_lines_of};
+    ghost use Rattle.search.specs.Tests.{test_of};
 
     /// Reads the pattern of a search, an extended regular expression (POSIX.1-2017 XBD 9.4; the limits are this
-    /// program's) in which the case of letters counts. An `Err` holds the first fault of the pattern and its offset,
-    /// or says that memory ran out.
+    /// program's) in which the case of letters counts. All lines are shown.
+    ///
+    /// An `Err` names the first fault of the pattern and its offset (`EreErrorKind`), or is `OutOfMemory`, which says
+    /// nothing about the pattern.
     pub fn new(alloc: Global, pattern: &[u8]) -> Result<Prepared, EreError>
         ensures pattern { IfOk result (λ p. IsPatternOf Case.Exact pattern.now (pattern_of p)) }
+        ensures request { IfOk result (λ p. request_of p ≡ all_lines_of (pattern_of p)) }
         ensures refused { IfErr result (λ e. e.kind ≢ EreErrorKind.OutOfMemory → HasNoTree Case.Exact pattern.now) }
     {
         Prepared::with_case(alloc, pattern, Case::Exact)
     }
 
     /// Reads the pattern of a search as `new` does, but `case` says whether the case of letters counts.
+    ///
+    /// An `Err` names the first fault of the pattern and its offset (`EreErrorKind`), or is `OutOfMemory`, which says
+    /// nothing about the pattern.
     pub fn with_case(alloc: Global, pattern: &[u8], case: Case) -> Result<Prepared, EreError>
         ensures pattern { IfOk result (λ p. IsPatternOf case pattern.now (pattern_of p)) }
+        ensures request { IfOk result (λ p. request_of p ≡ all_lines_of (pattern_of p)) }
         ensures refused { IfErr result (λ e. e.kind ≢ EreErrorKind.OutOfMemory → HasNoTree case pattern.now) }
     {
         let (line, query) = analysed(alloc, pattern, case)?;
-        Ok(Prepared {
-            line,
-            names: Vec::new(alloc),
-            query,
-        })
+        Ok(Prepared::all_lines(line, Vec::new(alloc), query))
     }
 
     /// Reads the patterns of a search in the documents whose names, each taken as a line, contain a match of the name
-    /// pattern. Both are read as `new` reads one, the name pattern first. An `Err` holds the first fault that is met,
-    /// or says that memory ran out.
+    /// pattern. Both are read as `new` reads one, the name pattern first.
+    ///
+    /// An `Err` says which of the two has the first fault that is met, and names it. If that is `OutOfMemory`, it says
+    /// nothing about the patterns.
     pub fn within(
         alloc: Global,
         name_pattern: &[u8],
         pattern: &[u8],
     ) -> Result<Prepared, WithinError>
         ensures pattern { IfOk result (λ p. IsPatternWithin Case.Exact name_pattern.now pattern.now (pattern_of p)) }
+        ensures request { IfOk result (λ p. request_of p ≡ all_lines_of (pattern_of p)) }
         ensures refused { IfErr result (λ e. e.error.kind ≢ EreErrorKind.OutOfMemory →
             MatchBool e.in_name (HasNoTree Case.Exact name_pattern.now) (HasTree Case.Exact name_pattern.now × HasNoTree Case.Exact pattern.now)) }
     {
@@ -84,6 +102,9 @@ impl Prepared {
 
     /// Reads the patterns of a search as `within` does, but `case` says whether the case of letters counts in the
     /// pattern. In the name pattern it always counts.
+    ///
+    /// An `Err` says which of the two has the first fault that is met, and names it. If that is `OutOfMemory`, it says
+    /// nothing about the patterns.
     pub fn within_with_case(
         alloc: Global,
         name_pattern: &[u8],
@@ -91,6 +112,7 @@ impl Prepared {
         case: Case,
     ) -> Result<Prepared, WithinError>
         ensures pattern { IfOk result (λ p. IsPatternWithin case name_pattern.now pattern.now (pattern_of p)) }
+        ensures request { IfOk result (λ p. request_of p ≡ all_lines_of (pattern_of p)) }
         ensures refused { IfErr result (λ e. e.error.kind ≢ EreErrorKind.OutOfMemory →
             MatchBool e.in_name (HasNoTree Case.Exact name_pattern.now) (HasTree Case.Exact name_pattern.now × HasNoTree case pattern.now)) }
     {
@@ -104,11 +126,29 @@ impl Prepared {
             }
         };
         match analysed(alloc, pattern, case) {
-            Ok((line, query)) => Ok(Prepared { line, names, query }),
+            Ok((line, query)) => Ok(Prepared::all_lines(line, names, query)),
             Err(error) => Err(WithinError {
                 in_name: false,
                 error,
             }),
+        }
+    }
+
+    /// A search for the lines that pass the first test, in the documents whose names pass the others, which shows all lines.
+    fn all_lines(line: Test, names: Vec<Test>, query: Query) -> Prepared
+        requires { IsQueryOf (test_of line) query }
+        ensures line { test_of result.line ≡ test_of line }
+        ensures names { map test_of result.names.items ≡ map test_of names.items }
+        ensures request { request_of result ≡ all_lines_of (pattern_of result) }
+    {
+        Prepared {
+            line,
+            names,
+            query,
+            word: None,
+            view: View::Lines,
+            limit: None,
+            zero: false,
         }
     }
 }
@@ -148,7 +188,8 @@ fn analysed(alloc: Global, pattern: &[u8], case: Case) -> Result<(Test, Query), 
     }
 }
 
-fn out_of_memory() -> EreError
+/// The error that says that memory ran out.
+pub(crate) fn out_of_memory() -> EreError
     ensures { result.kind ≡ EreErrorKind.OutOfMemory }
 {
     EreError {

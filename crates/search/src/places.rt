@@ -29,9 +29,9 @@ pub(crate) struct Place {
     pub(crate) document: u32,
     /// The number of the line, counted from 1.
     pub(crate) line: u32,
-    /// Where the line starts in the body.
+    /// Where the line starts in the body, as an offset in bytes.
     pub(crate) start: u32,
-    /// Where it ends there, without its line feed.
+    /// Where it ends there, without its line feed, as an offset in bytes.
     pub(crate) end: u32,
 }
 
@@ -78,6 +78,13 @@ impl Places {
             documents: self.documents.as_slice(),
             places: self.places.as_slice(),
         }
+    }
+
+    /// Keeps the first `most` of the hits.
+    pub(crate) fn truncate(&mut self, most: usize)
+        ensures { self.new ≡ take most self.old }
+    {
+        self.places.truncate(most);
     }
 }
 
@@ -145,7 +152,7 @@ impl<'a> Lines<'a> {
         self.places.is_empty()
     }
 
-    /// The hit at this index, if there is one.
+    /// The hit at this index, counted from 0. `None` if there are not so many.
     pub fn get(&self, at: usize) -> Option<Hit<'a>>
         ensures { option_map hit_of result ≡ slice_get self.now at }
     {
@@ -174,8 +181,8 @@ impl<'a> Lines<'a> {
         )
     }
 
-    /// How many of these hits, from the first on, have lines of at most `bytes` bytes together. It is at least one, if a hit
-    /// is left.
+    /// How many of these hits, from the first on, can be shown in at most `bytes` bytes, where the number of each line
+    /// counts as one of ten digits. It is at least one, if a hit is left.
     pub fn count_within(&self, bytes: usize) -> usize
         ensures within { result ≤ length self.now }
         ensures some { 0 < length self.now → 0 < result }
@@ -202,11 +209,16 @@ impl<'a> Lines<'a> {
 
     /// A number of bytes that is enough for the line of the hit at this index.
     fn size_at(&self, at: usize) -> usize {
-        match self.get(at) {
-            // Two colons, a line feed, and a number of at most ten digits.
-            Some(hit) => hit.name.as_bytes().len() + hit.text.len() + 13,
-            None => 0,
-        }
+        let Some(place) = self.places.get(at) else {
+            return 0;
+        };
+        let Some(document) = self.documents.get(place.document as usize) else {
+            return 0;
+        };
+        let text = (place.end as usize).saturating_sub(place.start as usize);
+        // Two colons, a line feed, and a number of at most ten digits.
+        let name = document.name.as_bytes().len();
+        name.saturating_add(text).saturating_add(13)
     }
 }
 

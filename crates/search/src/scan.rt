@@ -12,9 +12,11 @@ use crate::watch::Watch;
 use index::Index;
 use std::alloc::{AllocError, Global};
 
-/// Finds the lines that contain a match of the pattern, in the index's documents whose names match the name pattern,
-/// if there is one. It changes nothing, and matches only the lines of documents whose trigrams meet the condition
-/// of the pattern. An `Err` means that memory ran out, or that a name or a body has too many handles.
+/// Finds the lines that contain a match of the pattern, in the index's documents whose names match the name pattern, if
+/// there is one. It changes nothing, and matches only the lines of documents whose trigrams meet the condition of the
+/// pattern.
+///
+/// An `Err` means that memory ran out, or that a name or a body has too many handles.
 pub fn find(alloc: Global, index: &Index, prepared: &Prepared) -> Result<Answer, AllocError>
     ensures { IfOk result (λ answer. IsAnswerOf index.now (pattern_of prepared.now) answer) }
 {
@@ -22,7 +24,10 @@ pub fn find(alloc: Global, index: &Index, prepared: &Prepared) -> Result<Answer,
 }
 
 /// The same as `find`, but `watch` gets the number of each document whose lines are matched, and can call the search
-/// off. `CalledOff` is returned only after `watch.wants()` said `false`.
+/// off.
+///
+/// `CalledOff` is returned only after `watch.wants()` said `false`. `OutOfMemory` means that memory ran out, or that a
+/// name or a body has too many handles.
 pub fn find_watched<W: Watch>(
     alloc: Global,
     index: &Index,

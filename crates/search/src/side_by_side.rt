@@ -1,17 +1,22 @@
-//! The lines of documents that pass a test, found in several parts side by side.
+//! What is shown of documents, gathered in several parts side by side.
 
-ghost use Rattle.std.specs.Prelude.{◌≡◌, ◌≤◌, length, flat_map, IfOk, OnOk, ◌++◌};
+ghost use Rattle.std.specs.Prelude.{◌≡◌, ◌≤◌, ◌++◌, true, false, length, drop, not, ◌+◌, List, IfOk, OnOk, IsTrue, ◌⊎◌};
+ghost use Rattle.index.specs.declared.document.SharedDocument.{SharedDocument};
+ghost use Rattle.search.specs.Private.Gathered.{HasGap, HaveOwnNames, Joins, cut_gap, gap_rows, left_from, shows_context, text_held, view_of};
+ghost use Rattle.search.specs.Parts.{text_of_parts};
+ghost use Rattle.search.specs.Text.{text_of_rows};
+ghost use Rattle.search.specs.View.{is_over};
 ghost use denote.Param.Send.{IsSync, IsSend};
-ghost use Rattle.search.specs.Private.Selects.{Selects, IsAsked};
-ghost use Rattle.search.specs.Tests.{test_of};
-ghost use Rattle.search.specs.Private.Documents.{lines_of_taken};
 
-use crate::asked::Test;
-use crate::matching::{body_size, scan_documents};
-use crate::parts::Found;
+use crate::gathered::{Gathered, Wanted, gather, left_of, sum_of};
+use crate::matching::body_size;
+use crate::parts::Part;
+use crate::places::Places;
+use crate::text::text_of_first;
 use crate::unanswered::Unanswered;
 use crate::watch::Watch;
 use index::SharedDocument;
+use request::View;
 use std::alloc::Global;
 use std::thread::{Threads, join};
 
@@ -19,22 +24,41 @@ use std::thread::{Threads, join};
 /// twentieth of that.
 const PART: usize = 524_288;
 
-/// The lines of these documents that pass the test, document after document, found in up to `most` parts of about equal bytes, each
-/// in a thread of its own where one can be started. Each forms the text of its first lines, of about `ahead` bytes in all.
-/// `watch` is copied for each part.
-pub(crate) fn scan_side_by_side<R: Threads + Sync, W: Watch + Copy + Send>(
+/// What stands between two stretches of lines.
+const GAP: &[u8] = b"--\n";
+
+/// What is shown of documents, part after part.
+#[derive(Drop)]
+pub(crate) struct Joined {
+    /// The text.
+    pub(crate) parts: Vec<Part>,
+    /// How many rows there are.
+    pub(crate) rows: usize,
+    /// How many lines are shown, or names.
+    pub(crate) count: usize,
+    /// Whether there are more of them.
+    pub(crate) more: bool,
+}
+
+/// What is shown of these documents, gathered in up to `most` parts of about equal bytes, each in a thread of its own
+/// where one can be started. Where lines alone are shown, each forms the text of its first lines, of about `ahead`
+/// bytes in all. `watch` is copied for each part.
+///
+/// `CalledOff` is returned once one of the copies says that the answer is not wanted. `OutOfMemory` means that memory
+/// ran out, or that a name or a body has too many handles.
+pub(crate) fn gather_side_by_side<R: Threads + Sync, W: Watch + Copy + Send>(
     rt: &R,
     alloc: Global,
-    test: &Test,
+    wanted: &Wanted<'_>,
     documents: &[SharedDocument],
     most: usize,
     ahead: usize,
     watch: W,
-) -> Result<Found, Unanswered>
-    ensures { IfOk result (λ hits. Selects (IsAsked (test_of test.now)) (flat_map lines_of_taken documents.now) hits) }
+) -> Result<Joined, Unanswered>
+    ensures { IfOk result (λ joined. HaveOwnNames documents.now → Joins wanted.now wanted.now.limit documents.now joined) }
 {
     let parts = (bytes_of(documents) / PART).min(most).max(1);
-    scan_parts(rt, alloc, test, documents, parts, ahead / parts, watch)
+    gather_parts(rt, alloc, wanted, documents, parts, ahead / parts, watch)
 }
 
 /// The bytes of the documents' bodies together.
@@ -61,24 +85,23 @@ fn documents_with(documents: &[SharedDocument], bytes: usize) -> usize
     documents.len()
 }
 
-/// The lines of these documents that pass the test, found in so many parts, each with `ahead` bytes of text. The documents are halved
-/// by their bytes at each step, and the front half goes to a new thread.
-#[cycle(scan_parts)]
-fn scan_parts<R: Threads + Sync, W: Watch + Copy + Send>(
+/// What is shown of these documents, gathered in so many parts, each with `ahead` bytes of text. The documents are halved by their
+/// bytes at each step, and the front half goes to a new thread.
+#[cycle(gather_parts)]
+fn gather_parts<R: Threads + Sync, W: Watch + Copy + Send>(
     rt: &R,
     alloc: Global,
-    test: &Test,
+    wanted: &Wanted<'_>,
     documents: &[SharedDocument],
     parts: usize,
     ahead: usize,
     watch: W,
-) -> Result<Found, Unanswered>
-    ensures { IfOk result (λ hits. Selects (IsAsked (test_of test.now)) (flat_map lines_of_taken documents.now) hits) }
+) -> Result<Joined, Unanswered>
+    ensures { IfOk result (λ joined. HaveOwnNames documents.now → Joins wanted.now wanted.now.limit documents.now joined) }
 {
     if parts < 2 {
         let mut watch = watch;
-        let places = scan_documents(alloc, test, documents, &mut watch)?;
-        return Found::new(alloc, places, ahead, &mut watch);
+        return gather_part(alloc, wanted, documents, ahead, &mut watch);
     }
     let low = parts / 2;
     let high = parts - low;
@@ -86,16 +109,218 @@ fn scan_parts<R: Threads + Sync, W: Watch + Copy + Send>(
         documents,
         bytes_of(documents) / parts * low,
     ));
-    let front = move || -> Result<Found, Unanswered>
+    let front = move || -> Result<Joined, Unanswered>
         requires { IsSync R.row × IsSend W.row }
-        ensures { IfOk result (λ hits. Selects (IsAsked (test_of test.entry.now)) (flat_map lines_of_taken first.entry.now) hits) }
-    { scan_parts(rt, alloc, test, first, low, ahead, watch) };
-    let back = move || -> Result<Found, Unanswered>
+        ensures { IfOk result (λ joined. HaveOwnNames first.entry.now → Joins wanted.entry.now wanted.entry.now.limit first.entry.now joined) }
+    { gather_parts(rt, alloc, wanted, first, low, ahead, watch) };
+    let back = move || -> Result<Joined, Unanswered>
         requires { IsSync R.row × IsSend W.row }
-        ensures { IfOk result (λ hits. Selects (IsAsked (test_of test.entry.now)) (flat_map lines_of_taken others.entry.now) hits) }
-    { scan_parts(rt, alloc, test, others, high, ahead, watch) };
+        ensures { IfOk result (λ joined. HaveOwnNames others.entry.now → Joins wanted.entry.now wanted.entry.now.limit others.entry.now joined) }
+    { gather_parts(rt, alloc, wanted, others, high, ahead, watch) };
     let (found, rest) = join(rt, front, back);
-    let mut hits = found?;
-    hits.append(rest?)?;
-    Ok(hits)
+    let found = found?;
+    if found.more {
+        return Ok(found);
+    }
+    let rest = rest?;
+    let mut watch = watch;
+    let fitting = fitted(alloc, wanted, found.count, rest, others, ahead, &mut watch)?;
+    join_parts(alloc, wanted, found, fitting)
+}
+
+/// What is shown of these documents in one part, with about `ahead` bytes of text.
+///
+/// `CalledOff` is returned once `watch` says that the answer is not wanted. `OutOfMemory` means that memory ran out, or
+/// that a name or a body has too many handles.
+pub(crate) fn gather_part<W: Watch>(
+    alloc: Global,
+    wanted: &Wanted<'_>,
+    documents: &[SharedDocument],
+    ahead: usize,
+    watch: &mut W,
+) -> Result<Joined, Unanswered>
+    ensures { IfOk result (λ joined. HaveOwnNames documents.now → Joins wanted.now wanted.now.limit documents.now joined) }
+{
+    let gathered = gather(alloc, wanted, documents, watch)?;
+    let (count, more) = (gathered.count, gathered.more);
+    let (from, rows) = without_gap(wanted, gathered.rows);
+    let part = part_of(alloc, wanted, gathered, from, ahead, watch)?;
+    let mut parts = Vec::new(alloc);
+    parts.push(part)?;
+    Ok(Joined {
+        parts,
+        rows,
+        count,
+        more,
+    })
+}
+
+/// Whether lines near hits are shown.
+fn shows_context(wanted: &Wanted<'_>) -> bool
+    ensures { result ≡ shows_context (view_of wanted.now) }
+{
+    if wanted.lines {
+        return false;
+    }
+    match wanted.prepared.view {
+        View::Context(_) => true,
+        _ => false,
+    }
+}
+
+/// How many bytes the gap before the first stretch of lines has, and how many of so many rows are left without it.
+fn without_gap(wanted: &Wanted<'_>, rows: usize) -> (usize, usize)
+    ensures { result ≡ cut_gap (shows_context (view_of wanted.now)) rows }
+{
+    if rows == 0 {
+        return (0, 0);
+    }
+    if !shows_context(wanted) {
+        return (0, rows);
+    }
+    (GAP.len(), rows - 1)
+}
+
+/// The text of what was gathered, without its first `from` bytes. Where lines alone are shown, `ahead` bytes of it are formed.
+fn part_of<W: Watch>(
+    alloc: Global,
+    wanted: &Wanted<'_>,
+    gathered: Gathered,
+    from: usize,
+    ahead: usize,
+    watch: &mut W,
+) -> Result<Part, Unanswered>
+    requires { wanted.now.lines ≡ true → from ≡ 0 }
+    ensures { IfOk result (λ part. part ≡ drop from (text_held wanted.now gathered)) }
+{
+    let zero = wanted.prepared.zero;
+    if !wanted.lines {
+        return Ok(text_part(alloc, gathered.text, from));
+    }
+    let (text, formed) = text_of_first(alloc, zero, gathered.hits.lines(), ahead, watch)?;
+    Ok(Part {
+        text,
+        from: 0,
+        places: gathered.hits,
+        formed,
+        zero,
+    })
+}
+
+/// A part with this text, without its first `from` bytes. It is all formed.
+fn text_part(alloc: Global, text: Vec<u8>, from: usize) -> Part
+    ensures { result ≡ drop from text.items }
+{
+    let from = from.min(text.len());
+    Part {
+        text,
+        from,
+        places: Places::new(alloc),
+        formed: 0,
+        zero: false,
+    }
+}
+
+/// What is shown of the documents at the back, where so many lines, or names, before them count in the limit. If what was
+/// gathered of them is too much, it is gathered again.
+fn fitted<W: Watch>(
+    alloc: Global,
+    wanted: &Wanted<'_>,
+    before: usize,
+    back: Joined,
+    documents: &[SharedDocument],
+    ahead: usize,
+    watch: &mut W,
+) -> Result<Joined, Unanswered>
+    ensures { IfOk result (λ joined. HaveOwnNames documents.now → Joins wanted.now wanted.now.limit documents.now back
+        → Joins wanted.now (left_from wanted.now.limit before) documents.now joined) }
+{
+    let limit = left_of(wanted.limit, before);
+    if fits(limit, before, &back) {
+        return Ok(back);
+    }
+    let wanted = Wanted {
+        prepared: wanted.prepared,
+        lines: wanted.lines,
+        limit,
+    };
+    gather_part(alloc, &wanted, documents, ahead, watch)
+}
+
+/// Whether what was gathered up to the whole limit is what is shown up to what is left of it.
+fn fits(left: Option<u32>, before: usize, back: &Joined) -> bool
+    ensures { IsTrue result → (before ≡ 0) ⊎ ((back.now.more ≡ false) × (is_over left back.now.count ≡ false)) }
+{
+    if before == 0 {
+        return true;
+    }
+    if back.more {
+        return false;
+    }
+    is_within(left, back.count)
+}
+
+/// Whether there are no more than the limit.
+fn is_within(limit: Option<u32>, count: usize) -> bool
+    ensures { result ≡ not (is_over limit count) }
+{
+    match limit {
+        Some(most) => count <= most as usize,
+        None => true,
+    }
+}
+
+/// What is shown of the documents at the front, and of those at the back.
+fn join_parts(
+    alloc: Global,
+    wanted: &Wanted<'_>,
+    front: Joined,
+    back: Joined,
+) -> Result<Joined, Unanswered>
+    ensures { IfOk result (λ joined. (first others : List SharedDocument) → HaveOwnNames (first ++ others) → front.more ≡ false
+        → Joins wanted.now wanted.now.limit first front → Joins wanted.now (left_from wanted.now.limit front.count) others back
+        → Joins wanted.now wanted.now.limit (first ++ others) joined) }
+{
+    let mut all = front;
+    add_gap(alloc, wanted, &mut all, back.rows)?;
+    let mut parts = back.parts;
+    all.parts.append(&mut parts)?;
+    all.rows = sum_of(all.rows, back.rows)?;
+    all.count = sum_of(all.count, back.count)?;
+    all.more = back.more;
+    Ok(all)
+}
+
+/// Adds the gap between the stretches of lines that are there and those of the so many rows that follow, if there are any of both.
+fn add_gap(
+    alloc: Global,
+    wanted: &Wanted<'_>,
+    all: &mut Joined,
+    after: usize,
+) -> Result<(), Unanswered>
+    ensures text { OnOk result (text_of_parts all.new.parts.items ≡ text_of_parts all.old.parts.items
+        ++ text_of_rows wanted.now.prepared.now.zero (gap_rows (shows_context (view_of wanted.now)) all.old.rows after)) }
+    ensures rows { OnOk result (all.new.rows ≡ all.old.rows + length (gap_rows (shows_context (view_of wanted.now)) all.old.rows after)) }
+    ensures count { OnOk result (all.new.count ≡ all.old.count) }
+{
+    if !has_gap(wanted, all.rows, after) {
+        return Ok(());
+    }
+    let gap = Vec::from_slice(alloc, GAP)?;
+    all.parts.push(text_part(alloc, gap, 0))?;
+    all.rows = sum_of(all.rows, 1)?;
+    Ok(())
+}
+
+/// Whether there is a gap between so many rows and so many.
+fn has_gap(wanted: &Wanted<'_>, before: usize, after: usize) -> bool
+    ensures { HasGap result (gap_rows (shows_context (view_of wanted.now)) before after) }
+{
+    if before == 0 {
+        return false;
+    }
+    if after == 0 {
+        return false;
+    }
+    shows_context(wanted)
 }

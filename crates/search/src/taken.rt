@@ -1,22 +1,25 @@
 //! What a search takes out of an index, so that names and lines can be matched without the index.
 
-ghost use Rattle.std.specs.Prelude.{IfOk};
-ghost use Rattle.search.specs.Prepared.{pattern_of};
+ghost use Rattle.std.specs.Prelude.{◌≡◌, if◌then◌else◌, IfOk};
+ghost use Rattle.search.specs.Private.Gathered.{shown_with, view_of};
+ghost use Rattle.search.specs.Prepared.{request_of};
 ghost use Rattle.search.specs.Taken.{IsTakenOf};
 
 use crate::answer::{Answer, Contents};
-use crate::matching::scan_documents;
+use crate::front::front_of;
+use crate::gathered::{Wanted, gather};
 use crate::names::named;
-use crate::parts::Found;
 use crate::pattern::Prepared;
-use crate::side_by_side::scan_side_by_side;
+use crate::shown::{Shown, ShownContents};
+use crate::side_by_side::{Joined, gather_part, gather_side_by_side};
 use crate::unanswered::Unanswered;
 use crate::watch::{NoWatch, Watch};
 use index::{Index, SharedDocument};
+use request::View;
 use std::alloc::{AllocError, Global};
 use std::thread::Threads;
 
-/// What a search has taken out of an index: the version, the counts, and all candidates. It does not borrow the
+/// What a search has taken out of an index: the version, the counts, and the candidates. It does not borrow the
 /// index, which can change or be dropped while names and lines are matched. Names and bodies are shared, so it takes
 /// only a few words of memory for each candidate.
 ///
@@ -29,23 +32,27 @@ pub struct Taken<'p> {
     pub(crate) version: u32,
     /// The number of documents that it had.
     pub(crate) documents: u32,
-    /// The number of candidates.
+    /// The number of all candidates.
     pub(crate) count: u32,
-    /// The candidates, in the order of their names.
+    /// The candidates, but for those that a text at the front of the names leaves out, in the order of their names.
     pub(crate) candidates: Vec<SharedDocument>,
 }
 
-/// Takes out of the index what a search needs: the documents whose trigrams meet the condition of the pattern. No name
-/// and no line is looked at. An `Err` means that memory ran out, or that a name or a body has too many handles.
+/// Takes out of the index what a search needs: the documents whose trigrams meet the condition of the pattern. If the
+/// names that are asked for begin with a text, as for the name pattern `^src/`, only the documents under it are taken,
+/// and the others cost nothing. No other name and no line is looked at.
+///
+/// An `Err` means that memory ran out, or that a name or a body has too many handles.
 pub fn take<'p>(
     alloc: Global,
     index: &Index,
     prepared: &'p Prepared,
 ) -> Result<Taken<'p>, AllocError>
-    ensures { IfOk result (IsTakenOf index.now (pattern_of prepared.now)) }
+    ensures { IfOk result (IsTakenOf index.now (request_of prepared.now)) }
 {
     let numbers = index.candidates(alloc, &prepared.query)?;
-    let candidates = index.chosen_documents(alloc, &numbers)?;
+    let front = front_of(alloc, &prepared.names)?;
+    let candidates = index.chosen_documents_under(alloc, &numbers, &front)?;
     Ok(Taken {
         prepared,
         version: index.version(),
@@ -58,15 +65,17 @@ pub fn take<'p>(
 impl Taken<'_> {
     ghost use Rattle.std.specs.Prelude.{IfOk};
     ghost use Rattle.index.specs.State.{State};
-    ghost use Rattle.search.specs.Pattern.{Pattern};
+    ghost use Rattle.search.specs.Request.{Request};
+    ghost use Rattle.search.specs.Shown.{IsShownOf};
     ghost use Rattle.search.specs.Scan.{IsAnswerOf};
     ghost use Rattle.search.specs.Taken.{IsTakenOf};
 
     /// Matches the names and then the lines, and returns the answer for the pattern in the state that the index had
-    /// when the candidates were taken. An `Err` means that memory ran out, or that a name has too many handles. What
-    /// was taken is dropped in either case.
+    /// when the candidates were taken. What was taken is dropped.
+    ///
+    /// An `Err` means that memory ran out, or that a name or a body has too many handles.
     pub fn answer(self, alloc: Global) -> Result<Answer, AllocError>
-        ensures { IfOk result (λ answer. (state : State) (pattern : Pattern) → IsTakenOf state pattern self.entry → IsAnswerOf state pattern answer) }
+        ensures { IfOk result (λ answer. (state : State) (request : Request) → IsTakenOf state request self.entry → IsAnswerOf state request.pattern answer) }
     {
         match self.answer_watched(alloc, &mut NoWatch) {
             Ok(answer) => Ok(answer),
@@ -76,51 +85,131 @@ impl Taken<'_> {
     }
 
     /// The same as `answer`, but `watch` gets the number of each document whose lines are matched, and can call the
-    /// search off. `CalledOff` is returned only after `watch.wants()` said `false`, and nothing is asked after that.
+    /// search off.
+    ///
+    /// `CalledOff` is returned only after `watch.wants()` said `false`, and nothing is asked after that. `OutOfMemory`
+    /// means that memory ran out, or that a name or a body has too many handles.
     pub fn answer_watched<W: Watch>(
         self,
         alloc: Global,
         watch: &mut W,
     ) -> Result<Answer, Unanswered>
-        ensures { IfOk result (λ answer. (state : State) (pattern : Pattern) → IsTakenOf state pattern self.entry → IsAnswerOf state pattern answer) }
+        ensures { IfOk result (λ answer. (state : State) (request : Request) → IsTakenOf state request self.entry → IsAnswerOf state request.pattern answer) }
     {
         let kept = named(alloc, self.prepared, self.candidates, watch)?;
-        let places = scan_documents(alloc, &self.prepared.line, kept.as_slice(), watch)?;
-        let hits = Found::new(alloc, places, 0, watch)?;
+        let wanted = Wanted {
+            prepared: self.prepared,
+            lines: true,
+            limit: None,
+        };
+        let gathered = gather(alloc, &wanted, kept.as_slice(), watch)?;
         let contents = Contents {
             version: self.version,
-            hits,
+            hits: gathered.hits,
             documents: self.documents,
             candidates: self.count,
         };
-        let contents = Box::new(alloc, contents)?;
         Ok(Answer { contents })
     }
 
-    /// The same as `answer_watched`, but where the documents whose lines are matched have some MiB together, they are cut
-    /// into up to `most` parts, which are matched side by side, each in a thread of its own where one can be started. Each
-    /// part has a copy of `watch`. The text of the first lines is formed too, of about `ahead` bytes in all.
-    pub fn answer_by<R: Threads + Sync, W: Watch + Copy + Send>(
+    /// Matches the names and then the lines, and returns what the request shows of the answer, in the state that the
+    /// index had when the candidates were taken. It looks at no more lines than it must: once enough is found for a
+    /// limit, at none. `watch` gets the number of each document whose lines are matched, and can call the search off.
+    ///
+    /// `CalledOff` is returned only after `watch.wants()` said `false`. `OutOfMemory` means that memory ran out, or
+    /// that a name or a body has too many handles.
+    pub fn show<W: Watch>(self, alloc: Global, watch: &mut W) -> Result<Shown, Unanswered>
+        ensures { IfOk result (λ shown. (state : State) (request : Request) → IsTakenOf state request self.entry → IsShownOf state request shown) }
+    {
+        let kept = named(alloc, self.prepared, self.candidates, watch)?;
+        let wanted = wanted_by(self.prepared);
+        let joined = gather_part(alloc, &wanted, kept.as_slice(), 0, watch)?;
+        with_counts(
+            alloc,
+            self.prepared.view,
+            self.version,
+            self.documents,
+            self.count,
+            joined,
+        )
+    }
+
+    /// The same as `show`, but where the documents whose lines are matched have 1 MiB or more together, they are cut
+    /// into up to `most` parts, which are matched side by side, each in a thread of its own where one can be started.
+    /// Each part has a copy of `watch`. The text of the first lines is formed too, of about `ahead` bytes in all.
+    ///
+    /// `CalledOff` is returned only after `wants()` of one of the copies said `false`. `OutOfMemory` means that memory
+    /// ran out, or that a name or a body has too many handles.
+    pub fn show_by<R: Threads + Sync, W: Watch + Copy + Send>(
         self,
         rt: &R,
         alloc: Global,
         most: usize,
         ahead: usize,
         watch: W,
-    ) -> Result<Answer, Unanswered>
-        ensures { IfOk result (λ answer. (state : State) (pattern : Pattern) → IsTakenOf state pattern self.entry → IsAnswerOf state pattern answer) }
+    ) -> Result<Shown, Unanswered>
+        ensures { IfOk result (λ shown. (state : State) (request : Request) → IsTakenOf state request self.entry → IsShownOf state request shown) }
     {
         let mut own = watch;
         let kept = named(alloc, self.prepared, self.candidates, &mut own)?;
-        let test = &self.prepared.line;
-        let hits = scan_side_by_side(rt, alloc, test, kept.as_slice(), most, ahead, watch)?;
-        let contents = Contents {
-            version: self.version,
-            hits,
-            documents: self.documents,
-            candidates: self.count,
-        };
-        let contents = Box::new(alloc, contents)?;
-        Ok(Answer { contents })
+        let wanted = wanted_by(self.prepared);
+        let joined = gather_side_by_side(rt, alloc, &wanted, kept.as_slice(), most, ahead, watch)?;
+        with_counts(
+            alloc,
+            self.prepared.view,
+            self.version,
+            self.documents,
+            self.count,
+            joined,
+        )
     }
+}
+
+/// What is gathered for a search.
+fn wanted_by(prepared: &Prepared) -> Wanted<'_>
+    ensures prepared { result.prepared.now ≡ prepared.now }
+    ensures limit { result.limit ≡ prepared.now.limit }
+    ensures view { view_of result ≡ prepared.now.view }
+{
+    Wanted {
+        prepared,
+        lines: shows_lines(prepared.view),
+        limit: prepared.limit,
+    }
+}
+
+/// Whether lines alone are shown.
+fn shows_lines(view: View) -> bool
+    ensures { (if result then View.Lines else view) ≡ view }
+{
+    match view {
+        View::Lines => true,
+        _ => false,
+    }
+}
+
+/// What is shown, with the counts of the index.
+fn with_counts(
+    alloc: Global,
+    view: View,
+    version: u32,
+    documents: u32,
+    candidates: u32,
+    joined: Joined,
+) -> Result<Shown, Unanswered>
+    ensures { IfOk result (λ shown. shown ≡ shown_with view version documents candidates joined) }
+{
+    let contents = ShownContents {
+        view,
+        version,
+        count: joined.count,
+        more: joined.more,
+        rows: joined.rows,
+        parts: joined.parts,
+        documents,
+        candidates,
+    };
+    Ok(Shown {
+        contents: Box::new(alloc, contents)?,
+    })
 }

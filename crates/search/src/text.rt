@@ -1,10 +1,10 @@
 //! The text of answers.
 
-ghost use Rattle.std.specs.Prelude.{◌≡◌, ◌++◌, ◌≤◌, length, take, flat_map, IfOk, OnOk, OnErr};
+ghost use Rattle.std.specs.Prelude.{◌≡◌, [], ◌∷◌, ◌++◌, ◌≤◌, length, take, flat_map, IfOk, OnOk, OnErr};
 ghost use denote.Param.Send.{IsSync, IsSend};
 ghost use Rattle.search.specs.Hits.{hit_of};
 ghost use Rattle.search.specs.Parts.{IsFirstText};
-ghost use Rattle.search.specs.Text.{text_of_hit, text_of_hits, Begins};
+ghost use Rattle.search.specs.Text.{after_name, text_of_hit, text_of_hits, Begins};
 
 use crate::places::{Hit, Lines};
 use crate::unanswered::Unanswered;
@@ -19,15 +19,19 @@ pub const PIECE: usize = 131_072;
 /// So many bytes of text are formed between two looks whether the answer is still wanted.
 const LOOK: usize = 65_536;
 
-/// The text of the first of these lines, of `most` bytes and a line at most, and how many lines these are. `watch` is asked
-/// whether the answer is wanted before each `LOOK` bytes of it.
+/// The text of the first of these lines, of `most` bytes and a line at most, and how many lines these are. `watch` is
+/// asked whether the answer is wanted before each `LOOK` bytes of it.
+///
+/// `CalledOff` is returned once `watch` says that the answer is not wanted, and `OutOfMemory` means that memory ran
+/// out.
 pub(crate) fn text_of_first<W: Watch>(
     alloc: Global,
+    zero: bool,
     lines: Lines<'_>,
     most: usize,
     watch: &mut W,
 ) -> Result<(Vec<u8>, usize), Unanswered>
-    ensures { IfOk result (λ formed. IsFirstText lines.entry formed.1 formed.0.items) }
+    ensures { IfOk result (λ formed. IsFirstText zero lines.entry formed.1 formed.0.items) }
 {
     let mut text = Vec::new(alloc);
     let mut look = 0;
@@ -42,25 +46,26 @@ pub(crate) fn text_of_first<W: Watch>(
         let Some(hit) = lines.get(at) else {
             return Ok((text, at));
         };
-        append_hit(&mut text, &hit)?;
+        append_hit(&mut text, zero, &hit)?;
     }
     Ok((text, lines.len()))
 }
 
 /// The text of these lines, formed in up to `parts` parts, each of `PIECE` bytes or more, in a thread of its own where one can
-/// be started. With less than two parts, no thread is started.
+/// be started. With less than two parts, no thread is started. An `Err` means that memory ran out.
 #[cycle(form_lines)]
 pub fn form_lines<R: Threads + Sync>(
     rt: &R,
     alloc: Global,
+    zero: bool,
     lines: &Lines<'_>,
     parts: usize,
 ) -> Result<Vec<u8>, AllocError>
-    ensures { IfOk result (λ text. text.items ≡ text_of_hits lines.now) }
+    ensures { IfOk result (λ text. text.items ≡ text_of_hits zero lines.now) }
 {
     if parts < 2 || lines.count_within(PIECE) == lines.len() {
         let mut whole = Vec::with_capacity(alloc, lines.bytes())?;
-        append_lines(&mut whole, lines.again())?;
+        append_lines(&mut whole, zero, lines.again())?;
         return Ok(whole);
     }
     let low = parts / 2;
@@ -70,12 +75,12 @@ pub fn form_lines<R: Threads + Sync>(
     let (first, others) = (&first, &others);
     let front = move || -> Result<Vec<u8>, AllocError>
         requires { IsSync R.row }
-        ensures { IfOk result (λ text. text.items ≡ text_of_hits first.entry.now) }
-    { form_lines(rt, alloc, first, low) };
+        ensures { IfOk result (λ text. text.items ≡ text_of_hits zero first.entry.now) }
+    { form_lines(rt, alloc, zero, first, low) };
     let back = move || -> Result<Vec<u8>, AllocError>
         requires { IsSync R.row }
-        ensures { IfOk result (λ text. text.items ≡ text_of_hits others.entry.now) }
-    { form_lines(rt, alloc, others, high) };
+        ensures { IfOk result (λ text. text.items ≡ text_of_hits zero others.entry.now) }
+    { form_lines(rt, alloc, zero, others, high) };
     let (formed, rest) = join(rt, front, back);
     let mut text = formed?;
     let mut rest = rest?;
@@ -83,20 +88,31 @@ pub fn form_lines<R: Threads + Sync>(
     Ok(text)
 }
 
-/// Appends a line for each hit. An `Err` means that memory ran out; it can leave some of the lines in `out`.
-pub fn append_lines(out: &mut Vec<u8>, lines: Lines<'_>) -> Result<(), AllocError>
-    ensures ok { OnOk result (out.new.items ≡ out.old.items ++ text_of_hits lines.entry) }
+/// Appends a line for each hit, with a zero byte after the name if `zero`, and otherwise a colon. An `Err` means that memory ran
+/// out; it can leave some of the lines in `out`.
+pub fn append_lines(out: &mut Vec<u8>, zero: bool, lines: Lines<'_>) -> Result<(), AllocError>
+    ensures ok { OnOk result (out.new.items ≡ out.old.items ++ text_of_hits zero lines.entry) }
     ensures err { OnErr result (Begins out.old.items out.new.items) }
 {
     for hit in lines {
-        append_hit(out, &hit)?;
+        append_hit(out, zero, &hit)?;
     }
     Ok(())
 }
 
-/// Appends the line of a hit.
-fn append_hit(out: &mut Vec<u8>, hit: &Hit<'_>) -> Result<(), AllocError>
-    ensures ok { OnOk result (out.new.items ≡ out.old.items ++ text_of_hit (hit_of hit.now)) }
+/// What comes after a name: this byte, or a zero byte in its place.
+pub(crate) fn after_name(zero: bool, byte: u8) -> u8
+    ensures { result ∷ [] ≡ after_name zero byte }
+{
+    if zero { 0 } else { byte }
+}
+
+/// Appends the line of a hit, with a zero byte after the name if `zero`, and otherwise a colon.
+///
+/// An `Err` means that memory ran out; `out` is then as it was.
+#[tactic(auto, unfolding(crate::specs::Text::text_of_hit))]
+pub(crate) fn append_hit(out: &mut Vec<u8>, zero: bool, hit: &Hit<'_>) -> Result<(), AllocError>
+    ensures ok { OnOk result (out.new.items ≡ out.old.items ++ text_of_hit zero (hit_of hit.now)) }
     ensures err { OnErr result (out.new.items ≡ out.old.items) }
 {
     let mut line = Buffer::new();
@@ -104,7 +120,7 @@ fn append_hit(out: &mut Vec<u8>, hit: &Hit<'_>) -> Result<(), AllocError>
         out,
         &[
             hit.name.as_bytes(),
-            b":".as_slice(),
+            [after_name(zero, b':')].as_slice(),
             line.format(hit.line).as_bytes(),
             b":".as_slice(),
             hit.text,

@@ -11,7 +11,8 @@ pub trait Watch {
     fn reads(&mut self, number: u32);
 
     /// Whether the answer is still wanted. It is asked before each name that is matched, before each document, at the next
-    /// 64 KiB within one, and before each 64 KiB of text that is formed. After `false` the search is given up.
+    /// 64 KiB within one, before each column and each span is looked for, and before each 64 KiB of text that is formed. After
+    /// `false` the search is given up.
     fn wants(&mut self) -> bool;
 }
 
@@ -29,7 +30,7 @@ impl Watch for NoWatch {
     }
 }
 
-/// Asks whether the answer is still wanted.
+/// Asks whether the answer is still wanted. An `Err` is `CalledOff`: it is not.
 pub(crate) fn ask<W: Watch>(watch: &mut W) -> Result<(), Unanswered>
     ensures { IfErr result (λ e. e ≡ CalledOff) }
 {

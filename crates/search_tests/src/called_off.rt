@@ -1,8 +1,9 @@
 //! Searches that are called off, and bodies that are matched in several pieces.
 
-use crate::fixtures::{put, text_of_answer};
+use crate::fixtures::{Always, index_of, put, text_of_shown};
 use index::Index;
-use search::{Answer, Prepared, Unanswered, Watch, find, take};
+use request::read_find;
+use search::{Answer, Prepared, Shown, Unanswered, Watch, find, take};
 use std::alloc::{AllocError, Global};
 use std::process::Abort;
 use std::test::Fail;
@@ -29,13 +30,13 @@ fn patient(
     index: &Index,
     prepared: &Prepared,
     no_from: u32,
-) -> Result<(Result<Answer, Unanswered>, u32), AllocError> {
+) -> Result<(Result<Shown, Unanswered>, u32), AllocError> {
     let mut patience = Patience {
         questions: 0,
         no_from,
     };
-    let answer = take(alloc, index, prepared)?.answer_watched(alloc, &mut patience);
-    Ok((answer, patience.questions))
+    let shown = take(alloc, index, prepared)?.show(alloc, &mut patience);
+    Ok((shown, patience.questions))
 }
 
 /// Whether the search is called off at this question, and asks no further one.
@@ -45,8 +46,8 @@ fn is_called_off_at(
     prepared: &Prepared,
     question: u32,
 ) -> Result<bool, AllocError> {
-    let (answer, questions) = patient(alloc, index, prepared, question)?;
-    Ok(answer.err() == Some(Unanswered::CalledOff) && questions == question)
+    let (shown, questions) = patient(alloc, index, prepared, question)?;
+    Ok(shown.err() == Some(Unanswered::CalledOff) && questions == question)
 }
 
 /// Whether a search that is asked so many questions, and that is called off at a later one if at all, has the answer
@@ -57,12 +58,14 @@ fn is_answered_after(
     prepared: &Prepared,
     questions: u32,
 ) -> Result<bool, AllocError> {
-    let (answer, asked) = patient(alloc, index, prepared, questions.saturating_add(1))?;
-    let Ok(answer) = answer else {
+    let (shown, asked) = patient(alloc, index, prepared, questions.saturating_add(1))?;
+    let Ok(shown) = shown else {
         return Ok(false);
     };
-    let plain = find(alloc, index, prepared)?;
-    let same = text_of_answer(alloc, &answer)? == text_of_answer(alloc, &plain)?;
+    let Ok(plain) = take(alloc, index, prepared)?.show(alloc, &mut Always) else {
+        return Ok(false);
+    };
+    let same = text_of_shown(alloc, &shown)? == text_of_shown(alloc, &plain)?;
     Ok(same && asked == questions)
 }
 
@@ -242,10 +245,35 @@ fn a_search_is_called_off_at_each_question(rt: HostRuntime) -> Result<(), Fail> 
     let prepared = Prepared::new(alloc, b"needle")?;
     assert!(rt; is_asked(alloc, &index, &prepared, 7)?);
     // Four names, and then three documents and three further pieces.
-    let prepared = Prepared::within(alloc, b"^a", b"needle")?;
+    let prepared = Prepared::within(alloc, b"a", b"needle")?;
     assert!(rt; is_asked(alloc, &index, &prepared, 10)?);
+    // The same, but the name that does not begin with `a` is not taken.
+    let prepared = Prepared::within(alloc, b"^a", b"needle")?;
+    assert!(rt; is_asked(alloc, &index, &prepared, 9)?);
     let prepared = Prepared::within(alloc, b"^(a*b*)*c*$", b"n(e(ee)*)*dle")?;
     assert!(rt; is_asked(alloc, &index, &prepared, 11)?);
+    Ok(())
+}
+
+/// Whether a `find` of these words, which have no fault, is called off at each of so many questions, and is asked no others.
+fn is_asked_by(alloc: Global, index: &Index, words: &[u8], questions: u32) -> Result<bool, Fail> {
+    let find = read_find(alloc, words)?;
+    let prepared = Prepared::find(alloc, &find)?;
+    Ok(is_asked(alloc, index, &prepared, questions)?)
+}
+
+#[test]
+fn a_search_is_called_off_between_columns_and_spans(rt: HostRuntime) -> Result<(), Fail> {
+    let alloc = rt.alloc();
+    let index = index_of(&rt, alloc, b"a x\nbbb\nb b|c b")?;
+    // Two documents, and the columns of three hits.
+    assert!(rt; is_asked_by(alloc, &index, b"--column -- b", 5)?);
+    // Two documents, and in three hits before each of six spans and behind the last.
+    assert!(rt; is_asked_by(alloc, &index, b"--spans -- b", 11)?);
+    // One span alone in the second line.
+    assert!(rt; is_asked_by(alloc, &index, b"--spans -- b+", 9)?);
+    // No spans at all.
+    assert!(rt; is_asked_by(alloc, &index, b"--spans -- c*", 6)?);
     Ok(())
 }
 

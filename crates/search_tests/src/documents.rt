@@ -3,6 +3,7 @@
 
 use crate::fixtures::{document, index_of, lists};
 use index::{Command, Held, Index, Name, NameError};
+use posting::List;
 use search::Taken;
 use std::alloc::{AllocError, Global};
 use std::process::Abort;
@@ -195,6 +196,56 @@ fn leads_to(rt: &impl Abort, alloc: Global, state: &State<'_>) -> Result<bool, F
 fn states_after_commands(rt: HostRuntime) -> Result<(), Fail> {
     for state in STATES {
         assert!(rt; leads_to(&rt, rt.alloc(), state)?, "{:?}", state.commands);
+    }
+    Ok(())
+}
+
+/// Documents of which many have names that begin alike. Their numbers are 1 to 9.
+const FOLDERS: &[u8] = b"src/b 1|src 2|src/a 3|a 4|src/c 5|srd 6|src. 7|t 8|src/ 9";
+
+/// Prefixes, and the numbers of the documents whose names begin with each, in the order of their names.
+const UNDER: &[(&[u8], &[u32])] = &[
+    (b"", &[4, 2, 7, 9, 3, 1, 5, 6, 8]),
+    (b"sr", &[2, 7, 9, 3, 1, 5, 6]),
+    (b"src", &[2, 7, 9, 3, 1, 5]),
+    (b"src/", &[9, 3, 1, 5]),
+    (b"src/a", &[3]),
+    (b"src/a/", &[]),
+    (b"b", &[]),
+    (b"t", &[8]),
+    (b"u", &[]),
+    (b"src\n", &[]),
+    (&[b's'; 256], &[]),
+];
+
+/// The numbers of the documents among the chosen ones whose names begin with the prefix, in the order of their names.
+fn numbers_under(
+    alloc: Global,
+    index: &Index,
+    chosen: &List,
+    prefix: &[u8],
+) -> Result<Vec<u32>, AllocError> {
+    let mut numbers = Vec::new(alloc);
+    for document in &index.chosen_documents_under(alloc, chosen, prefix)? {
+        numbers.push(document.number)?;
+    }
+    Ok(numbers)
+}
+
+#[test]
+fn documents_under_a_prefix(rt: HostRuntime) -> Result<(), Fail> {
+    let index = index_of(&rt, rt.alloc(), FOLDERS)?;
+    let one = List::one(rt.alloc(), 3);
+    for (prefix, numbers) in UNDER {
+        let found = numbers_under(rt.alloc(), &index, index.live(), prefix)?;
+        assert!(rt; found.as_slice() == *numbers, "under {prefix:?}");
+        let found = numbers_under(rt.alloc(), &index, &one, prefix)?;
+        assert_eq!(rt;
+            found.contains(&3),
+            numbers.contains(&3),
+            "under {prefix:?}"
+        );
+        assert!(rt; found.len() <= 1, "under {prefix:?}");
     }
     Ok(())
 }

@@ -2,7 +2,7 @@
 
 use index::{Body, Command, Index, Name};
 use posting::List;
-use search::{Answer, append_lines};
+use search::{Shown, Watch, append_lines};
 use std::alloc::{AllocError, Global};
 use std::process::Abort;
 use std::test::Fail;
@@ -75,20 +75,32 @@ pub(crate) fn lists(alloc: Global, set: &List, numbers: &[u32]) -> Result<bool, 
     )
 }
 
-/// The text of the answer to search 1, with its counts.
-pub(crate) fn text_of_answer(alloc: Global, answer: &Answer) -> Result<Vec<u8>, AllocError> {
+/// A watch to which each answer is wanted.
+#[derive(Drop)]
+pub(crate) struct Always;
+
+impl Watch for Always {
+    fn reads(&mut self, _number: u32) {}
+
+    fn wants(&mut self) -> bool {
+        true
+    }
+}
+
+/// The text of what is shown for search 1, with its counts.
+pub(crate) fn text_of_shown(alloc: Global, shown: &Shown) -> Result<Vec<u8>, AllocError> {
     let mut text = Vec::new(alloc);
-    answer.append_head(1, true, &mut text)?;
-    for part in answer.parts() {
-        let (formed, others) = part.text();
-        text.extend_from_slice(formed)?;
-        append_lines(&mut text, others)?;
+    shown.append_head(1, true, &mut text)?;
+    for part in shown.parts() {
+        let part = part.text();
+        text.extend_from_slice(part.formed)?;
+        append_lines(&mut text, part.zero, part.lines)?;
     }
     Ok(text)
 }
 
-/// Whether the text of the answer to search 1, with its counts, is this one.
-pub(crate) fn is_text(alloc: Global, answer: &Answer, want: &[u8]) -> Result<bool, AllocError> {
-    let text = text_of_answer(alloc, answer)?;
+/// Whether the text of what is shown for search 1, with its counts, is this one.
+pub(crate) fn is_text(alloc: Global, shown: &Shown, want: &[u8]) -> Result<bool, AllocError> {
+    let text = text_of_shown(alloc, shown)?;
     Ok(text.as_slice() == want)
 }

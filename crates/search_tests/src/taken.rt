@@ -5,12 +5,13 @@ ghost use Rattle.index.specs.declared.command.Command.TheVariants.{Put};
 ghost use Rattle.index.specs.State.{state_of};
 ghost use Rattle.ere.specs.declared.case.Case.TheVariants.{Exact};
 ghost use Rattle.search.specs.Pattern.{Pattern, IsPatternOf};
-ghost use Rattle.search.specs.Scan.{IsAnswerOf};
+ghost use Rattle.search.specs.Request.{all_lines_of};
+ghost use Rattle.search.specs.Shown.{IsShownOf};
 
-use crate::fixtures::{document, is_text};
+use crate::fixtures::{Always, document, is_text};
 use index::{Body, Command, Index, Name};
-use search::{Answer, Prepared, take};
-use std::alloc::Global;
+use search::{Prepared, Shown, take};
+use std::alloc::{AllocError, Global};
 use std::test::Fail;
 
 /// A search that has left the index: two documents are put and a search of them is taken. Then one of the names is
@@ -21,10 +22,10 @@ fn search_left(
     second: (Name, Body),
     removed: &Name,
     pattern: &[u8],
-) -> Result<Answer, Fail>
-    // The answer is that of the pattern's tree and of the two commands before the removal.
-    ensures { IfOk result (λ answer. (tree : Pattern) × IsPatternOf Exact pattern.now tree
-        × IsAnswerOf (state_of (Put first.0 first.1 ∷ Put second.0 second.1 ∷ [])) tree answer) }
+) -> Result<Shown, Fail>
+    // All lines of the pattern are shown, after the two commands before the removal.
+    ensures { IfOk result (λ shown. (tree : Pattern) × IsPatternOf Exact pattern.now tree
+        × IsShownOf (state_of (Put first.0 first.1 ∷ Put second.0 second.1 ∷ [])) (all_lines_of tree) shown) }
 {
     let prepared = Prepared::new(alloc, pattern)?;
     let mut index = Index::new(alloc);
@@ -33,11 +34,14 @@ fn search_left(
     let taken = take(alloc, &index, &prepared)?;
     index.remove(removed)?;
     drop(index);
-    Ok(taken.answer(alloc)?)
+    match taken.show(alloc, &mut Always) {
+        Ok(shown) => Ok(shown),
+        Err(_) => Err(Fail::from(AllocError)),
+    }
 }
 
-/// The answer of a search that has left the index.
-fn answer_of_left(alloc: Global) -> Result<Answer, Fail> {
+/// What is shown for a search that has left the index.
+fn shown_of_left(alloc: Global) -> Result<Shown, Fail> {
     let first = document(alloc, b"f", b"abc\ndef")?;
     let second = document(alloc, b"e", b"abd")?;
     let removed = Name::new(alloc, b"f")?;
@@ -46,8 +50,8 @@ fn answer_of_left(alloc: Global) -> Result<Answer, Fail> {
 
 #[test]
 fn a_search_that_has_left_the_index(rt: HostRuntime) -> Result<(), Fail> {
-    let answer = answer_of_left(rt.alloc())?;
+    let shown = shown_of_left(rt.alloc())?;
     let want = b"search 1 version 2 lines 2 candidates 2 of 2\ne:1:abd\nf:1:abc\n";
-    assert!(rt; is_text(rt.alloc(), &answer, want)?);
+    assert!(rt; is_text(rt.alloc(), &shown, want)?);
     Ok(())
 }

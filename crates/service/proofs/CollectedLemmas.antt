@@ -95,6 +95,7 @@ one_search (item.remove name) = omega arith
 one_search item.publish = omega arith
 one_search (item.search case text) = omega arith
 one_search (item.search_in case name_text text) = omega arith
+one_search (item.find text) = omega arith
 one_search item.sync = omega arith
 one_search (item.cancel number) = omega arith
 one_search item.status = omega arith

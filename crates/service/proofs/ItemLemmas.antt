@@ -1,5 +1,5 @@
 -- The entries of single items are legal.
-use Rattle.std.proofs.Common.{◌≡◌, ◌≢◌, ℕ, ◌≤◌, ◌<◌, ◌+◌, ◌-◌, ◌⊎◌, inl, inr, Bool, true, false, List, Some, refl, ap, ◌∙◌, arith, MatchBool}
+use Rattle.std.proofs.Common.{◌≡◌, ◌≢◌, ℕ, zero, suc, ◌≤◌, ◌<◌, ◌+◌, ◌-◌, ◌⊎◌, inl, inr, Bool, true, false, List, Some, refl, ap, ◌∙◌, arith, MatchBool}
 use Rattle.ere.specs.declared.error.EreError.{EreError}
 use Rattle.ere.specs.declared.error.EreErrorKind.{EreErrorKind}
 use Rattle.ere.specs.declared.error.EreErrorKind.TheVariants as kind
@@ -19,9 +19,17 @@ use Rattle.transcript.specs.declared.entry.Entry.TheVariants.{Refused}
 use Rattle.transcript.specs.declared.entry.SearchReason.TheVariants as search_reason
 use Rattle.steps.specs.LegalRows.{IsNamed, bad_name, no_memory, named, bad_body, with_body, full, accepted, IsPut, IsRemove, HasLoaded, loaded_body}
 use Rattle.steps.specs.LegalRows.{IsFailedTimes}
-use Rattle.steps.specs.Steps.{IsFaultOfSearch, IsFaultOfSearchIn}
-use Rattle.steps.specs.Steps as steps
-use Rattle.service.specs.Private.Entries.{reason_of_name, reason_of_fault, reason_of_fault_of, HasBodyOrNoMemory, IsRemoveOrNoMemory, IsCounted}
+use Rattle.request.specs.Faults.{IsFirstFault}
+use Rattle.request.specs.Find.{IsFindOf, Options}
+use Rattle.request.specs.declared.fault.FindFault.{FindFault}
+use Rattle.request.specs.declared.fault.FindFault.TheVariants as find_fault
+use Rattle.search.specs.Request.{IsRequestFault}
+use Rattle.search.specs.declared.requested.FindError.{FindError}
+use Rattle.transcript.specs.declared.entry.SearchReason.{SearchReason}
+use Rattle.steps.specs.Asked.{IsFaultOfSearch, IsFaultOfSearchIn, IsFaultOfFind}
+use Rattle.steps.specs.Asked as asked
+use Rattle.service.specs.Private.Entries as entries
+use Rattle.service.specs.Private.Entries.{IsReasonOfWords, reason_of_find, reason_of_find_of, reason_of_name, reason_of_fault, reason_of_fault_of, HasBodyOrNoMemory, IsRemoveOrNoMemory, IsCounted}
 
 pub named_fault : (error : NameError) (bytes : List ℕ) (line : ℕ) (entry : Entry) (Else : Type 0) → IsNameFault error bytes
     → entry ≡ Refused line (reason_of_name error) → IsNamed bytes line entry Else
@@ -100,8 +108,8 @@ pub search_fault : (case : Case) (text : List ℕ) (error : EreError) → (error
 search_fault case text error none = by_kind (memory_or_not error.kind)
   where
     by_kind : (error.kind ≡ kind.OutOfMemory) ⊎ (error.kind ≡ kind.OutOfMemory → ⊥) → IsFaultOfSearch case text (reason_of_fault false error)
-    by_kind (inl memory) = steps.no_memory (reason_of_memory false error.kind error memory)
-    by_kind (inr fault) = steps.bad_pattern error fault (none fault) (reason_in_pattern error.kind error fault)
+    by_kind (inl memory) = asked.no_memory (reason_of_memory false error.kind error memory)
+    by_kind (inr fault) = asked.bad_pattern error fault (none fault) (reason_in_pattern error.kind error fault)
 
 pub search_in_fault : (case : Case) (name_text text : List ℕ) (in_name : Bool) (error : EreError)
     → (error.kind ≢ kind.OutOfMemory → MatchBool in_name (HasNoTree Exact name_text) (HasTree Exact name_text × HasNoTree case text))
@@ -109,13 +117,62 @@ pub search_in_fault : (case : Case) (name_text text : List ℕ) (in_name : Bool)
 search_in_fault case name_text text true error none = by_kind (memory_or_not error.kind)
   where
     by_kind : (error.kind ≡ kind.OutOfMemory) ⊎ (error.kind ≡ kind.OutOfMemory → ⊥) → IsFaultOfSearchIn case name_text text (reason_of_fault true error)
-    by_kind (inl memory) = steps.no_memory (reason_of_memory true error.kind error memory)
-    by_kind (inr fault) = steps.bad_name_pattern error fault (none fault) (reason_in_name error.kind error fault)
+    by_kind (inl memory) = asked.no_memory (reason_of_memory true error.kind error memory)
+    by_kind (inr fault) = asked.bad_name_pattern error fault (none fault) (reason_in_name error.kind error fault)
 search_in_fault case name_text text false error none = by_kind (memory_or_not error.kind)
   where
     by_kind : (error.kind ≡ kind.OutOfMemory) ⊎ (error.kind ≡ kind.OutOfMemory → ⊥) → IsFaultOfSearchIn case name_text text (reason_of_fault false error)
-    by_kind (inl memory) = steps.no_memory (reason_of_memory false error.kind error memory)
-    by_kind (inr fault) = steps.bad_pattern error fault (none fault).0 (none fault).1 (reason_in_pattern error.kind error fault)
+    by_kind (inl memory) = asked.no_memory (reason_of_memory false error.kind error memory)
+    by_kind (inr fault) = asked.bad_pattern error fault (none fault).0 (none fault).1 (reason_in_pattern error.kind error fault)
+
+-- what is met in the words or the patterns of a search with options is why it is refused
+pub find_words_fault : (text : List ℕ) (fault : FindFault) (why : SearchReason) → (fault ≢ find_fault.OutOfMemory → IsFirstFault text fault)
+    → IsReasonOfWords fault why → IsFaultOfFind text why
+find_words_fault text fault why first (entries.no_memory is) = asked.no_memory is
+find_words_fault text fault why first (entries.bad_words words other same is) = asked.bad_words fault words other (first other) same is
+
+reason_of_find_pattern : (k : EreErrorKind) (error : EreError) → (k ≡ kind.OutOfMemory → ⊥) → reason_of_find_of zero k error ≡ search_reason.Pattern error
+reason_of_find_pattern kind.TooLong error h = refl
+reason_of_find_pattern kind.BadByte error h = refl
+reason_of_find_pattern kind.BadEscape error h = refl
+reason_of_find_pattern kind.BadBracket error h = refl
+reason_of_find_pattern kind.BadRange error h = refl
+reason_of_find_pattern kind.BadClass error h = refl
+reason_of_find_pattern kind.BadInterval error h = refl
+reason_of_find_pattern kind.NothingToRepeat error h = refl
+reason_of_find_pattern kind.Unclosed error h = refl
+reason_of_find_pattern kind.TooDeep error h = refl
+reason_of_find_pattern kind.TooLarge error h = refl
+reason_of_find_pattern kind.OutOfMemory error h = absurd (h refl)
+
+reason_of_find_name : (at : ℕ) (k : EreErrorKind) (error : EreError) → (k ≡ kind.OutOfMemory → ⊥)
+    → reason_of_find_of (suc at) k error ≡ search_reason.NamePatternAt (suc at) error
+reason_of_find_name at kind.TooLong error h = refl
+reason_of_find_name at kind.BadByte error h = refl
+reason_of_find_name at kind.BadEscape error h = refl
+reason_of_find_name at kind.BadBracket error h = refl
+reason_of_find_name at kind.BadRange error h = refl
+reason_of_find_name at kind.BadClass error h = refl
+reason_of_find_name at kind.BadInterval error h = refl
+reason_of_find_name at kind.NothingToRepeat error h = refl
+reason_of_find_name at kind.Unclosed error h = refl
+reason_of_find_name at kind.TooDeep error h = refl
+reason_of_find_name at kind.TooLarge error h = refl
+reason_of_find_name at kind.OutOfMemory error h = absurd (h refl)
+
+pub find_pattern_fault : (text : List ℕ) (options : Options) (pattern : List ℕ) (fault : FindError) → IsFindOf text options pattern
+    → (fault.error.kind ≢ kind.OutOfMemory → IsRequestFault options pattern fault.name) → IsFaultOfFind text (reason_of_find fault)
+find_pattern_fault text options pattern fault asks none = by_kind (memory_or_not fault.error.kind)
+  where
+    by_name : (name : ℕ) → IsRequestFault options pattern name → (fault.error.kind ≡ kind.OutOfMemory → ⊥)
+        → IsFaultOfFind text (reason_of_find_of name fault.error.kind fault.error)
+    by_name zero bad real = asked.bad_pattern options pattern fault.error real asks bad (reason_of_find_pattern fault.error.kind fault.error real)
+    by_name (suc at) bad real =
+        asked.bad_name_pattern options pattern at fault.error real asks bad (reason_of_find_name at fault.error.kind fault.error real)
+
+    by_kind : (fault.error.kind ≡ kind.OutOfMemory) ⊎ (fault.error.kind ≡ kind.OutOfMemory → ⊥) → IsFaultOfFind text (reason_of_find fault)
+    by_kind (inl memory) = asked.no_memory (ap (λ k. reason_of_find_of fault.name k fault.error) memory)
+    by_kind (inr real) = by_name fault.name (none real) real
 
 pub too_long_body : (bytes : List ℕ) → greatest_body < length bytes → IsBodyFault body.TooLong bytes
 unfolding IsBodyFault

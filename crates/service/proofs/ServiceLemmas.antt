@@ -14,9 +14,9 @@ use mathlib.Core.List.{IsPrefix}
 use Rattle.index.specs.declared.command.Command.{Command}
 use Rattle.index.specs.declared.command.Command.TheVariants.{Put}
 use Rattle.index.specs.State.{state_of}
-use Rattle.search.specs.Scan.{Answer, IsAnswerOf}
-use Rattle.search.specs.Pattern.{Pattern}
-use Rattle.search.specs.Prepared.{pattern_of}
+use Rattle.search.specs.Shown.{IsShownOf, Shown}
+use Rattle.search.specs.Request.{Request}
+use Rattle.search.specs.Prepared.{request_of}
 use Rattle.search.specs.declared.pattern.Prepared.{Prepared}
 use Rattle.script.specs.Items.{Item, Numbered, numbered, put}
 use Rattle.script.specs.Items as item
@@ -30,7 +30,9 @@ use Rattle.transcript.specs.declared.entry.SearchReason.TheVariants as reason
 use Rattle.steps.specs.declared.last.Last.{Last}
 use Rattle.steps.specs.Rows.{accepted_by, command_of, version_in, last_or, searches_of, is_sync}
 use Rattle.steps.specs.LegalRows.{IsPut, status_entry}
-use Rattle.steps.specs.Steps.{OpenSearch, RunState, IsStep, MayTake, Asks, IsFaultOf, last, last_of, asked}
+use Rattle.steps.specs.Asked.{Asks, IsFaultOf}
+use Rattle.steps.specs.Steps.{OpenSearch, RunState, IsStep, MayTake, last, last_of, asked}
+use Rattle.steps.specs.Asked as asking
 use Rattle.steps.specs.Steps as steps
 use Rattle.service.specs.declared.taken.Taken.{Taken}
 use Rattle.service.specs.declared.taken.Taken.TheVariants as taken_as
@@ -260,7 +262,7 @@ module _ (old : ServiceState) (place : ℕ) (search : OpenSearch) (is_open : sli
     reader_zero = is.reader_zero;
   }
 
-  module _ (reader turn : ℕ) (answer : Answer) (can : CanStand old search reader answer) (next : turn ≡ (last_of old.lasts reader).turn + 1) where
+  module _ (reader turn : ℕ) (answer : Shown) (can : CanStand old search reader answer) (next : turn ≡ (last_of old.lasts reader).turn + 1) where
     abbrev now : List Last
     now = set old.lasts reader (last turn answer.version)
 
@@ -294,7 +296,7 @@ module _ (Holds : List ℕ → List ℕ → Type 0) (old : ServiceState) (publis
     step =
         steps.answered place search reader turn answer is_open
         (record {
-          pattern = can.pattern;
+          request = can.request;
           asks = can.asks;
           exact = can.exact;
           published = was_published answer.version can.published;
@@ -318,53 +320,54 @@ module _ (Holds : List ℕ → List ℕ → Type 0) (old : ServiceState) (publis
   })
 
 -- what is checked of a reader's answer, and that it is right, make it one that can stand
-pub can_stand : (service : ServiceState) (search : OpenSearch) (reader : ℕ) (answer : Answer) (seen : List Command) (item : Item) (pattern : Pattern)
-    → IsService service → item ≡ search.item → Asks item pattern → IsAnswerOf (state_of seen) pattern answer
+pub can_stand : (service : ServiceState) (search : OpenSearch) (reader : ℕ) (answer : Shown) (seen : List Command) (item : Item) (request : Request)
+    → IsService service → item ≡ search.item → Asks item request → IsShownOf (state_of seen) request answer
     → IsPrefix seen service.told → Contains service.kept answer.version → search.least ≤ answer.version → reader < length service.lasts
     → (last_of service.lasts reader).version ≤ answer.version → CanStand service search reader answer
-can_stand service search reader answer seen item pattern is same asks right begins kept least within no_fall =
+can_stand service search reader answer seen item request is same asks right begins kept least within no_fall =
     let whole : seen ++ (begins.0 ++ is.begins.0) ≡ service.accepted =
     sym (append_assoc seen begins.0 is.begins.0) ∙ ap (λ l. l ++ is.begins.0) begins.1 ∙ is.begins.1 in
     let cut : take answer.version service.accepted ≡ seen =
-    ap (λ v. take v service.accepted) right.version ∙ (ap (take (length seen)) (sym whole) ∙ take-append_seam seen (begins.0 ++ is.begins.0)) in
+    ap (λ v. take v service.accepted) (right.version ∙ right.is_answer.version) ∙ (ap (take (length seen)) (sym whole) ∙ take-append_seam seen (begins.0 ++ is.begins.0)) in
     record {
-      pattern = pattern;
-      asks = subst (λ i. Asks i pattern) same asks;
-      exact = subst (λ c. IsAnswerOf (state_of c) pattern answer) (sym cut) right;
+      request = request;
+      asks = subst (λ i. Asks i request) same asks;
+      exact = subst (λ c. IsShownOf (state_of c) request answer) (sym cut) right;
       published = inr kept;
-      seen = omega (arith, right.version, prefix_length seen service.told begins);
+      seen = omega (arith, (right.version ∙ right.is_answer.version), prefix_length seen service.told begins);
       not_older = least;
       one_of_them = within;
       no_fall = no_fall;
     }
 
 -- so does an answer from what was published last
-pub last_can_stand : (service : ServiceState) (search : OpenSearch) (place : ℕ) (answer : Answer) (item : Item) (prepared : Prepared)
-    → IsService service → slice_get service.awaited place ≡ Some search → item ≡ search.item → Asks item (pattern_of prepared)
-    → IsAnswerOf (state_of service.told) (pattern_of prepared) answer → CanClose service place 0 answer
+pub last_can_stand : (service : ServiceState) (search : OpenSearch) (place : ℕ) (answer : Shown) (item : Item) (prepared : Prepared)
+    → IsService service → slice_get service.awaited place ≡ Some search → item ≡ search.item → Asks item (request_of prepared)
+    → IsShownOf (state_of service.told) (request_of prepared) answer → CanClose service place 0 answer
 last_can_stand service search place answer item prepared is is_open same asks right =
     let cut : take answer.version service.accepted ≡ service.told =
-    ap (λ v. take v service.accepted) right.version ∙ (ap (take (length service.told)) (sym is.begins.1) ∙ take-append_seam service.told is.begins.0) in
+    ap (λ v. take v service.accepted) (right.version ∙ right.is_answer.version) ∙ (ap (take (length service.told)) (sym is.begins.1) ∙ take-append_seam service.told is.begins.0) in
     let at : get_or service.awaited place search ≡ search = get_or_from_slice_get service.awaited place search search is_open in
     record {
       search = search;
       is_open = is_open;
       stands = record {
-        pattern = pattern_of prepared;
-        asks = subst (λ i. Asks i (pattern_of prepared)) same asks;
-        exact = subst (λ c. IsAnswerOf (state_of c) (pattern_of prepared) answer) (sym cut) right;
-        published = inl right.version;
-        seen = omega (arith, right.version);
-        not_older = omega (arith, right.version, ap (λ s. s.least) at, is.least place search (slice_get_within service.awaited place search is_open));
+        request = request_of prepared;
+        asks = subst (λ i. Asks i (request_of prepared)) same asks;
+        exact = subst (λ c. IsShownOf (state_of c) (request_of prepared) answer) (sym cut) right;
+        published = inl (right.version ∙ right.is_answer.version);
+        seen = omega (arith, (right.version ∙ right.is_answer.version));
+        not_older = omega (arith, (right.version ∙ right.is_answer.version), ap (λ s. s.least) at, is.least place search (slice_get_within service.awaited place search is_open));
         one_of_them = is.reader_zero;
-        no_fall = omega (arith, right.version, is.versions 0 (last 0 0) is.reader_zero);
+        no_fall = omega (arith, (right.version ∙ right.is_answer.version), is.versions 0 (last 0 0) is.reader_zero);
       };
     }
 
 -- any search can be refused for memory
 pub memory_is_fault : (item : Item) → searches_of item ≡ 1 → IsFaultOf item reason.OutOfMemory
-memory_is_fault (item.search case text) one = steps.no_memory refl
-memory_is_fault (item.search_in case name_text text) one = steps.no_memory refl
+memory_is_fault (item.search case text) one = asking.no_memory refl
+memory_is_fault (item.search_in case name_text text) one = asking.no_memory refl
+memory_is_fault (item.find text) one = asking.no_memory refl
 memory_is_fault (item.put name body) one = absurd (omega (arith, one))
 memory_is_fault (item.load name path) one = absurd (omega (arith, one))
 memory_is_fault (item.remove name) one = absurd (omega (arith, one))
@@ -389,24 +392,24 @@ if_true true f m = f m
 if_true false f m = m
 
 -- an answer of a reader can close the search at a place
-pub can_close : (service : ServiceState) (place reader version : ℕ) (search : OpenSearch) (l : Last) (answer : Answer) (seen : List Command) (asked_item : Item)
-    (pattern : Pattern) → IsService service → place < length service.awaited → search ≡ get_or service.awaited place search → asked_item ≡ search.item
-    → Asks asked_item pattern → IsAnswerOf (state_of seen) pattern answer → IsPrefix seen service.told
+pub can_close : (service : ServiceState) (place reader version : ℕ) (search : OpenSearch) (l : Last) (answer : Shown) (seen : List Command) (asked_item : Item)
+    (request : Request) → IsService service → place < length service.awaited → search ≡ get_or service.awaited place search → asked_item ≡ search.item
+    → Asks asked_item request → IsShownOf (state_of seen) request answer → IsPrefix seen service.told
     → version ≡ answer.version → Contains service.kept version → search.least ≤ version → reader < length service.lasts
     → l ≡ get_or service.lasts reader l → l.version ≤ version → CanClose service place reader answer
-can_close service place reader version search l answer seen asked_item pattern is within here same asks right begins is_version kept least one_of_them last_is no_fall =
+can_close service place reader version search l answer seen asked_item request is within here same asks right begins is_version kept least one_of_them last_is no_fall =
     let its : l ≡ last_of service.lasts reader = last_is ∙ get_or_default service.lasts reader l (last 0 0) one_of_them in
     record {
       search = search;
       is_open = slice_get-get_or service.awaited place search within ∙ ap Some (sym here);
       stands =
-          can_stand service search reader answer seen asked_item pattern is same asks right begins
+          can_stand service search reader answer seen asked_item request is same asks right begins
           (subst (λ v. Contains service.kept v) is_version kept) (omega (arith, least, is_version)) one_of_them
           (omega (arith, ap (λ x. x.version) its, no_fall, is_version));
     }
 
 -- a search is closed with an answer
-module _ (inside : ServiceState) (place reader : ℕ) (answer : Answer) (closes : CanClose inside place reader answer) (number version : ℕ)
+module _ (inside : ServiceState) (place reader : ℕ) (answer : Shown) (closes : CanClose inside place reader answer) (number version : ℕ)
     (found : OpenSearch) (l : Last) (here : found ≡ get_or inside.awaited place found) (is_number : number ≡ found.number)
     (last_is : l ≡ get_or inside.lasts reader l) (is_version : version ≡ answer.version) (awaited' : List OpenSearch)
     (left : awaited' ≡ take place inside.awaited ++ drop (place + 1) inside.awaited) where

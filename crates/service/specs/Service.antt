@@ -4,8 +4,8 @@ use Rattle.std.specs.Prelude.{Option, Some, true, false, slice_get, slice_set}
 use Rattle.index.specs.declared.command.Command.{Command}
 use Rattle.index.specs.declared.command.Command.TheVariants.{Put}
 use Rattle.index.specs.State.{state_of}
-use Rattle.search.specs.Pattern.{Pattern}
-use Rattle.search.specs.Scan.{Answer, IsAnswerOf}
+use Rattle.search.specs.Request.{Request}
+use Rattle.search.specs.Shown.{IsShownOf, Shown}
 use Rattle.script.specs.Items.{Item, Numbered}
 use Rattle.service.specs.declared.taken.Taken.{Taken}
 use Rattle.service.specs.declared.taken.Taken.TheVariants as taken
@@ -16,7 +16,8 @@ use Rattle.steps.specs.declared.last.Last.{Last}
 use Rattle.steps.specs.LegalRows.{Limits, IsPut}
 use Rattle.steps.specs.Rows.{accepted_by, version_in, last_or, failures_in, list_of, searches_of}
 use Rattle.steps.specs.StepRows.{searches_in}
-use Rattle.steps.specs.Steps.{OpenSearch, RunState, IsStep, MayTake, Asks, last, last_of}
+use Rattle.steps.specs.Asked.{Asks}
+use Rattle.steps.specs.Steps.{OpenSearch, RunState, IsStep, MayTake, last, last_of}
 
 -- limits: what bounds the run. accepted: the accepted commands. told: those that were published last.
 -- kept: versions that were published, of which no open search needs any other. searches, awaited, lasts: as in a run.
@@ -78,11 +79,11 @@ pub record TakesPut (old : ServiceState) (name body : List ℕ) (line : ℕ) (en
   pub left : new ≡ record old { accepted = old.accepted ++ accepted_by (Some entry) (Put name body ∷ []) }
 
 -- An answer that the open search can get: of a version that is kept, or was published last, no older than what was
--- published before the search was asked and than the reader's last answer, for a pattern that the search's texts spell.
-pub record CanStand (service : ServiceState) (search : OpenSearch) (reader : ℕ) (answer : Answer) : Type 0 where
-  pub pattern : Pattern
-  pub asks : Asks search.item pattern
-  pub exact : IsAnswerOf (state_of (take answer.version service.accepted)) pattern answer
+-- published before the search was asked and than the reader's last answer, for what the search asks for.
+pub record CanStand (service : ServiceState) (search : OpenSearch) (reader : ℕ) (answer : Shown) : Type 0 where
+  pub request : Request
+  pub asks : Asks search.item request
+  pub exact : IsShownOf (state_of (take answer.version service.accepted)) request answer
   pub published : (answer.version ≡ length service.told) ⊎ Contains service.kept answer.version
   pub seen : answer.version ≤ length service.told
   pub not_older : search.least ≤ answer.version
@@ -91,7 +92,7 @@ pub record CanStand (service : ServiceState) (search : OpenSearch) (reader : ℕ
 
 -- An open search got its entry: an answer, or the refusal for want of memory or of time.
 pub data Gives (old : ServiceState) (entry : Entry) (new : ServiceState) : Type 0 where
-  answered : (place : ℕ) (search : OpenSearch) (reader turn : ℕ) (answer : Answer) → slice_get old.awaited place ≡ Some search
+  answered : (place : ℕ) (search : OpenSearch) (reader turn : ℕ) (answer : Shown) → slice_get old.awaited place ≡ Some search
       → CanStand old search reader answer → turn ≡ (last_of old.lasts reader).turn + 1 → entry ≡ Found search.number reader turn answer
       → new ≡ record old { awaited = take place old.awaited ++ drop (place + 1) old.awaited; lasts = slice_set old.lasts reader (last turn answer.version) }
       → Gives old entry new

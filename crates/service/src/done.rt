@@ -2,7 +2,7 @@
 
 use crate::naming::Naming;
 use crate::question::Question;
-use search::Answer;
+use search::Shown;
 use shared::Told;
 use std::marker::{Model, PhantomData};
 
@@ -10,13 +10,16 @@ use std::marker::{Model, PhantomData};
 /// commands that were searched. Contracts see it as the number of the search.
 #[derive(Drop)]
 pub struct Done<J: Naming> {
+    /// The number of the search, from 1.
     pub(crate) number: u32,
+    /// The number of the reader, from 1.
     pub(crate) reader: u32,
+    /// The texts of the search.
     pub(crate) question: Question,
     /// The commands that the reader had seen when it had searched.
     pub(crate) seen: Told,
-    /// `None` if memory ran out for the answer, or the search was given up.
-    pub(crate) answer: Option<Answer>,
+    /// `None` if memory ran out for the answer, if the search was given up, or if the service was closed.
+    pub(crate) answer: Option<Shown>,
     /// Whether it was given up since its time was over.
     pub(crate) is_late: bool,
     pub(crate) of: PhantomData<J>,

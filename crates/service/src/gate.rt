@@ -7,7 +7,7 @@ pub enum Point {
     Begin,
     /// The candidates are taken, and their names and lines are matched next. What is published can change meanwhile.
     Matching,
-    /// The search has its answer, or is refused.
+    /// The search is over: it has its answer, or the worker has none for it.
     Done,
 }
 

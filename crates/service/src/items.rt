@@ -64,7 +64,10 @@ fn put(alloc: Global, desk: &mut Desk, name: &[u8], body: &[u8]) -> Result<u32, 
     }
 }
 
-/// Puts a body that was already read.
+/// Puts a body that was already read, which is not copied. Returns the number of accepted commands, with this one.
+///
+/// An `Err` is the first cause: the fault of the name, the fault of the body, or `Full`; or `OutOfMemory`. Nothing is
+/// accepted then.
 pub fn put_read(alloc: Global, desk: &mut Desk, name: &[u8], body: Vec<u8>) -> Result<u32, Reason>
     ensures entry { (line : ℕ) → IsPut desk.old.limit (state_of desk.old.accepted) name.now body.items line (entry_of line result) }
     ensures desk { desk.new ≡ desk_after result (put_command name.now body.items ∷ []) desk.old }
@@ -223,6 +226,7 @@ pub fn carry_out<R: Wait, S: Source>(
         Item::Publish => Outcome::Entry(publish_entry(line, publish(rt, desk, told))),
         Item::Search { .. } => Outcome::Search,
         Item::SearchIn { .. } => Outcome::Search,
+        Item::Find { .. } => Outcome::Search,
         Item::Sync => Outcome::Sync,
         Item::Cancel { search } => Outcome::Cancel(search),
         Item::Status => Outcome::Status,

@@ -8,9 +8,13 @@ use std::marker::Model;
 /// it was asked.
 #[derive(Drop)]
 pub(crate) struct OpenSearch {
+    /// Its number, from 1.
     pub(crate) number: u32,
+    /// Its texts.
     pub(crate) question: Question,
+    /// The version that was published last when it was asked. Its answer is of this version or a later one.
     pub(crate) least: u32,
+    /// Whether it is still wanted.
     pub(crate) wish: Wish,
 }
 

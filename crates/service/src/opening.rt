@@ -19,7 +19,7 @@ use std::sync::Wait;
 use steps::Last;
 
 /// A desk and its readings, before the first item. They have no name in types yet. Contracts see them as their opening, its
-/// limits, and the number of readers. It must be named.
+/// limits, and the number of readers. End it with `named`.
 pub struct Opened {
     desk: Desk,
     told: Told,
@@ -43,8 +43,10 @@ impl Model for Opened {
         × All (λ reading. reading ≡ known o.desk.opening []) o.readings.items × (length o.readings.items ≤ 16) };
 }
 
-/// Opens a service for at most `max_commands` commands (1 to 4,294,967,294), with `readers` readers in addition to reader 0
-/// (0 to 16), in which a search has at most `search_ms` milliseconds, if there is such a limit. `NoPlace` means that a reader got no place, and `OutOfMemory` that memory ran out.
+/// Opens a service for at most `max_commands` commands (1 to 4,294,967,294), with `readers` readers in addition to
+/// reader 0 (0 to 16), in which a search has at most `search_ms` milliseconds, if there is such a limit.
+///
+/// `NoPlace` means that a reader got no place, and `OutOfMemory` that memory ran out.
 pub fn open<R: Wait>(
     rt: &R,
     alloc: Global,
@@ -73,7 +75,9 @@ pub fn open<R: Wait>(
 }
 
 impl Opened {
-    /// The service, and its readers. An `Err` means that memory ran out for their lists.
+    /// The service, and its readers, numbered from 1.
+    ///
+    /// An `Err` means that memory ran out for their lists. What was opened is then closed.
     pub fn named<J: Naming, R: Wait>(
         self,
         rt: &R,

@@ -1,8 +1,9 @@
 //! What a search asks for.
 
-ghost use Rattle.std.specs.Prelude.{◌≡◌, ℕ, List, MatchBool, IfOk, IfSome, Some, None};
+ghost use Rattle.std.specs.Prelude.{◌≡◌, MatchBool, IfOk, IfSome};
 ghost use Rattle.script.specs.Reading.{shown_item};
 ghost use Rattle.steps.specs.Rows.{searches_of};
+ghost use Rattle.service.specs.Private.Requests.{search_of};
 
 use ere::Case;
 use script::Item;
@@ -12,19 +13,33 @@ use std::marker::Model;
 /// The texts of a search, as its item has them. Contracts see it as the item.
 #[derive(Debug, Drop)]
 pub(crate) struct Question {
-    case: Case,
-    name_pattern: Option<Vec<u8>>,
-    pattern: Vec<u8>,
+    texts: Texts,
+}
+
+/// The texts of each kind of search. `script::Item` says what they are.
+#[derive(Debug, PartialEq, Eq, Drop)]
+pub(crate) enum Texts {
+    Search {
+        case: Case,
+        pattern: Vec<u8>,
+    },
+    SearchIn {
+        case: Case,
+        name_pattern: Vec<u8>,
+        pattern: Vec<u8>,
+    },
+    Find {
+        words: Vec<u8>,
+    },
 }
 
 impl Model for Question {
-    ghost use Rattle.std.specs.Prelude.{option_map};
     ghost use Rattle.script.specs.Items.{Item};
     ghost use Rattle.service.specs.Private.Requests.{search_of};
 
     ghost Value = { Item };
 
-    ghost view = { λ q. search_of q.case (option_map (λ v. v.items) q.name_pattern) q.pattern.items };
+    ghost view = { λ q. search_of q.texts };
 }
 
 impl Question {
@@ -32,38 +47,51 @@ impl Question {
     pub(crate) fn of(alloc: Global, item: Item<'_>) -> Result<Option<Question>, AllocError>
         ensures some { IfOk result (λ asked. IfSome asked (λ question. question ≡ shown_item item.entry)) }
     {
-        match item {
-            Item::Search { case, pattern } => Ok(Some(Question {
+        let texts = match item {
+            Item::Search { case, pattern } => Texts::Search {
                 case,
-                name_pattern: None,
                 pattern: Vec::from_slice(alloc, pattern)?,
-            })),
+            },
             Item::SearchIn {
                 case,
                 name_pattern,
                 pattern,
-            } => Ok(Some(Question {
+            } => Texts::SearchIn {
                 case,
-                name_pattern: Some(Vec::from_slice(alloc, name_pattern)?),
+                name_pattern: Vec::from_slice(alloc, name_pattern)?,
                 pattern: Vec::from_slice(alloc, pattern)?,
-            })),
-            _ => Ok(None),
-        }
+            },
+            Item::Find { request } => Texts::Find {
+                words: Vec::from_slice(alloc, request)?,
+            },
+            _ => return Ok(None),
+        };
+        Ok(Some(Question { texts }))
     }
 
     /// A copy. An `Err` means that memory ran out.
     pub(crate) fn again(&self, alloc: Global) -> Result<Question, AllocError>
         ensures { IfOk result (λ question. question ≡ self.now) }
     {
-        let name_pattern = match &self.name_pattern {
-            Some(text) => Some(Vec::from_slice(alloc, text)?),
-            None => None,
+        let texts = match &self.texts {
+            Texts::Search { case, pattern } => Texts::Search {
+                case: *case,
+                pattern: Vec::from_slice(alloc, pattern)?,
+            },
+            Texts::SearchIn {
+                case,
+                name_pattern,
+                pattern,
+            } => Texts::SearchIn {
+                case: *case,
+                name_pattern: Vec::from_slice(alloc, name_pattern)?,
+                pattern: Vec::from_slice(alloc, pattern)?,
+            },
+            Texts::Find { words } => Texts::Find {
+                words: Vec::from_slice(alloc, words)?,
+            },
         };
-        Ok(Question {
-            case: self.case,
-            name_pattern,
-            pattern: Vec::from_slice(alloc, &self.pattern)?,
-        })
+        Ok(Question { texts })
     }
 
     /// The search, borrowed.
@@ -71,16 +99,22 @@ impl Question {
         ensures same { shown_item result ≡ self.now }
         ensures search { searches_of (shown_item result) ≡ 1 }
     {
-        let pattern = self.pattern.as_slice();
-        match &self.name_pattern {
-            None => Item::Search {
-                case: self.case,
-                pattern,
+        match &self.texts {
+            Texts::Search { case, pattern } => Item::Search {
+                case: *case,
+                pattern: pattern.as_slice(),
             },
-            Some(text) => Item::SearchIn {
-                case: self.case,
-                name_pattern: text.as_slice(),
+            Texts::SearchIn {
+                case,
+                name_pattern,
                 pattern,
+            } => Item::SearchIn {
+                case: *case,
+                name_pattern: name_pattern.as_slice(),
+                pattern: pattern.as_slice(),
+            },
+            Texts::Find { words } => Item::Find {
+                request: words.as_slice(),
             },
         }
     }
@@ -89,13 +123,6 @@ impl Question {
     pub(crate) fn is_same(&self, other: &Question) -> bool
         ensures { MatchBool result (self.now ≡ other.now) Unit }
     {
-        if self.case != other.case || self.pattern != other.pattern {
-            return false;
-        }
-        match (&self.name_pattern, &other.name_pattern) {
-            (None, None) => true,
-            (Some(text), Some(other)) => text == other,
-            _ => false,
-        }
+        self.texts == other.texts
     }
 }

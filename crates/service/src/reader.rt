@@ -3,16 +3,16 @@
 ghost use Rattle.std.specs.Prelude.{◌≡◌, IfOk};
 ghost use mathlib.Core.List.{IsPrefix};
 ghost use Rattle.index.specs.State.{state_of};
-ghost use Rattle.search.specs.Prepared.{pattern_of};
-ghost use Rattle.search.specs.Scan.{IsAnswerOf};
+ghost use Rattle.search.specs.Prepared.{request_of};
+ghost use Rattle.search.specs.Shown.{IsShownOf};
 ghost use Rattle.search.specs.Taken.{IsTakenOf};
 
 use crate::done::Done;
 use crate::gate::{Gate, Point};
 use crate::naming::Naming;
-use crate::request::{Request, Task};
+use crate::tasks::{Request, Task};
 use crate::wish::Look;
-use search::{Answer, Prepared, Taken, Unanswered, Watch};
+use search::{Prepared, Shown, Taken, Unanswered, Watch};
 use shared::Reading;
 use std::alloc::Global;
 use std::marker::PhantomData;
@@ -22,17 +22,21 @@ use std::time::Clock;
 /// What answers searches for a service. It can be in another thread.
 #[derive(Drop)]
 pub struct Reader<J: Naming> {
+    /// What it searches with.
     pub(crate) reading: Reading,
+    /// Its number, from 1.
     pub(crate) number: u32,
     pub(crate) of: PhantomData<J>,
     pub(crate) ghost one: { reading.opening ≡ J.book },
 }
 
 impl<J: Naming> Reader<J> {
-    /// Searches what is published, and calls the gate at each point of the search. It waits for nothing but the gate and the
-    /// threads that it starts: a large search may go on in several (see `Task`). The search is given up once it was called
-    /// off, or its time is over: before the next name or document, or the next 64 KiB of one or of text. Of the answer's text,
-    /// about `ahead` bytes are formed here.
+    /// Searches what is published, and calls the gate at each point of the search. It waits for nothing but the gate
+    /// and the threads that it starts: a large search may go on in several (see `Task`). The search is given up once it
+    /// was called off, or its time is over: that is looked at before it begins, and then as `search::Watch::wants`
+    /// says. Of the answer's text, about `ahead` bytes are formed here.
+    ///
+    /// The `Done` has no answer if memory ran out, if the search was given up, or if the service was closed.
     pub fn answer<R: Clock + Threads + Sync, G: Gate>(
         &mut self,
         rt: &R,
@@ -85,15 +89,17 @@ impl Gate for NoGate {
 }
 
 /// Whether the search was given up.
-fn given_up(answer: &Result<Answer, Unanswered>) -> bool {
+fn given_up(answer: &Result<Shown, Unanswered>) -> bool {
     match answer {
         Err(Unanswered::CalledOff) => true,
         _ => false,
     }
 }
 
-/// Takes, calls the gate, and matches. While names and lines are matched, both copies of the index can change. `CalledOff`
-/// means that the search was given up.
+/// Takes, calls the gate, and matches. While names and lines are matched, both copies of the index can change.
+///
+/// `CalledOff` means that the search was given up. `OutOfMemory` means that memory ran out, that a name or a body has
+/// too many handles, or that the service was closed.
 pub(crate) fn search<G: Gate, W: Watch>(
     alloc: Global,
     reading: &mut Reading,
@@ -101,13 +107,13 @@ pub(crate) fn search<G: Gate, W: Watch>(
     gate: &G,
     number: u32,
     watch: &mut W,
-) -> Result<Answer, Unanswered>
+) -> Result<Shown, Unanswered>
     ensures opening { reading.new.opening ≡ reading.old.opening }
     ensures seen { IsPrefix reading.old.commands reading.new.commands }
-    ensures answer { IfOk result (IsAnswerOf (state_of reading.new.commands) (pattern_of prepared.now)) }
+    ensures answer { IfOk result (IsShownOf (state_of reading.new.commands) (request_of prepared.now)) }
 {
     let taken = take(alloc, reading, prepared, gate, number, watch)?;
-    taken.answer_watched(alloc, watch)
+    taken.show(alloc, watch)
 }
 
 /// The same, but a large search may go on in so many threads, and some text of the answer is formed.
@@ -121,14 +127,14 @@ fn search_by<R: Threads + Sync, G: Gate, W: Watch + Copy + Send>(
     parts: usize,
     ahead: usize,
     watch: W,
-) -> Result<Answer, Unanswered>
+) -> Result<Shown, Unanswered>
     ensures opening { reading.new.opening ≡ reading.old.opening }
     ensures seen { IsPrefix reading.old.commands reading.new.commands }
-    ensures answer { IfOk result (IsAnswerOf (state_of reading.new.commands) (pattern_of prepared.now)) }
+    ensures answer { IfOk result (IsShownOf (state_of reading.new.commands) (request_of prepared.now)) }
 {
     let mut own = watch;
     let taken = take(alloc, reading, prepared, gate, number, &mut own)?;
-    taken.answer_by(rt, alloc, parts, ahead, watch)
+    taken.show_by(rt, alloc, parts, ahead, watch)
 }
 
 /// Takes the candidates of a search that is still wanted, and calls the gate.
@@ -142,7 +148,7 @@ fn take<'p, G: Gate, W: Watch>(
 ) -> Result<Taken<'p>, Unanswered>
     ensures opening { reading.new.opening ≡ reading.old.opening }
     ensures seen { IsPrefix reading.old.commands reading.new.commands }
-    ensures taken { IfOk result (IsTakenOf (state_of reading.new.commands) (pattern_of prepared.now)) }
+    ensures taken { IfOk result (IsTakenOf (state_of reading.new.commands) (request_of prepared.now)) }
 {
     if !watch.wants() {
         return Err(Unanswered::CalledOff);

@@ -4,8 +4,8 @@ ghost use Rattle.std.specs.Prelude.{◌≡◌, ◌≢◌, ℕ, ◌+◌, ◌<◌,
 ghost use mathlib.Core.List.{IsPrefix};
 ghost use Rattle.index.specs.State.{state_of};
 ghost use Rattle.index.specs.Text.{greatest_body};
-ghost use Rattle.search.specs.Prepared.{pattern_of};
-ghost use Rattle.search.specs.Scan.{IsAnswerOf};
+ghost use Rattle.search.specs.Prepared.{request_of};
+ghost use Rattle.search.specs.Shown.{IsShownOf};
 ghost use Rattle.script.specs.Items.{numbered as numbered_item, cancel as cancel_item};
 ghost use Rattle.script.specs.Reading.{shown_item};
 ghost use Rattle.shared.specs.Counts.{AreCountsOf};
@@ -29,12 +29,12 @@ use crate::naming::Naming;
 use crate::open_search::OpenSearch;
 use crate::question::Question;
 use crate::reader::{NoGate, search};
-use crate::request::{Request, Task};
 use crate::source::Source;
 use crate::taken::Taken;
+use crate::tasks::{Request, Task};
 use crate::wish::{Look, Wish};
 use script::{Item, Numbered};
-use search::{Answer, Prepared, Unanswered};
+use search::{Prepared, Shown, Unanswered};
 use shared::{Counts, Desk, Reading, Told};
 use std::alloc::{AllocError, Global};
 use std::collections::VecDeque;
@@ -166,6 +166,8 @@ impl<J: Naming> Service<J> {
     }
 
     /// Takes the put on this line, with these bytes as the body. If it is accepted, the service keeps the bytes.
+    /// Otherwise the entry has the first cause: the fault of the name, the fault of the body, or `Full`; or
+    /// `OutOfMemory`.
     pub fn put(&mut self, alloc: Global, line: u32, name: &[u8], body: Vec<u8>) -> Entry
         ensures takes { TakesPut self.old name.now body.items line result self.new }
         ensures searches { self.new.searches ≡ self.old.searches }
@@ -254,7 +256,8 @@ impl<J: Naming> Service<J> {
         }
     }
 
-    /// In how many threads the lines of the search that was opened last may be matched.
+    /// In how many threads the lines of the search that was opened last may be matched: as many as there are readers and one
+    /// more if no other is open, since a part more keeps the processors busy where parts take unequally long.
     fn parts(&self) -> usize {
         if self.awaited.len() == 1 {
             self.lasts.len()
@@ -328,9 +331,9 @@ impl<J: Naming> Service<J> {
     }
 
     /// The entry of the search that a reader has answered. It is refused as too slow if the reader gave it up since its
-    /// time was over. If there is no answer, or it is not accepted, the patterns are read again and the search is answered
-    /// here, from what was published last; if memory runs out for that too, it is refused. `None` means that the search is
-    /// not open.
+    /// time was over. If there is no answer, or it is not accepted, the patterns are read again and the search is
+    /// answered here, from what was published last; if memory or its time runs out for that too, it is refused. `None`
+    /// means that the search is not open.
     pub fn answered<R: Wait + Clock>(
         &mut self,
         rt: &R,
@@ -385,7 +388,7 @@ impl<J: Naming> Service<J> {
         reader: u32,
         question: &Question,
         seen: &Told,
-        answer: &Answer,
+        answer: &Shown,
     ) -> bool
         requires place { place < length self.now.awaited }
         requires opening { seen.now.opening ≡ J.book }
@@ -459,7 +462,7 @@ impl<J: Naming> Service<J> {
     }
 
     /// Closes the search at this place with an answer.
-    fn close_with(&mut self, place: usize, reader: u32, answer: Answer) -> Entry
+    fn close_with(&mut self, place: usize, reader: u32, answer: Shown) -> Entry
         requires { CanClose self.old place reader answer }
         ensures gives { Gives self.old result self.new }
         ensures searches { self.new.searches ≡ self.old.searches }
@@ -562,9 +565,9 @@ fn answer_last<R: Wait + Clock>(
     told: &Told,
     prepared: &Prepared,
     wish: &Wish,
-) -> Result<Answer, Unanswered>
+) -> Result<Shown, Unanswered>
     requires { reading.old.opening ≡ told.now.opening }
-    ensures answer { IfOk result (IsAnswerOf (state_of told.now.commands) (pattern_of prepared.now)) }
+    ensures answer { IfOk result (IsShownOf (state_of told.now.commands) (request_of prepared.now)) }
     ensures opening { reading.new.opening ≡ reading.old.opening }
 {
     reading.learn(told);

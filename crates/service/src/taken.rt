@@ -1,6 +1,6 @@
 //! What became of items.
 
-use crate::request::Task;
+use crate::tasks::Task;
 use transcript::Entry;
 
 /// What became of an item.

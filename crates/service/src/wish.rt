@@ -79,6 +79,7 @@ impl<'a, R> Clone for Look<'a, R> {
 impl<'a, R> Copy for Look<'a, R> {}
 
 impl<'a, R: Clock> Look<'a, R> {
+    /// What looks at this wish, with the clock of this runtime.
     pub(crate) fn at(rt: &'a R, wish: &'a Wish) -> Look<'a, R> {
         Look { rt, wish }
     }

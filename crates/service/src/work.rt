@@ -4,7 +4,7 @@ use crate::done::Done;
 use crate::gate::Gate;
 use crate::naming::Naming;
 use crate::reader::Reader;
-use crate::request::Task;
+use crate::tasks::Task;
 use crossbeam_channel::{Receiver, Sender};
 use std::alloc::Global;
 use std::sync::Wait;

@@ -38,6 +38,7 @@ fn words_of_lent(item: Item<'_>) -> Words<'_> {
             name_pattern,
             pattern,
         ),
+        Item::Find { request } => (b"find", request, b""),
         Item::Publish => (b"publish", b"", b""),
         Item::Sync => (b"sync", b"", b""),
         Item::Cancel { search: 70 } => (b"cancel", b"70", b""),
@@ -146,6 +147,10 @@ const INPUTS: &[(&[u8], &[u8])] = &[
     (
         b"search x y\nisearch X\nsearchin n p q\nisearchin N P\nsync\n\nnonsense\n",
         b"1:search|x y|;2:isearch|X|;3:searchin|n|p q;4:isearchin|N|P;5:sync||;7:bad line||;",
+    ),
+    (
+        b"find -i -- x y\nfind\nfind \nfindx\n",
+        b"1:find|-i -- x y|;2:find||;3:find||;4:bad line||;",
     ),
     (b"put a b 0\n\nput c 1\nx", b"1:put|a b|;3:put|c|x;"),
     (b"sync\nput a\nsync\n", b"1:sync||;2:bad put||;"),

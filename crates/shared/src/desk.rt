@@ -169,9 +169,10 @@ impl Desk {
         self.limit
     }
 
-    /// Accepts the put of this name and body, and returns the number of accepted commands, with this one. A
-    /// refusal returns the first cause, in the order of `PutErrorKind`, hands the name and the body back, and
-    /// changes nothing.
+    /// Accepts the put of this name and body, and returns the number of accepted commands, with this one.
+    ///
+    /// An `Err` is the first cause, in the order of `PutErrorKind`, and hands the name and the body back. Nothing has
+    /// changed then.
     pub fn put(&mut self, name: Name, body: Body) -> Result<u32, PutError>
         ensures ok { OnOk result ((self.new ≡ with_command (put_command name body) self.old) × HasRoom self.old) }
         ensures count { IfOk result (λ n. n ≡ length self.new.accepted) }
@@ -227,8 +228,9 @@ impl Desk {
         }
     }
 
-    /// Accepts the remove of this name, and returns the number of accepted commands, with this one. A refusal
-    /// returns the first cause, in the order of `RemoveError`, and changes nothing.
+    /// Accepts the remove of this name, and returns the number of accepted commands, with this one.
+    ///
+    /// An `Err` is the first cause, in the order of `RemoveError`. Nothing has changed then.
     pub fn remove(&mut self, name: &Name) -> Result<u32, RemoveError>
         ensures ok { OnOk result ((self.new ≡ with_command (remove_command name.now) self.old) × HasRoom self.old) }
         ensures there { OnOk result (has_document self.old.accepted name.now ≡ true) }
@@ -259,8 +261,9 @@ impl Desk {
     }
 
     /// Publishes all accepted commands, and returns the `Told` of this publish; with nothing new it publishes the same
-    /// again. It may wait for readings that are taking what a search needs. An `Err` means that memory ran out, and
-    /// that nothing has changed.
+    /// again. It may wait for readings that are taking what a search needs.
+    ///
+    /// An `Err` means that memory ran out, or that a name or a body has too many handles. Nothing has changed then.
     pub fn publish<R: Wait>(&mut self, rt: &R) -> Result<Told, AllocError>
         ensures ok { IfOk result (λ told. (self.new ≡ all_published self.old) × (told ≡ known self.old.opening self.old.accepted)) }
         ensures err { OnErr result (self.new ≡ self.old) }

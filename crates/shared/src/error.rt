@@ -39,7 +39,7 @@ impl<T: Drop> From<AllocFailed<T>> for OpenError {
 pub enum PutErrorKind {
     /// The greatest number of commands has been accepted already.
     Full,
-    /// Memory ran out.
+    /// Memory ran out, or the name has too many handles.
     OutOfMemory,
 }
 
@@ -70,7 +70,7 @@ pub enum RemoveError {
     NoSuchFile,
     /// The greatest number of commands has been accepted already.
     Full,
-    /// Memory ran out.
+    /// Memory ran out, or the name has too many handles.
     OutOfMemory,
 }
 
@@ -88,7 +88,7 @@ impl From<AllocError> for RemoveError {
 /// Why a search is refused.
 #[derive(Clone, Copy, Debug, PartialEq, Eq)]
 pub enum SearchError {
-    /// Memory ran out.
+    /// Memory ran out, or a name or a body has too many handles.
     OutOfMemory,
     /// The published documents cannot be entered any more: the desk was closed.
     NoEntry,

@@ -24,7 +24,7 @@ pub use laws::faults_are_one;
 pub use opening::{MAX_COMMANDS, MAX_READINGS, open, open_with_places};
 pub use reading::Reading;
 pub use search::{
-    Answer, Body, BodyError, BodyErrorKind, EreError, EreErrorKind, Held, Hit, Hits, Name,
+    Answer, Body, BodyError, BodyErrorKind, EreError, EreErrorKind, Held, Hit, Lines, Name,
     NameError, Prepared, Taken, WithinError,
 };
 pub use told::Told;

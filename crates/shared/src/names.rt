@@ -14,6 +14,7 @@ pub struct Names {
 }
 
 impl Names {
+    /// The set with no name.
     pub(crate) fn new(alloc: Global) -> Names
         ensures { (name : List ℕ) → has_name result name ≡ false }
     {
@@ -22,6 +23,7 @@ impl Names {
         }
     }
 
+    /// Whether the name is in the set.
     pub(crate) fn has(&self, name: &Name) -> bool
         ensures { result ≡ has_name self.now name.now }
     {
@@ -37,6 +39,7 @@ impl Names {
         Ok(self.names.insert(name.share()?)?)
     }
 
+    /// Takes the name out of the set. If it is not there, nothing changes.
     pub(crate) fn remove(&mut self, name: &Name)
         ensures { (other : List ℕ) → has_name self.new other ≡ (not (bytes_eq name.now other) && has_name self.old other) }
     {

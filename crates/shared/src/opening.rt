@@ -21,7 +21,7 @@ use std::sync::Wait;
 /// does the next number.
 pub const MAX_COMMANDS: u32 = 4_294_967_294;
 
-/// The greatest number of readings that can be opened.
+/// The greatest number of readings that can be opened (this program's choice).
 pub const MAX_READINGS: usize = 17;
 
 /// Opens a desk for at most `max_commands` commands (1 to `MAX_COMMANDS`), and `readers` readings (1 to

@@ -5,7 +5,7 @@ ghost use mathlib.Core.List.{IsPrefix};
 ghost use Rattle.left_right.specs.Sides.{view};
 ghost use Rattle.logbook.specs.Pages.{Book};
 ghost use Rattle.index.specs.State.{state_of};
-ghost use Rattle.search.specs.Prepared.{pattern_of};
+ghost use Rattle.search.specs.Prepared.{pattern_of, request_of};
 ghost use Rattle.search.specs.Taken.{IsTakenOf};
 ghost use Rattle.search.specs.Scan.{IsAnswerOf};
 ghost use Rattle.shared.specs.Counts.{AreCountsOf};
@@ -44,7 +44,9 @@ impl Model for Reading {
 }
 
 impl Reading {
-    /// A reading that has seen as much as the writer has met. `NoPlace` if no place is left for it.
+    /// A reading that has seen as much as the writer has met.
+    ///
+    /// An `Err` is `NoPlace`: no place is left for it.
     pub(crate) fn of(writer: &mut ShelfWriter, front: &Front) -> Result<Reading, OpenError>
         requires { view writer.old.desk.place ≡ Some front.now }
         ensures reading { IfOk result (λ reading. reading ≡ front.now) }
@@ -90,10 +92,11 @@ impl Reading {
         }
     }
 
-    /// Enters what is published, once, takes what a search needs, and leaves. No name and no line is looked at. It never
-    /// waits.
+    /// Enters what is published, once, takes what a search needs, and leaves. No name and no line is looked at. It
+    /// never waits.
     ///
-    /// `OutOfMemory` means that memory ran out, and `NoEntry` that the desk was closed.
+    /// `OutOfMemory` means that memory ran out, or that a name or a body has too many handles, and `NoEntry` that the
+    /// desk was closed.
     pub fn take<'p>(
         &mut self,
         alloc: Global,
@@ -101,7 +104,7 @@ impl Reading {
     ) -> Result<Taken<'p>, SearchError>
         ensures opening { self.new.opening ≡ self.old.opening }
         ensures seen { IsPrefix self.old.commands self.new.commands }
-        ensures taken { IfOk result (IsTakenOf (state_of self.new.commands) (pattern_of prepared.now)) }
+        ensures taken { IfOk result (IsTakenOf (state_of self.new.commands) (request_of prepared.now)) }
     {
         let asked = Asked { alloc, prepared };
         let Some((front, taken)) = replace_with(&mut self.reader, asked, look) else {
@@ -137,8 +140,10 @@ impl Reading {
         true
     }
 
-    /// Searches what is published: it takes what it needs, and then matches names and lines. It never waits. The errors
-    /// are those of `take`.
+    /// Searches what is published: it takes what it needs, and then matches names and lines. It never waits.
+    ///
+    /// `OutOfMemory` means that memory ran out, or that a name or a body has too many handles, and `NoEntry` that the
+    /// desk was closed.
     pub fn search(&mut self, alloc: Global, prepared: &Prepared) -> Result<Answer, SearchError>
         ensures opening { self.new.opening ≡ self.old.opening }
         ensures seen { IsPrefix self.old.commands self.new.commands }
@@ -185,7 +190,7 @@ fn look<'p>(
 ) -> (ShelfReader, Option<(Front, Result<Taken<'p>, AllocError>)>)
     ensures met { (opening : Book) → HasMet opening (view reader.place) → HasMet opening (view result.0.place) }
     ensures one { IfSome result.1 (λ looked. (opening : Book) → HasMet opening (view reader.place) → looked.0.opening ≡ opening) }
-    ensures taken { IfSome result.1 (λ looked. IfOk looked.1 (IsTakenOf (state_of looked.0.commands) (pattern_of asked.entry.prepared.now))) }
+    ensures taken { IfSome result.1 (λ looked. IfOk looked.1 (IsTakenOf (state_of looked.0.commands) (request_of asked.entry.prepared.now))) }
 {
     match reader.enter_as::<Meet>() {
         Ok(reading) => {

@@ -46,6 +46,8 @@ impl Join<Option<Front>> for Note {
     ghost spent = { None };
 }
 
+/// What a reading reads a shelf with.
 pub(crate) type ShelfReader = Reader<Shelf, Option<Front>, Kept>;
 
+/// What the desk changes both shelves with.
 pub(crate) type ShelfWriter = Writer<Shelf, Operation, Option<Front>, Kept>;

@@ -13,7 +13,9 @@ use std::alloc::AllocError;
 /// A command whose name and body are shared by both copies.
 #[derive(Drop)]
 pub enum Update {
+    /// A put of this name and body.
     Put(Name, Held),
+    /// A remove of this name.
     Remove(Name),
 }
 
@@ -29,7 +31,9 @@ pub enum Operation {
 /// An index and the front of the history that it represents.
 #[derive(Drop)]
 pub struct Shelf {
+    /// The index.
     pub index: Index,
+    /// The front.
     pub front: Front,
 }
 

@@ -11,6 +11,7 @@ use std::marker::Model;
 /// Contracts see it as the opening and the commands that were published.
 #[derive(Drop)]
 pub struct Told {
+    /// The front of the history that it hands out.
     pub(crate) front: Front,
 }
 

@@ -1,8 +1,8 @@
 //! A large search finds in several parts what it finds in one.
 
 use crate::fixtures::{one_reading, prepared, put};
-use search::{Watch, append_lines};
-use shared::{Answer, Desk, Prepared, Reading};
+use search::{Shown, Watch, append_lines};
+use shared::{Desk, Prepared, Reading};
 use std::alloc::Global;
 use std::process::Abort;
 use std::sync::Wait;
@@ -67,38 +67,34 @@ fn finds_last_lines<R: Threads + Sync>(
     let Ok(taken) = reading.take(alloc, prepared) else {
         return false;
     };
-    match taken.answer_by(rt, alloc, most, ahead, Wanted { is_wanted: true }) {
-        Ok(answer) => has_last_lines(&answer) && has_text(alloc, &answer),
+    match taken.show_by(rt, alloc, most, ahead, Wanted { is_wanted: true }) {
+        Ok(shown) => {
+            shown.count() == DOCUMENTS as usize && !shown.has_more() && has_text(alloc, &shown)
+        }
         Err(_) => false,
     }
 }
 
-fn has_last_lines(answer: &Answer) -> bool {
-    let mut number = 0u8;
-    for hit in answer.hits() {
-        if number >= DOCUMENTS || hit.name.as_bytes() != [b'a' + number].as_slice() {
-            return false;
-        }
-        if hit.line != LINES || hit.text != b"22000".as_slice() {
-            return false;
-        }
-        number += 1;
-    }
-    number == DOCUMENTS
-}
-
-/// Whether the text of the parts is a line for each document.
-fn has_text(alloc: Global, answer: &Answer) -> bool {
+/// Whether the text of the parts is a line for each document, in the order of the names.
+fn has_text(alloc: Global, shown: &Shown) -> bool {
     let mut text = Vec::new(alloc);
-    for part in answer.parts() {
-        let (formed, others) = part.text();
-        if text.extend_from_slice(formed).is_err() || append_lines(&mut text, others).is_err() {
+    for part in shown.parts() {
+        let rows = part.text();
+        if text.extend_from_slice(rows.formed).is_err()
+            || append_lines(&mut text, rows.zero, rows.lines).is_err()
+        {
+            return false;
+        }
+    }
+    let mut lines = text.split(|b| *b == b'\n');
+    for number in 0..DOCUMENTS {
+        let mut line = *b"a:22000:22000";
+        line[0] = b'a' + number;
+        if lines.next() != Some(line.as_slice()) {
             return false;
         }
     }
     text.len() == 14 * DOCUMENTS as usize
-        && text.starts_with(b"a:22000:22000\nb:22000:22000\n".as_slice())
-        && text.ends_with(b"s:22000:22000\nt:22000:22000\n".as_slice())
 }
 
 /// Whether the search is given up if no answer is wanted.
@@ -110,7 +106,7 @@ fn is_called_off<R: Threads + Sync>(
 ) -> bool {
     match reading.take(alloc, prepared) {
         Ok(taken) => taken
-            .answer_by(rt, alloc, 4, 100, Wanted { is_wanted: false })
+            .show_by(rt, alloc, 4, 100, Wanted { is_wanted: false })
             .is_err(),
         Err(_) => false,
     }

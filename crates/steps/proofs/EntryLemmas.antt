@@ -1,9 +1,9 @@
 -- What the entries of items can be, and that they are legal.
 use Rattle.std.proofs.Common.{◌≡◌, ℕ, ◌+◌, ◌≤◌, Bool, true, false, List, [], Option, Some, None, refl, sym, ap, subst, arith}
 use Rattle.index.specs.State.{State}
-use Rattle.search.specs.Pattern.{Pattern, IsPatternOf, IsPatternWithin}
-use Rattle.search.specs.Scan.{Answer}
-use Rattle.script.specs.Items.{Item, put, load, remove, publish, search, search_in, sync, cancel, status, bad_line, bad_put, truncated, body_not_closed}
+use Rattle.search.specs.Request.{Request}
+use Rattle.search.specs.Shown.{Shown}
+use Rattle.script.specs.Items.{Item, put, load, remove, publish, search, search_in, find, sync, cancel, status, bad_line, bad_put, truncated, body_not_closed}
 use Rattle.transcript.specs.declared.entry.Entry.{Entry}
 use Rattle.transcript.specs.declared.entry.Entry.TheVariants.{Accepted, Refused, Published, Found, SearchRefused}
 use Rattle.transcript.specs.declared.entry.Reason.{Reason}
@@ -14,8 +14,8 @@ use Rattle.steps.specs.Rows.{version_in, last_or, is_sync, searches_of, count_se
 use Rattle.steps.specs.LegalRows.{IsRoomFor, IsNamed, HasBody, HasLoaded, IsRemove, IsPublish, Limits, Context, search_number, state_before}
 use Rattle.steps.specs.LegalRows.{IsAnswered, IsSearched, IsUnknown, IsStatus, IsCommandEntry, IsEntryOf, HasEntry}
 use Rattle.steps.specs.LegalRows as legal
-use Rattle.steps.specs.Steps.{Asks, IsFaultOf, IsFaultOfSearch, IsFaultOfSearchIn}
-use Rattle.steps.specs.Steps as steps
+use Rattle.steps.specs.Asked.{Asks, IsFaultOf, IsFaultOfSearch, IsFaultOfSearchIn, IsFaultOfFind}
+use Rattle.steps.specs.Asked as asked
 use Rattle.steps.specs.StepRows.{Rises, unless_of_search}
 use Rattle.steps.specs.Entries.{takes_memory}
 
@@ -64,6 +64,7 @@ plain_entry Holds most state loaded line (remove name) entry h =
 plain_entry Holds most state loaded line publish entry h = plain_publish most state line publish entry refl h
 plain_entry Holds most state loaded line (search case text) entry h = absurd h
 plain_entry Holds most state loaded line (search_in case name_text text) entry h = absurd h
+plain_entry Holds most state loaded line (find text) entry h = absurd h
 plain_entry Holds most state loaded line sync entry h = absurd h
 plain_entry Holds most state loaded line (cancel number) entry h = absurd h
 plain_entry Holds most state loaded line status entry h = absurd h
@@ -90,16 +91,19 @@ module _ (Holds : List ℕ → List ℕ → Type 0) (most : ℕ) (state : State)
   pub command_is_no_search : (item : Item) (entry : Entry) → IsCommandEntry Holds most state loaded line item entry → searches_of item ≡ 0
   command_is_no_search (search case text) entry h = absurd h
   command_is_no_search (search_in case name_text text) entry h = absurd h
+  command_is_no_search (find text) entry h = absurd h
   command_is_no_search item entry h = refl
 
 pub sync_is_no_search : (item : Item) → is_sync item ≡ true → searches_of item ≡ 0
 sync_is_no_search (search case text) is = cc
 sync_is_no_search (search_in case name_text text) is = cc
+sync_is_no_search (find text) is = cc
 sync_is_no_search item is = refl
 
 pub fault_is_of_search : (item : Item) (why : SearchReason) → IsFaultOf item why → searches_of item ≡ 1
 fault_is_of_search (search case text) why h = refl
 fault_is_of_search (search_in case name_text text) why h = refl
+fault_is_of_search (find text) why h = refl
 fault_is_of_search item why h = absurd h
 
 -- whether a search is refused for it only after it was taken
@@ -109,11 +113,15 @@ is_late search_reason.TooSlow = true
 is_late why = false
 
 pub fault_is_not_late : (item : Item) (why : SearchReason) → IsFaultOf item why → is_late why ≡ false
-fault_is_not_late (search case text) why (steps.no_memory is) = ap is_late is
-fault_is_not_late (search case text) why (steps.bad_pattern fault other none is) = ap is_late is
-fault_is_not_late (search_in case name_text text) why (steps.no_memory is) = ap is_late is
-fault_is_not_late (search_in case name_text text) why (steps.bad_name_pattern fault other none is) = ap is_late is
-fault_is_not_late (search_in case name_text text) why (steps.bad_pattern fault other named none is) = ap is_late is
+fault_is_not_late (search case text) why (asked.no_memory is) = ap is_late is
+fault_is_not_late (search case text) why (asked.bad_pattern fault other none is) = ap is_late is
+fault_is_not_late (search_in case name_text text) why (asked.no_memory is) = ap is_late is
+fault_is_not_late (search_in case name_text text) why (asked.bad_name_pattern fault other none is) = ap is_late is
+fault_is_not_late (search_in case name_text text) why (asked.bad_pattern fault other named none is) = ap is_late is
+fault_is_not_late (find text) why (asked.no_memory is) = ap is_late is
+fault_is_not_late (find text) why (asked.bad_words fault words other first same is) = ap is_late is
+fault_is_not_late (find text) why (asked.bad_name_pattern options pattern at fault other found none is) = ap is_late is
+fault_is_not_late (find text) why (asked.bad_pattern options pattern fault other found none is) = ap is_late is
 fault_is_not_late item why h = absurd h
 
 module _ (Holds : List ℕ → List ℕ → Type 0) (limits : Limits) (context : Context) where
@@ -127,6 +135,7 @@ module _ (Holds : List ℕ → List ℕ → Type 0) (limits : Limits) (context :
   unfolding IsEntryOf
   legal_command (search case text) entry h = absurd h
   legal_command (search_in case name_text text) entry h = absurd h
+  legal_command (find text) entry h = absurd h
   legal_command sync entry h = h
   legal_command (cancel number) entry h = absurd h
   legal_command status entry h = absurd h
@@ -144,32 +153,28 @@ module _ (Holds : List ℕ → List ℕ → Type 0) (limits : Limits) (context :
   pub legal_fault : (item : Item) (why : SearchReason) → IsFaultOf item why
       → HasEntry Holds limits context item (Some (SearchRefused (search_number context) why))
   unfolding IsEntryOf
-  legal_fault (search case text) why (steps.no_memory is) = legal.searched (legal.no_memory (ap (SearchRefused (search_number context)) is))
-  legal_fault (search case text) why (steps.bad_pattern fault other none is) =
-      legal.bad_pattern fault other none (ap (SearchRefused (search_number context)) is)
-  legal_fault (search_in case name_text text) why (steps.no_memory is) =
-      legal.searched (legal.no_memory (ap (SearchRefused (search_number context)) is))
-  legal_fault (search_in case name_text text) why (steps.bad_name_pattern fault other none is) =
-      legal.bad_name_pattern fault other none (ap (SearchRefused (search_number context)) is)
-  legal_fault (search_in case name_text text) why (steps.bad_pattern fault other named none is) =
-      legal.bad_pattern fault other named none (ap (SearchRefused (search_number context)) is)
+  legal_fault (search case text) why h = legal.refused why h refl
+  legal_fault (search_in case name_text text) why h = legal.refused why h refl
+  legal_fault (find text) why h = legal.refused why h refl
   legal_fault item why h = absurd h
 
   -- the refusal of a search that was open
-  pub legal_refusal : (item : Item) (entry : Entry) → searches_of item ≡ 1 → ((IsIt : Pattern → Type 0) → IsSearched limits context IsIt entry)
+  pub legal_refusal : (item : Item) (entry : Entry) → searches_of item ≡ 1 → ((IsIt : Request → Type 0) → IsSearched limits context IsIt entry)
       → HasEntry Holds limits context item (Some entry)
   unfolding IsEntryOf
-  legal_refusal (search case text) entry one is = legal.searched (is (IsPatternOf case text))
-  legal_refusal (search_in case name_text text) entry one is = legal.searched (is (IsPatternWithin case name_text text))
+  legal_refusal (search case text) entry one is = legal.searched (is (Asks (search case text)))
+  legal_refusal (search_in case name_text text) entry one is = legal.searched (is (Asks (search_in case name_text text)))
+  legal_refusal (find text) entry one is = legal.searched (is (Asks (find text)))
   legal_refusal item entry one is = absurd (omega (arith, one))
 
-  pub legal_answer : (item : Item) (pattern : Pattern) (reader turn : ℕ) (answer : Answer) → Asks item pattern
-      → IsAnswered context pattern reader answer → HasEntry Holds limits context item (Some (Found (search_number context) reader turn answer))
+  pub legal_answer : (item : Item) (request : Request) (reader turn : ℕ) (answer : Shown) → Asks item request
+      → IsAnswered context request reader answer → HasEntry Holds limits context item (Some (Found (search_number context) reader turn answer))
   unfolding IsEntryOf
-  legal_answer (search case text) pattern reader turn answer asks is = legal.searched (legal.found pattern reader turn answer asks refl is)
-  legal_answer (search_in case name_text text) pattern reader turn answer asks is =
-      legal.searched (legal.found pattern reader turn answer asks refl is)
-  legal_answer item pattern reader turn answer asks is = absurd asks
+  legal_answer (search case text) request reader turn answer asks is = legal.searched (legal.found request reader turn answer asks refl is)
+  legal_answer (search_in case name_text text) request reader turn answer asks is =
+      legal.searched (legal.found request reader turn answer asks refl is)
+  legal_answer (find text) request reader turn answer asks is = legal.searched (legal.found request reader turn answer asks refl is)
+  legal_answer item request reader turn answer asks is = absurd asks
 
 -- The entry of a search publishes nothing.
 pub no_version : (entry : Entry) → unless_of_search (Some entry) ≡ None → version_in (Some entry) ≡ []
@@ -185,4 +190,5 @@ not_legal_yet Holds limits context item entry none one h = by item one (subst (H
     by : (item : Item) → searches_of item ≡ 1 → HasEntry Holds limits context item None → ⊥
     by (search case text) one h = h
     by (search_in case name_text text) one h = h
+    by (find text) one h = h
     by item one h = absurd (omega (arith, one))

@@ -7,14 +7,15 @@ use Rattle.std.proofs.lemmas.List.{append-nil, take-append-le}
 use Rattle.std.proofs.lemmas.List.Elements.{Contains-append_left}
 use Rattle.std.proofs.lemmas.Bool.Decides.{eqb_tells}
 use Rattle.index.specs.State.{state_of}
-use Rattle.search.specs.Pattern.{Pattern}
-use Rattle.search.specs.Scan.{Answer, IsAnswerOf}
+use Rattle.search.specs.Request.{Request}
+use Rattle.search.specs.Shown.{IsShownOf, Shown}
 use Rattle.transcript.specs.declared.entry.Entry.{Entry}
 use Rattle.transcript.specs.declared.entry.Entry.TheVariants.{Found, SearchRefused}
 use Rattle.transcript.specs.declared.entry.SearchReason.{SearchReason}
 use Rattle.steps.specs.Rows.{Row, commands_of, version_in, published_in, last_or, published_last, before_sync, searches_of, count_searches}
 use Rattle.steps.specs.LegalRows.{Limits, Context, HasEntry, IsLegalRow, IsSearched, IsAnswered, search_number}
-use Rattle.steps.specs.Steps.{RunState, OpenSearch, latest, Asks, IsAnswerNow}
+use Rattle.steps.specs.Asked.{Asks}
+use Rattle.steps.specs.Steps.{RunState, OpenSearch, latest, IsAnswerNow}
 use Rattle.steps.specs.StepRows.{with_its_entry, unless_of_search, unanswered, open_in, given_in, given_of, Rises}
 use Rattle.steps.specs.StepRows.{HasNoSync, Stands, legal, waits, AllTurned, IsNoted, AreRows}
 use Rattle.steps.proofs.RowLemmas.{unanswered-append, given_of-append, same_commands, same_published, same_searches, later_commands}
@@ -73,7 +74,7 @@ pub record IsFilled (Holds : List ℕ → List ℕ → Type 0) (limits : Limits)
 abbrev pub MayBeRefused : Limits → ℕ → List Row → List Row → SearchReason → Type 1
 MayBeRefused limits readers before after why =
     (context : Context) (later : List Row) → context.readers ≡ readers → unanswered context.before ≡ unanswered before
-    → unanswered context.after ≡ unanswered after ++ later → (IsIt : Pattern → Type 0)
+    → unanswered context.after ≡ unanswered after ++ later → (IsIt : Request → Type 0)
     → IsSearched limits context IsIt (SearchRefused (search_number context) why)
 
 -- No sync follows an open row, and without readers nothing does.
@@ -171,7 +172,7 @@ module _ (Holds : List ℕ → List ℕ → Type 0) (limits : Limits) (readers :
   seen version (inr inside) = rises_contains 0 s.published version are.rises inside
 
   -- An answer that is given now, in the rows of a run that has gone on.
-  module _ (reader turn : ℕ) (answer : Answer) (now : IsAnswerNow s search reader turn answer) (before' after' more : List Row)
+  module _ (reader turn : ℕ) (answer : Shown) (now : IsAnswerNow s search reader turn answer) (before' after' more : List Row)
       (e : unanswered before' ≡ unanswered at.before) (e' : unanswered after' ≡ unanswered at.after ++ more)
       (rises : Rises 0 (published_in (before' ++ with_its_entry (Found search.number reader turn answer) at.row ∷ after'))) where
     abbrev entry : Entry
@@ -242,13 +243,13 @@ module _ (Holds : List ℕ → List ℕ → Type 0) (limits : Limits) (readers :
     newest true is = at_once (zero_by readers is)
     newest false is = before_a_sync (before_sync after') refl
 
-    is_answered : IsAnswered context now.pattern reader answer
+    is_answered : IsAnswered context now.request reader answer
     is_answered = record {
       published = is_published now.published;
       not_older =
           omega (arith, now.not_older, ap (λ x. x.least) at.is, ap (last_or 0) (same_published before' at.before e));
       exact =
-          subst (λ c. IsAnswerOf (state_of c) now.pattern answer)
+          subst (λ c. IsShownOf (state_of c) now.request answer)
           (sym (ap (take answer.version) commands
           ∙ take-append-le answer.version s.accepted (commands_of more) (omega (arith, seen answer.version now.published, are.within)))) now.exact;
       one_of_them = omega (arith, now.one_of_them, are.readers_count);
@@ -258,9 +259,9 @@ module _ (Holds : List ℕ → List ℕ → Type 0) (limits : Limits) (readers :
     answer_legal : IsLegalRow Holds limits context
     answer_legal =
         subst (λ n. HasEntry Holds limits context at.row.numbered.item (Some (Found n reader turn answer))) (sym (number_is before' e))
-        (legal_answer Holds limits context at.row.numbered.item now.pattern reader turn answer
-        (subst (λ i. Asks i now.pattern) (ap (λ x. x.item) at.is) now.asks) is_answered)
+        (legal_answer Holds limits context at.row.numbered.item now.request reader turn answer
+        (subst (λ i. Asks i now.request) (ap (λ x. x.item) at.is) now.asks) is_answered)
 
-  pub answer_stands : (reader turn : ℕ) (answer : Answer) → IsAnswerNow s search reader turn answer
+  pub answer_stands : (reader turn : ℕ) (answer : Shown) → IsAnswerNow s search reader turn answer
       → Stands Holds limits readers (unanswered at.before) (with_its_entry (Found search.number reader turn answer) at.row) (unanswered at.after)
   answer_stands reader turn answer now = legal (answer_legal reader turn answer now)

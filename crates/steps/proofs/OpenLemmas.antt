@@ -2,7 +2,7 @@
 use Rattle.std.proofs.Common.{◌≡◌, ℕ, suc, zero, ◌+◌, ◌⊎◌, inl, inr, List, [], ◌∷◌, ◌++◌, take, drop, Option, Some, None, refl, sym, ap, ◌∙◌}
 use Rattle.std.proofs.Common.{◌≤◌, length, length-append, arith, append_assoc, add-one}
 use Rattle.std.specs.Prelude.{slice_get}
-use Rattle.script.specs.Items.{Item, search, search_in}
+use Rattle.script.specs.Items.{Item, search, search_in, find}
 use Rattle.transcript.specs.declared.entry.Entry.{Entry}
 use Rattle.steps.specs.Rows.{Row, version_in, published_in, last_or, searches_of, count_searches}
 use Rattle.steps.specs.Steps.{OpenSearch}
@@ -14,11 +14,13 @@ pub open_cases : (count least : ℕ) (item : Item) (entry : Option Entry) → (o
     ⊎ ((entry ≡ None) × (searches_of item ≡ 1) × (open_of count least item entry ≡ open_search (count + 1) item least ∷ []))
 open_cases count least (search case text) None = inr (refl, refl, refl)
 open_cases count least (search_in case name_text text) None = inr (refl, refl, refl)
+open_cases count least (find text) None = inr (refl, refl, refl)
 open_cases count least item entry = inl refl
 
 pub open_one : (count least : ℕ) (item : Item) → searches_of item ≡ 1 → open_of count least item None ≡ open_search (count + 1) item least ∷ []
 open_one count least (search case text) one = refl
 open_one count least (search_in case name_text text) one = refl
+open_one count least (find text) one = refl
 open_one count least item one = absurd (omega (arith, one))
 
 pub open_none : (count least : ℕ) (item : Item) (entry : Entry) → open_of count least item (Some entry) ≡ []
@@ -28,6 +30,7 @@ open_none count least item entry = refl
 pub open_no_search : (count least : ℕ) (item : Item) (entry : Option Entry) → searches_of item ≡ 0 → open_of count least item entry ≡ []
 open_no_search count least (search case text) entry none = absurd (omega (arith, none))
 open_no_search count least (search_in case name_text text) entry none = absurd (omega (arith, none))
+open_no_search count least (find text) entry none = absurd (omega (arith, none))
 open_no_search count least item entry none = refl
 
 pub open_in-append : (count least : ℕ) (rows more : List Row)

@@ -8,7 +8,7 @@ use Rattle.std.proofs.lemmas.List.{append-nil}
 use Rattle.std.proofs.lemmas.List.Elements.{Contains-push_cases}
 use Rattle.std.proofs.lemmas.Grind.{flat_map-append}
 use Rattle.index.specs.State.{state_of}
-use Rattle.search.specs.Scan.{Answer}
+use Rattle.search.specs.Shown.{Shown}
 use Rattle.script.specs.Items.{Numbered}
 use Rattle.transcript.specs.declared.entry.Entry.{Entry}
 use Rattle.transcript.specs.declared.entry.Entry.TheVariants.{Refused, Found, SearchRefused}
@@ -28,22 +28,22 @@ use Rattle.steps.proofs.EntryLemmas.{plain_entry, plain_by, sync_is_no_search}
 use Rattle.steps.proofs.RunLemmas.{runs_keep}
 use Rattle.steps.proofs.WrittenLemmas.{AreCounted, run_counted}
 
-abbrev given : ℕ → ℕ → Answer → Given
+abbrev given : ℕ → ℕ → Shown → Given
 given reader turn answer = record { reader = reader; turn = turn; version = answer.version }
 
 -- What the entries so far say of versions and answers.
 record AreInOrder (entries : List Entry) (s : RunState) : Type 0 where
   pub published : s.published ≡ versions_of entries
-  pub noted : (number reader turn : ℕ) (answer : Answer) → Contains entries (Found number reader turn answer)
+  pub noted : (number reader turn : ℕ) (answer : Shown) → Contains entries (Found number reader turn answer)
       → IsNoted s.lasts (record { reader = reader; turn = turn; version = answer.version })
-  pub each : (before : List Entry) (number reader turn : ℕ) (answer : Answer) (after : List Entry)
+  pub each : (before : List Entry) (number reader turn : ℕ) (answer : Shown) (after : List Entry)
       → entries ≡ before ++ Found number reader turn answer ∷ after → IsInOrder before reader turn answer
 
 -- One more entry.
 record IsNextEntry (entries : List Entry) (s : RunState) (entry : Entry) (s' : RunState) : Type 0 where
   pub published : s'.published ≡ s.published ++ version_in (Some entry)
   pub still : (x : Given) → IsNoted s.lasts x → IsNoted s'.lasts x
-  pub now : (number reader turn : ℕ) (answer : Answer) → entry ≡ Found number reader turn answer
+  pub now : (number reader turn : ℕ) (answer : Shown) → entry ≡ Found number reader turn answer
       → IsNoted s'.lasts (record { reader = reader; turn = turn; version = answer.version }) × IsInOrder entries reader turn answer
 
 module _ (entries : List Entry) (s : RunState) (old : AreInOrder entries s) where
@@ -70,12 +70,12 @@ module _ (entries : List Entry) (s : RunState) (old : AreInOrder entries s) wher
             (split_push entries before after entry (Found number reader turn answer) e);
       })
     where
-      noted_by : (number reader turn : ℕ) (answer : Answer)
+      noted_by : (number reader turn : ℕ) (answer : Shown)
           → Contains entries (Found number reader turn answer) ⊎ (entry ≡ Found number reader turn answer) → IsNoted s'.lasts (given reader turn answer)
       noted_by number reader turn answer (inl inside) = next.still (given reader turn answer) (old.noted number reader turn answer inside)
       noted_by number reader turn answer (inr is) = (next.now number reader turn answer is).0
 
-      each_by : (before : List Entry) (number reader turn : ℕ) (answer : Answer) {after : List Entry}
+      each_by : (before : List Entry) (number reader turn : ℕ) (answer : Shown) {after : List Entry}
           → ((entries ≡ before) × (entry ≡ Found number reader turn answer) × (after ≡ []))
           ⊎ ((others : List Entry) × (entries ≡ before ++ Found number reader turn answer ∷ others) × (after ≡ others ++ entry ∷ []))
           → IsInOrder before reader turn answer
@@ -92,7 +92,7 @@ module _ (entries : List Entry) (s : RunState) (old : AreInOrder entries s) wher
     now = λ number reader turn answer is. let no = sym quiet ∙ ap (λ e. given_in (Some e)) is in absurd (cc);
   }
 
-  answer_entry : (search : OpenSearch) (reader turn : ℕ) (answer : Answer) (s' : RunState) → IsAnswerNow s search reader turn answer
+  answer_entry : (search : OpenSearch) (reader turn : ℕ) (answer : Shown) (s' : RunState) → IsAnswerNow s search reader turn answer
       → s'.published ≡ s.published → s'.lasts ≡ (steps.with_answer reader turn answer.version s).lasts
       → IsNextEntry entries s (Found search.number reader turn answer) s'
   answer_entry search reader turn answer s' now same noted_now = record {
@@ -102,7 +102,7 @@ module _ (entries : List Entry) (s : RunState) (old : AreInOrder entries s) wher
     now = λ number reader' turn' answer' is. now_by number reader' turn' answer' (cc) (cc) (cc);
   }
     where
-      now_by : (number reader' turn' : ℕ) (answer' : Answer) → reader ≡ reader' → turn ≡ turn' → answer ≡ answer'
+      now_by : (number reader' turn' : ℕ) (answer' : Shown) → reader ≡ reader' → turn ≡ turn' → answer ≡ answer'
           → IsNoted s'.lasts (given reader' turn' answer') × IsInOrder entries reader' turn' answer'
       now_by number reader' turn' answer' same_reader same_turn same_answer =
           subst (λ r. IsNoted s'.lasts (given r turn' answer') × IsInOrder entries r turn' answer') same_reader
@@ -171,7 +171,7 @@ run_order Holds limits readers from first =
 -- Each answer of a run is in order.
 pub answers_in_order : (Holds : List ℕ → List ℕ → Type 0) (limits : Limits) (readers : ℕ) (from : RunState) → IsFirst readers from → {items : List Numbered}
     {entries : List Entry} {s : RunState} → Runs Holds limits readers from items entries s
-    → (before : List Entry) (number reader turn : ℕ) (answer : Answer) (after : List Entry)
+    → (before : List Entry) (number reader turn : ℕ) (answer : Shown) (after : List Entry)
     → entries ≡ before ++ Found number reader turn answer ∷ after → IsInOrder before reader turn answer
 answers_in_order Holds limits readers from first run = (run_order Holds limits readers from first run).each
 
@@ -185,7 +185,7 @@ run_versions Holds limits readers from first run = (run_order Holds limits reade
 record AreNotOlder (number least : ℕ) (entries : List Entry) (s : RunState) : Type 0 where
   pub asked_before : number ≤ s.searches
   pub waiting : AllByRecursion (λ x. x.number ≡ number → least ≤ x.least) s.awaited
-  pub answers : (reader turn : ℕ) (answer : Answer) → Contains entries (Found number reader turn answer) → least ≤ answer.version
+  pub answers : (reader turn : ℕ) (answer : Shown) → Contains entries (Found number reader turn answer) → least ≤ answer.version
 
 module _ (number least : ℕ) (entries : List Entry) (s : RunState) (old : AreNotOlder number least entries s) where
   abbrev IsBound : OpenSearch → Type 0
@@ -193,7 +193,7 @@ module _ (number least : ℕ) (entries : List Entry) (s : RunState) (old : AreNo
 
   older_push : (entry : Entry) (written : List Entry) (s' : RunState) → written ≡ entry ∷ [] → number ≤ s'.searches
       → AllByRecursion IsBound s'.awaited
-      → ((reader turn : ℕ) (answer : Answer) → entry ≡ Found number reader turn answer → least ≤ answer.version)
+      → ((reader turn : ℕ) (answer : Shown) → entry ≡ Found number reader turn answer → least ≤ answer.version)
       → AreNotOlder number least (entries ++ written) s'
   older_push entry written s' one before waiting now =
       subst (λ w. AreNotOlder number least (entries ++ w) s') (sym one) (record {
@@ -202,7 +202,7 @@ module _ (number least : ℕ) (entries : List Entry) (s : RunState) (old : AreNo
         answers = λ reader turn answer inside. by reader turn answer (Contains-push_cases entries entry (Found number reader turn answer) inside);
       })
     where
-      by : (reader turn : ℕ) (answer : Answer) → Contains entries (Found number reader turn answer) ⊎ (entry ≡ Found number reader turn answer)
+      by : (reader turn : ℕ) (answer : Shown) → Contains entries (Found number reader turn answer) ⊎ (entry ≡ Found number reader turn answer)
           → least ≤ answer.version
       by reader turn answer (inl inside) = old.answers reader turn answer inside
       by reader turn answer (inr is) = now reader turn answer is
@@ -319,7 +319,7 @@ module _ (Holds : List ℕ → List ℕ → Type 0) (limits : Limits) (readers :
   pub not_older : (from : RunState) → IsFirst readers from → {items : List Numbered} {entries : List Entry} {s : RunState}
       → Runs Holds limits readers from items entries s → (search : Numbered) (s' : RunState) → searches_of search.item ≡ 1
       → IsStep Holds limits readers s (search ∷ []) [] s' → {items' : List Numbered} {entries' : List Entry} {s'' : RunState}
-      → Runs Holds limits readers s' items' entries' s'' → (reader turn : ℕ) (answer : Answer)
+      → Runs Holds limits readers s' items' entries' s'' → (reader turn : ℕ) (answer : Shown)
       → Contains entries' (Found (searches_among items + 1) reader turn answer) → last_or 0 (versions_of entries) ≤ answer.version
   not_older from first {items} {entries} {s} run search s' one step {entries' = entries'} run' reader turn answer inside =
       let counted : AreCounted items entries s = run_counted Holds limits readers from first run in

@@ -4,7 +4,7 @@ use Rattle.std.proofs.Common.{◌∙◌, ◌≤◌, subst, arith, length-set, sl
 use Rattle.std.specs.List.{AllByRecursion}
 use Rattle.std.proofs.lemmas.List.{append-nil}
 use Rattle.index.specs.State.{state_of}
-use Rattle.search.specs.Scan.{Answer}
+use Rattle.search.specs.Shown.{Shown}
 use Rattle.script.specs.Items.{Item, Numbered, cancel, status}
 use Rattle.transcript.specs.declared.entry.Entry.{Entry}
 use Rattle.transcript.specs.declared.entry.Entry.TheVariants.{Refused, Found, SearchRefused}
@@ -16,7 +16,8 @@ use Rattle.steps.specs.Rows.{count_searches, list_of}
 use Rattle.steps.specs.LegalRows.{Limits, Context, IsCommandEntry, HasEntry, IsLegalRow, AreInTurn, WasAsked, WasNotAsked, HasCancel, search_number}
 use Rattle.steps.specs.LegalRows.{status_entry}
 use Rattle.steps.specs.LegalRows as searched
-use Rattle.steps.specs.Steps.{RunState, OpenSearch, IsStep, IsFirst, IsOpenAt, IsAnswerNow, IsFaultOf, MayTake, latest, with_entry, with_search, counted}
+use Rattle.steps.specs.Asked.{IsFaultOf}
+use Rattle.steps.specs.Steps.{RunState, OpenSearch, IsStep, IsFirst, IsOpenAt, IsAnswerNow, MayTake, latest, with_entry, with_search, counted}
 use Rattle.steps.specs.Steps.{without, with_answer, last, status_now}
 use Rattle.steps.specs.Steps as steps
 use Rattle.steps.specs.StepRows.{AreNext, HasOwnEntry, searches_in, more, filled, both, IsOfSearch, found, refused, with_its_entry, unanswered, given_of, given_in, Given, Stands, legal}
@@ -293,7 +294,7 @@ module _ (Holds : List ℕ → List ℕ → Type 0) (limits : Limits) (readers :
     refused_later why s' taken written takes writes same may =
         filled_by (SearchRefused search.number why) s' taken written takes writes (refusal_of why) (refusal why s' same may)
 
-    is_answered : (reader turn : ℕ) (answer : Answer) (s' : RunState) (taken : List Numbered) (written : List Entry)
+    is_answered : (reader turn : ℕ) (answer : Shown) (s' : RunState) (taken : List Numbered) (written : List Entry)
         → IsAnswerNow s search reader turn answer → taken ≡ [] → written ≡ Found search.number reader turn answer ∷ []
         → s' ≡ without place (with_answer reader turn answer.version s) → NextRows Holds limits readers rows taken written s'
     is_answered reader turn answer s' taken written now takes writes same =

@@ -4,7 +4,7 @@ use Rattle.std.specs.Prelude.{slice_set, eqb, true, false}
 use Rattle.std.specs.List.{AllByRecursion}
 use Rattle.std.proofs.lemmas.Bool.Decides.{eqb_tells}
 use Rattle.std.proofs.lemmas.List.{get_or-set_same, get_or-set_other}
-use Rattle.search.specs.Scan.{Answer}
+use Rattle.search.specs.Shown.{Shown}
 use Rattle.steps.specs.declared.last.Last.{Last}
 use Rattle.steps.specs.Rows.{Row}
 use Rattle.steps.specs.LegalRows.{AreInTurn}
@@ -105,7 +105,7 @@ module _ (lasts : List Last) (x : Given) (inside : x.reader < length lasts) (lat
       (each_map (IsNoted lasts) (IsNoted (slice_set lasts x.reader (last x.turn x.version))) still_noted (xs ++ ys) noted)
       now_noted
 
-abbrev given : ℕ → ℕ → Answer → Given
+abbrev given : ℕ → ℕ → Shown → Given
 given reader turn answer = record { reader = reader; turn = turn; version = answer.version }
 
 -- Rows whose answers are in turn are in turn.

@@ -10,7 +10,7 @@ use Rattle.std.proofs.lemmas.List.Sums.{sum_by-append}
 use Rattle.std.proofs.lemmas.Bool.Decides.{eqb_tells}
 use Rattle.std.proofs.lemmas.Grind.{flat_map-append}
 use Rattle.index.specs.State.{state_of}
-use Rattle.script.specs.Items.{Item, Numbered, numbered, search, search_in, sync, cancel, status}
+use Rattle.script.specs.Items.{Item, Numbered, numbered, search, search_in, find, sync, cancel, status}
 use Rattle.transcript.specs.declared.entry.Entry.{Entry}
 use Rattle.transcript.specs.declared.entry.Entry.TheVariants.{Refused, SearchRefused}
 use Rattle.transcript.specs.declared.entry.Reason.TheVariants as reason
@@ -155,12 +155,14 @@ module _ (Holds : List ℕ → List ℕ → Type 0) (limits : Limits) (readers :
       → IsCommandEntry Holds limits.commands (state_of s.accepted) loaded line item entry → command_line line item ≡ line ∷ []
   line_of_command s loaded line (search case text) entry h = absurd h
   line_of_command s loaded line (search_in case name_text text) entry h = absurd h
+  line_of_command s loaded line (find text) entry h = absurd h
   line_of_command s loaded line sync entry h = absurd h
   line_of_command s loaded line item entry h = refl
 
   no_line_of_search : (line : ℕ) (item : Item) → searches_of item ≡ 1 → command_line line item ≡ []
   no_line_of_search line (search case text) one = refl
   no_line_of_search line (search_in case name_text text) one = refl
+  no_line_of_search line (find text) one = refl
   no_line_of_search line item one = absurd (omega (arith, one))
 
   no_line_of_sync : (line : ℕ) (item : Item) → is_sync item ≡ true → command_line line item ≡ []

@@ -1,7 +1,7 @@
 -- What entries say, in the order of writing.
 use Rattle.std.specs.Prelude.{◌≡◌, ℕ, ◌<◌, ◌≤◌, ◌⊎◌, ◌==◌, Bool, true, false, count_by, sum_by, List, [], ◌∷◌, ◌++◌, flat_map, Some, Contains}
-use Rattle.search.specs.Scan.{Answer}
-use Rattle.script.specs.Items.{Item, Numbered, put, load, remove, publish, search, search_in, sync, cancel}
+use Rattle.search.specs.Shown.{Shown}
+use Rattle.script.specs.Items.{Item, Numbered, put, load, remove, publish, search, search_in, find, sync, cancel}
 use Rattle.transcript.specs.declared.entry.Entry.{Entry}
 use Rattle.transcript.specs.declared.entry.Entry.TheVariants.{Accepted, Refused, Published, Found, SearchRefused, Status}
 use Rattle.steps.specs.Rows.{version_in, failures_in, searches_of}
@@ -48,6 +48,7 @@ lines_in entries = flat_map line_in entries
 abbrev pub command_line : ℕ → Item → List ℕ
 command_line line (search case text) = []
 command_line line (search_in case name_text text) = []
+command_line line (find text) = []
 command_line line sync = []
 command_line line item = line ∷ []
 
@@ -74,7 +75,7 @@ takes_memory item = false
 
 -- An answer that comes after these entries: its version is among those published before it, or 0. What the same reader
 -- answered before has an earlier turn, and no later version.
-pub record IsInOrder (before : List Entry) (reader turn : ℕ) (answer : Answer) : Type 0 where
+pub record IsInOrder (before : List Entry) (reader turn : ℕ) (answer : Shown) : Type 0 where
   pub published : (answer.version ≡ 0) ⊎ Contains (versions_of before) answer.version
-  pub later : (number' turn' : ℕ) (answer' : Answer) → Contains before (Found number' reader turn' answer')
+  pub later : (number' turn' : ℕ) (answer' : Shown) → Contains before (Found number' reader turn' answer')
       → (turn' < turn) × (answer'.version ≤ answer.version)

@@ -1,11 +1,6 @@
 -- Which rows are legal: which entry each item of a run may have, whatever the readers and their timing.
 use Rattle.std.specs.Prelude.{◌≡◌, ◌≢◌, ℕ, ◌+◌, ◌-◌, ◌^◌, ◌<◌, ◌≤◌, ◌⊎◌, List, ◌∷◌, ◌++◌, length, map, take, Option, Some, None, option_map, IfSome}
 use Rattle.std.specs.Prelude.{Contains, if◌then◌else◌, ◌==◌, Bool, true, unwrap_or}
-use Rattle.ere.specs.Limits.{HasNoTree}
-use Rattle.ere.specs.declared.case.Case.{Case}
-use Rattle.ere.specs.declared.case.Case.TheVariants.{Exact}
-use Rattle.ere.specs.declared.error.EreError.{EreError}
-use Rattle.ere.specs.declared.error.EreErrorKind.TheVariants as kind
 use Rattle.index.specs.declared.error.NameError.{NameError}
 use Rattle.index.specs.declared.error.NameError.TheVariants as name_error
 use Rattle.index.specs.declared.error.BodyErrorKind.{BodyErrorKind}
@@ -13,13 +8,15 @@ use Rattle.index.specs.declared.command.Command.{Command}
 use Rattle.index.specs.Documents.{Document, number_of}
 use Rattle.index.specs.State.{State, state_of, body_bytes}
 use Rattle.index.specs.Text.{IsName, IsNameFault, IsBody, IsBodyFault}
-use Rattle.search.specs.Pattern.{Pattern, IsPatternOf, IsPatternWithin, HasTree}
-use Rattle.search.specs.Scan.{Answer, IsAnswerOf}
-use Rattle.script.specs.Items.{Item, put, load, remove, publish, search, search_in, sync, cancel, status, bad_line, bad_put, truncated, body_not_closed}
+use Rattle.search.specs.Request.{Request}
+use Rattle.search.specs.Shown.{IsShownOf, Shown}
+use Rattle.script.specs.Items.{Item, put, load, remove, publish, search, search_in, find, sync, cancel, status, bad_line, bad_put, truncated, body_not_closed}
 use Rattle.transcript.specs.declared.entry.Entry.{Entry}
 use Rattle.transcript.specs.declared.entry.Entry.TheVariants.{Accepted, Refused, Published, Found, SearchRefused, Status}
 use Rattle.transcript.specs.declared.entry.Reason.TheVariants as reason
+use Rattle.transcript.specs.declared.entry.SearchReason.{SearchReason}
 use Rattle.transcript.specs.declared.entry.SearchReason.TheVariants as search_reason
+use Rattle.steps.specs.Asked.{Asks, IsFaultOf}
 use Rattle.steps.specs.Rows.{Row, commands_of, published_in, published_last, before_sync, count_searches}
 
 -- What bounds a run. commands: how many commands are accepted at most. timed: whether searches have a limit of time.
@@ -84,11 +81,12 @@ newest_allowed context =
     else option_map (λ rows. published_last (context.before ++ context.row ∷ rows)) (before_sync context.after)
 
 -- An answer of a published version (0 counts as published), no older than what was published before the search and no newer
--- than is allowed, which lists exactly the lines with a match in the documents after that version's commands.
-pub record IsAnswered (context : Context) (pattern : Pattern) (reader : ℕ) (answer : Answer) : Type 0 where
+-- than is allowed, which shows exactly what is asked for of the lines with a
+-- match in the documents after that version's commands.
+pub record IsAnswered (context : Context) (request : Request) (reader : ℕ) (answer : Shown) : Type 0 where
   pub published : (answer.version ≡ 0) ⊎ Contains (published_in (all_rows context)) answer.version
   pub not_older : published_last context.before ≤ answer.version
-  pub exact : IsAnswerOf (state_of (take answer.version (commands_of (all_rows context)))) pattern answer
+  pub exact : IsShownOf (state_of (take answer.version (commands_of (all_rows context)))) request answer
   pub one_of_them : reader ≤ context.readers
   pub not_newer : IfSome (newest_allowed context) (λ version. answer.version ≤ version)
 
@@ -105,28 +103,20 @@ abbrev pub HasCancel : ℕ → List Row → Type 0
 HasCancel number rows = Contains (map (λ r. r.numbered.item) rows) (cancel number)
 
 -- What becomes of a search that is not refused for its texts. It is refused for memory; or at a cancel that follows it,
--- with readers and no sync in between; or as too slow, if searches have a limit of time. Or it is answered, for a pattern
--- that its texts spell.
-pub data IsSearched (limits : Limits) (context : Context) (IsIt : Pattern → Type 0) (entry : Entry) : Type 0 where
+-- with readers and no sync in between; or as too slow, if searches have a limit of time. Or it is answered, for what it
+-- asks for.
+pub data IsSearched (limits : Limits) (context : Context) (IsIt : Request → Type 0) (entry : Entry) : Type 0 where
   no_memory : entry ≡ SearchRefused (search_number context) search_reason.OutOfMemory → IsSearched limits context IsIt entry
   cancelled : entry ≡ SearchRefused (search_number context) search_reason.Cancelled → 0 < context.readers
       → HasCancel (search_number context) (until_sync context.after) → IsSearched limits context IsIt entry
   too_slow : entry ≡ SearchRefused (search_number context) search_reason.TooSlow → limits.timed ≡ true → IsSearched limits context IsIt entry
-  found : (pattern : Pattern) (reader turn : ℕ) (answer : Answer) → IsIt pattern → entry ≡ Found (search_number context) reader turn answer
-      → IsAnswered context pattern reader answer → IsSearched limits context IsIt entry
+  found : (request : Request) (reader turn : ℕ) (answer : Shown) → IsIt request → entry ≡ Found (search_number context) reader turn answer
+      → IsAnswered context request reader answer → IsSearched limits context IsIt entry
 
-pub data IsSearch (limits : Limits) (context : Context) (case : Case) (text : List ℕ) (entry : Entry) : Type 0 where
-  bad_pattern : (fault : EreError) → fault.kind ≢ kind.OutOfMemory → HasNoTree case text
-      → entry ≡ SearchRefused (search_number context) (search_reason.Pattern fault) → IsSearch limits context case text entry
-  searched : IsSearched limits context (IsPatternOf case text) entry → IsSearch limits context case text entry
-
--- The name pattern is looked at first. Its case always counts.
-pub data IsSearchIn (limits : Limits) (context : Context) (case : Case) (name_text text : List ℕ) (entry : Entry) : Type 0 where
-  bad_name_pattern : (fault : EreError) → fault.kind ≢ kind.OutOfMemory → HasNoTree Exact name_text
-      → entry ≡ SearchRefused (search_number context) (search_reason.NamePattern fault) → IsSearchIn limits context case name_text text entry
-  bad_pattern : (fault : EreError) → fault.kind ≢ kind.OutOfMemory → HasTree Exact name_text → HasNoTree case text
-      → entry ≡ SearchRefused (search_number context) (search_reason.Pattern fault) → IsSearchIn limits context case name_text text entry
-  searched : IsSearched limits context (IsPatternWithin case name_text text) entry → IsSearchIn limits context case name_text text entry
+-- A search is refused for its texts, or it is searched.
+pub data IsSearch (limits : Limits) (context : Context) (item : Item) (entry : Entry) : Type 0 where
+  refused : (why : SearchReason) → IsFaultOf item why → entry ≡ SearchRefused (search_number context) why → IsSearch limits context item entry
+  searched : IsSearched limits context (Asks item) entry → IsSearch limits context item entry
 
 -- The search of this number was asked, of so many.
 abbrev pub WasAsked : ℕ → ℕ → Type 0
@@ -166,6 +156,7 @@ IsCommandEntry Holds most state loaded line (remove name) entry = IsNamed name l
 IsCommandEntry Holds most state loaded line publish entry = IsPublish state line entry
 IsCommandEntry Holds most state loaded line (search case text) entry = ⊥
 IsCommandEntry Holds most state loaded line (search_in case name_text text) entry = ⊥
+IsCommandEntry Holds most state loaded line (find text) entry = ⊥
 IsCommandEntry Holds most state loaded line sync entry = ⊥
 IsCommandEntry Holds most state loaded line (cancel number) entry = ⊥
 IsCommandEntry Holds most state loaded line status entry = ⊥
@@ -176,8 +167,9 @@ IsCommandEntry Holds most state loaded line body_not_closed entry = entry ≡ Re
 
 -- In this context, the item can have this entry.
 unfoldable pub IsEntryOf : (List ℕ → List ℕ → Type 0) → Limits → Context → ℕ → Item → Entry → Type 0
-IsEntryOf Holds limits context line (search case text) entry = IsSearch limits context case text entry
-IsEntryOf Holds limits context line (search_in case name_text text) entry = IsSearchIn limits context case name_text text entry
+IsEntryOf Holds limits context line (search case text) entry = IsSearch limits context (search case text) entry
+IsEntryOf Holds limits context line (search_in case name_text text) entry = IsSearch limits context (search_in case name_text text) entry
+IsEntryOf Holds limits context line (find text) entry = IsSearch limits context (find text) entry
 IsEntryOf Holds limits context line (cancel number) entry = IsUnknown number (count_searches context.before) line entry
 IsEntryOf Holds limits context line status entry = IsStatus limits context line entry
 IsEntryOf Holds limits context line item entry = IsCommandEntry Holds limits.commands (state_before context) context.row.loaded line item entry
@@ -201,7 +193,7 @@ pub record IsInTurn (first second : ℕ) (first_version second_version : ℕ) : 
 
 abbrev pub AreInTurn : List Row → Type 0
 AreInTurn rows =
-    (before middle after : List Row) (row row' : Row) (reader number turn number' turn' : ℕ) (answer answer' : Answer)
+    (before middle after : List Row) (row row' : Row) (reader number turn number' turn' : ℕ) (answer answer' : Shown)
     → rows ≡ before ++ row ∷ (middle ++ row' ∷ after)
     → row.entry ≡ Some (Found number reader turn answer)
     → row'.entry ≡ Some (Found number' reader turn' answer')

@@ -2,7 +2,7 @@
 use Rattle.std.specs.Prelude.{ℕ, ◌+◌, Bool, true, false, option_map, if◌then◌else◌, List, [], ◌∷◌, ◌++◌, map, flat_map, Option, Some, None}
 use Rattle.index.specs.declared.command.Command.{Command}
 use Rattle.index.specs.declared.command.Command.TheVariants.{Put, Remove}
-use Rattle.script.specs.Items.{Item, Numbered, put, load, remove, search, search_in, sync}
+use Rattle.script.specs.Items.{Item, Numbered, put, load, remove, search, search_in, find, sync}
 use Rattle.transcript.specs.declared.entry.Entry.{Entry}
 use Rattle.transcript.specs.declared.entry.Reason.TheVariants.{CannotLoad}
 use Rattle.transcript.specs.declared.entry.Entry.TheVariants.{Accepted, Refused, Published}
@@ -70,6 +70,7 @@ before_sync (row ∷ rows) = if is_sync row.numbered.item then Some [] else opti
 abbrev pub searches_of : Item → ℕ
 searches_of (search case pattern) = 1
 searches_of (search_in case name_pattern pattern) = 1
+searches_of (find text) = 1
 searches_of _ = 0
 
 -- how many searches the rows have

@@ -1,8 +1,8 @@
 -- The rows of a run between two steps: each item that was taken, with its entry if it has one by now.
 use Rattle.std.specs.Prelude.{◌≡◌, ℕ, ◌+◌, ◌≤◌, List, [], ◌∷◌, ◌++◌, length, map, flat_map, Option, Some, None, false}
 use Rattle.std.specs.List.{AllByRecursion}
-use Rattle.search.specs.Scan.{Answer}
-use Rattle.script.specs.Items.{Item, Numbered, search, search_in}
+use Rattle.search.specs.Shown.{Shown}
+use Rattle.script.specs.Items.{Item, Numbered, search, search_in, find}
 use Rattle.transcript.specs.declared.entry.Entry.{Entry}
 use Rattle.transcript.specs.declared.entry.Entry.TheVariants.{Found, SearchRefused}
 use Rattle.transcript.specs.declared.entry.SearchReason.{SearchReason}
@@ -16,7 +16,7 @@ with_its_entry entry row = record row { entry = Some entry }
 
 -- the number of the search that an entry answers or refuses
 pub data IsOfSearch (number : ℕ) : Entry → Type 0 where
-  found : (reader turn : ℕ) (answer : Answer) → IsOfSearch number (Found number reader turn answer)
+  found : (reader turn : ℕ) (answer : Shown) → IsOfSearch number (Found number reader turn answer)
   refused : (why : SearchReason) → IsOfSearch number (SearchRefused number why)
 
 -- 1 if the entry is that of a search, and otherwise 0
@@ -61,6 +61,7 @@ open_search number item least = record { number = number; item = item; least = l
 abbrev pub open_of : ℕ → ℕ → Item → Option Entry → List OpenSearch
 open_of count least (search case text) None = open_search (count + 1) (search case text) least ∷ []
 open_of count least (search_in case name_text text) None = open_search (count + 1) (search_in case name_text text) least ∷ []
+open_of count least (find text) None = open_search (count + 1) (find text) least ∷ []
 open_of count least item entry = []
 
 -- the searches that have no entry, in their order

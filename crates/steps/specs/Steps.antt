@@ -1,16 +1,11 @@
 -- Which entries may be written for which items, in which order, whatever the readers and their timing.
 use Rattle.std.specs.Prelude.{◌≡◌, ◌≢◌, ℕ, ◌+◌, ◌<◌, ◌≤◌, ◌⊎◌, List, [], ◌∷◌, ◌++◌, length, take, drop}
 use Rattle.std.specs.Prelude.{Option, Some, Contains, slice_get, slice_set, slice_index_or, false, true, All}
-use Rattle.ere.specs.Limits.{HasNoTree}
-use Rattle.ere.specs.declared.case.Case.{Case}
-use Rattle.ere.specs.declared.case.Case.TheVariants.{Exact}
-use Rattle.ere.specs.declared.error.EreError.{EreError}
-use Rattle.ere.specs.declared.error.EreErrorKind.TheVariants as kind
 use Rattle.index.specs.declared.command.Command.{Command}
 use Rattle.index.specs.State.{state_of}
-use Rattle.search.specs.Pattern.{Pattern, IsPatternOf, IsPatternWithin, HasTree}
-use Rattle.search.specs.Scan.{Answer, IsAnswerOf}
-use Rattle.script.specs.Items.{Item, Numbered, search, search_in, cancel, status}
+use Rattle.search.specs.Request.{Request}
+use Rattle.search.specs.Shown.{IsShownOf, Shown}
+use Rattle.script.specs.Items.{Item, Numbered, cancel, status}
 use Rattle.transcript.specs.declared.entry.Entry.{Entry}
 use Rattle.transcript.specs.declared.entry.Entry.TheVariants.{Refused, Found, SearchRefused}
 use Rattle.transcript.specs.declared.entry.Reason.TheVariants.{NoSuchSearch}
@@ -18,6 +13,7 @@ use Rattle.transcript.specs.declared.entry.SearchReason.{SearchReason}
 use Rattle.transcript.specs.declared.entry.SearchReason.TheVariants as reason
 use Rattle.steps.specs.declared.last.Last.{Last}
 use Rattle.steps.specs.Rows.{command_of, accepted_by, version_in, last_or, is_sync, searches_of}
+use Rattle.steps.specs.Asked.{Asks, IsFaultOf}
 use Rattle.steps.specs.LegalRows.{Limits, IsCommandEntry, WasAsked, WasNotAsked, status_entry}
 
 -- A search that has no entry yet: its number, from 1, what it asks for, and the version that was published last when it
@@ -90,37 +86,13 @@ pub data MayTake (readers : ℕ) (s : RunState) (item : Item) : Type 0 where
   settled : s.awaited ≡ [] → MayTake readers s item
   beside : 0 < readers → is_sync item ≡ false → MayTake readers s item
 
--- the pattern that a search asks for
-abbrev pub Asks : Item → Pattern → Type 0
-Asks (search case text) pattern = IsPatternOf case text pattern
-Asks (search_in case name_text text) pattern = IsPatternWithin case name_text text pattern
-Asks _ pattern = ⊥
-
--- Why a search is refused when it is taken: the fault of its pattern, or lack of memory.
-pub data IsFaultOfSearch (case : Case) (text : List ℕ) (why : SearchReason) : Type 0 where
-  no_memory : why ≡ reason.OutOfMemory → IsFaultOfSearch case text why
-  bad_pattern : (fault : EreError) → fault.kind ≢ kind.OutOfMemory → HasNoTree case text → why ≡ reason.Pattern fault → IsFaultOfSearch case text why
-
--- The name pattern is looked at first. Its case always counts.
-pub data IsFaultOfSearchIn (case : Case) (name_text text : List ℕ) (why : SearchReason) : Type 0 where
-  no_memory : why ≡ reason.OutOfMemory → IsFaultOfSearchIn case name_text text why
-  bad_name_pattern : (fault : EreError) → fault.kind ≢ kind.OutOfMemory → HasNoTree Exact name_text → why ≡ reason.NamePattern fault
-      → IsFaultOfSearchIn case name_text text why
-  bad_pattern : (fault : EreError) → fault.kind ≢ kind.OutOfMemory → HasTree Exact name_text → HasNoTree case text → why ≡ reason.Pattern fault
-      → IsFaultOfSearchIn case name_text text why
-
-abbrev pub IsFaultOf : Item → SearchReason → Type 0
-IsFaultOf (search case text) why = IsFaultOfSearch case text why
-IsFaultOf (search_in case name_text text) why = IsFaultOfSearchIn case name_text text why
-IsFaultOf _ why = ⊥
-
 -- An answer of a version that is published by now (0 counts as published), no older than what was published before the
--- search was asked, and no older than the reader's last answer. It lists exactly the lines with a match in the
--- documents after that version's commands, for a pattern that the search's texts spell.
-pub record IsAnswerNow (s : RunState) (search : OpenSearch) (reader turn : ℕ) (answer : Answer) : Type 0 where
-  pub pattern : Pattern
-  pub asks : Asks search.item pattern
-  pub exact : IsAnswerOf (state_of (take answer.version s.accepted)) pattern answer
+-- search was asked, and no older than the reader's last answer. It shows exactly what the search asks for of the lines with a
+-- match in the documents after that version's commands.
+pub record IsAnswerNow (s : RunState) (search : OpenSearch) (reader turn : ℕ) (answer : Shown) : Type 0 where
+  pub request : Request
+  pub asks : Asks search.item request
+  pub exact : IsShownOf (state_of (take answer.version s.accepted)) request answer
   pub published : (answer.version ≡ 0) ⊎ Contains s.published answer.version
   pub not_older : search.least ≤ answer.version
   pub one_of_them : reader < length s.lasts
@@ -138,7 +110,7 @@ pub data IsStep (Holds : List ℕ → List ℕ → Type 0) (limits : Limits) (re
       → taken ≡ item ∷ [] → written ≡ [] → s' ≡ with_search item.item s → IsStep Holds limits readers s taken written s'
   refused : (item : Numbered) (why : SearchReason) → MayTake readers s item.item → IsFaultOf item.item why
       → taken ≡ item ∷ [] → written ≡ SearchRefused (s.searches + 1) why ∷ [] → s' ≡ counted s → IsStep Holds limits readers s taken written s'
-  answered : (place : ℕ) (search : OpenSearch) (reader turn : ℕ) (answer : Answer) → IsOpenAt s place search
+  answered : (place : ℕ) (search : OpenSearch) (reader turn : ℕ) (answer : Shown) → IsOpenAt s place search
       → IsAnswerNow s search reader turn answer
       → taken ≡ [] → written ≡ Found search.number reader turn answer ∷ [] → s' ≡ without place (with_answer reader turn answer.version s)
       → IsStep Holds limits readers s taken written s'

@@ -2,7 +2,7 @@
 
 ghost use Rattle.std.specs.Prelude.{◌≡◌, ℕ, ◌+◌, ◌<◌, ◌≤◌, List, [], ◌∷◌, ◌++◌, Contains, IsPermutation, true, false};
 ghost use Rattle.script.specs.Items.{Numbered as NumberedItem, numbered as numbered_item, cancel, status};
-ghost use Rattle.search.specs.Scan.{Answer as GivenAnswer};
+ghost use Rattle.search.specs.Shown.{Shown};
 ghost use Rattle.transcript.specs.declared.entry.Entry.{Entry};
 ghost use Rattle.transcript.specs.declared.entry.Entry.TheVariants.{Refused, Found, SearchRefused};
 ghost use Rattle.transcript.specs.declared.entry.Reason.TheVariants.{OutOfMemory};
@@ -71,7 +71,7 @@ pub fn one_entry_each<H: Holding>()
 pub fn answers_are_in_order<H: Holding>()
     ensures { (limits : Limits) (readers : ℕ) (from : RunState) (items : List NumberedItem) (entries : List Entry) (s : RunState)
         → IsFirst readers from → Runs H.holds limits readers from items entries s
-        → (before : List Entry) (number reader turn : ℕ) (answer : GivenAnswer) (after : List Entry)
+        → (before : List Entry) (number reader turn : ℕ) (answer : Shown) (after : List Entry)
         → entries ≡ before ++ Found number reader turn answer ∷ after → IsInOrder before reader turn answer }
 {}
 
@@ -81,7 +81,7 @@ pub fn answers_are_not_older<H: Holding>()
         → IsFirst readers from → Runs H.holds limits readers from items entries s
         → (search : NumberedItem) (s' : RunState) → searches_of search.item ≡ 1 → IsStep H.holds limits readers s (search ∷ []) [] s'
         → (items' : List NumberedItem) (entries' : List Entry) (s'' : RunState) → Runs H.holds limits readers s' items' entries' s''
-        → (reader turn : ℕ) (answer : GivenAnswer) → Contains entries' (Found (searches_among items + 1) reader turn answer)
+        → (reader turn : ℕ) (answer : Shown) → Contains entries' (Found (searches_among items + 1) reader turn answer)
         → last_or 0 (versions_of entries) ≤ answer.version }
 {}
 

@@ -1,7 +1,7 @@
 -- Items that own their bytes.
 use Rattle.std.specs.Prelude.{◌≡◌, ℕ, ◌<◌, List, length}
 use Rattle.index.specs.declared.body.TheConstants.{MAX_BODY}
-use Rattle.script.specs.Items.{Item, put, load, remove, publish, search, search_in, sync, cancel, status}
+use Rattle.script.specs.Items.{Item, put, load, remove, publish, search, search_in, find, sync, cancel, status}
 use Rattle.script.specs.Items.{bad_line, bad_put, truncated, body_not_closed}
 use Rattle.stream.specs.declared.owned.OwnedItem.{OwnedItem}
 use Rattle.stream.specs.declared.owned.OwnedItem.TheVariants as variants
@@ -16,6 +16,7 @@ ShowsOwned (variants.Remove name) item = item ≡ remove name.items
 ShowsOwned variants.Publish item = item ≡ publish
 ShowsOwned (variants.Search case pattern) item = item ≡ search case pattern.items
 ShowsOwned (variants.SearchIn case name_pattern pattern) item = item ≡ search_in case name_pattern.items pattern.items
+ShowsOwned (variants.Find request) item = item ≡ find request.items
 ShowsOwned variants.Sync item = item ≡ sync
 ShowsOwned (variants.Cancel number) item = item ≡ cancel number
 ShowsOwned variants.Status item = item ≡ status

@@ -14,7 +14,9 @@ use std::io::BufRead;
 /// How many bytes were taken, and how many of them are line feeds.
 #[derive(Clone, Copy, Debug)]
 pub struct Passed {
+    /// The number of all of them.
     pub count: usize,
+    /// The number of line feeds among them.
     pub line_feeds: usize,
 }
 
@@ -32,15 +34,20 @@ pub enum PutBody {
 /// A put's bytes: as many as its size says, or fewer if the input ends first.
 #[derive(Debug, Drop)]
 pub struct PutBytes {
+    /// What is kept of them.
     pub body: PutBody,
+    /// How many were taken.
     pub passed: Passed,
 }
 
 /// What follows a put's bytes.
 #[derive(Clone, Copy, Debug)]
 pub enum Closing {
+    /// A line feed, which was taken.
     LineFeed,
+    /// Another byte, which was taken.
     OtherByte,
+    /// The end of the input.
     InputEnd,
 }
 
@@ -200,7 +207,10 @@ fn look<I: BufRead>(input: &mut I) -> Result<Option<Closing>, StreamError>
     Ok(Some(next.closing))
 }
 
-/// Takes the byte after a put's bytes, unless the input ends there.
+/// Takes the byte after a put's bytes, unless the input ends there, and says what it is. Interrupted reads are tried
+/// again.
+///
+/// An `Err` is `CannotRead`: the input cannot be read.
 pub fn close<I: BufRead>(input: &mut I) -> Result<Closing, StreamError>
     ensures { (bytes : List ℕ) × Consumes (I.remaining input.old) (I.remaining input.new) bytes
         × IsClosing result bytes (I.remaining input.old) (I.remaining input.new) }
@@ -259,7 +269,11 @@ fn skip_body<I: BufRead>(input: &mut I, size: usize, body: PutBody) -> Result<Pu
     }
 }
 
-/// Takes a put's bytes. They are kept if `size` is at most `MAX_BODY` and there is memory for that many.
+/// Takes a put's bytes: `size` of them, or fewer if the input ends first. They are kept if `size` is at most `MAX_BODY`
+/// and there is memory for that many. Interrupted reads are tried again.
+///
+/// An `Err` is `CannotRead`: the input cannot be read. Room for the bytes is made before they are read, so memory does
+/// not run out meanwhile.
 pub fn take_bytes<I: BufRead>(
     alloc: Global,
     input: &mut I,

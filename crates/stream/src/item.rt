@@ -34,7 +34,7 @@ pub struct TakenItem<'a> {
 pub enum StreamError {
     /// The input could not be read.
     CannotRead,
-    /// There was no memory for a line.
+    /// There was no memory for a line, or for a copy of an item.
     OutOfMemory,
     /// A line has more than `script::MAX_SCRIPT` bytes, its line feed not counted.
     LineTooLong,

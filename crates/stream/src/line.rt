@@ -68,7 +68,9 @@ pub fn interrupted(error: &Error) -> Result<(), StreamError>
     }
 }
 
-/// Appends the bytes to the text. The only error is `OutOfMemory`.
+/// Appends the bytes to the text.
+///
+/// An `Err` is `OutOfMemory`: memory ran out.
 pub fn append(text: &mut Vec<u8>, bytes: &[u8]) -> Result<(), StreamError>
     ensures { IfOk result (λ _. text.new.items ≡ text.old.items ++ bytes.now) }
 {
@@ -130,12 +132,19 @@ fn take_line<I: BufRead>(input: &mut I, text: &mut Vec<u8>) -> Result<bool, Stre
 /// The number of a line, and whether a line feed ends it.
 #[derive(Clone, Copy, Debug)]
 pub struct LineStart {
+    /// The number of the line.
     pub line: u32,
+    /// Whether a line feed ends it. If not, the input's end does.
     pub closed: bool,
 }
 
-/// Takes lines up to the first one that is neither empty nor a comment, and leaves that one in `text`. `first` is
-/// the number of the first line taken. `None` means that the input has no such line.
+/// Takes lines up to the first one that is neither empty nor a comment, and leaves that one in `text`, without its line
+/// feed. `first` is the number of the first line taken. `None` means that the input has no such line. Interrupted reads
+/// are tried again.
+///
+/// `CannotRead` means that the input cannot be read, `OutOfMemory` that there is no memory for a line, `LineTooLong`
+/// that a line has over `MAX_SCRIPT` bytes, and `TooManyLines` that the number of the line after a skipped one does not
+/// fit in 32 bits. After an `Err`, `text` has any bytes.
 pub fn next_line<I: BufRead>(
     input: &mut I,
     first: u32,

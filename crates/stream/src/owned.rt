@@ -44,6 +44,9 @@ pub enum OwnedItem {
         name_pattern: Vec<u8>,
         pattern: Vec<u8>,
     },
+    Find {
+        request: Vec<u8>,
+    },
     Sync,
     Cancel {
         search: u32,
@@ -109,6 +112,9 @@ impl OwnedItem {
                 name_pattern: name_pattern.as_slice(),
                 pattern: pattern.as_slice(),
             },
+            OwnedItem::Find { request } => Item::Find {
+                request: request.as_slice(),
+            },
             OwnedItem::Sync => Item::Sync,
             OwnedItem::Cancel { search } => Item::Cancel { search: *search },
             OwnedItem::Status => Item::Status,
@@ -149,6 +155,9 @@ fn copy_of(alloc: Global, item: Item<'_>) -> Result<OwnedItem, AllocError>
             case,
             name_pattern: Vec::from_slice(alloc, name_pattern)?,
             pattern: Vec::from_slice(alloc, pattern)?,
+        },
+        Item::Find { request } => OwnedItem::Find {
+            request: Vec::from_slice(alloc, request)?,
         },
         Item::Sync => OwnedItem::Sync,
         Item::Cancel { search } => OwnedItem::Cancel { search },

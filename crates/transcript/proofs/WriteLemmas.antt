@@ -4,7 +4,7 @@ use Rattle.std.proofs.Common.{◌-◌, arith, length-drop}
 use Rattle.std.proofs.lemmas.List.{append-nil, take-append-drop, take_all}
 use Rattle.std.specs.Prelude.{Bool, Result, Ok, Err, OnErr}
 use Rattle.std.specs.Io.KnownBytes.{Appends, Keeps}
-use Rattle.search.specs.Text.{text_of_answer}
+use Rattle.search.specs.Shown.{text_of_shown}
 use Rattle.transcript.specs.declared.entry.Entry.{Entry}
 use Rattle.transcript.specs.declared.entry.Entry.TheVariants.{Accepted, Refused, Published, Found, SearchRefused, Status}
 use Rattle.transcript.specs.Heads.{head_of_entry, lines_of_entry}
@@ -171,7 +171,7 @@ done_all a b all left held none so_far =
 -- ---- the texts of entries and of answers
 
 pub entry-parts : (stats : Bool) (entry : Entry) → text_of_entry stats entry ≡ head_of_entry stats entry ++ lines_of_entry entry
-unfolding text_of_answer
+unfolding text_of_shown
 entry-parts stats (Accepted line commands) = refl
 entry-parts stats (Refused line reason) = sym (append-nil (line_refusal line reason))
 entry-parts stats (Published line version) = refl

@@ -1,6 +1,6 @@
 -- The text of an entry in two parts: for an answer its first line and the others, and for any other entry the whole text.
 use Rattle.std.specs.Prelude.{ℕ, Bool, List, []}
-use Rattle.search.specs.Text.{text_of_head, text_of_hits}
+use Rattle.search.specs.Shown.{text_of_head}
 use Rattle.transcript.specs.declared.entry.Entry.{Entry}
 use Rattle.transcript.specs.declared.entry.Entry.TheVariants.{Accepted, Refused, Published, Found, SearchRefused, Status}
 use Rattle.transcript.specs.Transcript.{line_refusal, search_refusal, status_line}
@@ -18,6 +18,6 @@ abbrev pub lines_of_entry : Entry → List ℕ
 lines_of_entry (Accepted line commands) = []
 lines_of_entry (Refused line reason) = []
 lines_of_entry (Published line version) = []
-lines_of_entry (Found number reader turn answer) = text_of_hits answer.hits
+lines_of_entry (Found number reader turn answer) = answer.text
 lines_of_entry (SearchRefused number reason) = []
 lines_of_entry (Status line version documents bytes accepted most open_searches) = []

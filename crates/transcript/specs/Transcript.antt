@@ -1,7 +1,8 @@
 -- The text and the status of a transcript (this program's choice; the statuses follow grep's).
-use Rattle.std.specs.Prelude.{ℕ, Bool, true, false, nat_lt, length, if◌then◌else◌, List, [], ◌++◌, flat_map, codes, decimal}
+use Rattle.std.specs.Prelude.{ℕ, Bool, true, false, nat_lt, if◌then◌else◌, List, [], ◌++◌, flat_map, codes, decimal}
 use Rattle.std.specs.List.{list_any}
-use Rattle.search.specs.Text.{text_of_answer, line_end}
+use Rattle.search.specs.Shown.{text_of_shown}
+use Rattle.search.specs.Text.{line_end}
 use Rattle.ere.specs.declared.error.EreError.{EreError}
 use Rattle.transcript.specs.declared.entry.Entry.{Entry}
 use Rattle.transcript.specs.declared.entry.Entry.TheVariants.{Accepted, Refused, Published, Found, SearchRefused, Status}
@@ -17,6 +18,8 @@ text_of_fault error = reason_of error.kind ++ codes " at " ++ decimal error.at
 abbrev pub text_of_search_reason : SearchReason → List ℕ
 text_of_search_reason (search.Pattern error) = text_of_fault error
 text_of_search_reason (search.NamePattern error) = codes "name pattern: " ++ text_of_fault error
+text_of_search_reason (search.NamePatternAt at error) = codes "name pattern " ++ decimal at ++ codes ": " ++ text_of_fault error
+text_of_search_reason (search.Options words) = words.items
 text_of_search_reason search.Cancelled = codes "cancelled"
 text_of_search_reason search.TooSlow = codes "too slow"
 text_of_search_reason search.OutOfMemory = codes "out of memory"
@@ -38,7 +41,7 @@ abbrev pub text_of_entry : Bool → Entry → List ℕ
 text_of_entry stats (Accepted line commands) = []
 text_of_entry stats (Refused line reason) = line_refusal line reason
 text_of_entry stats (Published line version) = []
-text_of_entry stats (Found number reader turn answer) = text_of_answer number stats answer
+text_of_entry stats (Found number reader turn answer) = text_of_shown number stats answer
 text_of_entry stats (SearchRefused number reason) = search_refusal number reason
 text_of_entry stats (Status line version documents bytes accepted most open_searches) =
     status_line line version documents bytes accepted most open_searches
@@ -58,7 +61,7 @@ abbrev pub has_hit : Entry → Bool
 has_hit (Accepted line commands) = false
 has_hit (Refused line reason) = false
 has_hit (Published line version) = false
-has_hit (Found number reader turn answer) = nat_lt 0 (length answer.hits)
+has_hit (Found number reader turn answer) = nat_lt 0 answer.count
 has_hit (SearchRefused number reason) = false
 has_hit (Status line version documents bytes accepted most open_searches) = false
 

@@ -5,7 +5,7 @@ ghost use Rattle.transcript.specs.Transcript.{is_refusal, has_hit};
 
 use ere::EreError;
 use index::{BodyErrorKind, NameError};
-use search::Answer;
+use search::Shown;
 
 /// Why a line of a script is refused.
 #[derive(Clone, Copy, Debug, PartialEq, Eq)]
@@ -28,20 +28,24 @@ pub enum Reason {
     NoSuchFile,
     /// No search with this number was asked.
     NoSuchSearch,
-    /// The run has already accepted as many commands as it can.
+    /// The greatest number of commands has been accepted already.
     Full,
     /// Memory ran out.
     OutOfMemory,
 }
 
 /// Why a search is refused.
-#[derive(Clone, Copy, Debug, PartialEq, Eq)]
+#[derive(Debug, PartialEq, Eq, Drop)]
 pub enum SearchReason {
     /// The pattern has a fault.
     Pattern(EreError),
     /// The name pattern has a fault.
     NamePattern(EreError),
-    /// It was given up before it had an answer.
+    /// Of several patterns of names, the one with this number, counted from 1, has a fault.
+    NamePatternAt(usize, EreError),
+    /// The options of a `find` have a fault: its text.
+    Options(Vec<u8>),
+    /// A cancel gave it up before it had an answer.
     Cancelled,
     /// It had no answer within its limit of time.
     TooSlow,
@@ -70,12 +74,12 @@ pub enum Entry {
         version: u32,
     },
     /// A search was answered: its number, from 1, the reader that answered, from 0, that reader's turn, from 1, and
-    /// the answer.
+    /// what is shown of the answer.
     Found {
         search: u32,
         reader: u32,
         turn: u32,
-        answer: Answer,
+        answer: Shown,
     },
     /// A search was refused: its number, from 1, and why.
     SearchRefused {
@@ -112,7 +116,7 @@ pub fn has_hit(entry: &Entry) -> bool
     ensures { result ≡ has_hit entry.now }
 {
     match entry {
-        Entry::Found { answer, .. } => answer.hit_count() != 0,
+        Entry::Found { answer, .. } => answer.count() != 0,
         _ => false,
     }
 }

@@ -3,7 +3,7 @@
 ghost use Rattle.std.specs.Prelude.{◌≡◌, ◌≢◌, ◌≤◌, ◌++◌, List, ℕ, length, take, ◌⊎◌, IfOk, IfErr, OnOk, OnErr, IsErrOf};
 ghost use Rattle.std.specs.Io.KnownBytes.{Appends, Keeps};
 ghost use Rattle.std.specs.IoError.{error_kind};
-ghost use Rattle.search.specs.Parts.{all_hits};
+ghost use Rattle.search.specs.Parts.{text_of_parts};
 ghost use Rattle.search.specs.Text.{text_of_hits};
 ghost use Rattle.transcript.specs.Transcript.{text_of_entry, text_of_transcript};
 ghost use Rattle.transcript.specs.Written.{AppendsFront, AppendsAllBut};
@@ -11,7 +11,7 @@ ghost use Rattle.transcript.specs.Written.{AppendsFront, AppendsAllBut};
 use crate::entry::Entry;
 use crate::texts::append_head;
 use crate::transcript::Transcript;
-use search::{Lines, PIECE, Part, append_lines, form_lines};
+use search::{Lines, PIECE, Part, PartText, append_lines, form_lines};
 use std::alloc::Global;
 use std::io::{Error, ErrorKind, Write};
 use std::thread::Threads;
@@ -37,13 +37,15 @@ pub enum WriteError {
     OutOfMemory,
 }
 
-/// Writes the text of a transcript, entry by entry: the lines of searches and of refusals (their form is this
-/// program's choice; `NAME:LINE:TEXT` is grep's form). With `stats` each answer also shows its number of candidates
-/// and of documents. It is written in parts of 65,536 bytes or more, and the rest at the end. Each entry is dropped once its
-/// text is written, and with it what an answer shares of its documents. `threads` is as for `write_entry`.
+/// Writes the text of a transcript, entry by entry: the lines of searches and of refusals (their form is this program's
+/// choice; `NAME:LINE:TEXT` is grep's form). With `stats` each answer also shows its number of candidates and of
+/// documents. The text is written in parts of 65,536 bytes or more, and the rest at the end. Each entry is dropped once
+/// its text is written, and with it what an answer shares of its documents. With two or more `threads`, the text of a
+/// large answer is formed by so many side by side, where they can be started.
 ///
-/// `Failed` means that the writer failed, `Closed` that nobody reads any more what is written, `Stopped` that it took
-/// no byte, and `OutOfMemory` that memory ran out for text. After an `Err`, what was written is a beginning of the text.
+/// `Failed` means that the writer failed, `Closed` that nobody reads any more what is written, `Stopped` that the
+/// writer took no byte, and `OutOfMemory` that memory ran out for text. After an `Err`, what was written is a beginning
+/// of the text.
 pub fn write_transcript<R: Threads + Sync, W: Write>(
     rt: &R,
     alloc: Global,
@@ -65,13 +67,14 @@ pub fn write_transcript<R: Threads + Sync, W: Write>(
     write_whole(out, &text)
 }
 
-/// Writes the text of an entry, behind that in `text`, which is not written yet. The last bytes, fewer than 65,536, are left in
-/// `text`. Of an answer, only a piece of the text is in memory at a time, besides what was formed with the answer: of
-/// `search::PIECE` bytes or a line for each of `threads`. With two or more of them, the text of a large answer is formed by
-/// so many threads side by side, where they can be started; otherwise none is started.
+/// Writes the text of an entry, behind that in `text`, which is not written yet. The last bytes, fewer than 65,536, are
+/// left in `text`. Of an answer, only a piece of the text is in memory at a time, besides what was formed with the
+/// answer: of `search::PIECE` bytes or a line for each of `threads`. With two or more of them, the text of a large
+/// answer is formed by so many threads side by side, where they can be started; otherwise none is started.
 ///
-/// The errors are those of `write_transcript`. After an `Err`, what was written is a beginning of both texts, and `text` has
-/// any bytes.
+/// `Failed` means that the writer failed, `Closed` that nobody reads any more what is written, `Stopped` that the
+/// writer took no byte, and `OutOfMemory` that memory ran out for text. After an `Err`, what was written is a beginning
+/// of both texts, and `text` has any bytes.
 pub fn write_entry<R: Threads + Sync, W: Write>(
     rt: &R,
     alloc: Global,
@@ -94,7 +97,7 @@ pub fn write_entry<R: Threads + Sync, W: Write>(
     }
 }
 
-/// Writes the lines of an answer, which has these parts, behind `text`.
+/// Writes the text of these parts behind `text`.
 fn write_parts<R: Threads + Sync, W: Write>(
     rt: &R,
     alloc: Global,
@@ -103,39 +106,44 @@ fn write_parts<R: Threads + Sync, W: Write>(
     text: &mut Vec<u8>,
     out: &mut W,
 ) -> Result<(), WriteError>
-    ensures ok { OnOk result (AppendsAllBut (W.contents out.old) (W.contents out.new) (text.old.items ++ text_of_hits (all_hits parts.now)) text.new.items) }
-    ensures err { OnErr result (AppendsFront (W.contents out.old) (W.contents out.new) (text.old.items ++ text_of_hits (all_hits parts.now))) }
+    ensures ok { OnOk result (AppendsAllBut (W.contents out.old) (W.contents out.new) (text.old.items ++ text_of_parts parts.now) text.new.items) }
+    ensures err { OnErr result (AppendsFront (W.contents out.old) (W.contents out.new) (text.old.items ++ text_of_parts parts.now)) }
 {
     for part in parts {
-        let (formed, others) = part.text();
+        let PartText {
+            formed,
+            lines,
+            zero,
+        } = part.text();
         if let Err(error) = write_behind(formed, text, out) {
             return Err(error);
         }
-        if let Err(error) = write_lines(rt, alloc, threads, others, text, out) {
+        if let Err(error) = write_lines(rt, alloc, threads, zero, lines, text, out) {
             return Err(error);
         }
     }
     Ok(())
 }
 
-/// Writes lines behind `text`, piece by piece.
+/// Writes lines behind `text`, piece by piece. With `zero` they have a zero byte after the name.
 fn write_lines<R: Threads + Sync, W: Write>(
     rt: &R,
     alloc: Global,
     threads: usize,
+    zero: bool,
     lines: Lines<'_>,
     text: &mut Vec<u8>,
     out: &mut W,
 ) -> Result<(), WriteError>
-    ensures ok { OnOk result (AppendsAllBut (W.contents out.old) (W.contents out.new) (text.old.items ++ text_of_hits lines.entry) text.new.items) }
-    ensures err { OnErr result (AppendsFront (W.contents out.old) (W.contents out.new) (text.old.items ++ text_of_hits lines.entry)) }
+    ensures ok { OnOk result (AppendsAllBut (W.contents out.old) (W.contents out.new) (text.old.items ++ text_of_hits zero lines.entry) text.new.items) }
+    ensures err { OnErr result (AppendsFront (W.contents out.old) (W.contents out.new) (text.old.items ++ text_of_hits zero lines.entry)) }
 {
     let most = threads.max(1).saturating_mul(PIECE);
     let mut rest = lines;
     while !rest.is_empty() {
         let count = rest.count_within(most);
         let (piece, others) = rest.split_at(count);
-        if let Err(error) = write_piece(rt, alloc, threads, piece, text, out) {
+        if let Err(error) = write_piece(rt, alloc, threads, zero, piece, text, out) {
             return Err(error);
         }
         rest = others;
@@ -148,20 +156,21 @@ fn write_piece<R: Threads + Sync, W: Write>(
     rt: &R,
     alloc: Global,
     threads: usize,
+    zero: bool,
     piece: Lines<'_>,
     text: &mut Vec<u8>,
     out: &mut W,
 ) -> Result<(), WriteError>
-    ensures ok { OnOk result (AppendsAllBut (W.contents out.old) (W.contents out.new) (text.old.items ++ text_of_hits piece.entry) text.new.items) }
-    ensures err { OnErr result (AppendsFront (W.contents out.old) (W.contents out.new) (text.old.items ++ text_of_hits piece.entry)) }
+    ensures ok { OnOk result (AppendsAllBut (W.contents out.old) (W.contents out.new) (text.old.items ++ text_of_hits zero piece.entry) text.new.items) }
+    ensures err { OnErr result (AppendsFront (W.contents out.old) (W.contents out.new) (text.old.items ++ text_of_hits zero piece.entry)) }
 {
     if threads < 2 {
-        if append_lines(text, piece).is_err() {
+        if append_lines(text, zero, piece).is_err() {
             return Err(WriteError::OutOfMemory);
         }
         return write_part(out, text);
     }
-    match form_lines(rt, alloc, &piece, threads) {
+    match form_lines(rt, alloc, zero, &piece, threads) {
         Ok(formed) => write_behind(&formed, text, out),
         Err(_) => Err(WriteError::OutOfMemory),
     }

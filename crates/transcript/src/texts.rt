@@ -100,12 +100,38 @@ fn append_fault(
     )
 }
 
-/// Appends the refusal of a search with this reason. An `Err` leaves `out` as it was.
-fn append_fixed_refusal(
+/// Appends the refusal of a search of which one of several patterns of names has a fault. An `Err` leaves `out` as it was.
+fn append_fault_at(
     out: &mut Vec<u8>,
     search: u32,
-    reason: &'static [u8],
+    name: usize,
+    error: EreError,
 ) -> Result<(), AllocError>
+    ensures ok { OnOk result (out.new.items ≡ out.old.items ++ search_refusal search (SearchReason.NamePatternAt name error)) }
+    ensures err { OnErr result (out.new.items ≡ out.old.items) }
+{
+    let mut number = Buffer::new();
+    let mut which = Buffer::new();
+    let mut at = Buffer::new();
+    append_all(
+        out,
+        &[
+            b"search ".as_slice(),
+            number.format(search).as_bytes(),
+            b" refused: ".as_slice(),
+            b"name pattern ".as_slice(),
+            which.format(name).as_bytes(),
+            b": ".as_slice(),
+            error.kind.reason().as_bytes(),
+            b" at ".as_slice(),
+            at.format(error.at).as_bytes(),
+            b"\n".as_slice(),
+        ],
+    )
+}
+
+/// Appends the refusal of a search with this reason. An `Err` leaves `out` as it was.
+fn append_fixed_refusal(out: &mut Vec<u8>, search: u32, reason: &[u8]) -> Result<(), AllocError>
     ensures ok { OnOk result (out.new.items ≡ out.old.items ++ codes "search " ++ decimal search ++ codes " refused: "
         ++ reason.now ++ line_end) }
     ensures err { OnErr result (out.new.items ≡ out.old.items) }
@@ -127,14 +153,16 @@ fn append_fixed_refusal(
 fn append_search_refusal(
     out: &mut Vec<u8>,
     search: u32,
-    reason: SearchReason,
+    reason: &SearchReason,
 ) -> Result<(), AllocError>
-    ensures ok { OnOk result (out.new.items ≡ out.old.items ++ search_refusal search reason) }
+    ensures ok { OnOk result (out.new.items ≡ out.old.items ++ search_refusal search reason.now) }
     ensures err { OnErr result (out.new.items ≡ out.old.items) }
 {
     match reason {
-        SearchReason::Pattern(error) => append_fault(out, search, b"", error),
-        SearchReason::NamePattern(error) => append_fault(out, search, b"name pattern: ", error),
+        SearchReason::Pattern(error) => append_fault(out, search, b"", *error),
+        SearchReason::NamePattern(error) => append_fault(out, search, b"name pattern: ", *error),
+        SearchReason::NamePatternAt(at, error) => append_fault_at(out, search, *at, *error),
+        SearchReason::Options(words) => append_fixed_refusal(out, search, words),
         SearchReason::Cancelled => append_fixed_refusal(out, search, b"cancelled"),
         SearchReason::TooSlow => append_fixed_refusal(out, search, b"too slow"),
         SearchReason::OutOfMemory => append_fixed_refusal(out, search, b"out of memory"),
@@ -197,7 +225,7 @@ pub(crate) fn append_head(entry: &Entry, stats: bool, out: &mut Vec<u8>) -> Resu
         Entry::Accepted { .. } => Ok(()),
         Entry::Published { .. } => Ok(()),
         Entry::Refused { line, reason } => append_line_refusal(out, *line, *reason),
-        Entry::SearchRefused { search, reason } => append_search_refusal(out, *search, *reason),
+        Entry::SearchRefused { search, reason } => append_search_refusal(out, *search, reason),
         Entry::Found { search, answer, .. } => answer.append_head(*search, stats, out),
         Entry::Status {
             line,

@@ -6,7 +6,7 @@ ghost use Rattle.transcript.specs.Transcript.{status_of, is_refusal, has_hit};
 
 use crate::entry::{Entry, has_hit, is_refusal};
 
-/// What a run answered.
+/// The entries of a run.
 #[derive(Debug, Drop)]
 pub struct Transcript {
     /// In the order of the script, one for each item. A `sync` has none, and neither has a `cancel` of a search that was asked.

@@ -6,7 +6,7 @@ use Rattle.std.proofs.lemmas.List.Elements.{All-replicate}
 use Rattle.std.proofs.lemmas.List.Sums.{sum_by-append}
 use Rattle.std.proofs.lemmas.List.Sorted.{IsPermutation-refl}
 use Rattle.std.specs.Prelude.{Contains, Result, Ok, Err, OnOk}
-use Rattle.script.specs.Items.{Item, Numbered, ItemsFrom, IsItemsOf, search, search_in}
+use Rattle.script.specs.Items.{Item, Numbered, ItemsFrom, IsItemsOf, search, search_in, find}
 use Rattle.script.specs.Position.{Position, position}
 use Rattle.script.specs.Reading as reading
 use Rattle.transcript.specs.declared.entry.Entry.{Entry}
@@ -332,6 +332,7 @@ run_goes_on H H' same options script first left old collected failed item left' 
 no_search : (count least : ℕ) (item : Item) → open_of count least item None ≡ [] → searches_of item ≡ 0
 no_search count least (search case text) empty = cc
 no_search count least (search_in case name_text text) empty = cc
+no_search count least (find text) empty = cc
 no_search count least item empty = refl
 
 both_empty : {X : Type 0} (xs ys : List X) → xs ++ ys ≡ [] → (xs ≡ []) × (ys ≡ [])

@@ -86,7 +86,7 @@ impl<J: Naming> Crew<J> {
         self.channels.is_none()
     }
 
-    /// Hands a search to the readers. It comes back if they cannot have it.
+    /// Hands a search to the readers. `None` means that they have it; if they cannot have it, it comes back.
     pub(crate) fn hand_out<R: Wait>(&self, rt: &R, task: Task) -> Option<Task> {
         let Some(channels) = &self.channels else {
             return Some(task);
@@ -97,7 +97,7 @@ impl<J: Naming> Crew<J> {
         }
     }
 
-    /// An answer, if there is one already.
+    /// An answer, if there is one already. `None` if there is none, or no reader is at work.
     pub(crate) fn ready<R: Wait>(&self, rt: &R) -> Option<Done<J>> {
         match &self.channels {
             Some(channels) => channels.answers.try_recv(rt).ok(),

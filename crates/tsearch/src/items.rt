@@ -24,16 +24,23 @@ const MAX_OPEN: usize = 1024;
 /// What a run is given, and what it lends to its readers.
 #[derive(Drop)]
 pub struct Plan<'a, J, R, G> {
+    /// The runtime.
     pub rt: &'a R,
+    /// The allocator.
     pub alloc: Global,
+    /// The script.
     pub script: &'a [u8],
+    /// How the script is run.
     pub options: Options,
+    /// What the readers call at each point of a search.
     pub gate: &'a G,
     /// It shows how long J lives.
     pub of: &'a PhantomData<J>,
 }
 
-/// Carries out the items of the script, and waits for all answers. An `Err` means that memory ran out.
+/// Carries out the items of the script, and waits for all answers. Returns the entries, in the order of the items.
+///
+/// An `Err` means that memory ran out for the run itself.
 pub fn carry_out_all<J: Naming, R: Wait + Clock, S: Source, G: Gate>(
     plan: &Plan<'_, J, R, G>,
     crew: &Crew<J>,

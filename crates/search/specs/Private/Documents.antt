@@ -2,7 +2,7 @@
 use Rattle.std.specs.Prelude.{List}
 use Rattle.index.specs.declared.document.SharedDocument.{SharedDocument}
 use Rattle.search.specs.Scan.{Hit}
-use Rattle.search.specs.Private.Selects.{lines_of_document}
+use Rattle.search.specs.Selects.{lines_of_document}
 
 abbrev pub lines_of_taken : SharedDocument → List Hit
 lines_of_taken taken = lines_of_document taken.name taken.held

@@ -1,10 +1,11 @@
 -- Open searches that get their entries.
 use Rattle.std.specs.Prelude.{◌≡◌, ◌≢◌, ℕ, ◌+◌, ◌<◌, ◌≤◌, List, [], ◌∷◌, ◌++◌, length, take, drop, All, Bool, Some, slice_get}
 use mathlib.Core.List.{IsPrefix}
-use Rattle.search.specs.Scan.{Answer}
+use Rattle.search.specs.Shown.{Shown}
 use Rattle.script.specs.Items.{Item}
 use Rattle.steps.specs.LegalRows.{WasAsked, WasNotAsked}
-use Rattle.steps.specs.Steps.{OpenSearch, IsFaultOf, last}
+use Rattle.steps.specs.Asked.{IsFaultOf}
+use Rattle.steps.specs.Steps.{OpenSearch, last}
 use Rattle.steps.specs.declared.last.Last.{Last}
 use Rattle.shared.specs.Desk.{DeskState}
 use Rattle.shared.specs.History.{Known}
@@ -15,7 +16,7 @@ use Rattle.transcript.specs.declared.entry.SearchReason.{SearchReason}
 use Rattle.transcript.specs.declared.entry.SearchReason.TheVariants as search_reason
 use Rattle.service.specs.Opening.{limits_of}
 use Rattle.service.specs.Service.{ServiceState, CanStand}
-use Rattle.service.specs.declared.request.Task.{Task}
+use Rattle.service.specs.declared.tasks.Task.{Task}
 use Rattle.service.specs.declared.taken.Taken.{Taken}
 use Rattle.service.specs.declared.taken.Taken.TheVariants as taken
 
@@ -48,7 +49,7 @@ pub record IsUnused (lasts : List Last) : Type 0 where
   pub unused : All (λ l. l ≡ last 0 0) lasts
 
 -- The search at this place can get this answer.
-pub record CanClose (service : ServiceState) (place reader : ℕ) (answer : Answer) : Type 0 where
+pub record CanClose (service : ServiceState) (place reader : ℕ) (answer : Shown) : Type 0 where
   pub search : OpenSearch
   pub is_open : slice_get service.awaited place ≡ Some search
   pub stands : CanStand service search reader answer

@@ -1,5 +1,7 @@
 -- The entries of commands and publishes.
-use Rattle.std.specs.Prelude.{◌≡◌, ℕ, ◌<◌, ◌⊎◌, Bool, true, false, List, ◌++◌, Option, Some, Result, Ok, Err}
+use Rattle.std.specs.Prelude.{◌≡◌, ◌≢◌, ℕ, zero, suc, ◌<◌, ◌⊎◌, Bool, true, false, List, ◌++◌, Option, Some, Result, Ok, Err}
+use Rattle.std.specs.declared.vec.Vec.{Vec}
+use Rattle.std.specs.declared.alloc.Global.{Global}
 use Rattle.ere.specs.declared.error.EreError.{EreError}
 use Rattle.ere.specs.declared.error.EreErrorKind.{EreErrorKind}
 use Rattle.ere.specs.declared.error.EreErrorKind.TheVariants as kind
@@ -8,6 +10,10 @@ use Rattle.index.specs.declared.error.NameError.{NameError}
 use Rattle.index.specs.declared.error.NameError.TheVariants as name
 use Rattle.index.specs.State.{State, state_of}
 use Rattle.index.specs.Text.{IsBody}
+use Rattle.request.specs.Faults.{reason_of}
+use Rattle.request.specs.declared.fault.FindFault.{FindFault}
+use Rattle.request.specs.declared.fault.FindFault.TheVariants as find_fault
+use Rattle.search.specs.declared.requested.FindError.{FindError}
 use Rattle.script.specs.Items.{load}
 use Rattle.shared.specs.Desk.{DeskState}
 use Rattle.transcript.specs.declared.entry.Entry.{Entry}
@@ -30,6 +36,20 @@ reason_of_fault_of false _ error = search_reason.Pattern error
 
 abbrev pub reason_of_fault : Bool → EreError → SearchReason
 reason_of_fault in_name error = reason_of_fault_of in_name error.kind error
+
+abbrev pub reason_of_find_of : ℕ → EreErrorKind → EreError → SearchReason
+reason_of_find_of name kind.OutOfMemory error = search_reason.OutOfMemory
+reason_of_find_of zero _ error = search_reason.Pattern error
+reason_of_find_of (suc at) _ error = search_reason.NamePatternAt (suc at) error
+
+-- The fault of a pattern of a search with options: for the pattern itself, or for one of the patterns of names.
+abbrev pub reason_of_find : FindError → SearchReason
+reason_of_find fault = reason_of_find_of fault.name fault.error.kind fault.error
+
+-- The fault of the words of a search with options, or lack of memory.
+pub data IsReasonOfWords (fault : FindFault) (why : SearchReason) : Type 0 where
+  no_memory : why ≡ search_reason.OutOfMemory → IsReasonOfWords fault why
+  bad_words : (words : Vec ℕ Global) → fault ≢ find_fault.OutOfMemory → words.items ≡ reason_of fault → why ≡ search_reason.Options words → IsReasonOfWords fault why
 
 -- the entry of a command that was accepted or refused
 abbrev pub entry_of : ℕ → Result ℕ Reason → Entry

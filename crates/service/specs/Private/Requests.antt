@@ -1,20 +1,22 @@
 -- Searches as they are asked for.
-use Rattle.std.specs.Prelude.{ℕ, List, Option, Some, None}
+use Rattle.std.specs.Prelude.{ℕ, List}
 use Rattle.index.specs.declared.command.Command.{Command}
 use Rattle.index.specs.State.{state_of}
-use Rattle.search.specs.Pattern.{Pattern}
-use Rattle.search.specs.Scan.{Answer, IsAnswerOf}
-use Rattle.steps.specs.Steps.{Asks}
-use Rattle.ere.specs.declared.case.Case.{Case}
-use Rattle.script.specs.Items.{Item, search, search_in}
+use Rattle.search.specs.Request.{Request}
+use Rattle.search.specs.Shown.{IsShownOf, Shown}
 use Rattle.search.specs.declared.pattern.Prepared.{Prepared}
+use Rattle.steps.specs.Asked.{Asks}
+use Rattle.script.specs.Items.{Item, search, search_in, find}
+use Rattle.service.specs.declared.question.Texts.{Texts}
+use Rattle.service.specs.declared.question.Texts.TheVariants as texts
 
 -- the search with these texts
-abbrev pub search_of : Case → Option (List ℕ) → List ℕ → Item
-search_of case None text = search case text
-search_of case (Some name_text) text = search_in case name_text text
+abbrev pub search_of : Texts → Item
+search_of (texts.Search case pattern) = search case pattern.items
+search_of (texts.SearchIn case name_pattern pattern) = search_in case name_pattern.items pattern.items
+search_of (texts.Find words) = find words.items
 
--- A search, and its patterns, read.
+-- A search, and what it asks for, read.
 pub record Asked : Type 0 where
   pub item : Item
   pub prepared : Prepared
@@ -22,6 +24,6 @@ pub record Asked : Type 0 where
 abbrev pub asked : Item → Prepared → Asked
 asked item prepared = record { item = item; prepared = prepared }
 
--- The answer is that of these commands, for a pattern that the search asks for.
-abbrev pub IsFound : Item → List Command → Answer → Type 0
-IsFound item commands answer = (pattern : Pattern) × Asks item pattern × IsAnswerOf (state_of commands) pattern answer
+-- The answer is that of these commands, for what the search asks for.
+abbrev pub IsFound : Item → List Command → Shown → Type 0
+IsFound item commands answer = (request : Request) × Asks item request × IsShownOf (state_of commands) request answer

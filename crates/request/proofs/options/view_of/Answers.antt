@@ -7,7 +7,7 @@ use Rattle.request.proofs.options.view_of.Goals as goal
 
 pub returns-in-Some : goal.returns-in-Some
 returns-in-Some c =
-    ap (λ o. unwrap_or o (Lines 0)) (sym (given_here view_in c.args.settings.now c.loop-setting.setting-index c.in-Some.view c.loop-setting-test.true c.loop-setting.invariant c.in-Some.ensures))
+    ap (λ o. unwrap_or o Lines) (sym (given_here view_in c.args.settings.now c.loop-setting.setting-index c.in-Some.view c.loop-setting-test.true c.loop-setting.invariant c.in-Some.ensures))
 
 pub loop-setting-preserved : goal.loop-setting-preserved
 loop-setting-preserved c =
@@ -15,4 +15,4 @@ loop-setting-preserved c =
 
 pub returns : goal.returns
 returns c =
-    ap (λ o. unwrap_or o (Lines 0)) (sym (given_nowhere view_in c.args.settings.now c.loop-setting.setting-index c.loop-setting-test.false c.loop-setting.invariant))
+    ap (λ o. unwrap_or o Lines) (sym (given_nowhere view_in c.args.settings.now c.loop-setting.setting-index c.loop-setting-test.false c.loop-setting.invariant))

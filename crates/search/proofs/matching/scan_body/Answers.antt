@@ -1,11 +1,12 @@
-use Rattle.std.proofs.Common.{◌+◌, ◌-◌, length, take, drop, arith}
+use Rattle.std.proofs.Common.{◌≡◌, ◌+◌, ◌-◌, refl, length, take, drop, arith}
 use Rattle.std.proofs.lemmas.List.{length-take, length-drop}
 use Rattle.search.specs.Tests.{test_of}
 use Rattle.lines.specs.Lines.{lines_of}
 use Rattle.index.specs.Text.{greatest_body}
-use Rattle.search.specs.Private.Selects.{numbered, lines_of_document}
+use Rattle.search.specs.Selects.{numbered, lines_of_document}
 use Rattle.search.proofs.PieceLemmas.{rest_of, short_pieces, room_for_lines, room_after, numbered-pieces}
-use Rattle.search.proofs.PlaceLemmas.{first_is_there, rest_is_there, go_on, at_last}
+use Rattle.search.proofs.PlaceLemmas.{first_is_there, rest_is_there, go_on}
+use Rattle.search.proofs.UpToLemmas.{all_added, cut_here, last_added, reached, not_reached, selection_of_text}
 use Rattle.search.proofs.matching.scan_body.Goals as goal
 
 pub scan_piece-requires-clause-short : goal.scan_piece-requires-clause-short
@@ -43,8 +44,12 @@ loop-end-preserved g c =
           (numbered name (at.line + lines) (lines_of (rest_of text at.end))) (numbered name at.line (lines_of text))
           (lines_of_document name body) c.args.places.now.items at.places.items c.scan_piece.new.places.items
           (numbered-pieces name at.line text at.end whole_lines lines c.lines_before.ensures) (at.invariant.so_far name)
+          (all_added c.args.most (test_of c.args.test.now) c.args.document name body (numbered name at.line (lines_of (take at.end text)))
+          at.places.items c.scan_piece.new.places.items
+          (not_reached c.args.most c.is_reached.result c.len.result (length c.scan_piece.new.places.items) c.is_reached.ensures
+          (omega (arith, c.len.ensures, c.scan_piece.new.places.ok)) c.if-is_reached.false)
           (c.in_ok-scan_piece.ensures.places body name
-          (first_is_there body at.offset text at.end at.invariant.piece.inside at.invariant.there));
+          (first_is_there body at.offset text at.end at.invariant.piece.inside at.invariant.there)));
       way = c.scan_piece.ensures.way;
       short = (short_pieces text at.end whole_lines at.invariant.short).1;
       there = rest_is_there body at.offset text at.end at.invariant.piece.inside at.invariant.there;
@@ -64,6 +69,24 @@ pub returns-clause-places : goal.returns-clause-places
 returns-clause-places g c = λ name.
     let at = c.loop-end in
     let body = c.args.body.now in
-    at_last (test_of c.args.test.now) c.args.document name body (numbered name at.line (lines_of at.rest.now)) (lines_of_document name body)
+    last_added c.args.most (test_of c.args.test.now) c.args.document name body (numbered name at.line (lines_of at.rest.now)) (lines_of_document name body)
     c.args.places.now.items at.places.items c.scan_piece-2.new.places.items (at.invariant.so_far name)
     (c.in_ok-scan_piece-2.ensures.places body name at.invariant.there)
+
+pub returns-then-is_reached-clause-places : goal.returns-then-is_reached-clause-places
+returns-then-is_reached-clause-places g c = λ name.
+    let at = c.loop-end in
+    let test = test_of c.args.test.now in
+    let text = at.rest.now in
+    let body = c.args.body.now in
+    let new = c.scan_piece.new.places.items in
+    let lines = length (lines_of (take at.end text)) in
+    let size : c.len.result ≡ length new = omega (arith, c.len.ensures, c.scan_piece.new.places.ok) in
+    cut_here c.args.most test c.args.document name body (numbered name at.line (lines_of (take at.end text)))
+    (numbered name (at.line + lines) (lines_of (rest_of text at.end))) (numbered name at.line (lines_of text))
+    (lines_of_document name body) c.args.places.now.items at.places.items new
+    (numbered-pieces name at.line text at.end (at.invariant.piece.whole_lines c.loop-end-test.true) lines refl) (at.invariant.so_far name)
+    (c.in_ok-scan_piece.ensures.places body name
+    (first_is_there body at.offset text at.end at.invariant.piece.inside at.invariant.there))
+    (reached c.args.most c.is_reached.result c.len.result (length new) c.is_reached.ensures size c.if-is_reached.true)
+    (selection_of_text test name (at.line + lines) (rest_of text at.end))

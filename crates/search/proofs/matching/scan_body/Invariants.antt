@@ -4,7 +4,7 @@ use Rattle.search.specs.Tests.{test_of}
 use Rattle.lines.specs.Lines.{lines_of}
 use Rattle.index.specs.Text.{greatest_body, has_long_line}
 use Rattle.search.specs.Private.Pieces.{IsPiece}
-use Rattle.search.specs.Private.Selects.{numbered, lines_of_document}
+use Rattle.search.specs.Selects.{numbered, lines_of_document}
 use Rattle.search.specs.Private.Added.{HasTextAt}
 use Rattle.search.specs.Private.Ways.{Finds}
 use Rattle.search.proofs.PlaceLemmas.{AddsSoFar}

@@ -2,7 +2,7 @@ use Rattle.std.proofs.Common.{subst}
 use Rattle.std.proofs.lemmas.Result.{on_ok_weaker}
 use Rattle.ere.specs.Tree.{form}
 use Rattle.search.specs.Tests.{test_of}
-use Rattle.search.specs.Private.Added.{AddsLinesOf}
+use Rattle.search.specs.Private.Added.{AddsLinesUpTo}
 use Rattle.search.proofs.TestLemmas.{is_with_match}
 use Rattle.search.proofs.WayLemmas.{finder_of, finds_by}
 use Rattle.search.proofs.matching.scan_piece.Goals as goal
@@ -16,7 +16,7 @@ returns-in-FromMatchToMatch-clause-way c =
 pub returns-in-FromMatchToMatch-clause-places : goal.returns-in-FromMatchToMatch-clause-places
 returns-in-FromMatchToMatch-clause-places c =
     on_ok_weaker c.sweep_lines.result (λ added. λ body.
-    subst (λ test. AddsLinesOf test c.args.document body c.args.offset c.args.from c.args.text.now c.args.places.now.items c.sweep_lines.new.places.items)
+    subst (λ test. AddsLinesUpTo c.args.most test c.args.document body c.args.offset c.args.from c.args.text.now c.args.places.now.items c.sweep_lines.new.places.items)
     (is_with_match (test_of c.args.test.now) (cc))
     (added (form c.args.test.now.tree) body
     (finder_of (form c.args.test.now.tree) c.args.way.now c.in-FromMatchToMatch.finder c.in-FromMatchToMatch.is c.requires.way)))

@@ -2,7 +2,7 @@ use Rattle.std.proofs.Common.{◌≡◌, ◌+◌, ◌≤◌, ℕ, List, length}
 use Rattle.lines.specs.Lines.{lines_of}
 use Rattle.ere.specs.Tree.{Tree}
 use Rattle.finder.specs.Patterns.{IsFinderOf}
-use Rattle.search.specs.Private.Selects.{numbered}
+use Rattle.search.specs.Selects.{numbered}
 use Rattle.search.specs.Private.Added.{HasTextAt}
 use Rattle.search.specs.Pattern.{with_match}
 use Rattle.search.proofs.PlaceLemmas.{AddsSoFar}

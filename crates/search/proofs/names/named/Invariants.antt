@@ -1,4 +1,4 @@
-use Rattle.search.specs.Private.Selects.{Selects, IsNamedForAll}
+use Rattle.search.specs.Selects.{Selects, IsNamedForAll}
 use Rattle.search.proofs.TestLemmas.{first_tests}
 use Rattle.search.proofs.names.named.Given as goal
 

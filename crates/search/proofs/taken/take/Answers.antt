@@ -1,8 +1,11 @@
-use Rattle.std.proofs.Common.{◌∙◌, refl, arith}
+use Rattle.std.proofs.Common.{filter, map, ◌∙◌, refl, subst, arith}
 use Rattle.query.specs.Query.{formula_of}
 use Rattle.index.proofs.StoredLemmas.{Numbered-rise}
+use Rattle.index.specs.Documents.{IsInNameOrder, is_chosen}
 use Rattle.index.specs.Shared.{documents_shared}
+use Rattle.search.specs.Front.{IsFrontOf}
 use Rattle.search.specs.Prepared.{pattern_of}
+use Rattle.search.specs.Tests.{test_of}
 use Rattle.search.proofs.CandidateLemmas.{counted, fewer, candidates_in_order}
 use Rattle.search.proofs.taken.take.Goals as goal
 
@@ -27,7 +30,16 @@ returns c =
       version = c.version.ensures.version;
       documents = c.documents.ensures;
       count = c.len.ensures ∙ counted state pattern formula prepared.filter members c.in_ok-numbers.ensures;
+      names = c.version.ensures.state.names;
       candidates =
-          candidates_in_order state pattern formula (Numbered-rise state.documents c.version.ensures.state.rise) prepared.filter members
-          c.in_ok-numbers.ensures (documents_shared c.in_ok-candidates.candidates.items) c.in_ok-candidates.ensures;
+          record {
+            front = c.in_ok-front.front.items;
+            named = subst (λ tests. IsFrontOf (map test_of tests) c.in_ok-front.front.items) c.deref.ensures.value c.in_ok-front.ensures.begins;
+            in_order =
+                candidates_in_order state pattern formula (Numbered-rise state.documents c.version.ensures.state.rise) prepared.filter members
+                c.in_ok-numbers.ensures c.in_ok-front.front.items (documents_shared c.in_ok-candidates.candidates.items)
+                (subst
+                (λ text. IsInNameOrder (filter (is_chosen members text) state.documents) (documents_shared c.in_ok-candidates.candidates.items))
+                c.deref-2.ensures.value c.in_ok-candidates.ensures);
+          };
     }

@@ -1,7 +1,6 @@
 use Rattle.std.proofs.Common.{◌≡◌, ◌++◌, sym, ◌∙◌, ap, subst, List, ℕ}
 use Rattle.std.proofs.lemmas.Result.{on_ok_weaker}
-use Rattle.search.specs.Parts.{all_hits}
-use Rattle.search.specs.Text.{text_of_hits}
+use Rattle.search.specs.Parts.{text_of_parts}
 use Rattle.transcript.specs.Heads.{lines_of_entry}
 use Rattle.transcript.specs.Transcript.{text_of_entry}
 use Rattle.transcript.specs.Written.{AppendsAllBut, AppendsFront}
@@ -11,8 +10,8 @@ use Rattle.transcript.proofs.output.write_entry.Goals as goal
 pub returns-in-Found-clause-ok : goal.returns-in-Found-clause-ok
 returns-in-Found-clause-ok g c =
     let now = c.append_head.new.out.items in
-    let same : now ++ text_of_hits (all_hits c.parts.result.now) ≡ c.args.text.now.items ++ text_of_entry c.args.stats c.args.entry.now =
-    ap (λ hits. now ++ text_of_hits hits) c.parts.ensures
+    let same : now ++ text_of_parts c.parts.result.now ≡ c.args.text.now.items ++ text_of_entry c.args.stats c.args.entry.now =
+    ap (λ text. now ++ text) c.parts.ensures
     ∙ (ap (λ t. now ++ t) (sym (ap lines_of_entry c.in-Found.is))
     ∙ behind_head c.args.stats c.args.entry.now c.args.text.now.items now c.in-Ok.ensures) in
     on_ok_weaker c.write_parts.result (λ wrote.
@@ -22,8 +21,8 @@ returns-in-Found-clause-ok g c =
 pub returns-in-Found-clause-err : goal.returns-in-Found-clause-err
 returns-in-Found-clause-err g c =
     let now = c.append_head.new.out.items in
-    let same : now ++ text_of_hits (all_hits c.parts.result.now) ≡ c.args.text.now.items ++ text_of_entry c.args.stats c.args.entry.now =
-    ap (λ hits. now ++ text_of_hits hits) c.parts.ensures
+    let same : now ++ text_of_parts c.parts.result.now ≡ c.args.text.now.items ++ text_of_entry c.args.stats c.args.entry.now =
+    ap (λ text. now ++ text) c.parts.ensures
     ∙ (ap (λ t. now ++ t) (sym (ap lines_of_entry c.in-Found.is))
     ∙ behind_head c.args.stats c.args.entry.now c.args.text.now.items now c.in-Ok.ensures) in
     on_err_weaker c.write_parts.result (λ some.

@@ -28,6 +28,26 @@ loop-entry-preserved-in_default g c =
       len = (let gone = c.in-Some.ensures.steps.1 in let short = ap length steps in omega (arith, at.invariant.len));
     }
 
+pub loop-entry-preserved-in_default-2 : goal.loop-entry-preserved-in_default-2
+loop-entry-preserved-in_default-2 g c =
+    let at = c.loop-entry in
+    let steps : into_iter_items at.entry-iterator ≡ c.in-Some.entry ∷ into_iter_items c.next.new.self = c.in-Some.ensures.steps.0 in
+    let next = ap (λ es. text_of_transcript c.args.stats es) steps in
+    record {
+      so_far = done_more _ _ _ _ _ _ _ _ at.invariant.so_far next _ c.in_default.ensures.ok;
+      len = (let gone = c.in-Some.ensures.steps.1 in let short = ap length steps in omega (arith, at.invariant.len));
+    }
+
+pub loop-entry-preserved-in_default-3 : goal.loop-entry-preserved-in_default-3
+loop-entry-preserved-in_default-3 g c =
+    let at = c.loop-entry in
+    let steps : into_iter_items at.entry-iterator ≡ c.in-Some.entry ∷ into_iter_items c.next.new.self = c.in-Some.ensures.steps.0 in
+    let next = ap (λ es. text_of_transcript c.args.stats es) steps in
+    record {
+      so_far = done_more _ _ _ _ _ _ _ _ at.invariant.so_far next _ c.in_default.ensures.ok;
+      len = (let gone = c.in-Some.ensures.steps.1 in let short = ap length steps in omega (arith, at.invariant.len));
+    }
+
 pub loop-entry-preserved : goal.loop-entry-preserved
 loop-entry-preserved g c =
     let at = c.loop-entry in

@@ -1,14 +1,14 @@
-use Rattle.std.proofs.Common.{◌++◌, drop, refl, ◌∙◌, ap}
+use Rattle.std.proofs.Common.{◌≡◌, ◌++◌, ◌-◌, length, take, drop, ◌∙◌, ap, arith}
+use Rattle.std.proofs.lemmas.List.{take_all, length-drop}
 use Rattle.search.specs.Text.{text_of_hits}
-use Rattle.search.proofs.PartLemmas.{text-joined}
 use Rattle.search.proofs.parts.Part.text.Goals as goal
 
 pub returns : goal.returns
 returns c =
-    let places = c.self.inside.places in
-    let formed = c.self.inside.formed in
-    let back = c.split_at-others.ensures.back ∙ ap (λ hits. drop formed hits) c.lines.ensures in
-    text-joined places formed c.as_slice.result.now (text_of_hits c.split_at-others.result.1)
-    (c.as_slice.result.now ++ text_of_hits c.split_at-others.result.1) (c.as_slice.ensures.value ∙ c.self.invariant.ahead.first)
-    (ap (λ hits. text_of_hits hits) back) refl
-    ∙ ap (λ hits. text_of_hits hits) c.self.view_is
+    let own = c.self.inside in
+    let bytes = c.deref.result.now in
+    let back = c.split_at-lines.ensures.back ∙ ap (λ hits. drop own.formed hits) c.lines.ensures in
+    let front : take (length bytes - own.from) (drop own.from bytes) ≡ drop own.from own.text.items =
+    take_all (length bytes - own.from) (drop own.from bytes) (omega (arith, length-drop own.from bytes)) ∙ ap (λ t. drop own.from t) c.deref.ensures.value in
+    ap (λ t. t ++ text_of_hits own.zero c.split_at-lines.result.1) front
+    ∙ (ap (λ hits. drop own.from own.text.items ++ text_of_hits own.zero hits) back ∙ c.self.view_is)

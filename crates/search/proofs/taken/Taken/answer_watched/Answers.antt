@@ -1,19 +1,23 @@
-use Rattle.std.proofs.Common.{sym, subst}
-use Rattle.search.specs.Hits.{answer_of}
-use Rattle.search.specs.Prepared.{pattern_of}
-use Rattle.search.specs.Scan.{IsAnswerOf, IsScanOf}
-use Rattle.search.proofs.TakenLemmas.{found_hits}
+use Rattle.std.proofs.Common.{refl, sym, subst}
+use Rattle.index.specs.Shared.{documents_shared}
+use Rattle.search.specs.Front.{AreFronted}
+use Rattle.search.specs.Prepared.{request_of}
+use Rattle.search.specs.Request.{Request}
+use Rattle.search.specs.Scan.{IsScanOf}
+use Rattle.search.proofs.AnswerLemmas.{hits-are}
 use Rattle.search.proofs.taken.Taken.answer_watched.Goals as goal
 
 pub returns : goal.returns
-returns g c = λ state pattern of.
-    subst (λ contents. IsAnswerOf state pattern (answer_of contents)) (sym c.in_ok-contents.ensures.ok) (record {
+returns g c = λ state request of.
+    let taken = c.args.self in
+    let own = request_of taken.prepared.now in
+    let order = subst (λ (r : Request). AreFronted state r.pattern (documents_shared taken.candidates.items)) (sym of.prepared) of.candidates in
+    record {
       version = of.version;
       hits =
-          subst (λ hits. IsScanOf state pattern hits) (sym c.in_ok-hits.ensures)
-          (found_hits state pattern (pattern_of c.args.self.prepared.now) c.args.self.candidates.items c.in_ok-kept.kept.items
-          c.as_slice.result.now c.in_ok-places.places of.prepared of.candidates c.in_ok-kept.ensures c.as_slice.ensures.value
-          c.in_ok-places.ensures);
+          subst (λ (r : Request). IsScanOf state r.pattern c.in_ok-gathered.gathered.hits) of.prepared
+          (hits-are state taken.prepared.now taken.candidates.items c.in_ok-kept.kept.items c.as_slice.result.now _ c.in_ok-gathered.gathered order
+          c.in_ok-kept.ensures c.as_slice.ensures.value refl refl refl c.in_ok-gathered.ensures);
       documents = of.documents;
       candidates = of.count;
-    })
+    }

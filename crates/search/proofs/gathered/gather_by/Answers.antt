@@ -1,0 +1,27 @@
+use Rattle.search.proofs.GathersLemmas.{gathers-none, gathers-next, gathers-rest, gathers-end}
+use Rattle.search.proofs.gathered.gather_by.Goals as goal
+
+pub loop-document-init : goal.loop-document-init
+loop-document-init g c = record { so_far = gathers-none c.args.wanted.now c.args.gathered.now; way = c.requires }
+
+pub loop-document-preserved : goal.loop-document-preserved
+loop-document-preserved g c =
+    let at = c.loop-document in
+    record {
+      so_far =
+          gathers-next c.args.wanted.now c.args.documents.now c.args.gathered.now at.gathered c.gather_one.new.gathered at.document-index
+          c.document-item.result c.loop-document-test.true c.document-item.is at.invariant.so_far c.in_ok-gather_one.ensures.gathers;
+      way = c.gather_one.ensures.way;
+    }
+
+pub returns-then-gathered : goal.returns-then-gathered
+returns-then-gathered g c =
+    let at = c.loop-document in
+    gathers-rest c.args.wanted.now c.args.documents.now c.args.gathered.now at.gathered at.gathered at.document-index c.if-gathered.true
+    at.invariant.so_far
+
+pub returns : goal.returns
+returns g c =
+    let at = c.loop-document in
+    gathers-end c.args.wanted.now c.args.documents.now c.args.gathered.now at.gathered at.gathered at.document-index c.loop-document-test.false
+    at.invariant.so_far

@@ -1,0 +1,15 @@
+use Rattle.std.proofs.Common.{◌≡◌, length, sym, subst, arith}
+use Rattle.std.proofs.lemmas.Bool.Decides.{nat_tests}
+use Rattle.std.proofs.lemmas.List.{nil_from_length}
+use Rattle.search.specs.Private.Gathered.{GathersMore}
+use Rattle.search.proofs.GathersLemmas.{gathers-none, gathers-over}
+use Rattle.search.proofs.gathered.gather_compiled.Goals as goal
+
+pub returns-then-is_empty : goal.returns-then-is_empty
+returns-then-is_empty g c =
+    let empty : length c.args.documents.now ≡ 0 = grind (arith, nat_tests) in
+    subst (λ ds. GathersMore c.args.wanted.now ds c.args.gathered.now c.args.gathered.now) (sym (nil_from_length c.args.documents.now empty))
+    (gathers-none c.args.wanted.now c.args.gathered.now)
+
+pub returns-then-gathered : goal.returns-then-gathered
+returns-then-gathered g c = gathers-over c.args.wanted.now c.args.documents.now c.args.gathered.now c.if-gathered.true

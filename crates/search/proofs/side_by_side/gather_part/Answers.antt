@@ -1,0 +1,16 @@
+use Rattle.std.proofs.Common.{◌++◌, ◌∷◌, [], ℕ, refl, ◌∙◌, ap}
+use Rattle.std.proofs.lemmas.List.{append-nil}
+use Rattle.search.specs.Parts.{text_of_parts}
+use Rattle.search.proofs.JoinLemmas.{joins-one, no-gap}
+use Rattle.search.proofs.side_by_side.gather_part.Goals as goal
+
+pub part_of-requires : goal.part_of-requires
+part_of-requires g c = λ lines.
+    ap (λ (p : ℕ × ℕ). p.0) c.without_gap-from.ensures ∙ no-gap c.args.wanted.now lines c.in_ok-gathered.gathered.rows
+
+pub returns : goal.returns
+returns g c = λ own.
+    joins-one c.args.wanted.now c.args.documents.now c.in_ok-gathered.gathered _ c.without_gap-from.result.0 c.in_ok-part.part own
+    (c.in_ok-gathered.ensures own) c.without_gap-from.ensures c.in_ok-part.ensures
+    (ap (λ parts. text_of_parts parts) (c.in_ok-push.ensures.items ∙ ap (λ parts. parts ++ c.in_ok-part.part ∷ []) c.new-parts.ensures.items)
+    ∙ append-nil c.in_ok-part.part) refl refl

@@ -1,0 +1,158 @@
+//! Searches that are ready to be answered.
+
+ghost use Rattle.std.specs.Prelude.{◌≡◌, IfOk, IfErr};
+ghost use Rattle.ere.specs.Limits.{HasNoTree};
+ghost use Rattle.search.specs.Prepared.{request_of};
+ghost use Rattle.script.specs.Items.{find};
+ghost use Rattle.script.specs.Reading.{shown_item};
+ghost use Rattle.steps.specs.Rows.{searches_of};
+ghost use Rattle.steps.specs.Asked.{Asks, IsFaultOf};
+ghost use Rattle.service.specs.Private.Entries.{IsReasonOfWords, reason_of_fault, reason_of_find};
+
+use crate::question::Question;
+use crate::wish::Wish;
+use ere::{EreError, EreErrorKind};
+use request::{FindFault, read_find};
+use script::Item;
+use search::{FindError, Prepared};
+use std::alloc::Global;
+use std::marker::Model;
+use transcript::SearchReason;
+
+/// A search with its patterns, read. Contracts see it as its item and what was read.
+#[derive(Debug, Drop)]
+pub(crate) struct Request {
+    /// The texts of the search.
+    pub(crate) question: Question,
+    /// Its patterns, read.
+    pub(crate) prepared: Prepared,
+}
+
+impl Model for Request {
+    ghost use Rattle.service.specs.Private.Requests.{Asked, asked};
+    ghost use Rattle.search.specs.Prepared.{request_of};
+    ghost use Rattle.steps.specs.Asked.{Asks};
+
+    ghost Value = { Asked };
+
+    ghost use Rattle.std.specs.Coded.{codes};
+    ghost use Rattle.search.specs.contracts.pattern.Prepared as patterns;
+
+    ghost coded = { Prim.hlevel (codes, patterns.the_row.coded) };
+
+    ghost view = { λ r. asked r.question r.prepared };
+
+    ghost invariant = { λ r. Asks r.question (request_of r.prepared) };
+}
+
+impl Request {
+    /// Reads the patterns of a search.
+    ///
+    /// An `Err` says why it is refused: for the first fault of its options, of its name patterns or of its pattern, in
+    /// this order, or since memory ran out.
+    pub(crate) fn read(alloc: Global, item: Item<'_>) -> Result<Request, SearchReason>
+        requires { searches_of (shown_item item) ≡ 1 }
+        ensures ok { IfOk result (λ request. request.item ≡ shown_item item.entry) }
+        ensures err { IfErr result (IsFaultOf (shown_item item.entry)) }
+    {
+        let prepared = prepare(alloc, item)?;
+        match Question::of(alloc, item) {
+            Ok(Some(question)) => Ok(Request { question, prepared }),
+            _ => Err(SearchReason::OutOfMemory),
+        }
+    }
+}
+
+/// Reads the patterns of a search. An `Err` says why it is refused.
+fn prepare(alloc: Global, item: Item<'_>) -> Result<Prepared, SearchReason>
+    requires { searches_of (shown_item item) ≡ 1 }
+    ensures ok { IfOk result (λ prepared. Asks (shown_item item.entry) (request_of prepared)) }
+    ensures err { IfErr result (IsFaultOf (shown_item item.entry)) }
+{
+    match item {
+        Item::Search { case, pattern } => match Prepared::with_case(alloc, pattern, case) {
+            Ok(prepared) => Ok(prepared),
+            Err(error) => Err(reason_of_fault(false, error)),
+        },
+        Item::SearchIn {
+            case,
+            name_pattern,
+            pattern,
+        } => match Prepared::within_with_case(alloc, name_pattern, pattern, case) {
+            Ok(prepared) => Ok(prepared),
+            Err(error) => Err(reason_of_fault(error.in_name, error.error)),
+        },
+        Item::Find { request } => prepare_find(alloc, request),
+        _ => Err(SearchReason::OutOfMemory),
+    }
+}
+
+/// Reads the words and the patterns of a search with options. An `Err` says why it is refused.
+fn prepare_find(alloc: Global, words: &[u8]) -> Result<Prepared, SearchReason>
+    ensures ok { IfOk result (λ prepared. Asks (find words.now) (request_of prepared)) }
+    ensures err { IfErr result (IsFaultOf (find words.now)) }
+{
+    let find = match read_find(alloc, words) {
+        Ok(find) => find,
+        Err(fault) => return Err(reason_of_words(alloc, fault)),
+    };
+    match Prepared::find(alloc, &find) {
+        Ok(prepared) => Ok(prepared),
+        Err(error) => Err(reason_of_find(error)),
+    }
+}
+
+/// The reason of a fault in the words of a search with options.
+fn reason_of_words(alloc: Global, fault: FindFault<'_>) -> SearchReason
+    ensures { IsReasonOfWords fault.entry result }
+{
+    match fault {
+        FindFault::OutOfMemory => SearchReason::OutOfMemory,
+        _ => {
+            let mut words = Vec::new(alloc);
+            match fault.write_reason(&mut words) {
+                Ok(()) => SearchReason::Options(words),
+                Err(_) => SearchReason::OutOfMemory,
+            }
+        }
+    }
+}
+
+/// The reason of a fault in a pattern of a search with options.
+fn reason_of_find(error: FindError) -> SearchReason
+    ensures { result ≡ reason_of_find error }
+{
+    if error.error.kind == EreErrorKind::OutOfMemory {
+        SearchReason::OutOfMemory
+    } else if error.name == 0 {
+        SearchReason::Pattern(error.error)
+    } else {
+        SearchReason::NamePatternAt(error.name, error.error)
+    }
+}
+
+fn reason_of_fault(in_name: bool, error: EreError) -> SearchReason
+    ensures { result ≡ reason_of_fault in_name error }
+{
+    if error.kind == EreErrorKind::OutOfMemory {
+        SearchReason::OutOfMemory
+    } else if in_name {
+        SearchReason::NamePattern(error)
+    } else {
+        SearchReason::Pattern(error)
+    }
+}
+
+/// A search that a reader is to answer.
+#[derive(Drop)]
+pub struct Task {
+    /// The number of the search, from 1.
+    pub(crate) number: u32,
+    /// The search, with its patterns.
+    pub(crate) request: Request,
+    /// Whether it is still wanted.
+    pub(crate) wish: Wish,
+    /// In how many threads its lines may be matched: in one for each reader and one more if no other search was open when
+    /// it was asked, and otherwise in one.
+    pub(crate) parts: usize,
+}
