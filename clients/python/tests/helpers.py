@@ -55,8 +55,18 @@ class Model:
     def body(self, source: random.Random) -> bytes:
         return "\n".join(" ".join(source.choices(self.WORDS, k=source.randint(0, 4))) for _ in range(source.randint(0, 12))).encode()
 
-    def find(self, pattern: str, ignore_case: bool = False) -> list[tuple[bytes, int, bytes]]:
-        return hits_of(self.documents, pattern, ignore_case)
+    def find(self, pattern: str, **options) -> Shown:
+        return found_in(self.documents, pattern, **options)
+
+    def options(self, source: random.Random) -> dict:
+        """Options of a search, with one view."""
+        flags = ["ignore_case", "literal", "whole_words", "whole_lines", "invert", "names_ignore_case"]
+        options: dict = {flag: True for flag in flags if source.random() < 0.15}
+        options |= source.choice([{}, {}, {"names": "1/F"}, {"not_names": [r"f1", "2\\.c$"]}, {"names": ["dir", "[02-9]"], "not_names": "f2"}])
+        views = [{}, {"names_only": True}, {"counts": True}, {"header_only": True}, {"context": source.choice([0, 1, 3])}]
+        if not options.get("invert"):
+            views += [{"column": True}, {"spans": True}, {"context": 2, "spans": True}, {"column": True, "spans": True}]
+        return {**options, **source.choice(views), "limit": source.choice([None, None, 1, 3, 10])}
 
 
 def lines_of(body: bytes) -> list[bytes]:
@@ -67,17 +77,76 @@ def lines_of(body: bytes) -> list[bytes]:
 
 def quoted(name: bytes) -> bytes:
     """The name as a session has it, by which answers are sorted."""
-    return b"".join(b"%%%02X" % byte if byte <= 32 or byte in b"%:\x7f" else bytes([byte]) for byte in name)
+    return b"".join(b"%%%02X" % byte if byte <= 32 or byte in b"%\x7f" else bytes([byte]) for byte in name)
 
 
 def hits_of(documents: dict[bytes, bytes], pattern: str, ignore_case: bool = False) -> list[tuple[bytes, int, bytes]]:
-    compiled = re.compile(pattern.encode(), re.IGNORECASE if ignore_case else 0)
-    return [
-        (name, number, line)
-        for name in sorted(documents, key=quoted)
-        for number, line in enumerate(lines_of(documents[name]), 1)
-        if compiled.search(line)
-    ]
+    return [row[:3] for row in found_in(documents, pattern, ignore_case=ignore_case)[2]]
+
+
+def plain(answer) -> list[tuple[bytes, int, bytes]]:
+    """The hits of an answer, without columns and spans."""
+    return [hit[:3] for hit in answer]
+
+
+def shown(answer) -> Shown:
+    """What an answer shows: how many there are, whether there are more, and the rows, or the names."""
+    if answer.view.value == "header":
+        return answer.count, answer.more, []
+    if answer.view.value in ("names", "counts"):
+        return answer.count, answer.more, list(answer.counts().items()) if answer.view.value == "counts" else answer.names()
+    return answer.count, answer.more, [row and (*row.hit, row.is_found) for row in answer.rows()]
+
+
+Shown = tuple[int, bool, list]
+
+
+def found_in(documents: dict[bytes, bytes], pattern: str, **options) -> Shown:
+    """What a search shows, by Python's `re`, for patterns of which the first match that it tries is the longest."""
+    get = options.get
+    compiled = compile_for(pattern, get)
+    names = [name for name in sorted(documents, key=quoted) if is_named(quoted(name), get)]
+    found = {name: [bool(compiled.search(line)) != bool(get("invert")) for line in lines_of(documents[name])] for name in names}
+    limit = get("limit") or sum(map(len, found.values())) + 1
+    if get("names_only") or get("counts"):
+        counts = [(name, sum(marks)) for name, marks in found.items() if any(marks)]
+        rows = counts if get("counts") else [name for name, _ in counts]
+        return min(len(rows), limit), len(rows) > limit, rows[:limit]
+    hits = [(name, at) for name, marks in found.items() for at, mark in enumerate(marks) if mark]
+    kept, rows, around = set(hits[:limit]), [], get("context")
+    for name in names:
+        lines, last = lines_of(documents[name]), None
+        for at, line in enumerate(lines):
+            if any((name, near) in kept for near in range(at - (around or 0), at + (around or 0) + 1)):
+                if around is not None and rows and last != at - 1:
+                    rows.append(None)
+                rows.append((name, at + 1, line, *places(compiled, line, get, (name, at) in kept), (name, at) in kept))
+                last = at
+    return len(kept), len(hits) > limit, [] if get("header_only") else rows
+
+
+def compile_for(pattern: str, get) -> re.Pattern[bytes]:
+    text = re.escape(pattern) if get("literal") else pattern
+    if get("whole_lines"):
+        text = f"^(?:{text})$"
+    elif get("whole_words"):
+        text = f"(?<![A-Za-z0-9_])(?:{text})(?![A-Za-z0-9_])"
+    return re.compile(text.encode(), re.IGNORECASE if get("ignore_case") else 0)
+
+
+def is_named(name: bytes, get) -> bool:
+    def matches(ere: str) -> bool:
+        return bool(re.search(ere.encode(), name, re.IGNORECASE if get("names_ignore_case") else 0))
+
+    wanted, unwanted = ([found] if isinstance(found, str) else found for found in (get("names", []), get("not_names", [])))
+    return all(map(matches, wanted)) and not any(map(matches, unwanted))
+
+
+def places(compiled: re.Pattern[bytes], line: bytes, get, is_found: bool) -> tuple:
+    """The column and the spans of a line, as far as they are asked for."""
+    column = compiled.search(line).start() + 1 if get("column") else None
+    spans = tuple(found.span() for found in compiled.finditer(line) if found.end() > found.start())
+    return column, spans if get("spans") and is_found else None
 
 
 def state_of(pid: int) -> str:

@@ -36,6 +36,7 @@ class Server:
     """A server that runs, and how to ask it."""
 
     def __init__(self, port: int, top: pathlib.Path, pid: int) -> None:
+        self.headers: dict[str, str] = {}
         self.address = f"http://127.0.0.1:{port}"
         self.top = top
         self._pid = pid
@@ -47,7 +48,7 @@ class Server:
 
     def get(self, path: str, headers: dict[str, str] | None = None) -> tuple[int, bytes, dict[str, str]]:
         """The status, the body and the headers of an answer."""
-        request = urllib.request.Request(self.address + path, headers=headers or {})
+        request = urllib.request.Request(self.address + path, headers={**self.headers, **(headers or {})})
         opener = urllib.request.build_opener(urllib.request.ProxyHandler({}))
         try:
             with opener.open(request, timeout=SECONDS) as answer:
@@ -68,7 +69,8 @@ class Server:
     def hits(self, q: str, **words: object) -> list[tuple[str, str, int, str]]:
         """The hits of a search: repository, name, line and text."""
         rows = self.find(q, **words)
-        return [(row["repository"], row["name"], hit["line"], "".join(hit["parts"])) for row in rows if "hits" in row for hit in row["hits"]]
+        hits = [(row, hit) for row in rows for hit in row.get("hits", []) if "around" not in hit]
+        return [(row["repository"], row["name"], hit["line"], "".join(hit["parts"])) for row, hit in hits]
 
 
 @contextlib.contextmanager

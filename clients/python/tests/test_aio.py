@@ -6,7 +6,7 @@ import random
 import signal
 import unittest
 
-from helpers import SECONDS, SLOW, Model, hits_of, slow_documents, stand_in, stop, stopped
+from helpers import SECONDS, SLOW, Model, hits_of, plain, shown, slow_documents, stand_in, stop, stopped
 
 import tsearch
 from tsearch import aio
@@ -26,14 +26,12 @@ class Sessions(unittest.IsolatedAsyncioTestCase):
 
             async def search(number: int) -> None:
                 source = random.Random(number)
-                pattern, ignore_case = source.choice(model.PATTERNS), source.random() < 0.3
-                limit = source.choice([None, 0, 3])
-                answer = await session.find(pattern, ignore_case=ignore_case, limit=limit)
-                wanted = model.find(pattern, ignore_case)
-                self.assertEqual((answer.hits(), answer.count), (wanted[:limit], len(wanted)), pattern)
+                pattern, options = source.choice(model.PATTERNS), model.options(source)
+                answer = await session.find(pattern, **options)
+                self.assertEqual(shown(answer), model.find(pattern, **options), (pattern, options))
 
             async with asyncio.timeout(SECONDS):
-                await asyncio.gather(*[search(number) for number in range(1_500)])
+                await asyncio.gather(*[search(number) for number in range(600)])
             self.assertEqual((await session.status()).open, 0)
 
     async def test_tasks_that_are_cancelled(self) -> None:
@@ -48,12 +46,12 @@ class Sessions(unittest.IsolatedAsyncioTestCase):
             source = random.Random(4)
 
             async def search(pattern: str) -> None:
-                answer = await session.find(pattern, name="f[0-9]")
-                self.assertEqual(answer.hits(), model.find(pattern))
+                answer = await session.find(pattern, names="f[0-9]")
+                self.assertEqual(shown(answer), model.find(pattern))
 
             async with asyncio.timeout(SECONDS):
                 stop(session.pid)
-                slow = [asyncio.create_task(session.find(SLOW, name="^slow")) for _ in range(3)]
+                slow = [asyncio.create_task(session.find(SLOW, names="^slow")) for _ in range(3)]
                 tasks = [asyncio.create_task(search(source.choice(model.PATTERNS))) for _ in range(400)]
                 for task in slow + source.sample(tasks, 200):
                     await asyncio.sleep(source.choice([0, 0, 0.001]))
@@ -88,7 +86,7 @@ class Sessions(unittest.IsolatedAsyncioTestCase):
     async def test_refusals(self) -> None:
         async with aio.Session.started() as session:
             with self.assertRaises(tsearch.PatternRefused) as raised:
-                await session.find("a(b", word=True)
+                await session.find("a(b", whole_words=True)
             self.assertEqual(raised.exception.offset, 1)
             with self.assertRaises(tsearch.ChangeRefused):
                 await session.put("", "x")
@@ -122,7 +120,7 @@ class Sessions(unittest.IsolatedAsyncioTestCase):
                 while not stop.is_set():
                     try:
                         answer = await session.find("line")
-                        self.assertEqual(answer.hits(), wanted)
+                        self.assertEqual(plain(answer), wanted)
                         counts["whole"] += 1
                     except tsearch.Ended:
                         await session.restart(feed)
@@ -205,9 +203,9 @@ class Sessions(unittest.IsolatedAsyncioTestCase):
     async def test_what_is_sent_for_a_search_that_nobody_waits_for(self) -> None:
         code = """
             seen = [next(items) for _ in range(4)]
-            assert sorted(seen) == [b"cancel 1\\n", b"cancel 2\\n", b"search late\\n", b"search slow\\n"], seen
-            say(b"search 1 refused: cancelled\\nsearch 2 version 0 lines 1\\na:1:late\\n")
-            assert next(items) == b"search x\\n"
+            assert sorted(seen) == [b"cancel 1\\n", b"cancel 2\\n", b"find -Z -- late\\n", b"find -Z -- slow\\n"], seen
+            say(b"search 1 refused: cancelled\\nsearch 2 version 0 lines 1\\na\\0001:late\\n")
+            assert next(items) == b"find -Z -- x\\n"
             say(b"search 3 version 0 lines 0\\n")
         """
         session = await aio.Session.start(stand_in(code))
@@ -224,7 +222,7 @@ class Sessions(unittest.IsolatedAsyncioTestCase):
     async def test_a_program_that_is_none(self) -> None:
         for code, error in (
             ("say(b'hello\\n'); time.sleep(60)", tsearch.NotUnderstood),
-            ("next(items); say(b'search 1 version 0 lines 5\\na:1:x\\na:2'); os._exit(3)", tsearch.Ended),
+            ("next(items); say(b'search 1 version 0 lines 5\\na\\0001:x\\na\\0002'); os._exit(3)", tsearch.Ended),
             ("os.close(1); time.sleep(60)", tsearch.Ended),
         ):
             with self.subTest(code=code):

@@ -1,7 +1,9 @@
 """The page in a browser: typing, results, refusals, files, and hostile names and bodies."""
 
 import importlib.util
+import os
 import shutil
+import signal
 import tempfile
 import time
 import unittest
@@ -75,7 +77,7 @@ class Page(unittest.TestCase):
     def shown(self) -> list[tuple[str, str, str]]:
         """The hits on the page: name, number and text."""
         script = """return [...document.querySelectorAll('#results section')].flatMap(section =>
-            [...section.querySelectorAll('.row')].map(row => [section.querySelector('.name').textContent,
+            [...section.querySelectorAll('.row:not(.around)')].map(row => [section.querySelector('.name').textContent,
             row.querySelector('.number').textContent, row.querySelector('.text').textContent]))"""
         return [tuple(row) for row in self.browser.execute_script(script)]
 
@@ -113,6 +115,9 @@ class Page(unittest.TestCase):
         self.type("util", "#name")
         self.wait(lambda: [row[0] for row in self.shown()] == ["src/util.c"])
         self.one("#name").clear()
+        self.type("util", "#not")
+        self.wait(lambda: [row[0] for row in self.shown()] == ["src/main.c"])
+        self.one("#not").clear()
         self.one("#word + span").click()
         self.one("#pattern").clear()
         self.one("#literal + span").click()
@@ -123,6 +128,30 @@ class Page(unittest.TestCase):
         self.browser.get(address)
         self.wait(lambda: [row[2] for row in self.shown()] == ["    return call(1);"])
         self.assertTrue(self.one("#literal").is_selected())
+
+    def test_context(self) -> None:
+        """One line around each hit, or as many as are chosen; gaps between what does not touch."""
+        self.type("many lines 1?7$")
+
+        def rows() -> list[list]:
+            script = """return [...document.querySelectorAll('#results section > :not(h2)')].map(row =>
+                row.className === 'gap' ? ['gap'] : [row.querySelector('.text').textContent, row.classList.contains('around')])"""
+            return self.browser.execute_script(script)
+
+        def wanted(around: int) -> list[list]:
+            def lines(found: int) -> list[list]:
+                return [[f"many lines {at}", at != found] for at in range(found - around, found + around + 1)]
+
+            return [*lines(7), ["gap"], *lines(17)]
+
+        self.assertEqual(rows(), wanted(1))
+        self.one("#context option:nth-child(4)").click()
+        self.wait(lambda: rows() == wanted(3))
+        self.browser.get(self.browser.current_url)
+        self.wait(lambda: rows() == wanted(3))
+        self.one("#context option:nth-child(1)").click()
+        self.wait(lambda: rows() == wanted(0))
+        self.assertEqual(self.marks(), ["many lines 7", "many lines 17"])
 
     def test_a_refused_pattern(self) -> None:
         self.type("call(1")
@@ -137,11 +166,11 @@ class Page(unittest.TestCase):
         self.one("#pattern").clear()
         self.type("call")
         self.type("x[", "#name")
-        self.wait(lambda: self.one("#fault").text == "path: bracket not closed at 1")
+        self.wait(lambda: self.one("#fault").text == "in: bracket not closed at 1")
 
     def test_files(self) -> None:
         self.type("return x")
-        self.one("#results .row").click()
+        self.one("#results .row:not(.around)").click()
         self.wait(lambda: self.one("#file").is_displayed() and self.all("#file-lines .row"))
         self.assertEqual([row.text for row in self.all("#file-lines .text")], ["int call(int x)", "{", "    return x + 1; // <b>caller</b>", "}"])
         self.assertEqual(self.one("#file-lines .target").text, "3")
@@ -154,7 +183,7 @@ class Page(unittest.TestCase):
             self.wait(lambda: self.server.hits("^changed$"))
             self.one("#close").click()
             self.assertFalse(self.one("#file").is_displayed())
-            self.one("#results .row").click()
+            self.one("#results .row:not(.around)").click()
             self.wait(lambda: len(self.all("#file-lines .row")) == 4 and self.one("#file").is_displayed())
             self.assertEqual(self.one("#file-lines .text").text, "int call(int x)")
         finally:
@@ -174,7 +203,7 @@ class Page(unittest.TestCase):
     def test_many_and_long_lines(self) -> None:
         self.type("many")
         self.assertEqual(len(self.shown()), 100)
-        self.assertIn("2,000 lines, the first 100 of them shown", self.one("#status").text)
+        self.assertIn("the first 100 lines in 1 file, and there are more", self.one("#status").text)
         self.one("#pattern").clear()
         self.type("needle")
         self.assertEqual(self.marks(), ["needle"])
@@ -197,6 +226,13 @@ class Page(unittest.TestCase):
         self.assertEqual(self.all("#results img, #results script, #file script, #fault *"), [])
         told = [entry["message"] for entry in self.browser.get_log("browser")]
         self.assertEqual([message for message in told if "Content Security Policy" in message or "Uncaught" in message], [])
+
+    def test_when_programs_are_killed(self) -> None:
+        """The page asks again until they are there. It is the last test: the processes are others then."""
+        for program in self.server.programs():
+            os.kill(program, signal.SIGKILL)
+        self.one("#pattern").send_keys("int main")
+        self.wait(lambda: len(self.shown()) == 2)
 
 
 if __name__ == "__main__":

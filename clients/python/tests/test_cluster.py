@@ -1,7 +1,10 @@
 """Several sessions on the workers of a Dask cluster: one answer of all, the same publish in all, and kills of programs and workers."""
 
 import asyncio
+import contextlib
 import importlib.util
+import json
+import logging
 import os
 import pathlib
 import random
@@ -10,53 +13,77 @@ import signal
 import sys
 import tempfile
 import unittest
+import unittest.mock
+import zlib
 
-from helpers import PACKAGE, SECONDS, Model
+from helpers import PACKAGE, SECONDS, Model, found_in, shown, stop, until
+from serving import serving
 
 import tsearch
 
-SHARDS = 3
+SHARDS = 4
+HAS_DASK, HAS_AIOHTTP = (importlib.util.find_spec(library) for library in ("distributed", "aiohttp"))
 
 
-@unittest.skipUnless(importlib.util.find_spec("distributed"), "the library distributed is missing (python3-distributed)")
+def setUpModule() -> None:
+    """Workers for all tests, one more than there are shards."""
+    if not HAS_DASK:
+        return
+    import dask
+    from distributed import LocalCluster
+
+    global address
+    dask.config.set({"distributed.comm.timeouts.connect": "5s"})
+    folder = unittest.enterModuleContext(tempfile.TemporaryDirectory(ignore_cleanup_errors=True))
+    local = LocalCluster(
+        n_workers=SHARDS + 1, threads_per_worker=1, processes=True, dashboard_address=None, local_directory=folder,
+        silence_logs=logging.CRITICAL, host="127.0.0.1",
+    )  # fmt: skip
+    address = unittest.enterModuleContext(local).scheduler_address
+
+
+@unittest.skipUnless(HAS_DASK, "the library distributed is missing (python3-distributed)")
 class Clusters(unittest.IsolatedAsyncioTestCase):
     async def asyncSetUp(self) -> None:
-        import logging
-
-        import dask
-        from distributed import Client, LocalCluster
+        from distributed import Client
 
         from tsearch.cluster import Cluster
 
-        dask.config.set({"distributed.comm.timeouts.connect": "5s"})
-        folder = self.enterContext(tempfile.TemporaryDirectory(ignore_cleanup_errors=True))
-        self.local = await self.enterAsyncContext(
-            LocalCluster(
-                n_workers=SHARDS, threads_per_worker=1, processes=True, dashboard_address=None, asynchronous=True,
-                local_directory=folder, silence_logs=logging.CRITICAL, host="127.0.0.1",
-            )
-        )  # fmt: skip
-        self.client = await self.enterAsyncContext(Client(self.local, asynchronous=True, direct_to_workers=True))
+        self.client = await self.enterAsyncContext(Client(address, asynchronous=True, direct_to_workers=True))
         self.cluster = await self.enterAsyncContext(Cluster(self.client, SHARDS))
 
-    async def test_one_answer_of_all_shards(self) -> None:
+    async def test_as_one_session(self) -> None:
+        """Every answer is that of one session with all documents, byte for byte."""
         model, cluster = Model(11, 60), self.cluster
+        many = {f"many {at}": b"".join(b"alpha %d\nbeta\n" % number for number in range(40 * at)) for at in range(12)}
+        session = self.enterContext(tsearch.Session())
         async with asyncio.timeout(SECONDS):
-            await asyncio.gather(*[cluster.put(name, body) for name, body in model.documents.items()])
+            for name, body in {**model.documents, **many, "a:1": b"alpha", "--": b"beta\n--\nx\nalpha"}.items():
+                await cluster.put(name, body)
+                session.put(name, body)
             await cluster.put("bad", b"\0")
             self.assertEqual((await cluster.find("")).hits(), [])
-            self.assertEqual([(one.name, one.reason) for one in await cluster.publish()], [(b"bad", "byte 0 in body")])
+            published = await cluster.publish()
+            self.assertEqual([(one.name, one.reason) for one in published.refused], [(b"bad", "byte 0 in body")])
+            one = session.publish()
+            self.assertEqual((published.version, published.documents, published.bytes), (1, one.documents, one.bytes))
 
             async def search(number: int) -> None:
                 source = random.Random(number)
-                pattern, limit = source.choice(model.PATTERNS), source.choice([None, None, 0, 4])
-                answer, wanted = await cluster.find(pattern, limit=limit), model.find(pattern)
-                self.assertEqual((answer.hits(), answer.count, answer.version), (wanted[:limit], len(wanted), 1), pattern)
+                pattern, options = source.choice(model.PATTERNS), model.options(source)
+                if source.random() < 0.3:
+                    options["limit"] = source.randint(1, 400)
+                answer, wanted = await cluster.find(pattern, **options), session.find(pattern, **options)
+                for field in "count", "more", "view", "data", "spans_data":
+                    self.assertEqual(getattr(answer, field), getattr(wanted, field), (pattern, options, field))
+                self.assertEqual(answer.version, 1)
 
-            await asyncio.gather(*[search(number) for number in range(150)])
+            await asyncio.gather(*[search(number) for number in range(300)])
             with self.assertRaises(tsearch.PatternRefused) as raised:
-                await cluster.find("a(b", word=True)
-            self.assertEqual(raised.exception.offset, 1)
+                await cluster.find("x", names=["a", "a(b"])
+            self.assertEqual((raised.exception.number, raised.exception.offset), (2, 1))
+            with self.assertRaises(tsearch.OptionRefused):
+                await cluster.find("x", limit=0)
             with self.assertRaises(tsearch.ChangeRefused):
                 await cluster.put("", "x")
             self.assertEqual(cluster.heals, 0)
@@ -73,56 +100,126 @@ class Clusters(unittest.IsolatedAsyncioTestCase):
                 shown, _ = await run.communicate()
         self.assertEqual((run.returncode, shown.decode()), (0, wanted))
 
-    async def test_a_program_that_cannot_be_started(self) -> None:
-        from tsearch.cluster import Cluster
+    async def test_what_does_not_come_back(self) -> None:
+        from tsearch.cluster import Cluster, ShardLost
 
         await self.cluster.close()
         async with asyncio.timeout(2 * SECONDS), Cluster(self.client, 1, program="/nothing/here") as cluster:
-            for _ in range(2):
-                with self.assertRaises(tsearch.Ended):
-                    await cluster.find("x")
-
-    async def test_publishes_and_kills(self) -> None:
-        """Each publish writes its number into one document of each shard. All documents of an answer have the same one, no answer is
-        older than the publish before it, and so it stays when programs and workers are killed."""
-        cluster, number, done, counts = self.cluster, 0, False, [0]
-        documents = [f"epoch {at}" for at in range(4 * SHARDS)]
-
-        async def publish() -> None:
-            nonlocal number
-            number += 1
-            own = number
-            puts = [cluster.put(name, str(own)) for name in documents]
-            await asyncio.gather(*puts)
+            await cluster.put("a", "x")
+            with self.assertRaises(ShardLost) as raised:
+                await cluster.publish()
+            self.assertIn("/nothing/here", str(raised.exception))
+            with self.assertRaises(ShardLost):
+                await cluster.find("x", waits=False)
+        async with asyncio.timeout(2 * SECONDS), Cluster(self.client, 2, call_seconds=2) as cluster:
+            for number in range(8):
+                await cluster.put(f"f{number}", "x")
             await cluster.publish()
+            await cluster.put("f0", "y")
+            # one worker stops, which Dask does not notice
+            worker = self.worker_of((await cluster.pids())[1])
+            stop(worker)
+            try:
+                with self.assertRaises(ShardLost) as raised:
+                    await cluster.find("x", waits=False)
+                self.assertEqual((raised.exception.shard, "shard 1" in str(raised.exception)), (1, True))
+                # published and pending changes are all there
+                answer = await cluster.find("x")
+                self.assertEqual((answer.count, answer.version), (8, 1))
+                await cluster.publish()
+                self.assertEqual(((await cluster.find("x")).count, (await cluster.find("y")).version), (7, 2))
+            finally:
+                os.kill(worker, signal.SIGCONT)
 
-        async def search() -> None:
+    async def test_what_is_published_while_a_shard_is_lost(self) -> None:
+        from tsearch.cluster import Cluster, ShardLost
+
+        await self.cluster.close()
+        own = [name for name in map("f{}".format, range(40)) if zlib.crc32(name.encode()) % 2 == 1][:3]
+        with unittest.mock.patch("tsearch.cluster._TRIES", 1):
+            async with asyncio.timeout(2 * SECONDS), Cluster(self.client, 2, call_seconds=SECONDS) as cluster:
+                for name in own:
+                    await cluster.put(name, "x")
+                await cluster.publish()
+                os.kill((await cluster.pids())[1], signal.SIGKILL)
+                # one change is refused, and leaves the older text
+                for name, body in zip(own, ["y", "y\0", "y"]):
+                    await cluster.put(name, body)
+                with self.assertRaises(ShardLost):
+                    await cluster.publish()
+                await cluster.put(own[2], "z")
+                while True:
+                    with contextlib.suppress(ShardLost):
+                        answer = await cluster.find("[xyz]")
+                        break
+                self.assertEqual([(hit.text, answer.version) for hit in answer], [(b"y", 2), (b"x", 2), (b"y", 2)])
+                self.assertEqual((await cluster.publish()).documents, 3)
+                self.assertEqual([hit.text for hit in await cluster.find("")], [b"y", b"x", b"z"])
+
+    def worker_of(self, program: int) -> int:
+        """The process of the worker that has started a program."""
+        return int(pathlib.Path(f"/proc/{program}/stat").read_text(encoding="ascii").split()[3])
+
+    async def test_writers_and_kills(self) -> None:
+        """Each answer is that of the documents of its version, which is no older than the last publish before it, also while programs
+        and workers are killed."""
+        cluster, model, source = self.cluster, Model(5, 40), random.Random(6)
+        versions, done, count = {0: {}}, False, 0
+
+        async def search(number: int) -> None:
+            nonlocal count
+            own = random.Random(number)
             while not done:
-                before = published
-                answer = await cluster.find("^[0-9]+$")
-                texts = {int(hit.text) for hit in answer}
-                if len(answer) != len(documents) or len(texts) != 1 or min(texts) < before:
-                    raise AssertionError((answer.hits(), before))
-                counts[0] += 1
+                pattern, options, before = own.choice(model.PATTERNS), model.options(own), max(versions)
+                answer = await cluster.find(pattern, **options)
+                if answer.version < before or shown(answer) != found_in(versions[answer.version], pattern, **options):
+                    raise AssertionError((pattern, options, answer, before))
+                count += 1
 
         async with asyncio.timeout(2 * SECONDS):
-            await publish()
-            published = number
-            searches = [asyncio.create_task(search()) for _ in range(4)]
-            for round_ in range(24):
-                await publish()
-                published = number
-                if round_ == 6:
-                    os.kill(random.Random(1).choice(await cluster.pids()), signal.SIGKILL)
-                if round_ == 14:
-                    worker = list(self.local.workers.values())[0]
-                    os.kill(worker.process.pid, signal.SIGKILL)
+            searches = [asyncio.create_task(search(number)) for number in range(4)]
+            for number in range(1, 25):
+                documents = dict(versions[number - 1])
+                for name in source.sample(sorted(model.documents), 15):
+                    if name in documents and source.random() < 0.4:
+                        del documents[name]
+                        await cluster.remove(name)
+                    else:
+                        documents[name] = model.body(source)
+                        await cluster.put(name, documents[name])
+                publish = asyncio.create_task(cluster.publish())
+                await asyncio.sleep(0)
+                versions[number] = documents
+                if number == 7:
+                    os.kill(source.choice(await cluster.pids()), signal.SIGKILL)
+                if number == 15:
+                    os.kill(self.worker_of((await cluster.pids())[0]), signal.SIGKILL)
+                self.assertEqual((await publish).documents, len(documents))
             done = True
             await asyncio.gather(*searches)
-            answer = await cluster.find("")
-        self.assertEqual({hit.text for hit in answer}, {b"25"})
+            self.assertEqual(shown(await cluster.find("")), found_in(documents, ""))
         self.assertGreaterEqual(cluster.heals, 2)
-        self.assertGreater(counts[0], 20)
+        self.assertGreater(count, 20)
+
+
+@unittest.skipUnless(HAS_DASK and HAS_AIOHTTP, "the library distributed or aiohttp is missing (python3-distributed, python3-aiohttp)")
+class Page(unittest.TestCase):
+    def test_the_page_over_a_cluster(self) -> None:
+        with serving("--cluster", address, "--shards", "2") as server:
+            mains = [("one", "src/main.c", 1, "int main(void)"), ("two", "src/main.c", 1, "int main(int count)")]
+            self.assertEqual(server.hits("int main"), mains)
+            rows = server.find("return", name="util", context=1)
+            self.assertEqual([hit["line"] for hit in rows[1]["hits"]], [2, 3, 4])
+            self.assertEqual(rows[1]["hits"][1]["parts"], ["    ", "return", " x + 1; // <b>caller</b>"])
+            self.assertEqual((server.find("many", max=7)[-1]["lines"], server.find("many", max=7)[-1]["more"]), (7, True))
+            self.assertEqual(server.find("a(b"), [{"refused": "group not closed", "offset": 1, "in": "pattern"}])
+            # a file as it was, and as it is
+            head, path = server.find("int main", repository="one")[0], server.top / "one/src/main.c"
+            path.write_bytes(b"int other(void);\n")
+            until(lambda: server.hits("int other"))
+            status, body, _ = server.get(f"/api/file?repository=one&life={head['life']}&version={head['version']}&name=src/main.c")
+            self.assertEqual((status, json.loads(body)["lines"][0]), (200, "int main(void)"))
+            self.assertIn(b'tsearch_documents{repository="two"} 102\n', server.get("/metrics")[1])
 
 
 if __name__ == "__main__":

@@ -12,7 +12,7 @@ import types
 import unittest
 import unittest.mock
 
-from helpers import SECONDS, hits_of, until
+from helpers import SECONDS, hits_of, plain, until
 
 import tsearch
 from tsearch import aio
@@ -35,7 +35,7 @@ class Folders(unittest.TestCase):
         path.write_bytes(body)
 
     def names(self, pattern: str = "") -> set[bytes]:
-        return set(self.session.find(pattern).counts())
+        return set(self.session.find(pattern, names_only=True).names())
 
     def test_a_walk(self) -> None:
         names = [b"a.txt", b"sub/deep/b c:d%.txt", b"caf\xe9", b"line\nfeed", b"-x", b".hidden"]
@@ -82,7 +82,7 @@ class Folders(unittest.TestCase):
                 elif documents.pop(name.encode(), None):
                     (self.top / name).unlink()
             folder.refresh()
-            self.assertEqual(self.session.find("").hits(), hits_of(documents, ""))
+            self.assertEqual(plain(self.session.find("")), hits_of(documents, ""))
 
     def test_changes_within_a_tick_of_the_clock(self) -> None:
         """A file that is written again at once, with a body of the same length, has the same stamps. It is found all the same."""
@@ -230,13 +230,13 @@ class Repositories(Folders):
         # of a folder below it, and of one that is ignored
         with tsearch.Session() as session:
             tsearch.Folder(session, self.top / "sub").refresh()
-            self.assertEqual(set(session.find("").counts()), {b"b.c", b".gitignore"})
+            self.assertEqual(set(session.find("", names_only=True).names()), {b"b.c", b".gitignore"})
         with tsearch.Session() as session:
             tsearch.Folder(session, self.top / "build").refresh()
-            self.assertEqual(set(session.find("").counts()), {b"x"})
+            self.assertEqual(set(session.find("", names_only=True).names()), {b"x"})
         with tsearch.Session() as session:
             tsearch.Folder(session, self.top, git=False).refresh()
-            self.assertEqual(set(session.find("").counts()), wanted | {b"build/x"})
+            self.assertEqual(set(session.find("", names_only=True).names()), wanted | {b"build/x"})
 
     def test_repositories_inside(self) -> None:
         self.write("a", b"x\n")
@@ -285,7 +285,7 @@ class Tasks(unittest.IsolatedAsyncioTestCase):
             changing = []
 
             async def before_change(changed: bytes) -> None:
-                changing.append((changed, (await session.find("", name=f"^{changed.decode()}$")).hits()[0].text))
+                changing.append((changed, (await session.find("", names=f"^{changed.decode()}$")).hits()[0].text))
 
             async with aio.Session.started() as session, asyncio.timeout(SECONDS):
                 folder = aio.Folder(session, top, before_change=before_change)

@@ -12,7 +12,7 @@ import threading
 import time
 import unittest
 
-from helpers import SECONDS, SLOW, Model, hits_of, slow_documents, stand_in, state_of, stop, stopped, until
+from helpers import SECONDS, SLOW, Model, hits_of, plain, shown, slow_documents, stand_in, state_of, stop, stopped, until
 
 import tsearch
 
@@ -48,15 +48,13 @@ class Answers(unittest.TestCase):
 
                 def search(number: int) -> None:
                     source = random.Random(number)
-                    for _ in range(40):
-                        pattern, ignore_case = source.choice(model.PATTERNS), source.random() < 0.3
-                        limit = source.choice([None, 0, 3])
-                        answer = session.find(pattern, ignore_case=ignore_case, limit=limit, timeout=SECONDS)
-                        wanted = model.find(pattern, ignore_case)
-                        if (answer.hits(), answer.count) != (wanted[:limit], len(wanted)):
-                            raise AssertionError(f"{pattern}: {answer.hits()}, and not {wanted}")
+                    for _ in range(25):
+                        pattern, options = source.choice(model.PATTERNS), model.options(source)
+                        answer = shown(session.find(pattern, timeout=SECONDS, **options))
+                        if answer != model.find(pattern, **options):
+                            raise AssertionError(f"{pattern} {options}: {answer}, and not {model.find(pattern, **options)}")
 
-                self.assertEqual(threads(24, search), [])
+                self.assertEqual(threads(16, search), [])
                 self.assertEqual(session.status(SECONDS).open, 0)
 
     def test_answers_beside_changes(self) -> None:
@@ -64,11 +62,14 @@ class Answers(unittest.TestCase):
         with tsearch.Session() as session:
             done = threading.Event()
 
-            def search(_: int) -> None:
-                last = -1
+            def search(number: int) -> None:
+                last, options = -1, {"context": 0, "spans": True} if number % 2 else {"spans": True}
                 while not done.is_set():
-                    answer = session.find("^[0-9]+$", timeout=SECONDS)
+                    answer = session.find("^[0-9]+$", timeout=SECONDS, **options)
                     texts = {hit.text for hit in answer}
+                    # the lengths change with the versions
+                    if any(hit.spans != ((0, len(hit.text)),) for hit in answer):
+                        raise AssertionError(answer.hits())
                     if len(answer) not in (0, 2) or len(texts) > 1 or (texts and int(min(texts)) < last):
                         raise AssertionError(f"{answer.hits()} after {last}")
                     last = int(min(texts, default=b"-1"))
@@ -79,7 +80,7 @@ class Answers(unittest.TestCase):
                     session.put("b", str(number))
                     # no older than the publish before
                     published = session.publish(SECONDS)
-                    answer = session.find(f"^{number}$", line=True, timeout=SECONDS)
+                    answer = session.find(f"^{number}$", whole_lines=True, timeout=SECONDS)
                     if (len(answer), answer.version) != (2, published.version):
                         raise AssertionError(answer)
                 done.set()
@@ -100,11 +101,11 @@ class Answers(unittest.TestCase):
             session.publish()
             answer = session.find("x")
             self.assertEqual(sorted(hit.name for hit in answer), sorted(names))
-            self.assertEqual({hit[1:] for hit in answer}, {(1, b"x \xff:y")})
+            self.assertEqual({hit[1:3] for hit in answer}, {(1, b"x \xff:y")})
             self.assertEqual({hit.text for hit in answer.texts()}, {"x \ufffd:y"})
             self.assertEqual(answer.documents, len(names))
-            self.assertEqual([name for name, _ in answer.by_document()], list(answer.counts()))
-            self.assertEqual(session.find("x", name="^a%20b$").hits(), [(b"a b", 1, b"x \xff:y")])
+            self.assertEqual([name for name, _ in answer.by_document()], session.find("x", names_only=True).names())
+            self.assertEqual(plain(session.find("x", names="^a%20b$")), [(b"a b", 1, b"x \xff:y")])
             for name in names:
                 session.remove(name).wait(SECONDS)
             self.assertEqual(session.publish().documents, 0)
@@ -119,7 +120,7 @@ class Answers(unittest.TestCase):
             published = session.publish()
             self.assertEqual([(one.name, one.reason) for one in published.refused], [(b"missing", "cannot load")])
             self.assertRaises(tsearch.ChangeRefused, missing.wait, SECONDS)
-            self.assertEqual(session.find("h").hits(), [(b"loaded", 1, b"hello")])
+            self.assertEqual(plain(session.find("h")), [(b"loaded", 1, b"hello")])
 
     def test_empty_and_large_answers(self) -> None:
         body = b"\n" * 300_000
@@ -132,7 +133,23 @@ class Answers(unittest.TestCase):
             self.assertEqual(len(answer), 300_001)
             self.assertEqual(sum(hit.text == b"" for hit in answer), 300_000)
             limited = session.find("", limit=10)
-            self.assertEqual((len(limited), limited.count, len(limited.data) < 200), (10, 300_001, True))
+            self.assertEqual((len(limited), limited.count, limited.more, len(limited.data) < 200), (10, 10, True, True))
+
+
+    def test_two_searches_are_of_one_version(self) -> None:
+        """Context with spans takes two. If they are of different versions, both are made again."""
+        code = """
+            def answer(version, *texts):
+                say(next(items) and b"search %d version %d lines 1%s\\na\\0" % (next(numbers), version, b" rows 1" * (len(texts) > 1)) + texts[0])
+            numbers = iter(range(1, 9))
+            for versions in (3, 4), (4, 5), (6, 6):
+                answer(versions[0], b"2:xy\\n", True)
+                answer(versions[1], b"2:%d-2:xy\\n" % versions[0] if versions[0] < 6 else b"2:1-2:xy\\n")
+        """
+        session = tsearch.Session(stand_in(code))
+        answer = session.find("xy", context=0, spans=True, timeout=SECONDS)
+        self.assertEqual((answer.version, answer.hits()), (6, [(b"a", 2, b"xy", None, ((0, 2),))]))
+        session.close()
 
 
 class Refusals(unittest.TestCase):
@@ -146,12 +163,41 @@ class Refusals(unittest.TestCase):
                 ("a\0", None, "bad byte", 1),
             ):
                 with self.assertRaises(tsearch.PatternRefused) as raised:
-                    session.find(pattern, name=name)
+                    session.find(pattern, names=name or ())
                 found = raised.exception
-                self.assertEqual((found.reason, found.offset, found.in_name), (reason, offset, name is not None))
+                self.assertEqual((found.reason, found.offset, found.number), (reason, offset, int(name is not None)))
+                self.assertEqual(found.pattern.decode(), name or pattern)
                 again = pickle.loads(pickle.dumps(found))
                 self.assertEqual((str(again), again.offset), (str(found), offset))
+            for options in {"limit": 0}, {"context": -1}, {"context": 1_001}, {"counts": True, "spans": True}, {"names": ["x"] * 17}:
+                self.assertRaises(tsearch.OptionRefused, session.find, "x", **options)
+            self.assertRaises(TypeError, session.find, "x", name="y")
             self.assertEqual(session.status().accepted, 0)
+
+    def test_nothing_that_is_typed_becomes_another_item(self) -> None:
+        """Each of many patterns and name patterns, most of them hostile, is answered or refused, and changes nothing."""
+        source = random.Random(9)
+        pieces = [*"a ()[*|\n\r\0\\é\udcff", "{3}", "-- ", " -- ", "-q", "remove a", "\npublish\n", "put b 1\n"]
+
+        def typed() -> str:
+            return "".join(source.choices(pieces, k=source.randint(0, 5)))
+
+        with tsearch.Session() as session:
+            session.put("a", "a -- remove a\n")
+            session.publish()
+            counts = [0, 0]
+            for _ in range(600):
+                options = source.choice([{}, {"names": typed()}, {"not_names": [typed(), typed()]}, {"literal": True}, {"invert": True}])
+                try:
+                    session.find(typed(), timeout=SECONDS, **options)
+                    counts[0] += 1
+                except tsearch.PatternRefused as refused:
+                    self.assertLessEqual(refused.offset, len(refused.pattern))
+                    counts[1] += 1
+            self.assertGreater(min(counts), 50)
+            self.assertEqual(session.status().accepted, 1)
+            self.assertEqual(session.publish().documents, 1)
+            self.assertEqual(plain(session.find("-- remove", literal=True)), [(b"a", 1, b"a -- remove a")])
 
     def test_of_changes(self) -> None:
         with tsearch.Session(max_commands=3) as session:
@@ -240,6 +286,32 @@ class Time(unittest.TestCase):
             os.kill(session.pid, signal.SIGCONT)
             session.close(SECONDS)
 
+    def test_many_small_items_wait(self) -> None:
+        """There are more of them than the system takes in one write."""
+        with tsearch.Session() as session:
+            session.status(SECONDS)
+            with stopped(session.pid):
+                for number in range(20_000):
+                    session.put(f"f{number}", b"x")
+            self.assertEqual(session.publish(SECONDS).documents, 20_000)
+
+    def test_sync_waits_for_no_later_search(self) -> None:
+        code = """
+            next(items), next(items)
+            say(b"search 1 version 0 lines 0\\n")
+            list(items)
+        """
+        session = tsearch.Session(stand_in(code))
+        session.begin("first")
+        waiting = threading.Thread(target=session.sync, args=(SECONDS,))
+        waiting.start()
+        until(lambda: session._connection.room._waiters)
+        later = session.begin("later")
+        waiting.join(SECONDS / 4)
+        self.assertEqual((waiting.is_alive(), later.done()), (False, False))
+        session.kill()
+        waiting.join(SECONDS)
+
     def test_close(self) -> None:
         session = tsearch.Session()
         session.status()
@@ -281,7 +353,7 @@ class Ends(unittest.TestCase):
                 while not done.is_set():
                     try:
                         answer = session.find("line", timeout=SECONDS)
-                        if answer.hits() != wanted:
+                        if plain(answer) != wanted:
                             raise AssertionError(f"{len(answer)} lines of life {answer.life}, and not {len(wanted)}")
                         key = "whole"
                     except tsearch.Ended:
@@ -369,11 +441,37 @@ class Ends(unittest.TestCase):
         self.assertIn("invalid value '99'", str(raised.exception))
         session.close()
 
+    def test_a_program_that_says_very_much(self) -> None:
+        """Only the end of it is kept."""
+        code = """
+            for _ in range(100):
+                os.write(2, b"x" * 10_000)
+            os.write(2, b"the end")
+            sys.exit(3)
+        """
+        session = tsearch.Session(stand_in(code))
+        with self.assertRaises(tsearch.Ended) as raised:
+            session.publish(SECONDS)
+        message = raised.exception.message
+        self.assertEqual((raised.exception.status, message[-8:], len(message) < 10_000), (3, "xthe end", True))
+        session.close()
+
+    def test_lives_leave_no_descriptors(self) -> None:
+        def descriptors() -> int:
+            return len(os.listdir("/proc/self/fd"))
+
+        with tsearch.Session() as session:
+            session.status(SECONDS)
+            before = descriptors()
+            for _ in range(10):
+                session.restart(lambda changes: changes.put("a", "x"), only_if_ended=False)
+            until(lambda: descriptors() <= before)
+
     def test_a_program_that_is_none(self) -> None:
         self.assertRaises(OSError, tsearch.Session, "/nothing/here")
         for code, error in (
             ("say(b'hello\\n'); time.sleep(60)", tsearch.NotUnderstood),
-            ("next(items); say(b'search 1 version 0 lines 5\\na:1:x\\na:2'); os._exit(3)", tsearch.Ended),
+            ("next(items); say(b'search 1 version 0 lines 5\\na\\0001:x\\na\\0002'); os._exit(3)", tsearch.Ended),
             ("next(items); say(b'search 7 version 0 lines 0\\n'); time.sleep(60)", tsearch.NotUnderstood),
             ("os.close(1); time.sleep(60)", tsearch.Ended),
         ):
@@ -386,9 +484,9 @@ class Ends(unittest.TestCase):
     def test_what_is_sent_for_a_search_that_nobody_waits_for(self) -> None:
         code = """
             seen = [next(items), next(items)]
-            assert seen == [b"search slow\\n", b"cancel 1\\n"], seen
+            assert seen == [b"find -Z -- slow\\n", b"cancel 1\\n"], seen
             say(b"search 1 refused: cancelled\\n")
-            assert next(items) == b"search x\\n"
+            assert next(items) == b"find -Z -- x\\n"
             say(b"search 2 version 0 lines 0\\n")
         """
         session = tsearch.Session(stand_in(code))
@@ -399,7 +497,7 @@ class Ends(unittest.TestCase):
     def test_a_program_that_writes_slowly(self) -> None:
         code = """
             next(items)
-            for byte in b"search 1 version 0 lines 2\\na:1:x\\na:2:y\\n":
+            for byte in b"search 1 version 0 lines 2\\na\\0001:x\\na\\0002:y\\n":
                 say(bytes([byte]))
                 time.sleep(0.005)
             next(items)

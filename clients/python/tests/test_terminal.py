@@ -16,10 +16,6 @@ import unittest
 
 from helpers import PACKAGE, SECONDS, TOP
 
-import tsearch
-from tsearch import views
-from tsearch.answers import Answer
-
 TREE = {
     "a.txt": b"hello world\nsay foo\n\nfoo bar foo\nthe end\n",
     "sub/b.c": b"int foo(void)\n{\n  return FOO + foo_bar;\n}\n" * 5 + b"last line with foo",
@@ -67,10 +63,11 @@ class Terminal(unittest.TestCase):
             ["-E", "-o", "fo+|[a-z]+_[a-z]+"],
             ["-E", "-o", "-i", "-w", "foo"],
             ["-E", "-C1", "foo"],
-            ["-E", "-A2", "-B1", "three|seven"],
+            ["-E", "-C0", "foo"],
             ["-E", "-C9", "foo"],
             ["-E", "-v", "-C1", "o"],
-            ["-E", "-o", "-C1", "end"],
+            ["-E", "-v", "-x", "-i", "FOO.*|one"],
+            ["-F", "-o", "-w", "foo"],
             ["-E", "zebra"],
             ["-E", "^$"],
             ["-E", "\xff".encode("latin-1").decode(errors="surrogateescape")],
@@ -78,8 +75,6 @@ class Terminal(unittest.TestCase):
             with self.subTest(words=words):
                 *options, pattern = words
                 own = [option for option in options if option != "-E"]
-                if "-o" in own and "-C1" in own:
-                    continue  # grep shows separators there
                 status, shown, said = run(*own, "-e", pattern, folder=self.top)
                 self.assertEqual((status, shown), grep(*options, "-e", pattern, folder=self.top))
                 self.assertEqual(said, b"")
@@ -93,7 +88,10 @@ class Terminal(unittest.TestCase):
         self.assertEqual(run("-q", "zebra", folder=self.top), (1, b"", b""))
         self.assertEqual(run("-m2", "foo", folder=self.top)[1], b"a.txt:2:say foo\na.txt:4:foo bar foo\n")
         self.assertEqual(run("-m1", "-v", "hello", folder=self.top)[1], b"a.txt:2:say foo\n")
-        self.assertEqual(run("-m0", "foo", folder=self.top)[:2], (1, b""))
+        self.assertEqual(run("--column", "-i", "foo_bar|the", folder=self.top)[1][:34], b"a.txt:5:1:the end\nsub/b.c:3:16:  r")
+        shown = run("--column", "-o", "foo", "--name", "a", "--not-name", "e", folder=self.top)[1]
+        self.assertEqual(shown, b"a.txt:2:5:foo\na.txt:4:1:foo\na.txt:4:9:foo\n")
+        self.assertEqual(run("-l", "foo", "--name", "^A|^b", "--names-ignore-case", folder=self.top)[1], b"a.txt\nbytes\n")
         self.assertEqual(run("-hN", "-m1", "foo", folder=self.top)[1], b"say foo\n")
         self.assertEqual(run("foo", "--name", r"%20d\.txt$", "-c", folder=self.top)[1], b"sub/deep/c d.txt:3\n")
         self.assertEqual(run("one", "sub", folder=self.top)[1], b"deep/c d.txt:1:one\n")
@@ -101,8 +99,10 @@ class Terminal(unittest.TestCase):
     def test_errors(self) -> None:
         status, shown, said = run("a(b", folder=self.top)
         self.assertEqual((status, shown, said), (2, b"", b"tsearch: group not closed at 1\n  a(b\n   ^\n"))
-        self.assertEqual(run("a", "--name", "[", folder=self.top)[::2], (2, b"tsearch: name pattern: bracket not closed at 0\n  [\n  ^\n"))
-        for words in [], ["a", "none"], ["a", ".", "b"], ["-m", "x", "a"], ["-o", "-v", "a"], ["--watch", "a", "b"], ["--colr", "a"]:
+        self.assertEqual(run("a", "--name", "[", folder=self.top)[::2], (2, b"tsearch: name pattern 1: bracket not closed at 0\n  [\n  ^\n"))
+        # before anything is loaded
+        self.assertEqual(run("-l", "-c", "a", folder="/")[::2], (2, b"tsearch: -l and -c exclude each other\n"))
+        for words in ["-m0", "a"], ["-C", "1001", "a"], ["-o", "-C1", "a"], [], ["a", "none"], ["a", ".", "b"], ["-m", "x", "a"], ["-o", "-v", "a"], ["--watch", "a", "b"], ["--colr", "a"]:
             self.assertEqual(run(*words, folder=self.top)[0], 2, words)
         self.assertEqual(run("x\nremove a.txt", folder=self.top)[0], 2)
 
@@ -163,12 +163,16 @@ class Terminal(unittest.TestCase):
                 pathlib.Path(folder, f"f{number}").write_bytes(b"x\n")
             pathlib.Path(folder, "a").write_bytes(b"say foo \x1b[2J foo\n")
             shown = self.at_terminal(["foo", folder])
+            around = self.at_terminal(["foo", "-C1", "--column", folder], 2)
+            coloured = run("-C1", "--color=always", "foo", folder)[1]
+        self.assertEqual(coloured, b"\x1b[35ma\x1b[m\x1b[36m:\x1b[m\x1b[32m1\x1b[m\x1b[36m:\x1b[msay \x1b[1;31mfoo\x1b[m \x1b[2J \x1b[1;31mfoo\x1b[m\n")
+        self.assertIn(b"--column and -C exclude each other", around)
         self.assertIn(b"loading: ", shown)
         self.assertIn(b"301 of 301 files", shown)
         wanted = b"\x1b[35ma\x1b[m\x1b[36m:\x1b[m\x1b[32m1\x1b[m\x1b[36m:\x1b[msay \x1b[1;31mfoo\x1b[m ^[[2J \x1b[1;31mfoo\x1b[m\r\n"
         self.assertEqual(shown.rpartition(b" \r")[2], wanted)
 
-    def at_terminal(self, words: list[str]) -> bytes:
+    def at_terminal(self, words: list[str], status: int = 0) -> bytes:
         """What the command writes to a terminal."""
         here, there = pty.openpty()
         fcntl.ioctl(there, termios.TIOCSWINSZ, struct.pack("HHHH", 24, 80, 0, 0))
@@ -184,7 +188,7 @@ class Terminal(unittest.TestCase):
                     break  # the terminal has no other end
                 shown += more
             os.close(here)
-            self.assertEqual(client.wait(SECONDS), 0)
+            self.assertEqual(client.wait(SECONDS), status)
         return shown
 
     def test_nobody_reads_on(self) -> None:
@@ -195,20 +199,6 @@ class Terminal(unittest.TestCase):
             environment = {**os.environ, "PYTHONPATH": str(PACKAGE)}
             done = subprocess.run(["bash", "-c", line], capture_output=True, env=environment, timeout=SECONDS, check=False)
             self.assertEqual((done.stdout, done.stderr), (b"a:1:" + body, b""))
-
-    def test_views_are_of_one_version(self) -> None:
-        def answer(version: int, *lines: int) -> Answer:
-            return Answer(1, version, len(lines), len(lines), b"".join(b"a:%d:x\n" % line for line in lines))
-
-        versions = iter([3, 4, 4, 5, 6, 6])
-        hits = views.without_match(lambda pattern, name: answer(next(versions), 1, 2, 3), lambda: answer(next(versions), 2), None)
-        # 3 and 4, then 4 and 5, then 6 and 6
-        self.assertEqual([hit.line for hit in hits], [1, 3])
-        found = answer(7, 2)
-        groups = views.with_context(lambda pattern, name: answer(7, 1, 2, 3), found.hits(), (1, 7), 1, 0)
-        self.assertEqual([[row.hit.line for row in group] for group in groups], [[1, 2]])
-        with self.assertRaises(tsearch.Error):
-            list(views.with_context(lambda pattern, name: answer(8, 1, 2, 3), found.hits(), (1, 7), 1, 0))
 
     def test_the_example(self) -> None:
         command = [sys.executable, "-B", str(TOP / "examples/live_folder.py"), self.top]

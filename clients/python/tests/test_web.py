@@ -10,6 +10,7 @@ import signal
 import socket
 import time
 import unittest
+import unittest.mock
 
 from helpers import SECONDS, SLOW, stopped, until
 from serving import MARKUP, serving
@@ -31,6 +32,7 @@ class Web(unittest.TestCase):
         self.assertEqual(hits("call", w=1), [("one", "src/main.c", 3, "    return call(1);"), ("one", "src/util.c", 1, "int call(int x)")])
         self.assertEqual(hits("int call.*", x=1), [("one", "src/util.c", 1, "int call(int x)")])
         self.assertEqual(hits("int", name="util"), [("one", "src/util.c", 1, "int call(int x)")])
+        self.assertEqual(hits("int", **{"name": ["src", "c$"], "not": ["main", "zzz"]}), [("one", "src/util.c", 1, "int call(int x)")])
         self.assertEqual(hits("int main", name="^src/", repository="two"), mains[1:])
         self.assertEqual(hits("int main", repository=["one", "two"]), mains)
         self.assertEqual(hits("int main", repository="none"), [])
@@ -39,16 +41,35 @@ class Web(unittest.TestCase):
     def test_marks_and_totals(self) -> None:
         rows = self.server.find("main|count", repository="two")
         head, row, total = rows
-        self.assertEqual((head["repository"], head["lines"], head["loaded"]), ("two", 1, True))
+        self.assertEqual((head["repository"], head["lines"], head["more"], head["loaded"]), ("two", 1, False, True))
         self.assertEqual(row["hits"], [{"line": 1, "parts": ["int ", "main", "(int ", "count", ")"]}])
-        self.assertEqual((total["lines"], total["shown"]), (1, 1))
+        self.assertEqual((total["lines"], total["more"]), (1, False))
+        self.assertEqual(self.server.find("in.", w=1, repository="two")[1]["hits"][0]["parts"], ["", "int", " main(", "int", " count)"])
+
+    def test_context(self) -> None:
+        rows = self.server.find("return", context=1, name="c$", repository="one")
+        self.assertEqual([row["name"] for row in rows[1:-1]], ["src/main.c", "src/util.c"])
+        around = {"around": True}
+        self.assertEqual(rows[1]["hits"], [
+            {"line": 2, "parts": ["{"], **around}, {"line": 3, "parts": ["    ", "return", " call(1);"]}, {"line": 4, "parts": ["}"], **around},
+        ])  # fmt: skip
+        # what is cut off at the limit is a line around another
+        rows = self.server.find("many lines", context=2, max=3)
+        self.assertEqual([(hit["line"], "around" in hit) for hit in rows[1]["hits"]], [(1, False), (2, False), (3, False), (4, True), (5, True)])
+        rows = self.server.find("int", max=3, context=5)
+        self.assertEqual([row.get("lines") for row in rows if "life" in row], [2, 1])
+        self.assertEqual((rows[-1]["lines"], rows[-1]["more"]), (3, False))
+        rows = self.server.find("int|hostile", max=1, context=1)
+        self.assertEqual(([row.get("more") for row in rows if "life" in row], rows[-1]["lines"], rows[-1]["more"]), ([True, True], 1, True))
+        self.assertEqual(self.server.hits("(int|[{}])", v=1, name="src/main"), [("one", "src/main.c", 3, "    return call(1);")])
 
     def test_limits_that_a_visitor_cannot_lift(self) -> None:
-        for more in {}, {"max": "99999"}, {"max": "x"}, {"max": "-1"}, {"max": "٣"}:
+        for more in {}, {"max": "99999"}, {"max": "x"}, {"max": "-1"}, {"max": "٣"}, {"max": "9" * 5_000}:
             rows = self.server.find("many", **more)
-            self.assertEqual((rows[-1]["lines"], rows[-1]["shown"]), (2_000, 50), more)
-        self.assertEqual(self.server.find("many", max="3")[-1]["shown"], 3)
-        self.assertEqual(self.server.find("many", max="0")[-1]["shown"], 0)
+            self.assertEqual((rows[-1]["lines"], rows[-1]["more"]), (50, True), more)
+        self.assertEqual([self.server.find("many", max=most)[-1]["lines"] for most in "30"], [3, 1])
+        self.assertEqual(len(self.server.find("lines 100$", context="999")[1]["hits"]), 11)
+        self.assertEqual(len(self.server.find("lines 100$", context="-1")[1]["hits"]), 1)
 
     def test_refusals(self) -> None:
         find = self.server.find
@@ -57,6 +78,8 @@ class Web(unittest.TestCase):
         self.assertEqual(find("a", name="x[b"), [{"refused": "bracket not closed", "offset": 1, "in": "name"}])
         self.assertEqual(find("a\nremove src/main.c\npublish"), [{"refused": "bad byte", "offset": 1, "in": "pattern"}])
         self.assertEqual(find("a", name="b\npublish")[0]["in"], "name")
+        self.assertEqual(find("a", **{"name": ["b", "c"], "not": ["b", "c publish"]})[0]["in"], "not")
+        self.assertEqual(find("a", name=["b"] * 17), [{"refused": "option -n over 16 times"}])
         self.assertEqual(find("a\0")[0]["refused"], "bad byte")
         self.assertEqual(find("a" * 2_000)[0]["refused"], "pattern too long")
         self.assertEqual(find("é[z-a]"), [{"refused": "bad range", "offset": 4, "in": "pattern"}])
@@ -86,11 +109,24 @@ class Web(unittest.TestCase):
         for words in "name=..%2Fsecret", "name=%2Fetc%2Fpasswd", "name=src", "name=^.*$", "name=src/main.c%0Apublish":
             status, body, _ = self.server.get(f"/api/file?repository=one&life=1&version=6&{words}")
             self.assertEqual(status, 404, (words, body))
-        for words in "", "repository=none&name=a&life=1&version=1", "repository=one&name=a&life=x&version=1", "repository=one&life=1&version=1":
+        long = "repository=one&name=a&life=1&version=" + "1" * 5_000
+        short = ["", "repository=none&name=a&life=1&version=1", "repository=one&name=a&life=x&version=1", "repository=one&life=1&version=1"]
+        for words in [*short, long]:
             self.assertEqual(self.server.get(f"/api/file?{words}")[0], 400, words)
         self.assertEqual(self.server.get("/api/status", {"Host": "attacker.example"})[0], 403)
         self.assertEqual(self.server.get("/api/status", {"Host": "127.0.0.1@attacker.example:80"})[0], 403)
         self.assertEqual(self.server.get("/api/status", {"Host": "localhost:80"})[0], 200)
+
+    def test_many_marks(self) -> None:
+        """Answers whose marks would be too many are shown without."""
+        rows = self.server.find("[xy]|many", max=1, name="wide")
+        self.assertEqual(len(rows[1]["hits"][0]["parts"]), 32_001)
+        with unittest.mock.patch("tsearch.web.server._MOST_SPANS", 100):
+            from tsearch.answers import Answer, View
+            from tsearch.web.server import _documents
+
+            answer = Answer(1, 1, 1, False, View.CONTEXT, b"a\0001:xx\n", spans_data=b"a\0001:" + b"1-1," * 40 + b"1-1:xx\n")
+            self.assertEqual(next(_documents(answer))["hits"], [{"line": 1, "parts": ["xx"]}])
 
     def test_a_slow_search_does_not_hold_up_others(self) -> None:
         with concurrent.futures.ThreadPoolExecutor(8) as pool:
@@ -152,6 +188,35 @@ class Web(unittest.TestCase):
         before = self.metric("tsearch_web_searches_total", outcome="answered")
         self.server.find("x")
         self.assertEqual(self.metric("tsearch_web_searches_total", outcome="answered"), before + 1)
+
+
+@unittest.skipUnless(importlib.util.find_spec("aiohttp"), "the library aiohttp is missing (python3-aiohttp)")
+class Filters(unittest.TestCase):
+    def test_what_the_host_lets_a_request_see(self) -> None:
+        with serving("--filter-header", "X-Filters") as server:
+            head = {"X-Filters": json.dumps({"one": {"names": ["^src/"], "not_names": ["main"]}})}
+
+            def ask(path: str, headers: dict[str, str] | None = head) -> tuple[int, list[dict]]:
+                status, body, _ = server.get(path, headers)
+                return status, [json.loads(line) for line in body.splitlines()] if body.startswith(b"{") else []
+
+            def names(path: str) -> list[str]:
+                return [row["name"] for row in ask(path)[1] if "hits" in row]
+
+            self.assertEqual(names("/api/find?q=int|hostile"), ["src/util.c"])
+            for more in "name=.", "not=zz", "repository=two", "name=main&repository=one", "v=1&name=main", "x-filters={}":
+                self.assertEqual([name for name in names(f"/api/find?q=main|hostile&{more}") if name != "src/util.c"], [], more)
+            version = ask("/api/find?q=int")[1][0]["version"]
+            place = f"life=1&version={version}"
+            self.assertEqual(ask(f"/api/file?repository=one&{place}&name=src/util.c")[0], 200)
+            for file in "repository=one&name=src/main.c", "repository=one&name=many.txt", "repository=two&name=src/main.c":
+                self.assertIn(ask(f"/api/file?{file}&{place}")[0], (400, 410), file)
+            self.assertEqual([one["repository"] for one in ask("/api/status")[1][0]["repositories"]], ["one"])
+            # nothing without the header, and nothing with one that is not understood
+            self.assertEqual(ask("/api/find?q=int", None)[1][0]["lines"], 0)
+            for text in "x", "[]", '{"one": 1}', '{"one": {"names": "src"}}', '{"one": {"name": ["src"]}}':
+                self.assertEqual(ask("/api/find?q=int", {"X-Filters": text})[0], 400, text)
+            self.assertEqual(ask("/api/find?q=int", {"X-Filters": '{"one": {"names": ["("]}}'})[1][0]["in"], "host")
 
 
 @unittest.skipUnless(importlib.util.find_spec("aiohttp"), "the library aiohttp is missing (python3-aiohttp)")

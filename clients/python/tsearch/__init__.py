@@ -5,13 +5,14 @@ for asyncio. `Folder` keeps the files of a folder in a session. `python3 -m tsea
 `python3 -m tsearch.web` serves a page. README.md in this package's folder shows each.
 """
 
-from .answers import Answer, Hit, Published, Status, TextHit
+from .answers import Answer, Hit, Published, Row, Status, TextHit, View
 from .errors import (
     Cancelled,
     ChangeRefused,
     Ended,
     Error,
     NotUnderstood,
+    OptionRefused,
     PatternRefused,
     PublishRefused,
     Refused,
@@ -20,8 +21,8 @@ from .errors import (
 )
 from .folder import Folder, LeftOut, Refreshed
 from .names import quote, unquote
-from .patterns import escape
 from .program import find_program
+from .query import Options, escape
 from .session import Change, Changes, Search, Session
 
 __all__ = [
@@ -36,17 +37,21 @@ __all__ = [
     "Hit",
     "LeftOut",
     "NotUnderstood",
+    "OptionRefused",
+    "Options",
     "PatternRefused",
     "PublishRefused",
     "Published",
     "Refreshed",
     "Refused",
+    "Row",
     "Search",
     "SearchRefused",
     "Session",
     "Status",
     "TextHit",
     "TooSlow",
+    "View",
     "escape",
     "find_program",
     "quote",

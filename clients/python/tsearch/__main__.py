@@ -9,16 +9,9 @@ import sys
 from .errors import Ended, Error, PatternRefused
 from .terminal import Terminal, run
 
-_OF_LINES = """With -v, -A, -B and -C the lines come from a second search of the same version. -m counts all lines, and not those of each
-file. The status is 0 if a line was found, 1 if none was, and 2 after an error; a file that is left out because it is binary, or too
-long, is no error. docs/PATTERNS.md has the patterns."""
-
-
-def _count(text: str) -> int:
-    number = int(text)
-    if number < 0:
-        raise ValueError
-    return number
+_MORE = """-m counts all lines, and not those of each file. -C or --column with colours takes a second search of the same version. The
+status is 0 if a line was found, 1 if none was, and 2 after an error; a file that is left out because it is binary, or too long, is no
+error. docs/PATTERNS.md has the patterns."""
 
 
 def _parser() -> argparse.ArgumentParser:
@@ -26,7 +19,7 @@ def _parser() -> argparse.ArgumentParser:
         prog="python3 -m tsearch",
         usage="%(prog)s [OPTIONS] PATTERN [FOLDER]\n       %(prog)s [OPTIONS] --watch [FOLDER]",
         description="Searches the text files of a folder for a POSIX extended regular expression.",
-        epilog=_OF_LINES,
+        epilog=_MORE,
         add_help=False,
         allow_abbrev=False,
     )
@@ -38,34 +31,35 @@ def _parser() -> argparse.ArgumentParser:
     what.add_argument("-w", "--word-regexp", action="store_true", help="only matches that are whole words")
     what.add_argument("-x", "--line-regexp", action="store_true", help="only matches that are whole lines")
     what.add_argument("-v", "--invert-match", action="store_true", help="the lines without a match")
-    what.add_argument("-m", "--max-count", type=_count, metavar="N", help="at most N lines in all; with -l and -c, N files")
-    what.add_argument("--name", metavar="ERE", help="only files whose paths from FOLDER match ERE; a space in a path is %%20 there")
+    what.add_argument("-m", "--max-count", type=int, metavar="N", help="at most N lines in all; with -l and -c, N files")
+    what.add_argument("--name", action="append", default=[], metavar="ERE", help="only files whose paths from FOLDER match each ERE")
+    what.add_argument("--not-name", action="append", default=[], metavar="ERE", help="only files whose paths match no ERE; a space is %%20")
+    what.add_argument("--names-ignore-case", action="store_true", help="ASCII letters match both their cases in these")
     what.add_argument("--all", action="store_true", help="also files that git ignores")
     how = parser.add_argument_group("what is shown")
     how.add_argument("-l", "--files-with-matches", action="store_true", help="the paths alone")
     how.add_argument("-c", "--count", action="store_true", help="the paths with the number of their lines, if it is not 0")
     how.add_argument("-q", "--quiet", action="store_true", help="nothing; the status tells")
     how.add_argument("-o", "--only-matching", action="store_true", help="each match, and not its line")
+    how.add_argument("--column", action="store_true", help="the column of the first match of each line, or with -o of each match")
     how.add_argument("-n", "--line-number", action="store_true", default=True, help="line numbers, as without this option")
     how.add_argument("-N", "--no-line-number", dest="line_number", action="store_false", help="no line numbers")
     how.add_argument("-h", "--no-filename", action="store_true", help="no paths")
     how.add_argument("-Z", "--null", action="store_true", help="a byte 0 after each path")
-    how.add_argument("-A", "--after-context", type=_count, metavar="N", help="N lines after each line")
-    how.add_argument("-B", "--before-context", type=_count, metavar="N", help="N lines before each line")
-    how.add_argument("-C", "--context", type=_count, default=0, metavar="N", help="N lines before and after each line")
+    how.add_argument("-C", "--context", type=int, metavar="N", help="N lines before and after each line")
     how.add_argument("--color", "--colour", choices=["auto", "always", "never"], default="auto", help="colours; auto: at a terminal")
     how.add_argument("--left-out", action="store_true", help="name all files that are left out, if there are many too")
     more = parser.add_argument_group("more")
     more.add_argument("--watch", action="store_true", help="keep the folder, and answer the patterns that are typed; an empty line ends it")
-    more.add_argument("--readers", type=_count, metavar="N", help="how many threads of the program search, 0 to 16")
-    more.add_argument("--search-ms", type=_count, metavar="N", help="give a search up after N milliseconds")
+    more.add_argument("--readers", type=int, metavar="N", help="how many threads of the program search, 0 to 16")
+    more.add_argument("--search-ms", type=int, metavar="N", help="give a search up after N milliseconds")
     more.add_argument("--help", action="help", help="this text")
     return parser
 
 
 def _arguments(words: list[str] | None) -> argparse.Namespace:
     parser = _parser()
-    given = parser.parse_args(words)
+    given = parser.parse_intermixed_args(words)
     wanted = 0 if given.watch or given.regexp is not None else 1
     if not wanted <= len(given.words) <= wanted + 1:
         parser.error("give a pattern, and at most one folder" if wanted else "give at most one folder")
@@ -73,23 +67,24 @@ def _arguments(words: list[str] | None) -> argparse.Namespace:
     given.folder = given.words[0] if given.words else "."
     if given.watch and given.regexp is not None:
         parser.error("--watch takes its patterns from the prompt")
-    if given.only_matching and given.invert_match:
-        parser.error("-o and -v exclude each other")
-    given.before = given.before_context if given.before_context is not None else given.context
-    given.after = given.after_context if given.after_context is not None else given.context
+    with_others = {"-v": given.invert_match, "-l": given.files_with_matches, "-c": given.count, "-q": given.quiet, "-C": given.context is not None}
+    for letter, is_given in with_others.items():
+        if given.only_matching and is_given:
+            parser.error(f"-o and {letter} exclude each other")
     if not os.path.isdir(given.folder):
         parser.error(f"{given.folder} is no folder")
     return given
 
 
 def main(words: list[str] | None = None) -> int:
-    """Runs the command with these words, by default those of the command line. Its status."""
+    """Runs the command with these words, by default those of the command line. Its status: that of `run`, 2 after an error, 130 after
+    Ctrl-C, or 141 if nobody reads what it writes."""
     given = _arguments(words)
     terminal = Terminal(given)
     try:
         return run(given, terminal)
     except PatternRefused as refused:
-        terminal.complain(refused, given.name if refused.in_name else given.pattern)
+        terminal.complain(refused)
     except (Ended, Error, OSError) as error:
         if isinstance(error, BrokenPipeError):
             # nobody reads on; nor is anything written at the end

@@ -8,18 +8,21 @@ import itertools
 import os
 from asyncio import subprocess
 from collections.abc import AsyncIterator, Awaitable, Callable, Iterator, Sequence
-from typing import Any
+from typing import TYPE_CHECKING, Any, Unpack
 
-from .answers import Answer, Published, Status
-from .core import Core, Query, Sent, SentSearch, ended_by, ended_with, status_of, value_of
+from .answers import Answer, Published, Status, joined
+from .core import Core, Sent, SentSearch, ended_by, ended_with, status_of, value_of
 from .errors import Ended, Error
 from .folder import Files, Progress, Refreshed, Step
 from .program import MOST_COMMANDS, TO_END, command, kill_group
+from .query import Options, Query
+from .session import MOST_OPEN, MOST_TRIES
+
+if TYPE_CHECKING:
+    from .cluster import Cluster
 
 __all__ = ["Change", "Changes", "Folder", "Search", "Session"]
 
-# The program takes no item, not even a cancel, while 1,024 searches are open.
-MOST_OPEN = 512
 _BLOCK = 1 << 18
 _MESSAGE = 4_096
 # In bytes: so much of files is read ahead, and then sent.
@@ -216,15 +219,16 @@ class Change:
         return self._sent.name
 
     async def wait(self) -> None:
-        """Returns once the change is known to be accepted, and asks for a status to know it. `ChangeRefused` if it is refused."""
+        """Returns once the change is known to be accepted, and asks for a status to know it. `ChangeRefused` if it is refused, and
+        `Ended`."""
         if not self._sent.is_settled:
             await _asked(self._connection)
         value_of(self._sent)
 
 
 class Search:
-    """A search that was sent. `await search` gives its answer; a task that is cancelled while it waits leaves the search open, and
-    `cancel` gives it up."""
+    """A search that was sent. `await search` gives its answer, or raises the errors of `find`; a task that is cancelled while it waits
+    leaves the search open, and `cancel` gives it up."""
 
     def __init__(self, connection: _Connection, sent: SentSearch, future: asyncio.Future[Any]) -> None:
         self._connection = connection
@@ -348,7 +352,7 @@ class Session(Changes):
 
     async def sync(self) -> None:
         """Returns once every search that was sent before has its answer or its refusal. Nothing is sent for it: behind an item
-        `sync` the cancels of other tasks would wait."""
+        `sync` the cancels of other tasks would wait. `Ended` if the program ends or has ended."""
         connection = self._connection
         before = connection.open_futures()
         if before:
@@ -356,48 +360,35 @@ class Session(Changes):
         if connection.ended:
             raise connection.ended()
 
-    async def begin(
-        self,
-        pattern: str | bytes,
-        *,
-        name: str | bytes | None = None,
-        ignore_case: bool = False,
-        literal: bool = False,
-        word: bool = False,
-        line: bool = False,
-        limit: int | None = None,
-    ) -> Search:
-        """Sends a search and does not wait for its answer. The arguments are those of `find`."""
-        query = Query.of(pattern, name, limit, ignore_case=ignore_case, literal=literal, word=word, line=line)
-        return await self._connection.begin(query)
+    async def begin(self, pattern: str | bytes, **options: Unpack[Options]) -> Search:
+        """Sends a search in its turn, and does not wait for its answer. The options and the errors are those of `tsearch.Session.begin`,
+        except `TimeoutError`."""
+        return await self._connection.begin(Query.of(pattern, **options))
 
-    async def find(
-        self,
-        pattern: str | bytes,
-        *,
-        name: str | bytes | None = None,
-        ignore_case: bool = False,
-        literal: bool = False,
-        word: bool = False,
-        line: bool = False,
-        limit: int | None = None,
-    ) -> Answer:
-        """The lines that contain a match of a pattern, in the documents of the last publish or a later one. The arguments and the
-        errors are those of `tsearch.Session.find`."""
-        search = await self.begin(pattern, name=name, ignore_case=ignore_case, literal=literal, word=word, line=line, limit=limit)
-        try:
-            answer: Answer = await search
-            return answer
-        except asyncio.CancelledError:
-            search.cancel()
-            raise
+    async def find(self, pattern: str | bytes, **options: Unpack[Options]) -> Answer:
+        """The lines that contain a match of a pattern, in the documents of the last publish or a later one. The options and the
+        errors are those of `tsearch.Session.find`, except for `timeout`."""
+        query = Query.of(pattern, **options)
+        for _ in range(MOST_TRIES):
+            searches: list[Search] = []
+            try:
+                for part in query.parts():
+                    searches.append(await self._connection.begin(part))
+                answers = [await search for search in searches]
+            except BaseException:
+                for search in searches:
+                    search.cancel()
+                raise
+            if (answer := joined(answers)) is not None:
+                return answer
+        raise Error("the documents change too often for two searches")
 
     def cancel(self, search: Search) -> None:
         """Gives up a search, as its own `cancel` does."""
         search.cancel()
 
     async def restart(self, feed: Callable[[Changes], Awaitable[object]], *, only_if_ended: bool = True) -> Published | None:
-        """Starts the program again, and lets `feed` put all documents into it, as `tsearch.Session.restart` does."""
+        """Starts the program again, and lets `feed` put all documents into it, as `tsearch.Session.restart` does, with its errors."""
         if self._start is None:
             raise ValueError("a session over streams cannot start a program")
         async with self._restarting:
@@ -460,14 +451,14 @@ async def _published(connection: _Connection) -> Published:
 
 
 class Folder:
-    """Keeps the text files of a folder in a session, as `tsearch.Folder` does. A thread reads the files.
+    """Keeps the text files of a folder in a session or a cluster, as `tsearch.Folder` does. A thread reads the files.
 
     before_change: is awaited with the name of each document that is there and is about to be replaced or removed.
     """
 
     def __init__(
         self,
-        session: Session,
+        session: Session | Cluster,
         root: str | bytes | os.PathLike[str] | os.PathLike[bytes] = ".",
         *,
         prefix: str | bytes = b"",
@@ -493,7 +484,7 @@ class Folder:
         return dict(self._files.left_out)
 
     async def refresh(self) -> Refreshed:
-        """Looks through the folder, sends what has changed, and publishes it, as `tsearch.Folder.refresh` does."""
+        """Looks through the folder, sends what has changed, and publishes it, as `tsearch.Folder.refresh` does, with its errors."""
         async with self._lock:
             put, removed = await self._send(self._session, self._before_change)
             published = None
@@ -506,7 +497,8 @@ class Folder:
             return Refreshed(put, removed, self._files.take_news(), published)
 
     async def restart(self) -> Published | None:
-        """Starts the program again if it has ended, and sends all files. For a session with this folder alone."""
+        """Starts the program again if it has ended, and sends all files. For a session with this folder alone. None if the program
+        runs. The errors are those of `Session.restart`."""
         async with self._lock:
             published = await self._session.restart(self._feed)
             if published:
@@ -514,15 +506,16 @@ class Folder:
                 await self._remove(published)
             return published
 
-    async def find(self, pattern: str | bytes, **options: Any) -> Answer:
-        """A search of the session, with the arguments of `Session.find`, in the documents of this folder as they were last sent."""
+    async def find(self, pattern: str | bytes, **options: Unpack[Options]) -> Answer:
+        """A search of the session, with the options and the errors of `Session.find`, in the documents of this folder as they were last
+        published, and in whatever else is in the session."""
         return await self._session.find(pattern, **options)
 
     async def _feed(self, changes: Changes) -> None:
         self._files.forget()
         await self._send(changes, None)
 
-    async def _send(self, changes: Changes, before_change: Callable[[bytes], Awaitable[object]] | None) -> tuple[int, int]:
+    async def _send(self, changes: Changes | Cluster, before_change: Callable[[bytes], Awaitable[object]] | None) -> tuple[int, int]:
         put = removed = 0
         steps, held = self._files.steps(), frozenset(self._files.held)
         while batch := await asyncio.to_thread(_some_of, steps):

@@ -2,41 +2,62 @@
 
 Each shard is a session in an actor on a worker of its own. A document is in the shard that its name says, and a search asks all
 shards. Dask does not keep the order of the calls of one client to one actor. So each shard has a **lane**: all that waits in it goes as
-one call, and one call is on its way at a time. A publish and a search are put into all lanes in one step, so each answer is from the
-same publish in all shards. If a worker or its program ends, the lane makes a new actor, feeds it, and sends the call again.
+one call, and one call is on its way at a time. A publish and a search are put into all lanes in one step, and a shard publishes once
+the searches before are answered, so each answer is from the same publish in all shards. If a worker or its program ends, or does not
+answer in time, the lane makes a new actor, feeds it, and sends the call again.
 """
 
 from __future__ import annotations
 
 import asyncio
 import contextlib
-import heapq
 import math
+import pickle
 import time
+import weakref
 import zlib
 from collections.abc import Iterator
-from typing import Any, NamedTuple
+from dataclasses import dataclass
+from typing import Any, NamedTuple, Unpack
 
 from distributed import Client
 
 from . import names
-from .answers import Answer
-from .core import Query
-from .errors import ChangeRefused, Ended, Error
+from .answers import Answer, Published, Status, joined
+from .core import status_of
+from .errors import ChangeRefused, Ended, Error, PublishRefused
+from .merging import merged, split
+from .program import MOST_COMMANDS
+from .query import Options, Query
 from .session import Change, Search, Session
 
 # In seconds: how long a call to a shard may take, how long an actor may take to be made, and how long a lane waits for a worker that
 # no other shard has.
-_TO_CALL = 120.0
+TO_CALL = 120.0
 _TO_MAKE = 10.0
 _TO_PLACE = 30.0
 # In seconds: so long no shard goes to a worker that has failed. The scheduler may not know yet that it has ended.
 _AVOIDED = 15.0
-# How often a call is sent, each time to a new actor, before its shard is given up; and the seconds before the second time.
+# How often a call is sent, each time to a new actor, before those who wait for it are told; and the seconds before the second time,
+# which double from then on.
 _TRIES = 6
 _PAUSE = 0.05
-# In bytes: a new actor is fed in calls of about so much.
+# In bytes: a new actor is fed in calls of about so much, and who puts waits while more than this waits in a lane.
 _BATCH = 1 << 20
+_MOST_WAITING = 4 << 20
+
+
+class ShardLost(Error):
+    """A shard does not answer: its worker or its program has ended, and no other one has its documents yet. `shard` is its number, from
+    0, and `reason` what was seen last."""
+
+    def __init__(self, shard: int, reason: str) -> None:
+        super().__init__(shard, reason)
+        self.shard = shard
+        self.reason = reason
+
+    def __str__(self) -> str:
+        return f"shard {self.shard} is lost: {self.reason}"
 
 
 class _Put(NamedTuple):
@@ -62,14 +83,18 @@ class Shard:
         except OSError as error:
             # among the errors of Dask it would be one of the worker
             raise Ended(None, str(error)) from None
-        self._next = 0
+        self._next = self._version = 0
         self._changes: list[Change] = []
 
-    def run(self, number: int, items: list[Item]) -> list[Any]:
+    def run(self, number: int, packed: bytes) -> bytes:
         """Carries out items in their order: for each put None, for each search its answer or refusal, for each publish which of the
-        changes before it were refused, or why it was. A search does not see a publish behind it."""
+        changes before it were refused. A search does not see a publish behind it. Both lists are pickled, for which Dask would take a
+        frame for each body."""
+        return pickle.dumps(self._run(number, pickle.loads(packed)), pickle.HIGHEST_PROTOCOL)
+
+    def _run(self, number: int, items: list[Item]) -> list[Any]:
         if number != self._next:
-            raise Error(f"call {number} of a shard, and not {self._next}")
+            raise Ended(None, f"call {number} of a shard, and not {self._next}")
         self._next += 1
         outcomes: list[Any] = [None] * len(items)
         searches: list[tuple[int, Search]] = []
@@ -79,30 +104,43 @@ class Shard:
             elif isinstance(item, Query):
                 searches += self._begin(at, item, outcomes)
             else:
-                _collect(searches, outcomes)
+                self._collect(searches, outcomes)
                 outcomes[at] = self._publish()
-        _collect(searches, outcomes)
+        self._collect(searches, outcomes)
         return outcomes
 
     def _begin(self, at: int, query: Query, outcomes: list[Any]) -> list[tuple[int, Search]]:
         try:
-            return [(at, self._session.begin(**vars(query)))]
+            return [(at, self._session.begin_query(query))]
         except Ended:
             raise
         except Error as refused:
             outcomes[at] = refused
             return []
 
-    def _publish(self) -> Any:
+    def _publish(self) -> list[tuple[int, ChangeRefused]]:
         try:
-            self._session.publish()
-        except Ended:
-            raise
-        except Error as refused:
-            return refused
+            self._version = self._session.publish().version
+        except PublishRefused as refused:
+            # the other shards have published
+            raise Ended(None, f"a publish is refused: {refused}") from None
         changes, self._changes = self._changes, []
         refusals = enumerate(map(_refusal_of, changes))
         return [(at, refusal) for at, refusal in refusals if refusal]
+
+    def _collect(self, searches: list[tuple[int, Search]], outcomes: list[Any]) -> None:
+        """Waits for the answers. Each is of the publish before: nothing is published while a search is open."""
+        for at, search in searches:
+            try:
+                answer = search.result()
+                outcomes[at] = split(answer)  # here, where each shard does its part of it
+                if answer.version != self._version:
+                    raise Ended(None, f"an answer of version {answer.version}, and not {self._version}")
+            except Ended:
+                raise
+            except Error as refused:
+                outcomes[at] = refused
+        searches.clear()
 
     def pid(self) -> int | None:
         """The number of the program's process."""
@@ -113,6 +151,11 @@ class Shard:
         self._session.kill()
         self._session.close()
 
+    def __del__(self) -> None:
+        # of a worker that was stopped, and has been left meanwhile
+        with contextlib.suppress(AttributeError):
+            self._session.kill()
+
 
 def _refusal_of(change: Change) -> ChangeRefused | None:
     try:
@@ -122,24 +165,20 @@ def _refusal_of(change: Change) -> ChangeRefused | None:
     return None
 
 
-def _collect(searches: list[tuple[int, Search]], outcomes: list[Any]) -> None:
-    for at, search in searches:
-        try:
-            outcomes[at] = search.result()
-        except Ended:
-            raise
-        except Error as refused:
-            outcomes[at] = refused
-    searches.clear()
-
-
 class _Workers:
-    """Which workers have a shard."""
+    """Which workers of a cluster have a shard."""
+
+    _known: weakref.WeakKeyDictionary[Client, _Workers] = weakref.WeakKeyDictionary()
 
     def __init__(self, client: Client) -> None:
-        self._client: Any = client
+        self._client: Any = weakref.proxy(client)
         # each until when
         self._used: dict[str, float] = {}
+
+    @classmethod
+    def of(cls, client: Client) -> _Workers:
+        """Those of this client, which all its `Cluster`s share."""
+        return cls._known.setdefault(client, cls(client))
 
     async def take(self) -> str:
         """A worker that has no shard; all actors of a worker would share one thread."""
@@ -158,31 +197,60 @@ class _Workers:
             self._used[worker] = time.monotonic() + _AVOIDED if has_failed else 0
 
 
+@dataclass
+class _Asked:
+    """An item in a lane. `waits` says whether it waits for a new actor if the shard is lost."""
+
+    item: Item
+    future: asyncio.Future[Any]
+    waits: bool = True
+
+    def settle(self, outcome: Any) -> None:
+        if not self.future.done():
+            self.future.set_result(outcome)
+
+
 class _Lane:
     """The way to a shard. It has the documents of the last publish and the changes since, to feed a new actor."""
 
-    def __init__(self, client: Client, workers: _Workers, options: dict[str, Any]) -> None:
+    def __init__(self, number: int, client: Client, call_seconds: float, options: dict[str, Any]) -> None:
         self.heals = 0
+        self.documents: dict[bytes, bytes] = {}
+        self.bytes = self.accepted = 0
+        self._number = number
         self._client = client
-        self._workers = workers
+        self._workers = _Workers.of(client)
+        self._call_seconds = call_seconds
         self._options = options
-        self._documents: dict[bytes, bytes] = {}
-        self._pending: list[_Put] = []
-        self._waiting: asyncio.Queue[tuple[Item, asyncio.Future[Any]]] = asyncio.Queue()
+        # the changes since the last publish that was carried out, and publishes that were not
+        self._pending: list[_Put | _Publish] = []
+        self._waiting: asyncio.Queue[_Asked] = asyncio.Queue()
+        self._waiting_bytes = 0
+        self._room = asyncio.Event()
+        self._lost: ShardLost | None = None
         self._actor: Any = None
         self._made: Any = None
         self._worker: str | None = None
         self._next = 0
         self._task = asyncio.create_task(self._run())
 
-    def send(self, item: Item) -> asyncio.Future[Any]:
-        """Puts an item into the lane. Its outcome comes in the future."""
-        future: asyncio.Future[Any] = asyncio.get_running_loop().create_future()
+    def send(self, item: Item, waits: bool = True) -> asyncio.Future[Any]:
+        """Puts an item into the lane. Its outcome comes in the future, and an error as one."""
+        asked = _Asked(item, asyncio.get_running_loop().create_future(), waits)
         if self._task.done():
-            future.set_exception(Ended(None, "the shard is closed"))
+            asked.settle(Ended(None, "the cluster is closed"))
+        elif self._lost and not waits:
+            asked.settle(self._lost)
         else:
-            self._waiting.put_nowait((item, future))
-        return future
+            self._waiting.put_nowait(asked)
+            self._waiting_bytes += _size_of(item)
+        return asked.future
+
+    async def wait_for_room(self) -> None:
+        """Returns once not too much waits."""
+        while self._waiting_bytes > _MOST_WAITING and not self._task.done():
+            self._room.clear()
+            await self._room.wait()
 
     async def pid(self) -> int | None:
         """The number of the shard's program."""
@@ -198,66 +266,76 @@ class _Lane:
         if self._actor is not None:
             # a released actor would leave its program running
             with contextlib.suppress(OSError, ValueError, TimeoutError):
-                async with asyncio.timeout(_TO_CALL):
+                async with asyncio.timeout(self._call_seconds):
                     await self._actor.close()
         self._workers.give(self._worker)
 
     async def _run(self) -> None:
-        got: list[tuple[Item, asyncio.Future[Any]]] = []
-        message = "the shard is closed"
+        batch: list[_Asked] = []
         try:
             while True:
-                got.append(await self._waiting.get())
-                self._take_waiting(got)
-                outcomes = await self._call([item for item, _ in got])
-                for (item, future), outcome in zip(got, outcomes):
-                    self._note(item, outcome)
-                    if not future.done():
-                        future.set_result(outcome)
-                got.clear()
-        except Exception as fault:
-            message = f"the shard is given up: {fault!r}"
+                # a shard is made, and made again if it is lost, whoever waits for it
+                if self._actor is not None:
+                    batch.append(await self._waiting.get())
+                self._take_waiting(batch)
+                # what nobody waits for any more
+                batch[:] = [asked for asked in batch if not (isinstance(asked.item, Query) and asked.future.done())]
+                await self._carry_out(batch)
+                batch.clear()
         finally:
-            # whatever it was, nobody may wait for ever
-            self._take_waiting(got)
-            for _, future in got:
-                if not future.done():
-                    future.set_exception(Ended(None, message))
-                    future.exception()
+            # nobody may wait for ever
+            self._take_waiting(batch)
+            for asked in batch:
+                asked.settle(Ended(None, "the cluster is closed"))
 
-    def _take_waiting(self, got: list[tuple[Item, asyncio.Future[Any]]]) -> None:
+    def _take_waiting(self, batch: list[_Asked]) -> None:
         while not self._waiting.empty():
-            got.append(self._waiting.get_nowait())
+            batch.append(self._waiting.get_nowait())
+        self._waiting_bytes = 0
+        self._room.set()
 
-    async def _call(self, items: list[Item]) -> list[Any]:
-        """Sends a call until it is answered, each time to a new actor."""
+    async def _carry_out(self, batch: list[_Asked]) -> None:
+        """Sends a call until it is answered, each time to a new actor. After so many tries those who wait are told that the shard is
+        lost. What they have changed and published stands all the same, and goes to the next actor."""
         for tried in range(_TRIES):
             try:
                 if self._actor is None:
                     await self._make()
-                return await self._send(items)
-            # Dask says OSError for a worker that ends during a call, and ValueError for one that has ended
-            except (OSError, ValueError, Ended, TimeoutError) as fault:
-                last = fault
-                await self._leave(has_failed=not isinstance(fault, Ended))
-                await asyncio.sleep(_PAUSE * (2**tried - 1))
-            self.heals += 1
-        raise last
+                outcomes = await self._send([asked.item for asked in batch])
+            # whatever it is, another actor is made: Dask says OSError for a worker that ends during a call, and ValueError after that
+            except Exception as fault:
+                await self._lose(batch, fault)
+                await asyncio.sleep(_PAUSE * 2**tried)
+                continue
+            self._lost = None
+            break
+        else:
+            outcomes = [self._lost] * len(batch)
+        for asked, outcome in zip(batch, outcomes):
+            self._note(asked.item, outcome)
+            asked.settle(outcome)
 
     async def _send(self, items: list[Item]) -> list[Any]:
         number, self._next = self._next, self._next + 1
-        async with asyncio.timeout(_TO_CALL):
-            outcomes: list[Any] = await self._actor.run(number, items)
+        async with asyncio.timeout(self._call_seconds):
+            outcomes: list[Any] = pickle.loads(await self._actor.run(number, pickle.dumps(items, pickle.HIGHEST_PROTOCOL)))
         return outcomes
 
-    async def _leave(self, has_failed: bool) -> None:
-        """Leaves an actor that does not answer. Its program ends with its worker, or by this call if only the program has ended."""
+    async def _lose(self, batch: list[_Asked], fault: Exception) -> None:
+        """Leaves an actor that does not answer, and tells those who do not wait. Its program ends with its worker, or by this call if
+        only the program has ended."""
+        self.heals += 1
+        self._lost = ShardLost(self._number, str(fault) or type(fault).__name__)
+        for asked in batch:
+            if not asked.waits:
+                asked.settle(self._lost)
+        batch[:] = [asked for asked in batch if asked.waits]
         actor, self._actor, self._made = self._actor, None, None
         if actor is not None:
-            with contextlib.suppress(OSError, ValueError, TimeoutError):
+            with contextlib.suppress(Exception):
                 async with asyncio.timeout(1):
                     await actor.close()
-        self._workers.give(self._worker, has_failed)
+        self._workers.give(self._worker, has_failed=not isinstance(fault, Ended))
         self._worker = None
 
     async def _make(self) -> None:
@@ -268,25 +346,31 @@ class _Lane:
         self._made = submit(Shard, self._options, actor=True, workers=[self._worker], pure=False)
         async with asyncio.timeout(_TO_MAKE):
             self._actor = await self._made
-        published = [_Put(name, body) for name, body in self._documents.items()]
+        published = [_Put(name, body) for name, body in self.documents.items()]
         for batch in _batches(published):
             await self._send(batch)
-        await self._send([_Publish(), *self._pending])
+        outcomes = await self._send([_Publish(), *self._pending])
+        pending, self._pending = self._pending, []
+        for item, outcome in zip(pending, outcomes[1:]):
+            self._note(item, outcome)
 
     def _note(self, item: Item, outcome: Any) -> None:
-        """What the shard has after an item."""
-        if isinstance(item, _Put):
+        """What the shard has after an item, or is to have once it is made again."""
+        if isinstance(item, _Put) or (isinstance(item, _Publish) and isinstance(outcome, ShardLost)):
             self._pending.append(item)
-        elif isinstance(item, _Publish) and isinstance(outcome, list):
+        elif isinstance(item, _Publish):
             refused = {at for at, _ in outcome}
             for at, change in enumerate(self._pending):
-                if at in refused:
-                    continue
-                if change.body is None:
-                    self._documents.pop(change.name, None)
-                else:
-                    self._documents[change.name] = change.body
+                if isinstance(change, _Put) and at not in refused:
+                    self.accepted += 1
+                    self.bytes += _size_of(change) - len(self.documents.pop(change.name, b""))
+                    if change.body is not None:
+                        self.documents[change.name] = change.body
             self._pending.clear()
+
+
+def _size_of(item: Item) -> int:
+    return len(item.body or b"") if isinstance(item, _Put) else 0
 
 
 def _batches(items: list[_Put]) -> Iterator[list[Item]]:
@@ -294,7 +378,7 @@ def _batches(items: list[_Put]) -> Iterator[list[Item]]:
     size = 0
     for item in items:
         batch.append(item)
-        size += len(item.body or b"")
+        size += _size_of(item)
         if size > _BATCH:
             yield batch
             batch, size = [], 0
@@ -312,61 +396,91 @@ class Cluster:
 
     client: a client of Dask with `asynchronous=True` in this loop. Its workers have this package and the program.
     shards: how many; there are at least so many workers, and better one more, where the shard of one that ends finds its place.
+    call_seconds: a shard that has not answered after so long is lost, and made again on another worker.
     options: those of `tsearch.Session`.
 
-    Versions are counted here: each answer's is the number of publishes before it, the same for all shards. `Ended` is raised once a
-    shard could not be made again in six tries.
+    Versions are counted here: each answer's is the number of publishes before it, the same for all shards. `ShardLost` is raised once a
+    shard could not be made again in six tries. What was changed and published stands all the same, and it is tried again and again.
     """
 
-    def __init__(self, client: Client, shards: int, **options: Any) -> None:
-        workers = _Workers(client)
+    def __init__(self, client: Client, shards: int, *, call_seconds: float = TO_CALL, **options: Any) -> None:
         self._version = 0
-        self._lanes = [_Lane(client, workers, options) for _ in range(shards)]
+        self._open = 0
+        self._lanes = [_Lane(number, client, call_seconds, options) for number in range(shards)]
 
     @property
     def heals(self) -> int:
-        """How often a shard was made anew."""
+        """How often a shard was lost."""
         return sum(lane.heals for lane in self._lanes)
+
+    @property
+    def life(self) -> int:
+        """1: versions are counted here, and do not begin again."""
+        return 1
 
     async def pids(self) -> list[int | None]:
         """The numbers of the programs' processes, one for each shard."""
         return [await lane.pid() for lane in self._lanes]
 
     async def put(self, name: str | bytes, body: str | bytes) -> None:
-        """Adds a document, or replaces the one of this name. Returns once its shard has it. Refusals are told by the publish;
-        `ChangeRefused` at once for a bad name."""
+        """Adds a document, or replaces the one of this name. Returns once it is handed over, and not too much waits. Refusals are told
+        by the publish; `ChangeRefused` at once for a bad name."""
         await self._change(_Put(names.to_bytes(name), body.encode() if isinstance(body, str) else body))
 
     async def remove(self, name: str | bytes) -> None:
-        """Removes a document."""
+        """Removes a document. Refusals are told by the publish; `ChangeRefused` at once for a bad name."""
         await self._change(_Put(names.to_bytes(name), None))
 
     async def _change(self, change: _Put) -> None:
         names.checked(change.name)
         lane = self._lanes[zlib.crc32(change.name) % len(self._lanes)]
-        await asyncio.shield(lane.send(change))
+        lane.send(change)
+        await lane.wait_for_room()
 
-    async def publish(self) -> list[ChangeRefused]:
-        """Lets searches see all changes so far, and gives those that were refused."""
+    async def publish(self) -> Published:
+        """Lets searches see all changes so far, and gives what is published then, with the changes that were refused. `ShardLost` if a
+        shard could not be made again, and `Ended` if the cluster is closed."""
         self._version += 1
-        outcomes = await asyncio.gather(*[lane.send(_Publish()) for lane in self._lanes])
-        for outcome in outcomes:
-            if isinstance(outcome, Error):
-                raise outcome
-        return [refused for outcome in outcomes for _, refused in outcome]
+        version = self._version
+        outcomes = await _outcomes([lane.send(_Publish()) for lane in self._lanes])
+        refused = tuple(refusal for outcome in outcomes for _, refusal in outcome)
+        return self._published(version, refused)
 
-    async def find(self, pattern: str | bytes, *, name: str | bytes | None = None, limit: int | None = None, **options: bool) -> Answer:
-        """The lines that contain a match, with the arguments and errors of `tsearch.Session.find`. A search whose task is cancelled is
-        not cancelled in the programs: give `search_ms`."""
-        query, version = Query.of(pattern, name, limit, **options), self._version
-        outcomes = await asyncio.gather(*[lane.send(query) for lane in self._lanes])
-        for outcome in outcomes:
-            if isinstance(outcome, Error):
-                raise outcome
-        return _merged(outcomes, version, limit)
+    async def status(self) -> Status:
+        """What is published."""
+        return status_of(self._published(self._version, ()))
 
-    async def close(self) -> None:
-        """Ends all programs."""
+    def _published(self, version: int, refused: tuple[ChangeRefused, ...]) -> Published:
+        documents, size, accepted = map(sum, zip(*[(len(lane.documents), lane.bytes, lane.accepted) for lane in self._lanes]))
+        return Published(1, version, documents, size, accepted, MOST_COMMANDS, self._open, refused)
+
+    async def restart(self, feed: object) -> None:
+        """Nothing: shards are made again by themselves."""
+
+    async def find(self, pattern: str | bytes, *, waits: bool = True, **options: Unpack[Options]) -> Answer:
+        """The lines that contain a match, with the options and errors of `tsearch.Session.find`, and those of one session with all
+        documents, byte for byte.
+
+        waits: whether to wait for a shard that is lost. Without, `ShardLost` is raised at once.
+
+        A search whose task is cancelled is not cancelled in the programs if it is there by then: give `search_ms`.
+        """
+        query, version = Query.of(pattern, **options), self._version
+        self._open += 1
+        try:
+            parts = query.parts()
+            # all of them in one step, so that no publish comes between
+            outcomes = await _outcomes([lane.send(part, waits) for part in parts for lane in self._lanes])
+        finally:
+            self._open -= 1
+        shards = len(self._lanes)
+        answers = [merged(part, outcomes[at * shards : (at + 1) * shards], version) for at, part in enumerate(parts)]
+        answer = joined(answers)
+        assert answer is not None
+        return answer
+
+    async def close(self, timeout: float | None = None) -> None:
+        """Ends all programs. `timeout` has no effect: a shard has `call_seconds` for it."""
         await asyncio.gather(*[lane.close() for lane in self._lanes])
 
     async def __aenter__(self) -> Cluster:
@@ -376,29 +490,11 @@ class Cluster:
         await self.close()
 
 
-def _documents_of(data: bytes) -> Iterator[tuple[bytes, bytes]]:
-    """The documents of an answer: each quoted name, and all its lines. The key is the name: `a.c:1` is before `a:1` among lines."""
-    at = 0
-    while at < len(data):
-        name = data[at : data.index(b":", at)]
-        begin, end = b"\n" + name + b":", data.index(b"\n", at)
-        while data.startswith(begin, end):
-            end = data.index(b"\n", end + 1)
-        yield name, data[at : end + 1]
-        at = end + 1
-
-
-def _merged(answers: list[Answer], version: int, limit: int | None) -> Answer:
-    """One answer of those of all shards, in the order of names."""
-    data = b"".join(lines for _, lines in heapq.merge(*[_documents_of(answer.data) for answer in answers], key=lambda found: found[0]))
-    kept = sum(answer.kept for answer in answers)
-    if limit is not None and kept > limit:
-        kept, data = limit, _first_lines(data, limit)
-    return Answer(1, version, sum(answer.count for answer in answers), kept, data)
-
-
-def _first_lines(data: bytes, count: int) -> bytes:
-    at = 0
-    for _ in range(count):
-        at = data.index(b"\n", at) + 1
-    return data[:at]
+async def _outcomes(futures: list[asyncio.Future[Any]]) -> list[Any]:
+    """What all lanes say. The first error is raised."""
+    outcomes: list[Any] = await asyncio.gather(*futures)
+    for outcome in outcomes:
+        if isinstance(outcome, Error):
+            # one of a shard that is lost is for several callers
+            raise outcome.with_traceback(None)
+    return outcomes

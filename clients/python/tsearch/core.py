@@ -13,31 +13,31 @@ import re
 from collections.abc import Callable
 from dataclasses import dataclass
 
-from . import patterns
-from .answers import Answer, Published, Status
+from .answers import Answer, Published, Status, View
 from .errors import (
     Cancelled,
     ChangeRefused,
     Ended,
     Error,
     NotUnderstood,
-    PatternRefused,
+    OptionRefused,
     PublishRefused,
     Refused,
     SearchRefused,
     TooSlow,
 )
 from .names import checked, to_bytes
+from .query import Query
 
 # A put's length has at most this many digits.
 _MOST_DIGITS = 9
 _REFUSED_LINE = re.compile(rb"line (\d+) refused: (.*)")
 _STATUS = re.compile(rb"line (\d+) status version (\d+) documents (\d+) bytes (\d+) accepted (\d+) of (\d+) open (\d+)")
-_REFUSED_SEARCH = re.compile(rb"search (\d+) refused: (name pattern: )?(.*?)(?: at (\d+))?")
-_ANSWER = re.compile(rb"search (\d+) version (\d+) lines (\d+)(?: candidates (\d+) of (\d+))?")
+_REFUSED_SEARCH = re.compile(rb"search (\d+) refused: (?:name pattern (\d+): )?(.*?)(?: at (\d+))?")
+_ANSWER = re.compile(rb"search (\d+) version (\d+) (?:lines|names) (\d+)( and more)?(?: rows (\d+))?(?: candidates (\d+) of (\d+))?")
 # No text of a session that is not part of an answer is this long.
 _LONGEST_HEAD = 1_024
-_OF_SEARCHES = {"cancelled": Cancelled, "too slow": TooSlow}
+_OF_SEARCHES = {"cancelled": Cancelled, "too slow": TooSlow, "out of memory": SearchRefused}
 
 
 class Sent:
@@ -64,49 +64,23 @@ class Sent:
 class SentSearch(Sent):
     """A search that was sent."""
 
-    __slots__ = ("number", "composed", "limit", "is_wanted")
+    __slots__ = ("number", "query", "is_wanted")
 
-    def __init__(self, line: int, number: int, composed: patterns.Composed, limit: int | None) -> None:
+    def __init__(self, line: int, number: int, query: Query) -> None:
         super().__init__(line)
         self.number = number
-        self.composed = composed
-        self.limit = limit
+        self.query = query
         # not once it is cancelled: then its answer is passed over
         self.is_wanted = True
 
 
-@dataclass(frozen=True)
-class Query:
-    """What is asked for, in the terms of `find`; `Session.find` says what each means."""
-
-    pattern: bytes
-    name: bytes | None = None
-    ignore_case: bool = False
-    literal: bool = False
-    word: bool = False
-    line: bool = False
-    limit: int | None = None
-
-    @classmethod
-    def of(cls, pattern: str | bytes, name: str | bytes | None = None, limit: int | None = None, **options: bool) -> Query:
-        """The query for the arguments of `find`."""
-        if limit is not None and limit < 0:
-            raise ValueError("a limit is at least 0")
-        return cls(to_bytes(pattern), None if name is None else to_bytes(name), limit=limit, **options)
-
-    def composed(self) -> patterns.Composed:
-        """The pattern that is sent."""
-        return patterns.compose(self.pattern, self.literal, self.word, self.line)
-
-
 @dataclass
 class _Coming:
-    """An answer whose lines are coming. So many more are kept, and then so many passed over."""
+    """An answer of which so many rows are still to come."""
 
     search: SentSearch
     answer: Callable[[bytes], Answer]
-    keep: int
-    skip: int
+    left: int
     parts: list[bytes]
 
 
@@ -169,19 +143,12 @@ class Core:
 
     def find(self, query: Query) -> tuple[SentSearch, list[bytes]]:
         """A search. `PatternRefused` at once for what cannot be sent as a pattern."""
-        composed = query.composed()
-        if query.name is None:
-            name = b""
-        else:
-            patterns.check(patterns.compose(query.name), in_name=True)
-            name = b"in " + query.name
-        patterns.check(composed)
-        word = b"isearch" if query.ignore_case else b"search"
+        item = query.item()
         self._searches += 1
-        search = SentSearch(self._next_line, self._searches, composed, query.limit)
+        search = SentSearch(self._next_line, self._searches, query)
         self._next_line += 1
         self._open[search.number] = search
-        return search, [b"%s%s %s\n" % (word, name, composed.pattern)]
+        return search, [item]
 
     def cancel(self, search: SentSearch) -> list[bytes]:
         """A cancel, and from now on the search's answer is passed over. Nothing is sent for a search that has its entry, or that was
@@ -190,8 +157,6 @@ class Core:
             return []
         search.is_wanted = False
         if self._coming and self._coming.search is search:
-            self._coming.skip += self._coming.keep
-            self._coming.keep = 0
             self._coming.parts.clear()
             return []
         return self._item(None, [b"cancel %d\n" % search.number])[1]
@@ -245,13 +210,11 @@ class Core:
 
     def _take_head(self, head: bytes) -> None:
         if found := _ANSWER.fullmatch(head):
-            number, version, lines = (int(word) for word in found.groups()[:3])
-            counted = [None if word is None else int(word) for word in found.groups()[3:]]
-            self._begin_answer(number, version, lines, *counted)
+            self._begin_answer(*found.groups())
         elif found := _REFUSED_SEARCH.fullmatch(head):
-            in_name, reason, offset = found.groups()[1:]
+            number, reason, offset = found.groups()[1:]
             search = self._entry(int(found[1]))
-            self._settle(search, error=_error_of(search, in_name is not None, reason.decode(errors="replace"), offset))
+            self._settle(search, error=_error_of(search.query, int(number or 0), reason.decode(errors="replace"), offset))
         elif found := _STATUS.fullmatch(head):
             line, version, documents, size, accepted, most, open_now = map(int, found.groups())
             sent = self._item_at(line, head)
@@ -282,34 +245,31 @@ class Core:
         self._accept_before(search.line)
         return search
 
-    def _begin_answer(self, number: int, version: int, lines: int, candidates: int | None, documents: int | None) -> None:
-        search = self._entry(number)
-        if search.composed.is_open:
-            raise NotUnderstood(f"the pattern {search.composed.pattern!r} is not refused")
-        keep = 0 if not search.is_wanted else lines if search.limit is None else min(lines, search.limit)
+    def _begin_answer(
+        self, number: bytes, version: bytes, count: bytes, more: bytes | None, rows: bytes | None, candidates: bytes | None, documents: bytes | None
+    ) -> None:
+        search = self._entry(int(number))
+        view = search.query.view
+        found, of = (None if word is None else int(word) for word in (candidates, documents))
 
         def answer(data: bytes) -> Answer:
-            return Answer(self._life, version, lines, keep, data, candidates, documents)
+            return Answer(self._life, int(version), int(count), more is not None, view, data, found, of)
 
-        self._coming = _Coming(search, answer, keep, lines - keep, [])
+        self._coming = _Coming(search, answer, 0 if view is View.HEADER else int(rows or count), [])
         self._end_answer(self._coming)
 
     def _take_lines(self, coming: _Coming, data: bytes, at: int) -> int:
-        """Takes lines of the answer that is coming, and gives where it has come to."""
-        is_kept = coming.keep > 0
-        left = coming.keep or coming.skip
+        """Takes rows of the answer that is coming, and gives where it has come to."""
         count = data.count(b"\n", at)
-        end = len(data) if count < left else _after_line(data, at, left)
-        if is_kept:
+        end = len(data) if count < coming.left else after_line(data, at, coming.left)
+        if coming.search.is_wanted:
             coming.parts.append(data[at:end])
-            coming.keep -= min(count, left)
-        else:
-            coming.skip -= min(count, left)
+        coming.left -= min(count, coming.left)
         self._end_answer(coming)
         return end
 
     def _end_answer(self, coming: _Coming) -> None:
-        if coming.keep or coming.skip:
+        if coming.left:
             return
         self._coming = None
         if coming.search.is_wanted:
@@ -318,7 +278,7 @@ class Core:
             self._settle(coming.search, error=Cancelled("cancelled"))
 
 
-def _after_line(data: bytes, at: int, lines: int) -> int:
+def after_line(data: bytes, at: int, lines: int) -> int:
     """The offset after so many line feeds from `at` on; there are that many. Halves what is left, which looks at it twice."""
     end = len(data)
     while end - at > 1:
@@ -331,12 +291,11 @@ def _after_line(data: bytes, at: int, lines: int) -> int:
     return end
 
 
-def _error_of(search: SentSearch, in_name: bool, reason: str, offset: bytes | None) -> Error:
+def _error_of(query: Query, number: int, reason: str, offset: bytes | None) -> Error:
     """The error for the refusal of a search."""
     if offset is None:
-        return _OF_SEARCHES.get(reason, SearchRefused)(reason)
-    at = int(offset)
-    return PatternRefused(reason, at if in_name else search.composed.origin(at), in_name)
+        return _OF_SEARCHES.get(reason, OptionRefused)(reason)
+    return query.refusal(reason, int(offset), number)
 
 
 def value_of(sent: Sent) -> object:

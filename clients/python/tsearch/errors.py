@@ -19,16 +19,21 @@ class Refused(Error):
 
 
 class PatternRefused(Refused):
-    """A pattern cannot be read. `offset` is that of the fault in the pattern as it was given to `find`, in bytes from 0, and at
-    most the pattern's length. `in_name` says whether it is the name pattern."""
+    """A pattern cannot be read. `offset` is that of the fault in `pattern`, in bytes from 0, and at most its length. `number` is that of
+    a name pattern, from 1, with those of `not_names` behind those of `names`; it is 0 for the pattern itself."""
 
-    def __init__(self, reason: str, offset: int, in_name: bool = False) -> None:
-        super().__init__(reason, offset, in_name)
+    def __init__(self, reason: str, offset: int, number: int = 0, pattern: bytes = b"") -> None:
+        super().__init__(reason, offset, number, pattern)
         self.offset = offset
-        self.in_name = in_name
+        self.number = number
+        self.pattern = pattern
 
     def __str__(self) -> str:
-        return f"{'name pattern: ' if self.in_name else ''}{self.reason} at {self.offset}"
+        return f"{f'name pattern {self.number}: ' if self.number else ''}{self.reason} at {self.offset}"
+
+
+class OptionRefused(Refused):
+    """The options of a search exclude each other, a number is out of its range, or there are over 16 of `names` or of `not_names`."""
 
 
 class ChangeRefused(Refused):

@@ -8,12 +8,13 @@ import stat
 import threading
 import time
 from collections.abc import Callable, Iterator
-from typing import NamedTuple
+from typing import NamedTuple, Unpack
 
 from . import names
 from .answers import Answer, Published
 from .errors import ChangeRefused
 from .listing import File, Listing, Stamp, is_in_repository, list_by_git, list_by_walk
+from .query import Options
 from .session import Changes, Session
 
 # The limits of a document, in bytes (docs/SCRIPT.md, "The limits").
@@ -223,7 +224,8 @@ class Folder:
 
     def refresh(self) -> Refreshed:
         """Looks through the folder, sends what has changed by times, length or number of its file, and publishes it. A search that
-        is sent afterwards sees all of it. `Ended` if the program has ended: then `restart`."""
+        is sent afterwards sees all of it. `Ended` if the program has ended: then `restart`. `PublishRefused` if there is no memory for
+        the publish: the next `refresh` publishes again."""
         with self._lock:
             put, removed = self._send(self._session)
             published = None
@@ -234,8 +236,8 @@ class Folder:
             return Refreshed(put, removed, self._files.take_news(), published)
 
     def restart(self) -> Published | None:
-        """Starts the program again if it has ended, and sends all files. For a session with this folder alone; with others it is
-        `session.restart` with a callback that calls the `feed` of each."""
+        """Starts the program again if it has ended, and sends all files. None if it runs. For a session with this folder alone; with
+        others it is `session.restart` with a callback that calls the `feed` of each. The errors are those of `session.restart`."""
         with self._lock:
             published = self._session.restart(self._feed)
             if published:
@@ -247,10 +249,11 @@ class Folder:
         with self._lock:
             self._feed(changes)
 
-    def find(self, pattern: str | bytes, **options: object) -> Answer:
-        """A search of the session, with the arguments of `Session.find`, in the documents of this folder as they were last sent.
+    def find(self, pattern: str | bytes, *, timeout: float | None = None, **options: Unpack[Options]) -> Answer:
+        """A search of the session, with the arguments and the errors of `Session.find`, in the documents of this folder as they were
+        last published, and in whatever else is in the session.
         The hits are named by their paths from the top of the folder if there is no prefix."""
-        return self._session.find(pattern, **options)  # type: ignore[arg-type]
+        return self._session.find(pattern, timeout=timeout, **options)
 
     def _feed(self, changes: Changes) -> None:
         self._files.forget()

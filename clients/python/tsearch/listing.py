@@ -36,7 +36,8 @@ class Listing(NamedTuple):
 
 
 def is_in_repository(root: bytes) -> bool:
-    """Whether git lists this folder: it is in a repository, and not among what that ignores."""
+    """Whether git lists this folder: it is in a repository, and not among what that ignores. False too if there is no git, or it does
+    not answer in 300 seconds."""
     if _git(root, b"rev-parse", b"--is-inside-work-tree").stdout.strip() != b"true":
         return False
     # 1 if it is not ignored
@@ -44,7 +45,8 @@ def is_in_repository(root: bytes) -> bool:
 
 
 def list_by_git(root: bytes) -> Listing:
-    """The files that git tracks or does not ignore, those of repositories inside too. Symbolic links are left out."""
+    """The files that git tracks or does not ignore, those of repositories inside too. Symbolic links are left out. A repository that
+    git does not list is among the faults."""
     listing = Listing({}, {})
     folders = [b""]
     while folders:
@@ -63,7 +65,7 @@ def list_by_git(root: bytes) -> Listing:
 
 
 def list_by_walk(root: bytes) -> Listing:
-    """All files below a folder but symbolic links and what is named .git."""
+    """All files below a folder but symbolic links and what is named .git. A folder that cannot be read is among the faults."""
     listing = Listing({}, {})
     folders = [b""]
     while folders:

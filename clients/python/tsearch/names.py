@@ -1,4 +1,4 @@
-"""Names of documents. A name of a session has no space, no control byte and, so that `NAME:LINE:TEXT` is read in one way, no colon.
+"""Names of documents. A name of a session has no space and no control byte.
 
 So this package writes such a byte, and `%`, as `%` and two hexadecimal digits, and reads it back: callers give and get any bytes as
 names, paths above all. A name pattern is matched against the quoted name.
@@ -12,7 +12,7 @@ from urllib.parse import unquote_to_bytes
 from .errors import ChangeRefused
 
 MAX_NAME = 255
-_QUOTED = re.compile(rb"[\0-\x20%:\x7f]")
+_QUOTED = re.compile(rb"[\0-\x20%\x7f]")
 
 
 def to_bytes(text: str | bytes) -> bytes:

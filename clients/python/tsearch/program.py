@@ -41,7 +41,8 @@ def command(
     max_commands: int | None = MOST_COMMANDS,
     stats: bool = False,
 ) -> list[str]:
-    """The words that start a session. `program` is a path, or the words of a command to which the options are added."""
+    """The words that start a session. `program` is a path, or the words of a command to which the options are added; by default it is
+    that of `find_program`, with its `Error`."""
     if program is None:
         words = [find_program()]
     elif isinstance(program, (str, os.PathLike)):

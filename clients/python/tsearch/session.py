@@ -14,17 +14,20 @@ import time
 from collections.abc import Callable, Sequence
 from concurrent.futures import Future
 from concurrent.futures import TimeoutError as FutureTimeoutError
-from typing import Any, Protocol
+from typing import Any, Protocol, Unpack
 
-from .answers import Answer, Published, Status
-from .core import Core, Query, Sent, SentSearch, ended_by, ended_with, status_of, value_of
+from .answers import Answer, Published, Status, joined
+from .core import Core, Sent, SentSearch, ended_by, ended_with, status_of, value_of
 from .errors import Ended, Error
 from .program import MOST_COMMANDS, TO_END, command, kill_group
+from .query import Options, Query
 
 # In bytes. Whoever sends waits while more than this has not gone to the program.
 MOST_WAITING = 1 << 20
 # The program takes no item, not even a cancel, while 1,024 searches are open.
 MOST_OPEN = 512
+# How often a query that takes two searches is made, until both are of one version.
+MOST_TRIES = 100
 _BLOCK = 1 << 18
 # Of standard error only so much is kept.
 _MESSAGE = 4_096
@@ -343,7 +346,8 @@ class Change:
         return self._sent.name
 
     def wait(self, timeout: float | None = None) -> None:
-        """Returns once the change is known to be accepted, and asks for a status to know it. `ChangeRefused` if it is refused."""
+        """Returns once the change is known to be accepted, and asks for a status to know it. `ChangeRefused` if it is refused,
+        `TimeoutError` if that is not known in so many seconds, and `Ended`."""
         deadline = _deadline(timeout)
         with self._connection.lock:
             if self._future is None:
@@ -423,7 +427,9 @@ class Session(Changes):
     messages: is called with what the program writes to standard error, in the session's own thread; it must not call the session.
     most_open: how many searches are at the program at a time, 1 to 1,000; the next `find` waits for its turn.
 
-    `Ended` is raised by each call that waits for a program when it ends, and by each call after that, until `restart`.
+    `ValueError` is raised for a `most_open` out of its range, `Error` if there is no program, and `OSError` if it cannot be started.
+    `Ended` is raised by each call that waits for a program when it ends, and by each call after that, until `restart`. A `timeout` is
+    in seconds; None is no limit.
     """
 
     def __init__(
@@ -480,11 +486,12 @@ class Session(Changes):
 
     def publish(self, timeout: float | None = None) -> Published:
         """Lets searches see all changes so far, and returns once they do, with what was refused since the publish before.
-        `PublishRefused` if there is no memory. After a `TimeoutError` the publish is carried out all the same."""
+        `PublishRefused` if there is no memory, and `TimeoutError` if it takes longer than `timeout`: then the publish is carried out all
+        the same."""
         return _publish(self._connection, _deadline(timeout))
 
     def status(self, timeout: float | None = None) -> Status:
-        """What the session holds. It waits for no search."""
+        """What the session holds. It waits for no search. `TimeoutError` if it does not come in `timeout`."""
         deadline = _deadline(timeout)
         connection = self._connection
 
@@ -496,7 +503,8 @@ class Session(Changes):
 
     def sync(self, timeout: float | None = None) -> None:
         """Returns once every search that was sent before has its answer or its refusal. Nothing is sent for it: behind an item
-        `sync` the cancels of other threads would wait."""
+        `sync` the cancels of other threads would wait. `TimeoutError` if a search is still open after `timeout`, and
+        `Ended` if the program ends or has ended."""
         deadline = _deadline(timeout)
         connection = self._connection
         with connection.lock:
@@ -507,23 +515,14 @@ class Session(Changes):
         if not done:
             raise TimeoutError("searches are open after the time that was given")
 
-    def begin(
-        self,
-        pattern: str | bytes,
-        *,
-        name: str | bytes | None = None,
-        ignore_case: bool = False,
-        literal: bool = False,
-        word: bool = False,
-        line: bool = False,
-        limit: int | None = None,
-        timeout: float | None = None,
-    ) -> Search:
-        """Sends a search and does not wait for its answer. The arguments are those of `find`; `timeout` is for its turn."""
-        query = Query.of(pattern, name, limit, ignore_case=ignore_case, literal=literal, word=word, line=line)
-        return self._begin(query, _deadline(timeout))
+    def begin(self, pattern: str | bytes, *, timeout: float | None = None, **options: Unpack[Options]) -> Search:
+        """Sends a search and does not wait for its answer. The options are those of `find`, but `spans` beside `context` or `column`
+        is refused: that takes two searches. `timeout` is for its turn: `TimeoutError` if that does not come in time. `PatternRefused`
+        at once for what cannot be sent as a pattern; all other refusals are raised by `result`."""
+        return self.begin_query(Query.of(pattern, **options), _deadline(timeout))
 
-    def _begin(self, query: Query, deadline: float | None) -> Search:
+    def begin_query(self, query: Query, deadline: float | None = None) -> Search:
+        """Does what `begin` does, for a query that is made, and until a time of the monotonic clock."""
         connection = self._connection
 
         def make(core: Core) -> tuple[Search, list[bytes]]:
@@ -533,41 +532,50 @@ class Session(Changes):
         search: Search = connection.send(make, deadline, is_search=True)
         return search
 
-    def find(
-        self,
-        pattern: str | bytes,
-        *,
-        name: str | bytes | None = None,
-        ignore_case: bool = False,
-        literal: bool = False,
-        word: bool = False,
-        line: bool = False,
-        limit: int | None = None,
-        timeout: float | None = None,
-    ) -> Answer:
+    def find(self, pattern: str | bytes, *, timeout: float | None = None, **options: Unpack[Options]) -> Answer:
         """The lines that contain a match of a pattern, in the documents of the last publish or a later one.
 
         pattern: a POSIX extended regular expression (docs/PATTERNS.md), as bytes, or as text that is sent as UTF-8.
-        name: only documents whose quoted names contain a match of this pattern, in which case counts.
-        ignore_case: ASCII letters match both their cases.
-        literal: `pattern` is a text, and not a pattern.
-        word: only matches with no ASCII letter, digit or `_` right before or after them.
-        line: only matches that are the whole line; then `word` does not matter.
-        limit: the answer keeps at most so many lines. The program finds and writes all of them, and the rest is passed over here.
         timeout: in seconds. After that the search is cancelled in the program, and `TimeoutError` raised.
 
-        `PatternRefused` for a pattern that cannot be read, `TooSlow` after the time of `search_ms`, `SearchRefused` if the program
-        has no memory for it, and `Ended`.
+        What is found:
+        ignore_case: ASCII letters match both their cases.
+        literal: `pattern` is a text, and not a pattern.
+        whole_words: only matches with no ASCII letter, digit or `_` right before or after them.
+        whole_lines: only matches that are the whole line; then `whole_words` does not matter.
+        invert: the lines that contain no match.
+        names, not_names: a pattern, or up to 16. Only documents whose quoted names contain a match of each of `names`, and of none of
+            `not_names`.
+        names_ignore_case: ASCII letters match both their cases in these.
+        limit: at most so many lines, or names, from 1; the program stops once it has them, and `answer.more` says whether there are more.
+
+        What is shown, instead of lines:
+        context: so many lines, 0 to 1,000, before and after each line too, in `answer.rows()`.
+        column: `hit.column`, where the first match begins.
+        spans: `hit.spans`, where the matches are. Beside `context` or `column` it takes a second search of the same version.
+        names_only: the names of documents with such a line, in `answer.names()`.
+        counts: these names with the numbers of their lines, in `answer.counts()`.
+        header_only: nothing but `answer.count` and `answer.more`.
+
+        `PatternRefused` for a pattern that cannot be read, `OptionRefused` for options that exclude each other, for numbers out of their
+        range and for over 16 name patterns of a kind, `TooSlow` after the time of `search_ms`, `SearchRefused` if the program has no
+        memory for it, `Error` if two searches were not of one version in 100 tries, and `Ended`.
         """
-        deadline = _deadline(timeout)
-        query = Query.of(pattern, name, limit, ignore_case=ignore_case, literal=literal, word=word, line=line)
-        search = self._begin(query, deadline)
-        try:
-            return search.result(_left(deadline))
-        except BaseException:
-            # as a timeout and Ctrl-C; there is nothing to cancel after a refusal
-            search.cancel()
-            raise
+        query, deadline = Query.of(pattern, **options), _deadline(timeout)
+        for _ in range(MOST_TRIES):
+            searches: list[Search] = []
+            try:
+                for part in query.parts():
+                    searches.append(self.begin_query(part, deadline))
+                answers = [search.result(_left(deadline)) for search in searches]
+            except BaseException:
+                # as a timeout and Ctrl-C; there is nothing to cancel after a refusal
+                for search in searches:
+                    search.cancel()
+                raise
+            if (answer := joined(answers)) is not None:
+                return answer
+        raise Error("the documents change too often for two searches")
 
     def cancel(self, search: Search) -> None:
         """Gives up a search, as its own `cancel` does."""
@@ -579,7 +587,8 @@ class Session(Changes):
         `feed` raises is raised, and then nothing has changed.
 
         None if the program runs: another thread has started it again. With `only_if_ended=False` one that runs is replaced, as is
-        needed once it is full; it answers until then, and what was sent to it is answered. `Ended` if the session was closed.
+        needed once it is full; it answers until then, and what was sent to it is answered. `Ended` if the session was closed,
+        `ValueError` if it is one over pipes, `OSError` if the program cannot be started, and `PublishRefused`.
         """
         if self._words is None:
             raise ValueError("a session over pipes cannot start a program")

@@ -11,14 +11,12 @@ import sys
 import time
 from collections.abc import Iterable, Iterator
 
-from . import views
-from .answers import Answer, Hit
-from .errors import PatternRefused, SearchRefused
+from .answers import GAP, Answer, Hit
+from .errors import OptionRefused, PatternRefused, SearchRefused
 from .folder import Folder, LeftOut
 from .names import to_bytes
-from .patterns import escape
+from .query import Options
 from .session import Session
-from .spans import NotRead, Spans
 
 _CONTROL = re.compile(rb"[\0-\x08\x0b-\x1f\x7f]")
 _NAME, _LINE, _SEPARATOR, _MATCH, _FAULT = b"35", b"32", b"36", b"1;31", b"1;31"
@@ -69,13 +67,12 @@ class Terminal:
         sys.stderr.write(message.decode(errors="replace"))
         sys.stderr.flush()
 
-    def complain(self, refused: PatternRefused, pattern: str | bytes) -> None:
+    def complain(self, refused: PatternRefused) -> None:
         """Says why a pattern is refused, and shows where."""
-        shown = to_bytes(pattern)
         self.say(str(refused))
-        before = shown[: refused.offset].decode(errors="replace")
+        before = refused.pattern[: refused.offset].decode(errors="replace")
         with contextlib.suppress(UnicodeEncodeError):
-            sys.stderr.write(f"  {shown.decode(errors='replace')}\n  {' ' * len(before)}^\n")
+            sys.stderr.write(f"  {refused.pattern.decode(errors='replace')}\n  {' ' * len(before)}^\n")
 
     def progress(self, done: int, of: int) -> None:
         """Shows how many files are loaded, now and then."""
@@ -95,14 +92,19 @@ class Terminal:
 
 
 def run(given: argparse.Namespace, terminal: Terminal) -> int:
-    """Loads the folder, and answers the pattern, or those that are typed. The status."""
+    """Loads the folder, and answers the pattern, or those that are typed. The status: 0 if a line was found, 1 if none was, and 2 if a
+    file could not be read, but with `quiet` 0 as soon as a line was found; 0 if patterns are typed. The errors are those of
+    `Folder.refresh` and `Folder.find`; a refusal of a pattern that is typed is only shown."""
     messages = terminal.pass_on
     with Session(readers=given.readers, search_ms=given.search_ms or None, messages=messages) as session:
         folder = Folder(session, given.folder, git=False if given.all else None, progress=terminal.progress)
         if given.watch:
             return _watch(folder, given, terminal)
+        search = _Search(folder, given, terminal, to_bytes(given.pattern))
+        # what is refused is refused before anything is loaded
+        search.find()
         is_whole = _refresh(folder, given, terminal)
-        is_found = _Search(folder, given, terminal, to_bytes(given.pattern)).show()
+        is_found = search.show()
         return 0 if is_found and (is_whole or given.quiet) else 2 if not is_whole else 1 - is_found
 
 
@@ -139,8 +141,8 @@ def _watch(folder: Folder, given: argparse.Namespace, terminal: Terminal) -> int
             _refresh(folder, given, terminal)
             _Search(folder, given, terminal, typed).show()
         except PatternRefused as refused:
-            terminal.complain(refused, given.name if refused.in_name else typed)
-        except SearchRefused as refused:
+            terminal.complain(refused)
+        except (OptionRefused, SearchRefused) as refused:
             terminal.say(str(refused))
         except KeyboardInterrupt:
             terminal.say("given up")
@@ -154,92 +156,60 @@ class _Search:
         self._given = given
         self._terminal = terminal
         self._pattern = pattern
-        self._name = None if given.name is None else to_bytes(given.name)
+        self._has_names = given.files_with_matches or given.count
+        has_marks = terminal.has_colours and not (given.invert_match or self._has_names or given.quiet)
+        self._options = Options(
+            ignore_case=given.ignore_case,
+            literal=given.fixed_strings,
+            whole_words=given.word_regexp,
+            whole_lines=given.line_regexp,
+            invert=given.invert_match,
+            names=given.name,
+            not_names=given.not_name,
+            names_ignore_case=given.names_ignore_case,
+            limit=1 if given.quiet and given.max_count is None else given.max_count,
+            context=given.context,
+            column=given.column and not given.only_matching,
+            spans=given.only_matching or has_marks,
+            names_only=given.files_with_matches,
+            counts=given.count,
+            header_only=given.quiet,
+        )
+
+    def find(self) -> Answer:
+        """The answer, of what is loaded."""
+        return self._folder.find(self._pattern, **self._options)
 
     def show(self) -> bool:
         """Shows what is found. Whether anything is."""
+        answer = self.find()
+        if not self._given.quiet:
+            self._terminal.write(self._names(answer) if self._has_names else self._rows(answer))
+        return answer.count > 0
+
+    def _names(self, answer: Answer) -> Iterator[bytes]:
         given = self._given
-        answer = self._find()
-        hits = self._without_match() if given.invert_match else answer.hits()
-        if given.max_count is not None and not (given.files_with_matches or given.count):
-            hits = hits[: given.max_count]
-        if given.quiet:
-            pass
-        elif given.files_with_matches or given.count:
-            counts = collections.Counter(hit.name for hit in hits)
-            names = list(counts)[: given.max_count]
-            self._terminal.write(self._name_row(name, counts[name]) for name in names)
-            return bool(names)
-        else:
-            self._terminal.write(self._rows(answer, hits))
-        return bool(hits)
+        if not given.count:
+            return (self._terminal.paint(name, _NAME) + (b"\0" if given.null else b"\n") for name in answer.names())
+        return ((b"" if given.no_filename else self._shown_name(name, b":")) + b"%d\n" % count for name, count in answer.counts().items())
 
-    def _find(self) -> Answer:
-        given = self._given
-        is_whole = given.invert_match or given.files_with_matches or given.count
-        return self._folder.find(
-            self._pattern,
-            name=self._name,
-            ignore_case=given.ignore_case,
-            literal=given.fixed_strings,
-            word=given.word_regexp,
-            line=given.line_regexp,
-            limit=None if is_whole else given.max_count,
-        )
+    def _rows(self, answer: Answer) -> Iterator[bytes]:
+        for row in answer.rows():
+            if row is None:
+                yield self._terminal.paint(GAP, _SEPARATOR) + b"\n"
+            elif self._given.only_matching:
+                for begin, end in row.hit.spans or ():
+                    column = begin + 1 if self._given.column else None
+                    yield self._row(row.hit._replace(text=row.hit.text[begin:end], column=column, spans=((0, end - begin),)), b":")
+            else:
+                yield self._row(row.hit, b":" if row.is_found else b"-")
 
-    def _find_all(self, pattern: bytes, name: bytes | None) -> Answer:
-        return self._folder.find(pattern, name=name)
-
-    def _without_match(self) -> list[Hit]:
-        return views.without_match(self._find_all, self._find, self._name)
-
-    def _rows(self, answer: Answer, hits: list[Hit]) -> Iterator[bytes]:
-        given = self._given
-        spans = None if given.invert_match else self._spans()
-        if given.only_matching:
-            assert spans is not None
-            for hit in hits:
-                for begin, end in spans.of(hit.text):
-                    yield self._row(hit._replace(text=hit.text[begin:end]), b":", [(0, end - begin)])
-        elif given.before or given.after:
-            separator = self._terminal.paint(b"--", _SEPARATOR) + b"\n"
-            version = (answer.life, answer.version)
-            for number, group in enumerate(views.with_context(self._find_all, hits, version, given.before, given.after)):
-                if number:
-                    yield separator
-                for hit, is_found in group:
-                    yield self._row(hit, b":" if is_found else b"-", spans.of(hit.text) if spans and is_found else [])
-        else:
-            for hit in hits:
-                yield self._row(hit, b":", spans.of(hit.text) if spans else [])
-
-    def _spans(self) -> Spans | None:
-        given = self._given
-        if not (given.only_matching or self._terminal.has_colours):
-            return None
-        pattern = escape(self._pattern) if given.fixed_strings else self._pattern
-        try:
-            return Spans(pattern, given.ignore_case, given.word_regexp, given.line_regexp)
-        except NotRead:
-            if given.only_matching:
-                raise
-            return None
-
-    def _row(self, hit: Hit, separator: bytes, spans: list[tuple[int, int]]) -> bytes:
+    def _row(self, hit: Hit, separator: bytes) -> bytes:
         paint = self._terminal.paint
         row = b"" if self._given.no_filename else self._shown_name(hit.name, separator)
-        if self._given.line_number:
-            row += paint(b"%d" % hit.line, _LINE) + paint(separator, _SEPARATOR)
-        at = 0
-        for begin, end in spans:
-            row += paint(hit.text[at:begin], b"") + paint(hit.text[begin:end], _MATCH)
-            at = end
-        return row + paint(hit.text[at:], b"") + b"\n"
+        for number in ([hit.line] if self._given.line_number else []) + ([] if hit.column is None else [hit.column]):
+            row += paint(b"%d" % number, _LINE) + paint(separator, _SEPARATOR)
+        return row + b"".join(paint(part, _MATCH if at % 2 else b"") for at, part in enumerate(hit.parts())) + b"\n"
 
     def _shown_name(self, name: bytes, separator: bytes) -> bytes:
         return self._terminal.paint(name, _NAME) + (b"\0" if self._given.null else self._terminal.paint(separator, _SEPARATOR))
-
-    def _name_row(self, name: bytes, count: int) -> bytes:
-        if self._given.count:
-            return (b"" if self._given.no_filename else self._shown_name(name, b":")) + b"%d\n" % count
-        return self._terminal.paint(name, _NAME) + (b"\0" if self._given.null else b"\n")

@@ -2,12 +2,14 @@
 // Every text of a document or of a visitor is put into the page as text, and never as markup.
 
 const at = (id) => document.getElementById(id);
-const pattern = at("pattern"), nameField = at("name"), results = at("results"), status = at("status"), fault = at("fault");
+const pattern = at("pattern"), fields = { name: at("name"), not: at("not") }, context = at("context"), results = at("results"), status = at("status"), fault = at("fault");
 const options = { i: at("ignore-case"), w: at("word"), F: at("literal") };
 const visitor = Array.from(crypto.getRandomValues(new Uint8Array(16)), (byte) => byte.toString(16).padStart(2, "0")).join("");
 // Fewer letters are searched for at Enter alone: they find too much to be of use.
 const LEAST = 3;
 const LONGEST = 400;
+// In milliseconds: when a search is made again that was refused since a program starts again.
+const AGAIN = 500;
 
 let running = null, turn = 0;
 
@@ -25,7 +27,8 @@ function chosen() {
 function wordsOf() {
   const words = new URLSearchParams();
   words.set("q", pattern.value);
-  if (nameField.value) words.set("name", nameField.value);
+  for (const [word, field] of Object.entries(fields)) if (field.value) words.set(word, field.value);
+  words.set("context", context.value);
   for (const [word, box] of Object.entries(options)) if (box.checked) words.set(word, "1");
   for (const repository of chosen()) words.append("repository", repository);
   return words;
@@ -47,10 +50,12 @@ function complain(told) {
     show(`The search is given up: ${told.refused}${slow}.`);
     return;
   }
-  const isName = told.in === "name";
-  const bytes = new TextEncoder().encode(isName ? nameField.value : pattern.value).slice(0, told.offset);
+  const field = fields[told.in];
+  const bytes = new TextEncoder().encode(pattern.value).slice(0, told.offset);
   const before = new TextDecoder().decode(bytes).length;
-  fault.textContent = isName ? `path: ${told.refused} at ${told.offset}` : `${" ".repeat(before)}^ ${told.refused}`;
+  const place = { name: "in", not: "not in", host: "the filter of this host" }[told.in];
+  fault.textContent = place ? `${place}: ${told.refused} at ${told.offset}` : `${" ".repeat(before)}^ ${told.refused}`;
+  (field || pattern).setAttribute("aria-invalid", "true");
   fault.hidden = false;
   show("");
 }
@@ -70,7 +75,7 @@ function cut(parts) {
 }
 
 function rowOf(hit) {
-  const row = element("button", "row");
+  const row = element("button", hit.around ? "row around" : "row");
   row.type = "button";
   row.append(element("span", "number", String(hit.line)));
   const text = element("span", "text");
@@ -81,11 +86,15 @@ function rowOf(hit) {
 
 function addDocument(found, head, several) {
   const section = element("section");
+  const lines = found.hits.filter((hit) => !hit.around).length;
   const title = element("h2");
   if (several) title.append(element("span", "repository", found.repository));
-  title.append(element("span", "name", found.name), element("span", "count", found.hits.length === 1 ? "1 line" : `${found.hits.length} lines`));
+  title.append(element("span", "name", found.name), element("span", "count", lines === 1 ? "1 line" : `${lines} lines`));
   section.append(title);
+  let last = 0;
   for (const hit of found.hits) {
+    if (last && hit.line !== last + 1) section.append(element("div", "gap"));
+    last = hit.line;
     const row = rowOf(hit);
     row.addEventListener("click", () => view(found, head, hit.line, row));
     section.append(row);
@@ -117,6 +126,7 @@ async function search() {
     return showLoaded();
   }
   const own = (running = new AbortController());
+  for (const field of [pattern, ...Object.values(fields)]) field.removeAttribute("aria-invalid");
   results.classList.add("stale");
   words.set("visitor", visitor);
   words.set("turn", String(++turn));
@@ -133,6 +143,7 @@ async function search() {
       if (told.refused) {
         complain(told);
         results.replaceChildren();
+        if (told.again) setTimeout(() => { if (running === own) search(); }, AGAIN);
       } else if (told.hits) addDocument(told, heads[told.repository], document.querySelectorAll("#repositories input").length > 1);
       else if (told.repository !== undefined) heads[told.repository] = told;
       else total = told;
@@ -140,11 +151,10 @@ async function search() {
     if (total) {
       fault.hidden = true;
       const files = results.querySelectorAll("section").length;
-      const more = total.shown < total.lines ? `, the first ${total.shown.toLocaleString()} of them shown` : "";
       const lines = total.lines === 1 ? "1 line" : `${total.lines.toLocaleString()} lines`;
       const unloaded = Object.values(heads).filter((head) => !head.loaded).map((head) => head.repository);
       const part = unloaded.length ? ` Still loading: ${unloaded.join(", ")}.` : "";
-      show((total.lines ? `${lines}${more ? more : ` in ${files === 1 ? "1 file" : `${files} files`}`}, in ${Math.round(total.seconds * 1000)} ms` : "No line matches.") + part);
+      show((total.lines ? `${total.more ? "the first " : ""}${lines} in ${files === 1 ? "1 file" : `${files} files`}${total.more ? ", and there are more" : ""}, in ${Math.round(total.seconds * 1000)} ms` : "No line matches.") + part);
     }
     document.body.dataset.done = words.get("q");
   } catch (error) {
@@ -219,10 +229,13 @@ function addRepositories(told, wanted) {
 async function begin() {
   const words = new URLSearchParams(location.search);
   pattern.value = words.get("q") || "";
-  nameField.value = words.get("name") || "";
+  for (const [word, field] of Object.entries(fields)) field.value = words.get(word) || "";
   for (const [word, box] of Object.entries(options)) box.checked = words.has(word);
   try {
-    addRepositories(await (await fetch("/api/status")).json(), words.getAll("repository"));
+    const told = await (await fetch("/api/status")).json();
+    addRepositories(told, words.getAll("repository"));
+    for (let lines = 0; lines <= told.context; lines++) context.append(new Option(lines, lines));
+    context.value = Math.min(words.has("context") ? Number(words.get("context")) || 0 : 1, told.context);
   } catch (error) {
     show("The server does not answer.");
   }
@@ -234,7 +247,8 @@ async function begin() {
     }
   };
   pattern.addEventListener("input", typed);
-  nameField.addEventListener("input", typed);
+  for (const field of Object.values(fields)) field.addEventListener("input", typed);
+  context.addEventListener("change", search);
   at("form").addEventListener("change", (event) => { if (event.target.type === "checkbox") search(); });
   at("form").addEventListener("submit", (event) => { event.preventDefault(); search(); });
   at("close").addEventListener("click", closeFile);

@@ -7,13 +7,16 @@ import collections
 import contextlib
 import os
 from collections.abc import Callable
-from typing import NamedTuple
+from typing import TYPE_CHECKING, NamedTuple
 
 from .. import aio
 from ..answers import Answer, Published, Status
 from ..errors import Ended, Error
 from ..names import to_bytes
-from ..views import document_pattern
+from ..query import Options, document_pattern
+
+if TYPE_CHECKING:
+    from ..cluster import Cluster
 
 # In bytes: so much of files that have changed is kept for the views of older answers.
 MOST_KEPT = 64 << 20
@@ -41,7 +44,8 @@ class History:
         self._changing: dict[bytes, int] = {}
 
     def change(self, name: bytes, answer: Answer) -> None:
-        """A document is about to change, which has been so until now."""
+        """Notes that a document is about to change, and keeps it as it has been until now. Only the first of several changes before a
+        publish counts."""
         if name in self._changing:
             return
         begin = self._begins.get(name, 0)
@@ -53,7 +57,7 @@ class History:
             self._size -= len(dropped.answer.data)
 
     def publish(self, changed: set[bytes], version: int) -> None:
-        """These documents have changed with this version."""
+        """Notes that these documents have changed with this version."""
         for name in changed:
             begin = self._changing.pop(name, None)
             if begin is not None and (name, begin) in self._kept:
@@ -72,6 +76,13 @@ class History:
         return name not in self._changing and self._begins.get(name, 0) <= version
 
 
+class Filter(NamedTuple):
+    """Which documents of a repository may be seen: those whose names match all of the one and none of the other patterns."""
+
+    names: tuple[str, ...] = ()
+    not_names: tuple[str, ...] = ()
+
+
 class Gone(Error):
     """A document is no longer known as it was at the version that is asked for."""
 
@@ -79,7 +90,7 @@ class Gone(Error):
 class Repository:
     """A folder, its session, and the task that keeps the one in the other."""
 
-    def __init__(self, name: str, root: bytes, session: aio.Session, progress: Callable[[str, int, int], None]) -> None:
+    def __init__(self, name: str, root: bytes, session: aio.Session | Cluster, progress: Callable[[str, int, int], None]) -> None:
         self.name = name
         self.session = session
         self.restarts = 0
@@ -149,10 +160,25 @@ class Repository:
             self._history.change(name, await self._whole(name))
 
     async def _whole(self, name: bytes) -> Answer:
-        return await self.session.find(b"", name=document_pattern(name))
+        return await self.session.find(b"", names=document_pattern(name))
+
+    async def find(self, pattern: bytes, options: Options) -> Answer:
+        """A search, with the errors of `Session.find`. While a shard of a cluster is lost it is refused at once, by `ShardLost`."""
+        if isinstance(self.session, aio.Session):
+            return await self.session.find(pattern, **options)
+        return await self.session.find(pattern, waits=False, **options)
+
+    async def admits(self, own: Filter, name: bytes) -> bool:
+        """Whether there is a document of this name, with a line, that may be seen."""
+        if not any(own):
+            return True
+        names: list[str | bytes] = [document_pattern(name), *own.names]
+        found = await self.session.find(b"", names=names, not_names=own.not_names, limit=1, header_only=True)
+        return found.count > 0
 
     async def view(self, name: bytes, life: int, version: int) -> Answer:
-        """All lines of a document as it was at the version of an answer. `Gone` if it has changed, and is not kept."""
+        """All lines of a document as it was at the version of an answer. `Gone` if it has changed and is not kept, or if the program was
+        started again since; otherwise the errors of `find`."""
         with contextlib.suppress(TimeoutError):
             # the answer may have come before this task was told of the publish
             async with asyncio.timeout(_TO_PUBLISH), self._published:
@@ -169,7 +195,7 @@ class Repository:
         raise Gone("the file has changed since this search")
 
     async def status(self) -> Status:
-        """What the session holds. `TimeoutError` if its program does not say so soon."""
+        """What the session holds. `TimeoutError` if its program does not say so in a second, and `Ended`."""
         async with asyncio.timeout(_TO_TELL):
             return await self.session.status()
 

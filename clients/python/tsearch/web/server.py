@@ -5,23 +5,26 @@ from __future__ import annotations
 import asyncio
 import collections
 import contextlib
+import dataclasses
 import importlib.resources
+import itertools
 import json
 import time
 import urllib.parse
-from collections.abc import AsyncIterator, Awaitable, Callable
+from collections.abc import AsyncIterator, Awaitable, Callable, Iterator, Mapping
 from dataclasses import dataclass
+from typing import Any
 
 from aiohttp import web
 
 from .. import aio
-from ..answers import Answer, Hit
-from ..errors import Cancelled, Ended, PatternRefused, SearchRefused, TooSlow
+from ..answers import Answer, Row
+from ..errors import Cancelled, Ended, Error, OptionRefused, PatternRefused, SearchRefused, TooSlow
+from ..merging import cut
 from ..names import to_bytes
-from ..patterns import escape
-from ..spans import NotRead, Spans, Spent
+from ..query import Options
 from ..watching import hints
-from .repositories import Gone, Repository, names_of
+from .repositories import Filter, Gone, Repository, names_of
 
 _LINES = "application/x-ndjson"
 _HEADERS = {
@@ -39,32 +42,42 @@ _FILES = {
     "/icon.svg": ("icon.svg", "image/svg+xml"),
 }
 _LOOPBACK = {"localhost", "127.0.0.1", "[::1]"}
-# How many nodes of automata are looked at to mark the matches of one answer, at most.
-_STEPS = 400_000
+# In bytes: an answer whose spans take more is shown without marks.
+_MOST_SPANS = 1 << 20
+_BLOCK = 1 << 16
 # How often it is seen whether a visitor has gone, in seconds.
 _OFTEN = 0.2
 
 
 @dataclass(frozen=True)
 class Limits:
-    """What no visitor can lift: how many lines an answer has, the milliseconds of a search, and how many searches of all visitors are
-    at work at a time."""
+    """What no visitor can lift: how many lines an answer has, the milliseconds of a search, how many searches of all visitors are at
+    work at a time, and how many lines are shown before and after each line."""
 
     lines: int = 500
     search_ms: int = 3_000
     searches: int = 32
+    context: int = 5
 
 
 @dataclass(frozen=True)
 class Settings:
-    """What is served. `look` is after how many seconds folders are looked through without a hint; `hosts` are the names under which the
-    page may be called, or None for any."""
+    """What is served.
+
+    look: after how many seconds folders are looked through without a hint.
+    hosts: the names under which the page may be called, or None for any.
+    filters: gives for each request the repositories that it may see, and of each of them which documents; None for all.
+    cluster, shards: the address of a Dask scheduler on whose workers the documents are, and over how many for each repository.
+    """
 
     roots: tuple[str, ...]
     limits: Limits = Limits()
     readers: int | None = None
     look: float = 5.0
     hosts: frozenset[str] | None = frozenset(_LOOPBACK)
+    filters: Callable[[web.Request], Mapping[str, Filter]] | None = None
+    cluster: str | None = None
+    shards: int = 1
 
 
 @dataclass(frozen=True)
@@ -72,34 +85,54 @@ class Asked:
     """A search as a visitor asks for it. Nothing of it reaches a session but as a pattern or a name pattern."""
 
     pattern: bytes
-    name: bytes | None
+    names: tuple[bytes, ...]
+    not_names: tuple[bytes, ...]
     repositories: frozenset[str]
-    ignore_case: bool
-    literal: bool
-    word: bool
-    line: bool
+    flags: Options
     limit: int
+    context: int
     visitor: str
     turn: int
 
     @classmethod
     def of(cls, request: web.Request, limits: Limits) -> Asked:
-        """Of the words of an address."""
+        """The search that the words of an address ask for. A number that is none counts as its default, and one over its limit as the
+        limit."""
         words = _words_of(request)
-        single = {key: found[-1] for key, found in words.items()}
-        limit, turn = single.get("max", ""), single.get("turn", "")
+
+        def number(key: str, most: int, default: int) -> int:
+            text = words.get(key, [""])[-1]
+            return min(int(text), most) if _is_number(text) else default
+
         return cls(
-            pattern=to_bytes(single.get("q", "")),
-            name=to_bytes(single["name"]) if single.get("name") else None,
+            pattern=to_bytes(words.get("q", [""])[-1]),
+            names=tuple(to_bytes(word) for word in words.get("name", []) if word),
+            not_names=tuple(to_bytes(word) for word in words.get("not", []) if word),
             repositories=frozenset(words.get("repository", [])),
-            ignore_case="i" in single,
-            literal="F" in single,
-            word="w" in single,
-            line="x" in single,
-            limit=min(int(limit), limits.lines) if limit.isascii() and limit.isdigit() else limits.lines,
-            visitor=single.get("visitor", ""),
-            turn=int(turn) if turn.isascii() and turn.isdigit() else 0,
+            flags=Options(
+                ignore_case="i" in words, literal="F" in words, whole_words="w" in words, whole_lines="x" in words, invert="v" in words
+            ),
+            limit=max(1, number("max", limits.lines, limits.lines)),
+            context=number("context", limits.context, 0),
+            visitor=words.get("visitor", [""])[-1],
+            turn=number("turn", 2**53, 0),
         )
+
+    def options(self, own: Filter) -> Options:
+        """The options of the search, with the filter of the host behind those of the visitor."""
+        names, not_names = (*self.names, *map(to_bytes, own.names)), (*self.not_names, *map(to_bytes, own.not_names))
+        found = self.flags.copy()
+        found.update(Options(names=names, not_names=not_names, limit=self.limit, context=self.context, spans=not self.flags["invert"]))
+        return found
+
+    def place_of(self, fault: PatternRefused, own: Filter) -> str:
+        """Which pattern it is that is refused: `pattern`, or a name pattern of the field `name` or `not`, or of the `host`."""
+        names = ["name"] * len(self.names) + ["host"] * len(own.names) + ["not"] * len(self.not_names) + ["host"] * len(own.not_names)
+        return ["pattern", *names][fault.number]
+
+
+def _is_number(text: str) -> bool:
+    return text.isascii() and text.isdigit() and len(text) < 20
 
 
 def _words_of(request: web.Request) -> dict[str, list[str]]:
@@ -138,8 +171,9 @@ class Server:
         """Starts the sessions, keeps the folders in them, and ends them."""
         settings = self._settings
         async with contextlib.AsyncExitStack() as stack:
+            start = await self._starter(stack)
             for name, root in names_of(list(settings.roots)):
-                session = await aio.Session.start(readers=settings.readers, search_ms=settings.limits.search_ms)
+                session = await start()
                 stack.push_async_callback(session.close, 2.0)
                 self._repositories[name] = Repository(name, root, session, self._take_progress)
             loop = asyncio.get_running_loop()
@@ -152,6 +186,31 @@ class Server:
 
                 stack.enter_context(hints([repository.root], changed))
             yield
+
+    async def _starter(self, stack: contextlib.AsyncExitStack) -> Callable[[], Awaitable[Any]]:
+        """What starts a session, or a cluster in the place of one."""
+        settings = self._settings
+        options: dict[str, Any] = {"readers": settings.readers, "search_ms": settings.limits.search_ms}
+        if settings.cluster is None:
+            return lambda: aio.Session.start(**options)
+        from distributed import Client
+
+        from ..cluster import Cluster
+
+        make: Any = Client
+        client = await stack.enter_async_context(make(settings.cluster, asynchronous=True, direct_to_workers=True))
+
+        async def start() -> Cluster:
+            return Cluster(client, settings.shards, **options)
+
+        return start
+
+    def _seen_by(self, request: web.Request) -> list[tuple[Repository, Filter]]:
+        """The repositories that a request may see, with their filters."""
+        if self._settings.filters is None:
+            return [(repository, Filter()) for repository in self._repositories.values()]
+        filters = self._settings.filters(request)
+        return [(repository, filters[name]) for name, repository in self._repositories.items() if name in filters]
 
     def _take_progress(self, name: str, done: int, of: int) -> None:
         self._loads[name] = (done, of)
@@ -205,36 +264,28 @@ class Server:
 
     async def _answer(self, request: web.Request, asked: Asked) -> web.StreamResponse:
         began = time.monotonic()
+        chosen = [(found, own) for found, own in self._seen_by(request) if not asked.repositories or found.name in asked.repositories]
         async with self._turns:
-            chosen = [found for name, found in self._repositories.items() if not asked.repositories or name in asked.repositories]
             async with asyncio.TaskGroup() as group:
-                tasks = [group.create_task(_outcome(self._ask(repository, asked))) for repository in chosen]
+                tasks = [group.create_task(_outcome(found.find(asked.pattern, asked.options(own)))) for found, own in chosen]
         answers = [task.result() for task in tasks]
         self._seconds += time.monotonic() - began
-        fault = next((answer for answer in answers if isinstance(answer, Exception)), None)
-        if fault:
-            return self._refusal(fault)
+        for (_, own), answer in zip(chosen, answers):
+            if isinstance(answer, Exception):
+                return self._refusal(answer, asked, own)
         self._outcomes["answered"] += 1
-        found = [(repository, answer) for repository, answer in zip(chosen, answers) if isinstance(answer, Answer)]
+        found = [(repository, answer) for (repository, _), answer in zip(chosen, answers) if isinstance(answer, Answer)]
         return await self._write(request, asked, found, began)
 
-    async def _ask(self, repository: Repository, asked: Asked) -> Answer:
-        return await repository.session.find(
-            asked.pattern,
-            name=asked.name,
-            ignore_case=asked.ignore_case,
-            literal=asked.literal,
-            word=asked.word,
-            line=asked.line,
-            limit=asked.limit,
-        )
-
-    def _refusal(self, fault: Exception) -> web.Response:
+    def _refusal(self, fault: Exception, asked: Asked | None = None, own: Filter = Filter()) -> web.Response:
         match fault:
-            case PatternRefused():
+            case PatternRefused() if asked:
                 self._outcomes["refused"] += 1
-                told = {"refused": fault.reason, "offset": fault.offset, "in": "name" if fault.in_name else "pattern"}
+                told = {"refused": fault.reason, "offset": fault.offset, "in": asked.place_of(fault, own)}
                 return _lines_of(told, status=400)
+            case OptionRefused():
+                self._outcomes["refused"] += 1
+                return _lines_of({"refused": fault.reason}, status=400)
             case TooSlow() | Cancelled():
                 self._outcomes["too slow"] += 1
                 return _lines_of({"refused": fault.reason, "milliseconds": self._settings.limits.search_ms}, status=503)
@@ -243,7 +294,10 @@ class Server:
                 return _lines_of({"refused": fault.reason}, status=503)
             case Ended():
                 self._outcomes["ended"] += 1
-                return _lines_of({"refused": "the program starts again"}, status=503)
+                return _lines_of({"refused": "the program starts again", "again": True}, status=503)
+            case Error():  # as of a shard that is lost
+                self._outcomes["ended"] += 1
+                return _lines_of({"refused": str(fault), "again": True}, status=503)
         raise fault
 
     async def _write(self, request: web.Request, asked: Asked, found: list[tuple[Repository, Answer]], began: float) -> web.StreamResponse:
@@ -251,22 +305,17 @@ class Server:
         response = web.StreamResponse(headers={"Content-Type": _LINES, **_HEADERS})
         request["begun"] = True
         await response.prepare(request)
-        marker = _marker_of(asked)
-        left = asked.limit
-        for repository, answer in found:
-            head = {"repository": repository.name, "life": answer.life, "version": answer.version, "lines": answer.count}
-            head["loaded"] = repository.is_loaded
-            await response.write(_json(head))
-            for name, hits in answer.by_document():
-                if left <= 0:
-                    break
-                rows = await asyncio.to_thread(_rows, hits[:left], marker)
-                left -= len(rows)
-                row: dict[str, object] = {"repository": repository.name, "name": _shown(name), "hits": rows}
-                row["id"] = urllib.parse.quote(name, safe="/")
-                await response.write(_json(row))
-        count = sum(answer.count for _, answer in found)
-        await response.write(_json({"lines": count, "shown": asked.limit - left, "seconds": round(time.monotonic() - began, 4)}))
+        left, has_more = asked.limit, False
+        for repository, whole in found:
+            answer = await asyncio.to_thread(cut, whole, left, asked.context)
+            left, has_more = left - answer.count, has_more or answer.more
+            head = {"repository": repository.name, "life": answer.life, "version": answer.version, "lines": answer.count, "more": answer.more}
+            await response.write(_json({**head, "loaded": repository.is_loaded}))
+            rows = (_json({"repository": repository.name, **row}) for row in _documents(answer))
+            while block := await asyncio.to_thread(_some_of, rows):
+                await response.write(block)
+        total: dict[str, object] = {"lines": asked.limit - left, "more": has_more, "seconds": round(time.monotonic() - began, 4)}
+        await response.write(_json(total))
         await response.write_eof()
         return response
 
@@ -274,16 +323,18 @@ class Server:
 
     async def _view(self, request: web.Request) -> web.Response:
         words = {key: found[-1] for key, found in _words_of(request).items()}
-        repository = self._repositories.get(words.get("repository", ""))
+        repository, own = next(((one, own) for one, own in self._seen_by(request) if one.name == words.get("repository")), (None, Filter()))
         numbers = [words.get(key, "") for key in ("life", "version")]
-        if repository is None or not words.get("name") or not all(number.isascii() and number.isdigit() for number in numbers):
+        if repository is None or not words.get("name") or not all(map(_is_number, numbers)):
             raise web.HTTPBadRequest(text="give the repository, the name, the life and the version")
         name = to_bytes(words["name"])
         try:
+            if not await repository.admits(own, name):
+                raise Gone("there is no such file")
             answer = await repository.view(name, *map(int, numbers))
         except Gone as gone:
             return web.json_response({"refused": str(gone)}, status=410)
-        except (Ended, SearchRefused) as fault:
+        except Error as fault:
             return self._refusal(fault)
         if not answer.count:
             return web.json_response({"refused": "there is no such file, or it is empty"}, status=404)
@@ -291,7 +342,7 @@ class Server:
 
     async def _status(self, request: web.Request) -> web.Response:
         told = []
-        for repository in self._repositories.values():
+        for repository, _ in self._seen_by(request):
             one: dict[str, object] = {"repository": repository.name, "loaded": repository.is_loaded, "left_out": repository.left_out}
             with contextlib.suppress(Ended, TimeoutError):
                 status = await repository.status()
@@ -299,7 +350,8 @@ class Server:
             if not repository.is_loaded:
                 one["done"], one["of"] = self._loads.get(repository.name, (0, 0))
             told.append(one)
-        return web.json_response({"repositories": told, "lines": self._settings.limits.lines})
+        limits = self._settings.limits
+        return web.json_response({"repositories": told, "lines": limits.lines, "context": limits.context})
 
     async def _metrics(self, request: web.Request) -> web.Response:
         """In the text form of Prometheus, version 0.0.4."""
@@ -345,30 +397,31 @@ async def _outcome(found: Awaitable[Answer]) -> Answer | Exception:
     """What comes of a search, so that a refusal does not cancel those of other repositories in the middle."""
     try:
         return await found
-    except (PatternRefused, SearchRefused, Ended) as fault:
+    except Error as fault:
         return fault
 
 
-def _marker_of(asked: Asked) -> Spans | None:
-    """What finds the matches in lines, if it can be had."""
-    pattern = escape(asked.pattern) if asked.literal else asked.pattern
-    with contextlib.suppress(NotRead):
-        return Spans(pattern, asked.ignore_case, asked.word, asked.line, steps=_STEPS)
-    return None
+def _documents(answer: Answer) -> Iterator[dict[str, object]]:
+    """The documents of an answer as JSON: the name, its address, and its lines."""
+    if len(answer.spans_data or b"") > _MOST_SPANS:
+        answer = dataclasses.replace(answer, spans_data=None)
+    for name, rows in itertools.groupby((row for row in answer.rows() if row), key=lambda row: row.hit.name):
+        yield {"name": _shown(name), "id": urllib.parse.quote(name, safe="/"), "hits": [_row(row) for row in rows]}
 
 
-def _rows(hits: list[Hit], marker: Spans | None) -> list[dict[str, object]]:
-    """Hits as JSON: the number of the line, and its parts, of which every second one is a match."""
-    return [{"line": hit.line, "parts": _parts(hit.text, marker)} for hit in hits]
+def _some_of(rows: Iterator[bytes]) -> bytes:
+    """The next rows, a few at most of a block."""
+    block = bytearray()
+    for row in rows:
+        block += row
+        if len(block) > _BLOCK:
+            break
+    return bytes(block)
 
 
-def _parts(text: bytes, marker: Spans | None) -> list[str]:
-    parts, at = [], 0
-    with contextlib.suppress(Spent):
-        for begin, end in marker.of(text) if marker else []:
-            parts += [_shown(text[at:begin]), _shown(text[begin:end])]
-            at = end
-    return [*parts, _shown(text[at:])]
+def _row(row: Row) -> dict[str, object]:
+    """A line as JSON: its number, and its parts, of which every second one is a match; `around` if it is only near one."""
+    return {"line": row.hit.line, "parts": [_shown(part) for part in row.hit.parts()], **({} if row.is_found else {"around": True})}
 
 
 def _shown(data: bytes) -> str:

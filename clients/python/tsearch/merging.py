@@ -1,0 +1,114 @@
+"""One answer of several: of the shards of a cluster, and the first lines of one."""
+
+from __future__ import annotations
+
+import dataclasses
+import heapq
+import math
+from collections.abc import Iterable, Iterator
+from typing import NamedTuple
+
+from .answers import GAP, Answer, View
+from .core import after_line
+from .query import Query
+
+_GAP_ROW = GAP + b"\n"
+_DIGITS = b"0123456789"
+
+
+class Split(NamedTuple):
+    """An answer, and where the rows of each of its documents begin and end, without the gaps between."""
+
+    answer: Answer
+    places: list[tuple[int, int]]
+
+    def documents(self) -> Iterator[tuple[bytes, memoryview]]:
+        """The documents: the name, with the byte 0 behind it, and all rows."""
+        data = self.answer.data
+        rows = memoryview(data)
+        return ((data[begin : data.index(b"\0", begin) + 1], rows[begin:end]) for begin, end in self.places)
+
+
+def split(answer: Answer) -> Split:
+    """Finds the documents of an answer."""
+    data, places, at = answer.data, [], 0
+    while at < len(data):
+        at += len(_GAP_ROW) if data.startswith(_GAP_ROW, at) else 0
+        end = _end_of(data, at, data[at : data.index(b"\0", at) + 1])
+        places.append((at, end))
+        at = end
+    return Split(answer, places)
+
+
+def merged(query: Query, found: list[Split], version: int) -> Answer:
+    """The answer to a query of those of all shards: in the order of names, and cut at the limit, with which each shard was asked."""
+    answers = [one.answer for one in found]
+    count, more = sum(answer.count for answer in answers), any(answer.more for answer in answers)
+    documents = heapq.merge(*[one.documents() for one in found], key=lambda document: document[0])
+    texts: Iterable[bytes | memoryview] = (rows for _, rows in documents)
+    if query.limit is not None and count > query.limit:
+        count, more = query.limit, True
+        texts = _first_of(texts, query.limit, query.context)
+    data = (_GAP_ROW if query.view is View.CONTEXT else b"").join(texts)
+    return Answer(1, version, count, more, query.view, data, _sum(one.candidates for one in answers), _sum(one.documents for one in answers))
+
+
+def _sum(numbers: Iterable[int | None]) -> int | None:
+    known = [number for number in numbers if number is not None]
+    return sum(known) if known else None
+
+
+def cut(answer: Answer, limit: int, context: int) -> Answer:
+    """The answer of the same search, with so much context, at a lower limit; the answer itself if it has no more lines than that."""
+    if answer.count <= limit:
+        return answer
+    data = _GAP_ROW.join(_first_of((rows for _, rows in split(answer).documents()), limit, context))
+    spans = answer.spans_data and answer.spans_data[: after_line(answer.spans_data, 0, limit) if limit else 0]
+    return dataclasses.replace(answer, count=limit, more=True, data=data, spans_data=spans)
+
+
+def _end_of(data: bytes, inside: int, name: bytes) -> int:
+    """Where the rows of a document end, of which one is at `inside`. The steps grow, and fall again near the end."""
+    step = 1
+    while True:
+        row = data.index(b"\n", min(inside + step, len(data) - 1)) + 1
+        if data.startswith(name, row) or (data.startswith(_GAP_ROW, row) and data.startswith(name, row + len(_GAP_ROW))):
+            inside, step = row, 2 * step
+        elif step == 1:
+            return row
+        else:
+            step = max(1, step // 8)
+
+
+def _first_of(texts: Iterable[bytes | memoryview], limit: int, context: int | None) -> Iterator[bytes]:
+    """The first hits of documents, or the first names. With context: the lines around these."""
+    for found in texts:
+        if limit <= 0:
+            return
+        text = bytes(found)
+        rows = text.count(b"\n") if context is None else sum(map(_is_found, text.split(b"\n")))
+        if rows > limit:
+            text = text[: after_line(text, 0, limit)] if context is None else _first_with_context(text, limit, context)
+        yield text
+        limit -= rows
+
+
+def _is_found(row: bytes) -> bool:
+    return row.partition(b"\0")[2].lstrip(_DIGITS).startswith(b":")
+
+
+def _first_with_context(text: bytes, limit: int, context: int) -> bytes:
+    """The first hits of a document and the lines around them. A hit behind them that is shown is one of these lines."""
+    kept, last = [], math.inf
+    for row in text.split(b"\n")[:-1]:
+        name, _, rest = row.partition(b"\0")
+        tail = rest.lstrip(_DIGITS)
+        digits = rest[: len(rest) - len(tail)]
+        if limit == 0 and (not digits or int(digits) > last + context):
+            break
+        if limit == 0 and tail.startswith(b":"):
+            row = b"%s\0%s-%s" % (name, digits, tail[1:])
+        elif tail.startswith(b":"):
+            limit, last = limit - 1, int(digits)
+        kept.append(row + b"\n")
+    return b"".join(kept)
