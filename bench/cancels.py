@@ -20,11 +20,11 @@ import statistics
 import sys
 import time
 
-sys.path.insert(0, os.path.dirname(os.path.abspath(__file__)))
-import live
+import build
+import client
+import command
+import corpus
 import quiet
-import sessions
-import timed
 
 CANCELS = 200
 # So many seconds of a search are its moments, if it takes as long.
@@ -37,7 +37,7 @@ LIMIT = ["--search-ms", "60000"]
 BATCH = 100
 
 # Long lines, in which a pattern with large counts looks at each byte: in a document each, and all in one.
-LONG_LINES = sessions.random_lines(b"ab", 16_000, 64)
+LONG_LINES = corpus.random_lines(b"ab", 16_000, 64)
 LONG_DOCUMENTS = {b"long_line_%d" % number: b"x" + line for number, line in enumerate(LONG_LINES.splitlines(True))}
 LONG_DOCUMENTS[b"long_lines"] = b"".join(b"x" + line for line in LONG_LINES.splitlines(True))
 COUNTS = rb"x([ab]|a([ab]{250}){15}c|d$)*e"
@@ -64,13 +64,13 @@ RATES = [
 ]
 
 
-class Session(live.Session):
+class Session(client.Session):
     """A session whose entries are read one by one."""
 
     def __init__(self, documents, *words):
         super().__init__("--readers", "1", *words)
         self.rest = b""
-        self.ask(b"".join(live.put(*pair) for pair in documents.items()) + b"publish\n" + NOTHING)
+        self.put_all(documents, NOTHING)
 
     def send(self, items, searches):
         """Sends items with so many searches, and returns the number of the last."""
@@ -134,26 +134,25 @@ def seconds_of_cancel(session, search, moment):
 
 def shown(seconds):
     """The median, the 99th percentile and the most of some times, in milliseconds."""
-    times = sorted(1000 * second for second in seconds)
-    return "%.2f / %.2f / %.2f" % (statistics.median(times), times[len(times) * 99 // 100], times[-1])
+    return command.shown(command.times(seconds)[1:])
 
 
 def cancels(documents):
     session, chance = Session(documents), random.Random(1)
     columns = ["pattern", "the search by itself, ms", "cancels", "to the entry, median / 99% / most, ms", "to the next answer, median / 99% / most, ms"]
-    sessions.head("A cancel, from before it is sent", columns)
+    command.head(columns, "A cancel, from before it is sent")
     for what, search in CANCELLED:
         alone, times, tries, begun = seconds_alone(session, search), [], 0, time.perf_counter()
         while len(times) < CANCELS and tries < MOST_TRIES and time.perf_counter() - begun < SECONDS:
             tries += 1
             found = seconds_of_cancel(session, search, alone * chance.random())
             times += [found] if found else []
-        name = "%s: `%s`" % (what, search.decode().replace("|", "\\|"))
+        name = "%s: %s" % (what, command.code(search.decode()))
         by_itself = "over %.0f" % (1000 * MOMENTS) if alone == MOMENTS else "%.1f" % (1000 * alone)
         if times:
-            sessions.row(name, by_itself, len(times), shown(entry for entry, _ in times), shown(answer for _, answer in times))
+            command.row(name, by_itself, len(times), shown(entry for entry, _ in times), shown(answer for _, answer in times))
         else:
-            sessions.row(name, by_itself, 0, "", "")
+            command.row(name, by_itself, 0, "", "")
     session.process.kill()
 
 
@@ -169,21 +168,20 @@ def rate(session, search):
 def rates(documents):
     compared = {"without": Session(documents), "with": Session(documents, *LIMIT)}
     columns = ["searches that look at", "without, most / median", "with, most / median", "with by without, of the medians"]
-    sessions.head("Searches a second, %d sent at once, without and with %s" % (BATCH, " ".join(LIMIT)), columns)
+    command.head(columns, "Searches a second, %d sent at once, without and with %s" % (BATCH, " ".join(LIMIT)))
     for what, search in RATES:
-        taken = sessions.in_turns(what, compared, lambda session, search=search: rate(session, search))
+        taken = quiet.in_turns(what, compared, lambda session, search=search: rate(session, search))
         cells = ["%.1f / %.1f" % (max(found), statistics.median(found)) for found in taken.values()]
         medians = [statistics.median(found) for found in taken.values()]
-        sessions.row("%s: `%s`" % (what, search.decode().strip()), *cells, "%.3f" % (medians[1] / medians[0]))
+        command.row("%s: `%s`" % (what, search.decode().strip()), *cells, "%.3f" % (medians[1] / medians[0]))
     for session in compared.values():
         session.end()
 
 
 def main():
-    if len(sys.argv) != 2:
-        sys.exit(__doc__)
-    timed.need_program()
-    documents = live.documents_of(sys.argv[1])
+    folder = command.words(__doc__)[0]
+    build.need_program()
+    documents = corpus.documents_of(folder)
     print("%d processors; files %d, %.1f MB" % (os.cpu_count(), len(documents), sum(map(len, documents.values())) / 1e6))
     cancels({**documents, **LONG_DOCUMENTS})
     rates(documents)

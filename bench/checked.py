@@ -4,22 +4,19 @@ Prints the times of six searches over the folder's files, by the proved program 
 (out/proved and out/compiled; `./tsearch --prove` and `python3 -B building --compile` build them), each in a session that
 has all files. This is the only script here that measures the compiled program.
 """
-import os
-import sys
 import tempfile
 
+import build
+import client
+import command
 import corpus
-import timed
-import trees
 
 SEARCHES = ["sched_setaffinity", "return", "static.*inline", "x.*y.*z", "e", "((a*|b)*|c)*d"]
-COMPILED = os.path.join(timed.TOP, "out", "compiled", "tsearch")
 
 
 def times_by(program, target, script):
     """For each search the seconds of some runs, by this program."""
-    timed.PROGRAM = program
-    session = trees.Session(target, script)
+    session = client.FileSession(target, script, program=program)
     found = []
     for pattern in SEARCHES:
         session.first("search " + pattern)
@@ -29,16 +26,16 @@ def times_by(program, target, script):
 
 
 def main():
-    timed.need_program()
-    if not os.access(COMPILED, os.X_OK):
-        sys.exit("bench/checked.py: python3 -B building --compile builds the compiled program")
+    folder = command.words(__doc__)[0]
+    build.need_program()
+    build.need_compiled()
     with tempfile.TemporaryDirectory() as target:
-        corpus.make(sys.argv[1], target)
-        script = trees.script_with(target, [])
-        proved, compiled = (times_by(program, target, script) for program in (timed.PROGRAM, COMPILED))
-    print("| pattern | proved, ms | compiled with checks, ms | times as long |\n|---|---|---|---|")
+        corpus.make(folder, target)
+        script = corpus.script_with(target, [])
+        proved, compiled = (times_by(program, target, script) for program in (build.PROGRAM, build.COMPILED))
+    command.head(["pattern", "proved, ms", "compiled with checks, ms", "times as long"])
     for pattern, fast, slow in zip(SEARCHES, proved, compiled):
-        print("| `%s` | %s | %s | %.1f |" % (pattern.replace("|", "\\|"), trees.shown(fast), trees.shown(slow), min(slow) / min(fast)))
+        command.row(command.code(pattern), *map(command.least_and_median, (fast, slow)), "%.1f" % (min(slow) / min(fast)))
 
 
 if __name__ == "__main__":

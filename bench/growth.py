@@ -8,12 +8,13 @@ and the resident memory for each byte of them before and after the second publis
 """
 import os
 import random
-import sys
 import tempfile
 
-sys.path.insert(0, os.path.dirname(os.path.abspath(__file__)))
+import build
+import command
 import corpus
 import timed
+from corpus import put
 
 MOST_CHANGES = 4000
 MOST_FILES = 2000
@@ -26,15 +27,11 @@ def body(seed):
     return "".join(" ".join(pick.choice(WORDS) + str(pick.randrange(50)) for _ in range(6)) + "\n" for _ in range(45)).encode()
 
 
-def put(name, text):
-    return b"put %s %d\n%s\n" % (name, len(text), text)
-
-
 def words_for(target, parts):
     path = os.path.join(target, "script")
     with open(path, "wb") as script:
         script.writelines(parts)
-    return [timed.PROGRAM, "--readers", "0", "--max-commands", "1000000", path]
+    return [build.PROGRAM, "--readers", "0", "--max-commands", "1000000", path]
 
 
 def run(target, parts):
@@ -101,17 +98,18 @@ def show_files(folder, target):
 
 
 def main():
-    timed.need_program()
-    print("| documents | to the publish s | resident MB | one search ms | adding ms | removing ms | replacing ms |")
-    print("|---|---|---|---|---|---|---|")
+    folders = command.words(__doc__, 0, 1)
+    build.need_program()
+    command.head(["documents", "to the publish s", "resident MB", "one search ms", "adding ms", "removing ms", "replacing ms"])
     with tempfile.TemporaryDirectory() as target:
         for count in (2000, 10000, 20000):
-            print("| %d | %.2f | %.0f | %.2f | %.2f | %.2f | %.2f |" % row_of(target, count), flush=True)
+            command.row(*("%.2f" % cell if isinstance(cell, float) else cell for cell in row_of(target, count)))
         few, many = (memory_after_replacing(target, count) for count in (1000, MOST_REPLACED))
         print("one document replaced 1,000 times: %.1f MB; 100,000 times: %.1f MB" % (few / 1e6, many / 1e6))
-    if len(sys.argv) > 1:
+    for folder in folders:
         with tempfile.TemporaryDirectory() as target:
-            show_files(sys.argv[1], target)
+            show_files(folder, target)
 
 
-main()
+if __name__ == "__main__":
+    main()

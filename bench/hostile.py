@@ -1,10 +1,11 @@
-"""How long hard patterns take: python3 bench/hostile.py [--tries N] [--seed N].
+"""How long hard patterns take: python3 bench/hostile.py [--tries N] [--seed N] [--lanes N].
 
 A session without readers has texts that are hard for such patterns: lines of 16,000 bytes, of `x` and then `a` and `b` at
 random, of `a` alone, of the three at random, short lines, and a small document with one long line. First come patterns that are
 known to be hard, then `N` patterns (10,000 if not said) that are made at random and then changed step by step towards slower
-ones, of which the ten worst are shown. The figures are seconds for each MB, of the worst text. A search that takes over ten
-seconds is given up (`--search-ms`).
+ones, over texts of one long line each, in so many searches beside each other (one for each processor if not said). The ten worst
+are shown, measured over the whole texts. The figures are seconds of the processor for each MB, of the worst text. A search that
+takes over ten seconds by the clock is given up (`--search-ms`), and its figure is too low.
 """
 import argparse
 import concurrent.futures
@@ -13,10 +14,14 @@ import random
 import subprocess
 import time
 
-from timed import PROGRAM, need_program
+import build
+import command
+import corpus
 
 LIMIT_MS = 10_000
 BETWEEN_STARTS = 25
+LINE = 16_000
+LINES = 4
 
 KNOWN = [
     rb"x((([ab]?){255}c?){15}d$|[ab])*e",
@@ -37,36 +42,50 @@ KNOWN = [
     rb"(a{0,255}){16}b",
     rb"[ab]{255}{15}c",
     rb"(([ab]|[ab][ab]){250}){5}c",
+    rb"x(" + rb"a?b?" * 240 + rb"d$|[ab])*e",
+    rb"x(" + rb"a*b*" * 240 + rb"d$|[ab])*e",
+    rb"x(" + rb".*a" * 320 + rb"d$|[ab])*e",
+    rb"(x|(.(^x|c*)|^)*cc){60}[ef]",
 ]
 
 
-def texts(chance):
-    """The texts by name, of some 64 KB each."""
+def texts(chance, lines=LINES):
+    """The texts by name, of some 16 KB for each line."""
     def long_lines(letters, first=b""):
-        return b"".join(first + bytes(chance.choices(letters, k=16_000 - len(first))) + b"\n" for _ in range(4))
+        return b"".join(first + bytes(chance.choices(letters, k=LINE - len(first))) + b"\n" for _ in range(lines))
 
     return {
         b"x_ab": long_lines(b"ab", b"x"),
         b"a": long_lines(b"a"),
         b"abx": long_lines(b"abx"),
         b"abcdx": long_lines(b"aaabbbcdx"),
-        b"short": b"".join(b"x" + bytes(chance.choices(b"ab", k=30)) + b"\n" for _ in range(2_000)),
+        b"short": b"".join(b"x" + bytes(chance.choices(b"ab", k=30)) + b"\n" for _ in range(LINE * lines // 32)),
         b"small": b"x" + b"a" * 8_190 + b"\n",
     }
 
 
 class Session:
     def __init__(self, bodies):
-        words = [PROGRAM, "--live", "--readers", "0", "--search-ms", str(LIMIT_MS)]
+        words = [build.PROGRAM, "--live", "--readers", "0", "--search-ms", str(LIMIT_MS)]
         self.process = subprocess.Popen(words, stdin=subprocess.PIPE, stdout=subprocess.PIPE)
         self.sizes = {name: len(body) for name, body in bodies.items()}
         for name, body in bodies.items():
-            self.process.stdin.write(b"put %s %d\n%s\n" % (name, len(body), body))
+            self.process.stdin.write(corpus.put(name, body))
         self.process.stdin.write(b"publish\n")
+
+    def busy(self):
+        """The seconds for which the session's threads have been on a processor. They wait for input by now."""
+        time.sleep(0.001)
+        tasks = "/proc/%d/task" % self.process.pid
+        nanos = 0
+        for task in os.listdir(tasks):
+            with open(os.path.join(tasks, task, "schedstat")) as file:
+                nanos += int(file.read().split()[0])
+        return nanos / 1e9
 
     def seconds(self, name, pattern):
         """The seconds of a search, or None if the pattern is refused for itself."""
-        start = time.perf_counter()
+        start = self.busy()
         self.process.stdin.write(b"searchin ^%s$ %s\n" % (name, pattern))
         self.process.stdin.flush()
         head = self.process.stdout.readline()
@@ -75,7 +94,7 @@ class Session:
         if b" lines " in head:
             for _ in range(int(head.split()[5])):
                 self.process.stdout.readline()
-        return time.perf_counter() - start
+        return self.busy() - start
 
     def worst(self, pattern):
         """The most seconds for each MB, and the text for which it takes them."""
@@ -132,7 +151,7 @@ class Maker:
 def climb(seed, tries):
     """The worst patterns of a search of so many tries, worst first."""
     chance = random.Random(seed)
-    maker, session = Maker(chance), Session(texts(chance))
+    maker, session = Maker(chance), Session(texts(chance, lines=1))
     found, left = {}, tries
     while left > 0:
         best = maker.pattern()
@@ -152,23 +171,24 @@ def climb(seed, tries):
 
 
 def show(title, rows):
-    print("\n%s\n\n| pattern | seconds for each MB | text |\n|---|---|---|" % title)
+    command.head(["pattern", "seconds for each MB", "text"], title)
     for pattern, (cost, name) in rows:
-        text = pattern.decode("latin-1").replace("|", "\\|")
+        text = pattern.decode("latin-1")
         shown = text if len(text) <= 250 else "%s... %d bytes" % (text[:80], len(text))
-        print("| `%s` | %.2f | %s |" % (shown, cost, name.decode()), flush=True)
+        command.row(command.code(shown), "%.2f" % cost, name.decode())
 
 
 def main():
-    words = argparse.ArgumentParser(description="How long hard patterns take.")
+    words = argparse.ArgumentParser(description=__doc__, formatter_class=argparse.RawDescriptionHelpFormatter)
     words.add_argument("--tries", type=int, default=10_000)
     words.add_argument("--seed", type=int, default=1)
+    words.add_argument("--lanes", type=int, default=os.cpu_count())
     given = words.parse_args()
-    need_program()
+    build.need_program()
     session = Session(texts(random.Random(given.seed)))
     show("Patterns that are known to be hard", [(pattern, session.worst(pattern)) for pattern in KNOWN])
     session.end()
-    lanes = os.cpu_count()
+    lanes = given.lanes
     with concurrent.futures.ThreadPoolExecutor(lanes) as pool:
         jobs = [pool.submit(climb, given.seed * 1_000 + lane, given.tries // lanes) for lane in range(lanes)]
         rows = [row for job in jobs for row in job.result()]

@@ -3,87 +3,16 @@
 Both ways over a body of the folder's lines, from 200 bytes to 100 KB, with the pattern compiled anew each time: the size at
 which they cross shows how many bytes of bodies are worth matching line by line (`FEW_BYTES`). Then what compiling ordinary
 patterns takes, and which of them are over the greatest size (`MOST_TABLES`); and the time of hard patterns over 1 MiB both
-ways. It writes a small program over the crates into a temporary folder and has `rt` build it, which takes a few minutes.
+ways. It builds a small program over the crates, in a few minutes.
 """
 import os
 import random
 import subprocess
-import sys
 import tempfile
 
-sys.path.insert(0, os.path.dirname(os.path.abspath(__file__)))
-import lines
-import trigrams
-
-# The program reads the words WAY FILE ROUNDS PATTERN.
-METER = r"""//! The time of either way of finding the lines of a file, and the last line that is found.
-#![tactic(auto)]
-
-use ere::{Ere, parse};
-use finder::{Compiled, Finder};
-use lines::MAX_LINE;
-use matcher::matches;
-use std::alloc::{AllocError, Global};
-use std::env::{self, Env};
-use std::fs;
-use std::io;
-use std::rt::Files;
-use std::time::{Clock, Instant};
-
-fn main(rt: HostRuntime) -> io::Result<()> {
-    let words: Vec<String> = env::args(&rt)?.collect(rt.alloc())?;
-    if words.len() < 5 {
-        return Ok(());
-    }
-    let bytes = fs::read(&rt, words[2].as_str())?;
-    let rounds = words[3].as_str().parse::<usize>().unwrap_or(1);
-    let Ok(tree) = parse(rt.alloc(), words[4].as_str().as_bytes()) else {
-        return println!(rt; "0 refused");
-    };
-    let with_engine = words[1].as_str() == "engine";
-    let mut last = None;
-    let start = Instant::now(&rt)?;
-    for _ in 0..rounds {
-        last = if with_engine { by_engine(rt.alloc(), &tree, bytes.as_slice())? } else { Some(by_lines(&tree, bytes.as_slice())) };
-    }
-    let nanos = start.elapsed(&rt)?.as_nanos();
-    match last {
-        Some(last) => println!(rt; "{nanos} {last}"),
-        None => println!(rt; "{nanos} too-large"),
-    }
-}
-
-fn by_lines(tree: &Ere, bytes: &[u8]) -> u64 {
-    if !tree.within_limits() {
-        return 0;
-    }
-    let (mut number, mut last) = (0u64, 0);
-    for line in bytes.split(|byte| *byte == b'\n') {
-        number = number.wrapping_add(1);
-        if line.len() <= MAX_LINE && matches(tree, line) {
-            last = number;
-        }
-    }
-    last
-}
-
-fn by_engine(alloc: Global, tree: &Ere, bytes: &[u8]) -> Result<Option<u64>, AllocError> {
-    let Some(compiled) = Compiled::new(alloc, tree)? else {
-        return Ok(None);
-    };
-    let mut finder = Finder::new(alloc, &compiled)?;
-    let mut rest = bytes;
-    let mut last = 0u64;
-    for _ in 0..u64::MAX {
-        let Some(first) = finder.first_line(rest) else {
-            return Ok(Some(last));
-        };
-        last = last.wrapping_add(first.before as u64).wrapping_add(1);
-        rest = &rest[rest.len().min(first.end.saturating_add(1))..];
-    }
-    Ok(None)
-}
-"""
+import build
+import command
+import corpus
 
 SIZES = [200, 500, 1_000, 2_000, 4_000, 8_000, 16_000, 20_000, 50_000, 100_000]
 FEW = [
@@ -117,7 +46,7 @@ HARD = [
 class Meter:
     def __init__(self, folder):
         self.path = os.path.join(folder, "text")
-        self.program = trigrams.build(folder, METER, ["ere", "finder", "lines", "matcher"])
+        self.program = build.build("limits", os.path.join(folder, "built"))
 
     def run(self, way, text, pattern, rounds=1):
         """The seconds of a round, and the last line that was found, or why none was looked for."""
@@ -144,15 +73,15 @@ class Meter:
         return self.cell("lines", text, pattern) + ", " + self.cell("engine", text, pattern)
 
 
-def show(head, patterns, cells_of):
-    print("\n| %s |\n|%s" % (" | ".join(head), "---|" * len(head)))
+def show(title, columns, patterns, cells_of):
+    command.head(columns, title)
     for pattern in patterns:
         name = pattern if len(pattern) < 100 else pattern[:50] + "...%d bytes" % len(pattern)
-        print("| `%s` | %s |" % (name.replace("|", "\\|"), " | ".join(cells_of(pattern))), flush=True)
+        command.row(command.code(name), *cells_of(pattern))
 
 
 def main():
-    text = b"\n".join(lines.lines_of(sys.argv[1], 20_000)) + b"\n"
+    text = b"\n".join(corpus.lines_of(command.words(__doc__)[0], 20_000)) + b"\n"
     chance = random.Random(1)
     near = b"".join(b"a" * 3_995 + b"%03d\n" % (i % 1_000) for i in range(262))
     either = b"".join(bytes(chance.choices(b"ab", k=3_999)) + b"\n" for _ in range(262))
@@ -161,10 +90,10 @@ def main():
         meter = Meter(folder)
         both = "us line by line, by the engine"
         sizes = [both] + ["%d bytes" % size for size in SIZES]
-        show(sizes, FEW, lambda pattern: [meter.both(text[:size], pattern) for size in SIZES])
-        show(["pattern", "us to compile"], ORDINARY, lambda pattern: [meter.cell("engine", b"", pattern)])
+        show("Bodies of some sizes", sizes, FEW, lambda pattern: [meter.both(text[:size], pattern) for size in SIZES])
+        show("Compiling", ["pattern", "us to compile"], ORDINARY, lambda pattern: [meter.cell("engine", b"", pattern)])
         bodies = [both, "lines of a", "lines of a and b", "empty lines"]
-        show(bodies, HARD, lambda pattern: [meter.both(body, pattern) for body in hard])
+        show("Hard patterns over 1 MiB", bodies, HARD, lambda pattern: [meter.both(body, pattern) for body in hard])
 
 
 if __name__ == "__main__":

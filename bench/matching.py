@@ -1,72 +1,18 @@
 """How fast `matches` is, a line at a time: python3 bench/matching.py FOLDER [CHECKOUT..].
 
-Writes a small program over the crates `ere`, `lines` and `matcher` into a temporary folder, has `rt` build it, which takes a few
-minutes, and runs it on lines of the folder's files, next to `grep -E`. If checkouts of the repository are named, it does so
-for the crates of each, in one run: for example one from before a change and one from after it.
+Builds a small program over the crates `ere`, `lines` and `matcher`, in a few minutes, and runs it on lines of the folder's files,
+next to `grep -E`. If checkouts of the repository are named, it does so for the crates of each, in one run: for example one from
+before a change and one from after it.
 """
 import os
 import subprocess
-import sys
 import tempfile
 
-sys.path.insert(0, os.path.dirname(os.path.abspath(__file__)))
-import lines
+import build
+import command
+import corpus
 import timed
-import trigrams
-
-ROOT = trigrams.ROOT
-
-# The program reads the words FILE ROUNDS PATTERN.
-METER = r"""//! The time of `matches` over the lines of a file.
-#![tactic(auto)]
-
-use ere::{Ere, parse};
-use lines::MAX_LINE;
-use matcher::matches;
-use std::env::{self, Env};
-use std::fs;
-use std::io;
-use std::rt::Files;
-use std::time::{Clock, Instant};
-
-fn main(rt: HostRuntime) -> io::Result<()> {
-    let words: Vec<String> = env::args(&rt)?.collect(rt.alloc())?;
-    if words.len() < 4 {
-        return Ok(());
-    }
-    let bytes = fs::read(&rt, words[1].as_str())?;
-    let rounds = words[2].as_str().parse::<usize>().unwrap_or(1);
-    let Ok(tree) = parse(rt.alloc(), words[3].as_str().as_bytes()) else {
-        return println!(rt; "0 refused");
-    };
-    let lines: Vec<&[u8]> = bytes.as_slice().split(|byte| *byte == b'\n').collect(rt.alloc())?;
-    let mut found = 0;
-    let start = Instant::now(&rt)?;
-    for _ in 0..rounds {
-        found = hits(&tree, lines.as_slice());
-    }
-    let nanos = start.elapsed(&rt)?.as_nanos();
-    println!(rt; "{nanos} {found}")
-}
-
-fn hits(tree: &Ere, lines: &[&[u8]]) -> u64 {
-    if !tree.within_limits() {
-        return 0;
-    }
-    let mut found = 0u64;
-    for line in lines {
-        if line.len() <= MAX_LINE && matches(tree, line) {
-            found = found.wrapping_add(1);
-        }
-    }
-    found
-}
-"""
-
-
-def build(root, folder, source=METER):
-    """The path of a program of this source over the crates `ere`, `lines` and `matcher` of a checkout."""
-    return trigrams.build(folder, source, ["ere", "lines", "matcher"], root)
+from corpus import nested
 
 
 def seconds_of(program, path, pattern):
@@ -93,21 +39,14 @@ def show_lines(programs, found, path):
     write(path, b"\n".join(found))
     size = sum(len(line) + 1 for line in found)
     print("lines %d, bytes %d" % (len(found), size))
-    print("| pattern | lines found |" + " ns a line | MB/s |" * len(programs) + " grep -E ms |")
-    print("|---|---|" + "---|---|" * len(programs) + "---|")
+    command.head(["pattern", "lines found"] + ["ns a line", "MB/s"] * len(programs) + ["grep -E ms"])
     env = dict(os.environ, LC_ALL="C")
-    for pattern in lines.PATTERNS:
+    for pattern in corpus.PATTERNS:
         runs = [seconds_of(program, path, pattern) for program in programs]
         assert len({count for _, count in runs}) == 1
         grep = min(timed.run(["grep", "-cE", pattern, path], env=env)["seconds"] for _ in range(3))
-        cells = "".join(" %.0f | %.0f |" % (1e9 * spent / len(found), size / spent / 1e6) for spent, _ in runs)
-        print("| `%s` | %s |%s %.1f |" % (pattern.replace("|", "\\|"), runs[0][1], cells, 1000 * grep), flush=True)
-
-
-def nested(depth, inner, text):
-    for _ in range(depth):
-        inner = text % inner
-    return inner
+        cells = ["%.0f" % cell for spent, _ in runs for cell in (1e9 * spent / len(found), size / spent / 1e6)]
+        command.row(command.code(pattern), runs[0][1], *cells, "%.1f" % (1000 * grep))
 
 
 NESTS = [
@@ -117,9 +56,7 @@ NESTS = [
 
 
 def show_nests(program, path, length, most=2.0):
-    print("\nMicroseconds for a line of %d bytes `a` that is not matched, after `^(aa)*`\n" % length)
-    print("| nestings | %s |" % " | ".join(name for name, _ in NESTS))
-    print("|---|" + "---|" * len(NESTS))
+    command.head(["nestings"] + [name for name, _ in NESTS], "Microseconds for a line of %d bytes `a` that is not matched, after `^(aa)*`" % length)
     write(path, b"a" * length)
     over = set()
     for depth in range(1, 21):
@@ -129,15 +66,15 @@ def show_nests(program, path, length, most=2.0):
             cells.append("over" if name in over else "%.2f" % (1e6 * spent))
             if spent > most:
                 over.add(name)
-        print("| %d | %s |" % (depth, " | ".join(cells)), flush=True)
+        command.row(depth, *cells)
 
 
 def main():
-    roots = sys.argv[2:] or [ROOT]
+    source, *roots = command.words(__doc__, 1, None)
     with tempfile.TemporaryDirectory() as folder:
-        programs = [build(root, os.path.join(folder, str(i))) for i, root in enumerate(roots)]
+        programs = build.build_each("matching", folder, roots)
         path = os.path.join(folder, "text")
-        show_lines(programs, lines.lines_of(sys.argv[1], 20000), path)
+        show_lines(programs, corpus.lines_of(source, 20000), path)
         for program in programs:
             for length in (100, 1000, 4000):
                 show_nests(program, path, length)

@@ -4,121 +4,22 @@ A host takes patterns from strangers, so what parsing and analysing one takes is
 and 64 KiB. This looks for patterns that come near. It starts from those that are known to be hard, makes others at random, and goes
 on from the worst ones by small changes, with their case and with case ignored.
 
-Writes a small program over the crates into a temporary folder, has `rt` build it, which takes a few minutes, and runs it under a
-library that counts the bytes in use, which the command cc builds. Crates that are already proved (`./tsearch --help`) are copied with
-what `rt` keeps of them. Prints the ten worst patterns by memory, and the ten that take longest.
+Builds a small program over the crates, in a few minutes, and runs it under a library that counts the bytes in use
+(programs/counting.c), which the command cc builds. After so many minutes (5) it prints the ten worst patterns by memory, by memory for
+each byte of the pattern, and by time.
 """
 import os
 import random
 import subprocess
-import sys
 import tempfile
 import time
 
-sys.path.insert(0, os.path.dirname(os.path.abspath(__file__)))
-import trigrams
+import build
+import command
 
 MOST = 1024
 EACH, ALWAYS = 300, 65_536
 AT_ONCE = 400
-
-# The program reads the names of a file of patterns, one a line, and of the case. For each pattern it writes a line: how long it
-# took in nanoseconds, the least of three times, or 0 if it is refused. The library counts the memory between two lines.
-METER = r"""//! What the preparation of patterns takes.
-#![tactic(auto)]
-
-use ere::{Case, parse_with};
-use std::alloc::{AllocError, Global};
-use std::env::{self, Env};
-use std::fs;
-use std::io;
-use std::rt::Files;
-use std::time::{Clock, Instant};
-use trigram::analyse;
-
-fn main(rt: HostRuntime) -> io::Result<()> {
-    let words: Vec<String> = env::args(&rt)?.collect(rt.alloc())?;
-    if words.len() < 3 {
-        return Ok(());
-    }
-    let bytes = fs::read(&rt, words[1].as_str())?;
-    let mut rest = bytes.as_slice();
-    for _ in 0..bytes.len() {
-        let (pattern, others) = first_line(rest);
-        rest = others;
-        if !pattern.is_empty() {
-            meter(&rt, pattern, words[2].as_str() == "ignored")?;
-        }
-    }
-    Ok(())
-}
-
-/// The first line, and what stands after its line feed.
-fn first_line(text: &[u8]) -> (&[u8], &[u8]) {
-    for i in 0..text.len() {
-        if text[i] == b'\n' {
-            return (&text[..i], &text[i + 1..]);
-        }
-    }
-    (text, &[])
-}
-
-fn meter<R: Clock + Print + AllocGlobal>(rt: &R, pattern: &[u8], ignored: bool) -> io::Result<()> {
-    let mut least = u128::MAX;
-    for _ in 0..3 {
-        let start = Instant::now(rt)?;
-        let prepared = prepare(rt.alloc(), pattern, ignored)?;
-        let nanos = start.elapsed(rt)?.as_nanos();
-        least = least.min(if prepared { nanos } else { 0 });
-    }
-    println!(rt; "{least}")
-}
-
-fn prepare(alloc: Global, pattern: &[u8], ignored: bool) -> Result<bool, AllocError> {
-    let case = if ignored { Case::Ignore } else { Case::Exact };
-    let Ok(tree) = parse_with(alloc, pattern, case) else {
-        return Ok(false);
-    };
-    if !tree.within_limits() {
-        return Ok(false);
-    }
-    let _query = analyse(alloc, &tree)?;
-    Ok(true)
-}
-"""
-
-# Counts the bytes in use, with what the C library adds to each request. At each line of the program it writes how many more were in use
-# at most since the last one.
-COUNTING = r"""
-#include <malloc.h>
-#include <stddef.h>
-#include <stdio.h>
-#include <sys/syscall.h>
-#include <unistd.h>
-extern void *__libc_malloc(size_t), *__libc_realloc(void *, size_t);
-extern void __libc_free(void *);
-static long used, most, before;
-static void uses(long more) { used += more; if (used > most) most = used; }
-void *malloc(size_t size) {
-    void *made = __libc_malloc(size);
-    if (made) uses(malloc_usable_size(made));
-    return made;
-}
-void *realloc(void *old, size_t size) {
-    long held = old ? malloc_usable_size(old) : 0;
-    void *made = __libc_realloc(old, size);
-    if (made) uses((long)malloc_usable_size(made) - held);
-    return made;
-}
-void free(void *old) {
-    if (old) used -= malloc_usable_size(old);
-    __libc_free(old);
-}
-ssize_t write(int file, const void *from, size_t size) {
-    if (file == 1) { dprintf(2, "%ld\n", most - before); most = before = used; }
-    return syscall(SYS_write, file, from, size);
-}
-"""
 
 LETTERS = "abcdefghijklmnopqrstuvwxyzABCDEFGHIJKLMNOPQRSTUVWXYZ0123456789"
 KNOWN = [
@@ -197,9 +98,9 @@ class Meter:
     """The built program, and the patterns that were measured: the most bytes in use, and the nanoseconds."""
 
     def __init__(self, folder):
-        self.program = trigrams.build(folder, METER, ["ere", "trigram"])
+        self.program = build.build("preparing", os.path.join(folder, "built"))
         self.library, self.file = os.path.join(folder, "counting.so"), os.path.join(folder, "patterns")
-        subprocess.run(["cc", "-O2", "-shared", "-fPIC", "-x", "c", "-", "-o", self.library], input=COUNTING, text=True, check=True)
+        subprocess.run(["cc", "-O2", "-shared", "-fPIC", build.path_of("counting.c"), "-o", self.library], check=True)
         self.measured = {}
 
     def measure(self, patterns):
@@ -237,21 +138,23 @@ VALUES = [share_of_bound, times_the_length, time_taken]
 
 
 def show(meter, title, value):
-    print("\n%s:\n\n| bytes | times the length | of the bound | ms | length | case | pattern |\n|---|---|---|---|---|---|---|" % title)
+    command.head(["bytes", "times the length", "of the bound", "ms", "length", "case", "pattern"], title)
     for key in meter.worst(value):
         (pattern, ignored), (size, nanos) = key, meter.measured[key]
         shown = pattern if len(pattern) <= 70 else pattern[:67] + "..."
         counts = (size, size / len(pattern), 100 * share_of_bound(key, (size, nanos)), nanos / 1e6, len(pattern))
-        print("| %d | %.0f | %.0f %% | %.2f | %d | %s | `%s` |" % (*counts, "ignored" if ignored else "counts", shown))
+        cells = ("%d | %.0f | %.0f %% | %.2f | %d" % counts).split(" | ")
+        command.row(*cells, "ignored" if ignored else "counts", command.code(shown))
 
 
 def main():
-    minutes = float(sys.argv[1]) if len(sys.argv) > 1 else 5
-    choose = random.Random(int(sys.argv[2]) if len(sys.argv) > 2 else 1)
+    given = command.words(__doc__, 0, 2)
+    minutes, seed = given + ["5", "1"][len(given) :]
+    choose = random.Random(int(seed))
     with tempfile.TemporaryDirectory() as folder:
         meter = Meter(folder)
         meter.measure(KNOWN)
-        end = time.monotonic() + 60 * minutes
+        end = time.monotonic() + 60 * float(minutes)
         while time.monotonic() < end:
             starts = [key for value in VALUES for key in meter.worst(value, 12)]
             later = [changed(choose, *choose.choice(starts)) for _ in range(AT_ONCE)]

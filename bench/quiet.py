@@ -13,6 +13,7 @@ ALLOWED = 1.2
 WAIT = 20
 TRIES = 3
 ALL_WAITS = 90
+TURNS = 5
 LOOPS = 1_000_000
 COPIED = 64 << 20
 
@@ -81,6 +82,17 @@ def measured(what, measure):
             break
     _busy.append(what)
     return result
+
+
+def in_turns(what, compared, measure):
+    """What a measurement gives for each of some things, by their keys: a list of all that its turns have given. So the machine is
+    equally fast for all that is compared."""
+    taken = {key: [] for key in compared}
+    for turn in range(TURNS):
+        found = measured("%s, turn %d" % (what, turn + 1), lambda: [(key, measure(thing)) for key, thing in compared.items()])
+        for key, values in found:
+            taken[key] += values
+    return taken
 
 
 def told():

@@ -4,41 +4,40 @@ One script over the folder's files: 200 searches with many matches, all sent bef
 the seconds with 0 to 4 readers, the least and the median of five runs, without the time to the first publish and
 with the output in a file; how many searches a second that is, and how many times as fast as with one reader.
 """
-import os
 import statistics
-import sys
 import tempfile
 
-sys.path.insert(0, os.path.dirname(os.path.abspath(__file__)))
+import build
+import command
 import corpus
 import quiet
 import timed
-import trees
 
 RUNS = 5
-SEARCHES = ["search " + pattern for pattern in ("[0-9]+", "return", "(if|while|for) *\\(", "[a-z]+[0-9]+ [a-z]+", "x.*y.*z")] * 40
+SEARCHES = corpus.MANY_MATCHES
 
 
 def main():
-    timed.need_program()
+    folder = command.words(__doc__)[0]
+    build.need_program()
     with tempfile.TemporaryDirectory() as target:
-        taken = corpus.make(sys.argv[1], target)
+        taken = corpus.make(folder, target)
         print("files %(files)d, bytes %(bytes)d, %(searches)d searches" % dict(taken, searches=len(SEARCHES)))
 
         def spent(readers, searches):
-            words = [timed.PROGRAM, "--readers", str(readers), "--max-commands", "1000000", trees.script_with(target, searches)]
+            words = [build.PROGRAM, "--readers", str(readers), "--max-commands", "1000000", corpus.script_with(target, searches)]
             what = "%d readers" % readers
             return quiet.measured(what, lambda: [timed.run(words)["seconds"] for _ in range(RUNS)])
 
-        print("| readers | seconds | searches a second | times as fast as one |\n|---|---|---|---|")
+        command.head(["readers", "seconds", "searches a second", "times as fast as one"])
         one = None
         for readers in (1, 0, 2, 3, 4):
             base = statistics.median(spent(readers, []))
             seconds = [second - base for second in spent(readers, SEARCHES)]
             least, median = min(seconds), statistics.median(seconds)
             one = one or median
-            cells = (readers, least, median, len(SEARCHES) / least, len(SEARCHES) / median, one / median)
-            print("| %d | %.2f / %.2f | %.0f / %.0f | %.2f |" % cells, flush=True)
+            rates = "%.0f / %.0f" % (len(SEARCHES) / least, len(SEARCHES) / median)
+            command.row(readers, command.shown((least, median)), rates, "%.2f" % (one / median))
         print(quiet.told())
 
 

@@ -2,10 +2,7 @@
 
 Of the files with a long line it counts those over the limit, and those over 4,096 bytes, a quarter of it.
 """
-import os
-import sys
-
-sys.path.insert(0, os.path.dirname(os.path.abspath(__file__)))
+import command
 import corpus
 
 QUARTER = 4_096
@@ -22,23 +19,22 @@ def cause_of(name, body):
     return max(map(len, body.split(b"\n")))
 
 
-def row_of(folder):
-    base = os.fsencode(folder)
+def cells_of(folder):
     causes, size = [], 0
-    for path in corpus.files_below(folder):
-        with open(path, "rb") as file:
-            body = file.read()
+    for name, body in corpus.named_bodies(folder):
         size += len(body)
-        causes.append(cause_of(os.path.relpath(path, base), body))
+        causes.append(cause_of(name, body))
     lengths = [cause for cause in causes if isinstance(cause, int)]
     over = [sum(length > most for length in lengths) for most in (QUARTER, corpus.MAX_LINE)]
     return [len(causes), size] + [causes.count(cause) for cause in ("name", "size", "byte 0")] + over
 
 
 def main():
-    print("| folder | files | bytes | name | over 1 MiB | byte 0 | a line over %d | a line over %d |\n|%s" % (QUARTER, corpus.MAX_LINE, 8 * "---|"))
-    for folder in sys.argv[1:]:
-        print("| `%s` | %s |" % (folder, " | ".join(map(str, row_of(folder)))), flush=True)
+    folders = command.words(__doc__, 1, None)
+    long_lines = ["a line over %d" % most for most in (QUARTER, corpus.MAX_LINE)]
+    command.head(["folder", "files", "bytes", "name", "over 1 MiB", "byte 0", *long_lines])
+    for folder in folders:
+        command.row(command.code(folder), *cells_of(folder))
 
 
 if __name__ == "__main__":

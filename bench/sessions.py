@@ -4,13 +4,13 @@ Prints four tables, over the folder's files or over text of its own:
 
 - how long a client waits for the answer to a search for a rare word, with 0, 2 and 4 readers;
 - how many searches a second four clients get from one session, each of which waits for its answer before it sends the next, with
-  0, 1, 2 and 4 readers, where a search takes about a millisecond by itself;
+  0, 1, 2 and 4 readers, where a search takes some milliseconds by itself;
 - how long it takes from a changed file to an answer in which it is found, in a session with nothing else to do, and while a search is
   at work that takes more than ten seconds;
-- the seconds of a run of 200 searches with many matches (readers.py), with 0 and 4 readers.
+- the seconds of a run of 200 searches with many matches (those of readers.py), with 0 and 4 readers.
 
 What is compared is measured in turns, so that the machine is equally fast for all of it. Each table has the least or most and the
-median, and in its last column what is wanted of the medians on four processors. The clients are threads in Python.
+median, and in its last column what is wanted of the medians on four processors. One thread in Python serves the clients.
 """
 import os
 import random
@@ -20,15 +20,14 @@ import sys
 import tempfile
 import time
 
-sys.path.insert(0, os.path.dirname(os.path.abspath(__file__)))
+import build
+import client
+import command
 import corpus
-import live
 import quiet
-import readers
 import timed
-import trees
+from quiet import TURNS, in_turns
 
-TURNS = 5
 ROUND_TRIPS = 1_000
 CLIENTS = 4
 SEARCHES_OF_A_CLIENT = 250
@@ -40,45 +39,23 @@ TEXT = b"searchin ^text_of_%d$ ([a-m ][n-z ]){14}$\n"
 LENGTHS = [2**power for power in range(14, 21)]
 
 
-def random_lines(letters, length, lines):
-    source = random.Random(1)
-    return b"".join(bytes(source.choices(letters, k=length - 1)) + b"\n" for _ in range(lines))
-
-
 def start(numbers, documents):
     """A session for each number of readers, which has the documents."""
     sessions = {}
     for number in numbers:
-        sessions[number] = session = live.Session("--readers", str(number))
-        session.ask(b"".join(live.put(*pair) for pair in documents.items()) + b"publish\n" + RARE)
+        sessions[number] = session = client.Session("--readers", str(number))
+        session.put_all(documents, RARE)
     return sessions
-
-
-def in_turns(what, sessions, measure):
-    """What a measurement gives for each of some sessions: a list of all that its turns have given."""
-    taken = {key: [] for key in sessions}
-    for turn in range(TURNS):
-        found = quiet.measured("%s, turn %d" % (what, turn + 1), lambda: [(key, measure(session)) for key, session in sessions.items()])
-        for key, values in found:
-            taken[key] += values
-    return taken
-
-
-def head(title, columns):
-    print("\n%s\n\n| %s |\n|%s" % (title, " | ".join(columns), "---|" * len(columns)), flush=True)
-
-
-def row(*cells):
-    print("| %s |" % " | ".join(map(str, cells)), flush=True)
 
 
 def round_trips(documents):
     sessions = start((0, 2, 4), {**documents, b"rare": b"int rare_word_of_the_bench;\n"})
     taken = in_turns("round trips", sessions, lambda session: [session.ask(RARE)[1] for _ in range(ROUND_TRIPS)])
     medians = {number: 1e6 * statistics.median(seconds) for number, seconds in taken.items()}
-    head("A search for a rare word, from before it is sent until its answer is read", ["readers", "least / median / 99% / most, ms", "more than without, us", "wanted"])
+    columns = ["readers", "least / median / 99% / most, ms", "more than without, us", "wanted"]
+    command.head(columns, "A search for a rare word, from before it is sent until its answer is read")
     for number, seconds in taken.items():
-        row(number, live.shown(seconds), "%.0f" % (medians[number] - medians[0]), "at most 40" if number else "")
+        command.row(number, command.shown(command.times(seconds)), "%.0f" % (medians[number] - medians[0]), "at most 40" if number else "")
     for session in sessions.values():
         session.end()
 
@@ -127,15 +104,15 @@ def search_of_milliseconds(session):
 
 def clients():
     line = 64
-    sessions = start((0, 1, 2, 4), {b"text_of_%d" % length: random_lines(b"abcdefghijklmnopqrstuvwxyz ", line, length // line) for length in LENGTHS})
+    sessions = start((0, 1, 2, 4), {b"text_of_%d" % length: corpus.random_lines(b"abcdefghijklmnopqrstuvwxyz ", line, length // line) for length in LENGTHS})
     search, alone = search_of_milliseconds(sessions[0])
     taken = in_turns("clients", sessions, lambda session: Clients(session, search).run())
     medians = {number: statistics.median(rates) for number, rates in taken.items()}
     title = "Four clients of one session, with searches that take %.2f ms by themselves" % alone
-    head(title, ["readers", "searches a second, most / median", "times as many as without", "times as many as with one", "wanted"])
+    command.head(["readers", "searches a second, most / median", "times as many as without", "times as many as with one", "wanted"], title)
     for number, rates in taken.items():
         times = ["%.2f" % (medians[number] / medians[other]) for other in (0, 1)]
-        row(number, "%.0f / %.0f" % (max(rates), medians[number]), *times, "2.5 times as many as without" if number == 4 else "")
+        command.row(number, "%.0f / %.0f" % (max(rates), medians[number]), *times, "2.5 times as many as without" if number == 4 else "")
     for session in sessions.values():
         session.end()
 
@@ -151,58 +128,59 @@ def keep_busy(session):
 
 
 def changes(documents):
-    low, high = live.LENGTHS["10 KB"]
+    low, high = client.LENGTHS["10 KB"]
     names = [name for name, body in documents.items() if low <= len(body) <= high]
     if not names:
         sys.exit("bench/sessions.py: the folder has no file of about 10 KB")
     more = dict(documents)
-    more[b"slow_lines"] = b"".join(b"x" + line + b"\n" for line in random_lines(b"ab", 16_000, 64).splitlines())
+    more[b"slow_lines"] = b"".join(b"x" + line + b"\n" for line in corpus.random_lines(b"ab", 16_000, 64).splitlines())
     sessions = {"nothing else": start([2], more)[2], "a long search": start([2], more)[2]}
     rng = random.Random(1)
 
     def measure(session):
         if session is sessions["a long search"]:
             keep_busy(session)
-        return live.changes(session, documents, names, False, CHANGES, rng)
+        return client.changes(session, documents, names, False, CHANGES, rng)
 
     taken = in_turns("changes", sessions, measure)
     idle = statistics.median(taken["nothing else"])
-    head("A change of a file of 10 KB, from before it is sent until it is found, with 2 readers", ["at work", "least / median / 99% / most, ms", "times as long as with nothing else", "wanted"])
+    columns = ["at work", "least / median / 99% / most, ms", "times as long as with nothing else", "wanted"]
+    command.head(columns, "A change of a file of 10 KB, from before it is sent until it is found, with 2 readers")
     for what, seconds in taken.items():
-        row(what, live.shown(seconds), "%.2f" % (statistics.median(seconds) / idle), "at most 2" if what == "a long search" else "")
+        command.row(what, command.shown(command.times(seconds)), "%.2f" % (statistics.median(seconds) / idle), "at most 2" if what == "a long search" else "")
     sessions["nothing else"].end()
     sessions["a long search"].process.kill()
 
 
 def seconds_of_runs(words):
     """The seconds of one run with each of these words."""
-    return [timed.run([timed.PROGRAM, *one])["seconds"] for one in words]
+    return [timed.run([build.PROGRAM, *one])["seconds"] for one in words]
 
 
 def runs(target):
     most = ["--max-commands", "1000000"]
-    scripts = [trees.script_with(target, [], "puts_alone"), trees.script_with(target, readers.SEARCHES)]
+    scripts = [corpus.script_with(target, [], "puts_alone"), corpus.script_with(target, corpus.MANY_MATCHES)]
     words = [["--readers", number, *most, script] for number in ("0", "4") for script in scripts]
     taken = [quiet.measured("runs, turn %d" % (turn + 1), lambda: seconds_of_runs(words)) for turn in range(TURNS)]
     seconds = {"0": [one[1] - one[0] for one in taken], "4": [one[3] - one[2] for one in taken]}
-    head("A run of %d searches, without the time to the first publish" % len(readers.SEARCHES), ["readers", "seconds, least / median", "of the time without", "wanted"])
+    columns = ["readers", "seconds, least / median", "of the time without", "wanted"]
+    command.head(columns, "A run of %d searches, without the time to the first publish" % len(corpus.MANY_MATCHES))
     alone = statistics.median(seconds["0"])
     for number, spent in seconds.items():
         median = statistics.median(spent)
-        row(number, "%.2f / %.2f" % (min(spent), median), "%.2f" % (median / alone), "at most 0.45" if number == "4" else "")
+        command.row(number, command.shown((min(spent), median)), "%.2f" % (median / alone), "at most 0.45" if number == "4" else "")
 
 
 def main():
-    if len(sys.argv) != 2:
-        sys.exit(__doc__)
-    timed.need_program()
-    documents = live.documents_of(sys.argv[1])
+    folder = command.words(__doc__)[0]
+    build.need_program()
+    documents = corpus.documents_of(folder)
     print("%d processors; files %d, %.1f MB; %d turns" % (os.cpu_count(), len(documents), sum(map(len, documents.values())) / 1e6, TURNS))
     round_trips(documents)
     clients()
     changes(documents)
     with tempfile.TemporaryDirectory() as target:
-        corpus.make(sys.argv[1], target)
+        corpus.make(folder, target)
         runs(target)
     print("\n" + quiet.told())
 

@@ -1,37 +1,8 @@
-"""Runs a command, and returns its seconds and its output, or its resident memory."""
-import os
+"""Runs a command, and returns its seconds and its output, its resident memory, or the stack that it takes."""
 import subprocess
 import sys
 import tempfile
 import time
-
-TOP = os.path.join(os.path.dirname(os.path.abspath(__file__)), "..")
-PROVED = os.path.join(TOP, "out", "proved")
-# If the variable TSEARCH names a program, that one is measured.
-PROGRAM = os.environ.get("TSEARCH") or os.path.join(PROVED, "tsearch")
-# A text that only a program that is compiled with checks has.
-MARK = b"compiled with checks, and not proved"
-
-
-def need_program():
-    """Ends with a message if there is no program, if it is compiled with checks, or if it is not that of the sources."""
-    fault = fault_of_program()
-    if fault:
-        sys.exit(f"{os.path.basename(sys.argv[0])}: {fault}: ./tsearch --prove builds the program to be measured")
-
-
-def fault_of_program():
-    """Why the program is not measured, if it is not."""
-    if not os.access(PROGRAM, os.X_OK):
-        return "there is no proved program"
-    with open(PROGRAM, "rb") as program:
-        if MARK in program.read():
-            return "this program is compiled with checks, which makes it slower"
-    if os.environ.get("TSEARCH"):
-        return None
-    sources = subprocess.run([sys.executable, "-B", os.path.join(TOP, "building"), "--checksum"], capture_output=True, text=True)
-    with open(os.path.join(PROVED, "checksum")) as kept:
-        return None if kept.read() == sources.stdout.strip() else "the proved program is of other sources"
 
 
 def run(words, stdin=None, env=None):
@@ -51,3 +22,24 @@ def memory(words):
     with tempfile.NamedTemporaryFile("r") as told:
         subprocess.run(["/usr/bin/time", "-f", "%M", "-o", told.name] + words, stdin=subprocess.DEVNULL, stdout=subprocess.DEVNULL, stderr=subprocess.DEVNULL)
         return 1024 * int(told.read().split()[-1])
+
+
+def answers_with(kib, words):
+    """Whether a command prints true or false with this much stack."""
+    limited = ["bash", "-c", 'ulimit -c 0; ulimit -s "$0" && exec "$@"', str(kib), *words]
+    ran = subprocess.run(limited, capture_output=True, text=True)
+    return ran.returncode == 0 and ran.stdout in ("true\n", "false\n")
+
+
+def least_stack(words, most, step):
+    """The least KiB of stack with which a command that prints true or false does so, to `step` KiB."""
+    low, high = 0, most
+    if not answers_with(high, words):
+        sys.exit("no answer of %s" % " ".join(words))
+    while high - low > step:
+        middle = (low + high) // 2
+        if answers_with(middle, words):
+            high = middle
+        else:
+            low = middle
+    return high

@@ -1,0 +1,148 @@
+"""All measurements in one run: python3 bench/all.py [--only NAME].. [--anyway] [--headers FOLDER] RESULTS SMALL LARGE [MORE..]
+
+Runs the scripts of this folder one after the other: over the source trees SMALL, LARGE and MORE, and over a folder of headers
+(/usr/include). What a script prints goes into a file of its own in the folder RESULTS. RESULTS/machine.txt tells the date, the
+commit, the machine and the versions of the tools, and then what is printed after each script: how long it took, its status, how much of
+the processors' time was used meanwhile, and how much of it the host took. A script that fails does not stop the others.
+
+With --only, only the scripts of these names run. Nothing else should run meanwhile: if the load average of the last minute is over
+1.0, nothing is measured, unless --anyway is given.
+"""
+import argparse
+import os
+import subprocess
+import sys
+import time
+
+import build
+
+MOST_LOAD = 1.0
+TOOLS = [["rt", "version"], ["rg", "--version"], ["grep", "--version"], ["dpkg-query", "-W", "codesearch"], ["python3", "--version"]]
+
+
+def runs_over(small, large, more, headers):
+    """The scripts in their order, each with its words."""
+    trees = [small, large, *more]
+    return [
+        ("trees", [small]),
+        ("trees", [large]),
+        ("finds", [small]),
+        *[("finds", [tree, "go"]) for tree in more],
+        ("live", trees),
+        ("sessions", [headers]),
+        ("cancels", [headers]),
+        ("readers", [small]),
+        ("cluster", [large]),
+        ("growth", [large]),
+        ("lines", [small]),
+        ("checked", [small]),
+        ("hostile", []),
+        ("matching", [small]),
+        ("limits", [small]),
+        ("lists", [small]),
+        ("lists", [large]),
+        ("trigrams", [headers]),
+        ("readings", [small]),
+        ("preparing", []),
+        ("stack", []),
+        ("levels", []),
+        ("refused", [*trees, headers]),
+    ]
+
+
+SCRIPTS = list(dict.fromkeys(script for script, _ in runs_over("", "", [], "")))
+# These measure no program, or build one of their own.
+WITHOUT_PROGRAM = {*build.USED, "refused"}
+
+
+def words():
+    taken = argparse.ArgumentParser(description=__doc__, formatter_class=argparse.RawDescriptionHelpFormatter, usage="bench/all.py [options] RESULTS SMALL LARGE [MORE..]")
+    taken.add_argument("--only", action="append", choices=SCRIPTS, metavar="NAME")
+    taken.add_argument("--anyway", action="store_true")
+    taken.add_argument("--headers", default="/usr/include", metavar="FOLDER")
+    for name in ("results", "small", "large"):
+        taken.add_argument(name, metavar=name.upper())
+    taken.add_argument("more", nargs="*", metavar="MORE")
+    return taken.parse_args()
+
+
+def need_quiet():
+    load = os.getloadavg()[0]
+    if load > MOST_LOAD:
+        sys.exit("bench/all.py: the machine is not quiet: the load average of the last minute is %.2f; --anyway measures all the same" % load)
+
+
+def first_line(command):
+    try:
+        return subprocess.run(command, capture_output=True, text=True).stdout.partition("\n")[0]
+    except FileNotFoundError:
+        return command[0] + " is not installed"
+
+
+def processor():
+    with open("/proc/cpuinfo") as info:
+        return next((line.partition(": ")[2].strip() for line in info if line.startswith("model name")), "unknown")
+
+
+def about_machine():
+    git = ["git", "-C", build.TOP]
+    changed = ", with changes" if first_line([*git, "status", "--porcelain"]) else ""
+    return [
+        time.strftime("%Y-%m-%d %H:%M UTC", time.gmtime()),
+        "commit " + first_line([*git, "rev-parse", "HEAD"]) + changed,
+        "%d processors: %s" % (os.cpu_count(), processor()),
+        *map(first_line, TOOLS),
+    ]
+
+
+def ticks():
+    """The processors' time so far: all of it, what was used, and what the host took."""
+    with open("/proc/stat") as stat:
+        times = [int(word) for word in stat.readline().split()[1:9]]
+    idle, stolen = times[3] + times[4], times[7]
+    return sum(times), sum(times) - idle - stolen, stolen
+
+
+def file_of(script, folders, runs):
+    """The name of the file for what a run prints: it has the name of the folder if the script runs several times."""
+    is_one = [name for name, _ in runs].count(script) == 1
+    return script + ("" if is_one else "-" + os.path.basename(folders[0])) + ".md"
+
+
+def run(script, folders, path):
+    """Runs a script, and returns its status and what is told of it."""
+    start, before = time.perf_counter(), ticks()
+    with open(path, "w") as out:
+        command = [sys.executable, "-B", os.path.join(build.BENCH, script + ".py"), *folders]
+        status = subprocess.run(command, stdin=subprocess.DEVNULL, stdout=out, stderr=subprocess.STDOUT).returncode
+    total, used, stolen = (after - first for after, first in zip(ticks(), before))
+    shares = tuple(100 * share / max(total, 1) for share in (used, stolen))
+    return status, "%.0f s, status %d; of the processors' time %.1f %% was used and the host took %.1f %%" % (time.perf_counter() - start, status, *shares)
+
+
+def main():
+    given = words()
+    if not given.anyway:
+        need_quiet()
+    small, large, *more = map(os.path.abspath, [given.small, given.large, *given.more])
+    runs = runs_over(small, large, more, os.path.abspath(given.headers))
+    asked = [one for one in runs if not given.only or one[0] in given.only]
+    if {script for script, _ in asked} - WITHOUT_PROGRAM:
+        build.need_program()
+    os.makedirs(given.results, exist_ok=True)
+    worst = 0
+    with open(os.path.join(given.results, "machine.txt"), "a") as told:
+        told.write("\n".join(about_machine()) + "\n")
+        for number, (script, folders) in enumerate(asked, 1):
+            name = file_of(script, folders, runs)
+            status, what = run(script, folders, os.path.join(given.results, name))
+            worst = max(worst, abs(status))
+            line = "%d of %d, %s: %s" % (number, len(asked), name, what)
+            print(line, flush=True)
+            told.write(line + "\n")
+            told.flush()
+    sys.exit(1 if worst else 0)
+
+
+if __name__ == "__main__":
+    main()
