@@ -501,15 +501,21 @@ def documents_are_analysed_once(runs):
         yield f"instructions of three publishes in a {way}", shown - pending, 0, (pending - nothing) // 4
 
 
-def trigrams_that_are_kept(runs):
+def documents_that_are_kept(runs):
     """Twenty documents take the bytes of their bodies and of the gaps between their trigrams, and little more."""
     chance = random.Random(1)
     for length in 45, 75, 100, 140:
         bodies = [b"\n".join(bytes(chance.choices(range(33, 255), k=60)) for _ in range(length)) for _ in range(40)]
-        scripts = [b"".join(put(b"f%d" % number, body) for number, body in enumerate(bodies[:count])) + b"search y\n" for count in (20, 40)]
+        puts, loads = [], []
+        for number, body in enumerate(bodies):
+            path = runs.folder / f"{length}-{number}"
+            path.write_bytes(body)
+            puts.append(put(b"f%d" % number, body))
+            loads.append(b"load f%d %s\n" % (number, bytes(path)))
         least = sum(len(body) + bytes_of_gaps(body) for body in bodies[20:])
-        few, many = (runs.memory(SESSION, script).held for script in scripts)
-        yield f"bytes of 20 documents with {length} lines", many - few, least, least + 20 * 400
+        for what, items in ("put", puts), ("loaded", loads):
+            few, many = (runs.memory(SESSION, b"".join(items[:count]) + b"search y\n").held for count in (20, 40))
+            yield f"bytes of 20 documents with {length} lines that are {what}", many - few, least, least + 20 * 400
 
 
 def bytes_of_gaps(body):
@@ -663,7 +669,7 @@ CHECKS = [
     preparations_are_small,
     copies_of_a_body,
     documents_are_analysed_once,
-    trigrams_that_are_kept,
+    documents_that_are_kept,
     names_that_are_kept,
     room_under_a_prefix,
     patterns_are_compiled_once,

@@ -1,6 +1,6 @@
 //! Files, by their paths.
 
-ghost use Rattle.std.specs.Prelude.{◌≡◌, ℕ, List, Option, IfOk, IfSome, IsTrue, take};
+ghost use Rattle.std.specs.Prelude.{◌≡◌, ℕ, List, Option, IfOk, IfSome, take};
 ghost use Rattle.std.specs.Fs.{IsFile, file_type};
 ghost use Rattle.std.specs.declared.fs.attrs.Metadata.{Metadata};
 ghost use Rattle.program.specs.Reads.{IsReadFrom};
@@ -25,10 +25,11 @@ pub trait Disk {
     fn open(&self, path: &str) -> io::Result<Self::File>
         ensures { IfOk result (λ file. opens self.now path.now (Self.File.remaining file)) };
 
-    /// Whether a regular file is at the path: no folder, pipe or device. Nothing is opened, so this never waits for
-    /// whoever writes into a pipe. An `Err` means that it cannot be told, since nothing is there or it may not be seen.
-    fn is_file(&self, path: &str) -> io::Result<bool>
-        ensures { IfOk result (λ is. IsTrue is → has_file self.now path.now) };
+    /// How many bytes the regular file at the path has, or `None` if something else is there: a folder, a pipe or a
+    /// device. Nothing is opened, so this never waits for whoever writes into a pipe. An `Err` means that it cannot be
+    /// told, since nothing is there or it may not be seen.
+    fn file_len(&self, path: &str) -> io::Result<Option<u64>>
+        ensures { IfOk result (λ seen. IfSome seen (λ _. has_file self.now path.now)) };
 }
 
 /// The files of the machine on which the program runs.
@@ -60,31 +61,43 @@ impl<R: Files> Disk for HostDisk<'_, R> {
         fs::open(self.files, path)
     }
 
-    fn is_file(&self, path: &str) -> io::Result<bool> {
+    fn file_len(&self, path: &str) -> io::Result<Option<u64>> {
         match fs::metadata(self.files, path) {
-            Ok(seen) => Ok(seen.is_file()),
+            Ok(seen) if seen.is_file() => Ok(Some(seen.len())),
+            Ok(_) => Ok(None),
             Err(error) => Err(error),
         }
     }
 }
 
-/// Reads the file at the path to its end, or its first `most` bytes if it has more. An `Err` means that the file
-/// cannot be opened or read, or that memory ran out.
-pub fn read_path<D: Disk>(alloc: Global, disk: &D, path: &str, most: u64) -> io::Result<Vec<u8>>
+/// Reads the file at the path to its end, or its first `most` bytes if it has more. Room is made for `room` bytes
+/// first. An `Err` means that the file cannot be opened or read, or that memory ran out.
+pub fn read_path<D: Disk>(
+    alloc: Global,
+    disk: &D,
+    path: &str,
+    room: usize,
+    most: u64,
+) -> io::Result<Vec<u8>>
     ensures { IfOk result (λ bytes. IsReadFrom (D.opens disk.now) path.now most bytes.items) }
 {
     match disk.open(path) {
-        Ok(file) => read_at_most(alloc, file, most),
+        Ok(file) => read_at_most(alloc, file, room, most),
         Err(error) => Err(error),
     }
 }
 
-/// Reads a reader to its end, or its first `most` bytes if there are more. An `Err` means that the reading failed, or
-/// that memory ran out.
-pub fn read_at_most<R: Read + Drop>(alloc: Global, reader: R, most: u64) -> io::Result<Vec<u8>>
+/// Reads a reader to its end, or its first `most` bytes if there are more. Room is made for `room` bytes first, and no
+/// more if fewer are read. An `Err` means that the reading failed, or that memory ran out.
+pub fn read_at_most<R: Read + Drop>(
+    alloc: Global,
+    reader: R,
+    room: usize,
+    most: u64,
+) -> io::Result<Vec<u8>>
     ensures { IfSome (R.remaining reader) (λ all. IfOk result (λ bytes. bytes.items ≡ take most all)) }
 {
-    let mut bytes = Vec::new(alloc);
+    let mut bytes = Vec::with_capacity(alloc, room)?;
     reader.take(most).read_to_end(&mut bytes)?;
     Ok(bytes)
 }

@@ -51,13 +51,15 @@ impl<'a, D: Disk> FileSource<'a, D> {
 fn read_regular<D: Disk>(alloc: Global, disk: &D, path: &str) -> Result<Vec<u8>, Fault>
     ensures { IfOk result (λ bytes. D.has_file disk.now path.now × IsReadFrom (D.opens disk.now) path.now (MAX_BODY + 1) bytes.items) }
 {
-    match disk.is_file(path) {
-        Ok(true) => {}
-        Ok(false) => return Err(Fault::Failed),
+    let len = match disk.file_len(path) {
+        Ok(Some(len)) => len,
+        Ok(None) => return Err(Fault::Failed),
         Err(error) => return Err(fault_of_load(&error)),
-    }
+    };
     let most = MAX_BODY as u64 + 1;
-    match read_path(alloc, disk, path, most) {
+    // One byte more, by which the end of the file is met.
+    let room = len.min(most).saturating_add(1) as usize;
+    match read_path(alloc, disk, path, room, most) {
         Ok(bytes) => Ok(bytes),
         Err(error) => Err(fault_of_load(&error)),
     }

@@ -29,8 +29,8 @@ pub fn read_script<D: Disk, I: Read + Drop>(
 {
     let most = MAX_SCRIPT as u64 + 1;
     let read = match file {
-        Some(path) => read_path(alloc, disk, path, most),
-        None => read_at_most(alloc, input, most),
+        Some(path) => read_path(alloc, disk, path, 0, most),
+        None => read_at_most(alloc, input, 0, most),
     };
     match read {
         Ok(script) => Ok(script),
