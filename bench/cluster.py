@@ -8,6 +8,10 @@ session without Dask, and prints for each, least / median of so many turns (5):
   answer is there;
 - how many searches a second eight clients get, each of which waits for its answer before it sends the next.
 
+There are two tables. For the first, each shard, which is a worker and its program, has one processor of its own, and so have the one
+session's program and the client, as if they were machines; with four shards on four processors the client shares one of theirs. For the
+second, all share all processors, and a search in one session uses several by itself.
+
 Every answer is compared with that of the one session, byte for byte. What is compared is measured in turns. The last column has how much
 better two shards are than one, by the medians, and the goal. It needs Debian's python3-distributed, and at best a quiet machine.
 """
@@ -81,25 +85,59 @@ def check(wanted, pattern, answer):
         sys.exit(f"the answer to {pattern!r} is not that of one session")
 
 
-async def measure_session(documents, wanted):
+def pin(processors, process="self"):
+    """Lets a process, and what it starts from now on, run on these processors alone."""
+    for thread in os.listdir(f"/proc/{process}/task"):
+        os.sched_setaffinity(int(thread), processors)
+
+
+async def measure_session(documents, wanted, processor):
     async with aio.Session.started() as session:
         await session.status()
+        if processor is not None:
+            pin({processor}, session.pid)
         return await measure(session, documents, wanted)
 
 
-async def measure_cluster(address, shards, documents, wanted):
-    from distributed import Client
+async def measure_cluster(shards, documents, wanted, processors):
+    from distributed import Client, LocalCluster
 
     from tsearch.cluster import Cluster
 
-    async with Client(address, asynchronous=True, direct_to_workers=True) as client, Cluster(client, shards) as cluster:
-        await cluster.pids()
-        return await measure(cluster, documents, wanted)
+    options = {"threads_per_worker": 1, "dashboard_address": None, "silence_logs": logging.ERROR, "asynchronous": True}
+    with tempfile.TemporaryDirectory(ignore_cleanup_errors=True) as place:
+        async with LocalCluster(n_workers=shards, local_directory=place, **options) as local, Client(
+            local, asynchronous=True, direct_to_workers=True
+        ) as client:
+            workers = (await client.scheduler.identity())["workers"]
+            for worker, processor in zip(workers, processors):
+                await client.run(pin, {processor}, workers=[worker])
+            async with Cluster(client, shards) as cluster:
+                await cluster.pids()
+                return await measure(cluster, documents, wanted)
 
 
-def print_table(taken):
+def measure_one(shards, documents, wanted, processors):
+    """The measurements of so many shards, or of a session for 0. Each has one of the processors, or all share all of this process."""
+    if shards:
+        return asyncio.run(measure_cluster(shards, documents, wanted, processors))
+    return asyncio.run(measure_session(documents, wanted, processors[0] if processors else None))
+
+
+def measure_all(title, turns, documents, wanted, processors):
+    taken = {number: {} for number in (0, *SHARDS)}
+    for turn in range(turns):
+        for number in taken:
+            what = f"{title}, {number} shards, turn {turn + 1}"
+            found = quiet.measured(what, lambda: measure_one(number, documents, wanted, processors))
+            for key, values in found.items():
+                taken[number].setdefault(key, []).extend(values)
+    print_table(title, taken)
+
+
+def print_table(title, taken):
     columns = [0, *SHARDS]
-    print("\n|  | one session | " + " | ".join(f"{number} shard{'s' * (number > 1)}" for number in SHARDS) + " | two to one |")
+    print(f"\n{title}\n\n|  | one session | " + " | ".join(f"{number} shard{'s' * (number > 1)}" for number in SHARDS) + " | two to one |")
     print("|---" * (len(columns) + 2) + "|")
     for what, unit in ((FEEDING, "s"), *[(what, "ms") for what in SEARCHES], (EIGHT, "a second")):
         best = max if what == EIGHT else min
@@ -107,7 +145,7 @@ def print_table(taken):
         one, two = (statistics.median(taken[number][what]) for number in (1, 2))
         ratio = two / one if what == EIGHT else one / two
         goal = f", wanted {GOALS[what]}" if what in GOALS else ""
-        print(f"| {what}, {unit} | " + " | ".join(cells) + f" | {ratio:.2f}{goal} |")
+        print(f"| {what}, {unit} | " + " | ".join(cells) + f" | {ratio:.2f}{goal} |", flush=True)
 
 
 def main():
@@ -116,23 +154,13 @@ def main():
     build.need_program()
     # The clients and the workers start the program that this names.
     os.environ["TSEARCH"] = build.PROGRAM
-    from distributed import LocalCluster
-
     documents, wanted = documents_of(folder), {}
     print(f"{len(documents):,} files, {sum(map(len, documents.values())) / 1e6:.1f} MB, {turns} turns")
-    taken = {number: {} for number in (0, *SHARDS)}
-    with tempfile.TemporaryDirectory(ignore_cleanup_errors=True) as place, LocalCluster(
-        n_workers=max(SHARDS), threads_per_worker=1, processes=True, dashboard_address=None, local_directory=place, silence_logs=logging.ERROR
-    ) as local:
-        for turn in range(turns):
-            for number in taken:
-                call = lambda: asyncio.run(  # noqa: E731
-                    measure_cluster(local.scheduler_address, number, documents, wanted) if number else measure_session(documents, wanted)
-                )
-                found = quiet.measured(f"{number} shards, turn {turn + 1}", call)
-                for what, values in found.items():
-                    taken[number].setdefault(what, []).extend(values)
-    print_table(taken)
+    processors = sorted(os.sched_getaffinity(0))
+    pin(processors[-1:])
+    measure_all("A processor of its own for each shard", turns, documents, wanted, processors)
+    pin(processors)
+    measure_all("Shared processors", turns, documents, wanted, [])
     print("\nanswers compared: all, byte for byte;", quiet.told())
 
 

@@ -224,7 +224,7 @@ class Receiving(unittest.TestCase):
                 for number in range(source.choice([1, 2, 3, 17, 100])):
                     rows += b"--\n" if rows and has_gaps and source.random() < 0.2 else b""
                     rows += b"%s\0%d:%s\n" % (name, number, bytes(source.choices(b"-a:!\r\xff", k=source.randint(0, 6))))
-                places.append((len(data), len(data) + len(rows)))
+                places.append((len(data), len(data) + len(name) + 1, len(data) + len(rows)))
                 data += rows
             self.assertEqual(split(Answer(1, 1, 0, False, View.CONTEXT, data)).places, places)
 

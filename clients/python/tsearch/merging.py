@@ -3,8 +3,9 @@
 from __future__ import annotations
 
 import dataclasses
-import heapq
 import math
+import operator
+import re
 from collections.abc import Iterable, Iterator
 from typing import NamedTuple
 
@@ -13,30 +14,32 @@ from .core import after_line
 from .query import Query
 
 _GAP_ROW = GAP + b"\n"
+# The rows of a document, at most so many that no time is lost if it has more: those behind them are found by steps that grow.
+_FIRST_ROWS = re.compile(rb"(?:--\n)?(?P<name>[^\0\n]+\0)[^\n]*\n(?:(?:--\n)?(?P=name)[^\n]*\n){0,15}")
 _DIGITS = b"0123456789"
 
 
 class Split(NamedTuple):
-    """An answer, and where the rows of each of its documents begin and end, without the gaps between."""
+    """An answer, and the places of its documents: where the rows of each begin, where its name ends, with the byte 0 behind it, and
+    where its rows end, without the gaps between."""
 
     answer: Answer
-    places: list[tuple[int, int]]
+    places: list[tuple[int, int, int]]
 
-    def documents(self) -> Iterator[tuple[bytes, memoryview]]:
+    def documents(self) -> list[tuple[bytes, memoryview]]:
         """The documents: the name, with the byte 0 behind it, and all rows."""
         data = self.answer.data
         rows = memoryview(data)
-        return ((data[begin : data.index(b"\0", begin) + 1], rows[begin:end]) for begin, end in self.places)
+        return [(data[begin:name_end], rows[begin:end]) for begin, name_end, end in self.places]
 
 
 def split(answer: Answer) -> Split:
     """Finds the documents of an answer."""
     data, places, at = answer.data, [], 0
-    while at < len(data):
-        at += len(_GAP_ROW) if data.startswith(_GAP_ROW, at) else 0
-        end = _end_of(data, at, data[at : data.index(b"\0", at) + 1])
-        places.append((at, end))
-        at = end
+    while found := _FIRST_ROWS.match(data, at):
+        begin, name_end = found.span("name")
+        at = _end_of(data, begin, found.end(), found["name"])
+        places.append((begin, name_end, at))
     return Split(answer, places)
 
 
@@ -44,8 +47,8 @@ def merged(query: Query, found: list[Split], version: int) -> Answer:
     """The answer to a query of those of all shards: in the order of names, and cut at the limit, with which each shard was asked."""
     answers = [one.answer for one in found]
     count, more = sum(answer.count for answer in answers), any(answer.more for answer in answers)
-    documents = heapq.merge(*[one.documents() for one in found], key=lambda document: document[0])
-    texts: Iterable[bytes | memoryview] = (rows for _, rows in documents)
+    documents = sorted((document for one in found for document in one.documents()), key=operator.itemgetter(0))
+    texts: Iterable[bytes | memoryview] = [rows for _, rows in documents]
     if query.limit is not None and count > query.limit:
         count, more = query.limit, True
         texts = _first_of(texts, query.limit, query.context)
@@ -67,12 +70,16 @@ def cut(answer: Answer, limit: int, context: int) -> Answer:
     return dataclasses.replace(answer, count=limit, more=True, data=data, spans_data=spans)
 
 
-def _end_of(data: bytes, inside: int, name: bytes) -> int:
-    """Where the rows of a document end, of which one is at `inside`. The steps grow, and fall again near the end."""
-    step = 1
+def _end_of(data: bytes, begin: int, end: int, name: bytes) -> int:
+    """Where the rows of a document end, of which the first begins at `begin`, and one ends at `end`. The steps grow, and fall again
+    near the end."""
+    inside, step = end, end - begin
+    goes_on = (name, _GAP_ROW + name)
+    if not data.startswith(goes_on, end):
+        return end
     while True:
         row = data.index(b"\n", min(inside + step, len(data) - 1)) + 1
-        if data.startswith(name, row) or (data.startswith(_GAP_ROW, row) and data.startswith(name, row + len(_GAP_ROW))):
+        if data.startswith(goes_on, row):
             inside, step = row, 2 * step
         elif step == 1:
             return row
