@@ -237,24 +237,6 @@ fn index_of_four(rt: &impl Abort, alloc: Global) -> Result<Index, Fail> {
     Ok(index)
 }
 
-#[test]
-fn a_search_is_called_off_at_each_question(rt: HostRuntime) -> Result<(), Fail> {
-    let alloc = rt.alloc();
-    let index = index_of_four(&rt, alloc)?;
-    // Four documents, and three further pieces of one.
-    let prepared = Prepared::new(alloc, b"needle")?;
-    assert!(rt; is_asked(alloc, &index, &prepared, 7)?);
-    // Four names, and then three documents and three further pieces.
-    let prepared = Prepared::within(alloc, b"a", b"needle")?;
-    assert!(rt; is_asked(alloc, &index, &prepared, 10)?);
-    // The same, but the name that does not begin with `a` is not taken.
-    let prepared = Prepared::within(alloc, b"^a", b"needle")?;
-    assert!(rt; is_asked(alloc, &index, &prepared, 9)?);
-    let prepared = Prepared::within(alloc, b"^(a*b*)*c*$", b"n(e(ee)*)*dle")?;
-    assert!(rt; is_asked(alloc, &index, &prepared, 11)?);
-    Ok(())
-}
-
 /// Whether a `find` of these words, which have no fault, is called off at each of so many questions, and is asked no others.
 fn is_asked_by(alloc: Global, index: &Index, words: &[u8], questions: u32) -> Result<bool, Fail> {
     let find = read_find(alloc, words)?;
@@ -262,26 +244,51 @@ fn is_asked_by(alloc: Global, index: &Index, words: &[u8], questions: u32) -> Re
     Ok(is_asked(alloc, index, &prepared, questions)?)
 }
 
+/// The words of a `find` of the four documents, and how many questions it asks.
+const ASKED: [(&[u8], u32); 5] = [
+    // Four documents, and three further pieces of one.
+    (b"-- needle", 7),
+    // Four names, and then three documents and three further pieces.
+    (b"-n a -- needle", 10),
+    // The same, but the name that does not begin with `a` is not taken.
+    (b"-n ^a -- needle", 9),
+    (b"-n ^(a*b*)*c*$ -- n(e(ee)*)*dle", 11),
+    // No candidates.
+    (b"-n ^a -- haystack", 0),
+];
+
 #[test]
-fn a_search_is_called_off_between_columns_and_spans(rt: HostRuntime) -> Result<(), Fail> {
-    let alloc = rt.alloc();
-    let index = index_of(&rt, alloc, b"a x\nbbb\nb b|c b")?;
-    // Two documents, and the columns of three hits.
-    assert!(rt; is_asked_by(alloc, &index, b"--column -- b", 5)?);
-    // Two documents, and in three hits before each of six spans and behind the last.
-    assert!(rt; is_asked_by(alloc, &index, b"--spans -- b", 11)?);
-    // One span alone in the second line.
-    assert!(rt; is_asked_by(alloc, &index, b"--spans -- b+", 9)?);
-    // No spans at all.
-    assert!(rt; is_asked_by(alloc, &index, b"--spans -- c*", 6)?);
+fn a_search_is_called_off_at_each_question(rt: HostRuntime) -> Result<(), Fail> {
+    let index = index_of_four(&rt, rt.alloc())?;
+    for (words, questions) in ASKED {
+        assert!(rt;
+            is_asked_by(rt.alloc(), &index, words, questions)?,
+            "of {words:?}"
+        );
+    }
     Ok(())
 }
 
+/// The words of a `find` of two small documents, and how many questions it asks.
+const ASKED_BETWEEN: [(&[u8], u32); 4] = [
+    // Two documents, and the columns of three hits.
+    (b"--column -- b", 5),
+    // Two documents, and in three hits before each of six spans and behind the last.
+    (b"--spans -- b", 11),
+    // One span alone in the second line.
+    (b"--spans -- b+", 9),
+    // No spans at all.
+    (b"--spans -- c*", 6),
+];
+
 #[test]
-fn a_search_with_no_candidates_asks_nothing(rt: HostRuntime) -> Result<(), Fail> {
-    let alloc = rt.alloc();
-    let index = index_of_four(&rt, alloc)?;
-    let prepared = Prepared::within(alloc, b"^a", b"haystack")?;
-    assert!(rt; is_answered_after(alloc, &index, &prepared, 0)?);
+fn a_search_is_called_off_between_columns_and_spans(rt: HostRuntime) -> Result<(), Fail> {
+    let index = index_of(&rt, rt.alloc(), b"a x\nbbb\nb b|c b")?;
+    for (words, questions) in ASKED_BETWEEN {
+        assert!(rt;
+            is_asked_by(rt.alloc(), &index, words, questions)?,
+            "of {words:?}"
+        );
+    }
     Ok(())
 }

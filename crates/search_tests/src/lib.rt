@@ -15,8 +15,4 @@ mod fixtures;
 #[cfg(test)]
 mod lists;
 #[cfg(test)]
-mod options;
-#[cfg(test)]
 mod taken;
-#[cfg(test)]
-mod views;
