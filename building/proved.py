@@ -23,7 +23,7 @@ def build(target, out):
     began = time.monotonic()
     crates = crates_of_program()
     at_once = proofs_at_once()
-    say(f"proving {len(crates)} crates, up to {at_once} at once, and building the program; from scratch this takes half an hour or less")
+    say(f"proving {len(crates)} crates, up to {at_once} at once, and building the program; from scratch this takes some 40 minutes")
     # One rt for all of them: of several, each would wait for the others wherever they use the same crates.
     carry_out(["rt", "all", "check", "--jobs", str(at_once)], crates, began)
     # The program is built by running it, which writes its help.
