@@ -30,6 +30,8 @@ DOCUMENTS = {
     },
     "two": {"src/main.c": b"int main(int count)\n", **slow_documents(), "binary": b"\0"},
 }
+# What lets a request see all repositories where the server has a header for filters, which the tests call so.
+EVERYTHING = {"X-Filters": json.dumps({name: {} for name in DOCUMENTS})}
 
 
 class Server:
@@ -97,7 +99,8 @@ def serving(*options: str) -> Iterator[Server]:
                 if process.poll() is not None:
                     raise AssertionError((top / "log").read_text())
                 try:
-                    return all(one["loaded"] for one in json.loads(server.get("/api/status")[1])["repositories"])
+                    seen = json.loads(server.get("/api/status", EVERYTHING)[1])["repositories"]
+                    return len(seen) == len(DOCUMENTS) and all(one["loaded"] for one in seen)
                 except (urllib.error.URLError, ConnectionError):
                     time.sleep(0.05)
                     return False
