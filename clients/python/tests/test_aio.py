@@ -219,6 +219,31 @@ class Sessions(unittest.IsolatedAsyncioTestCase):
             self.assertEqual((await session.find("x")).hits(), [])
             self.assertEqual(await session.close(SECONDS), 0)
 
+    async def test_a_search_that_is_cancelled_before_it_is_sent(self) -> None:
+        """It waits behind a body that the program does not take. Its cancel is sent behind it."""
+        code = """
+            sys.stdin.buffer.read(int(next(items).split()[2]) + 1)
+            seen = [next(items), next(items)]
+            assert seen == [b"find -Z -- x\\n", b"cancel 1\\n"], seen
+            say(b"search 1 refused: cancelled\\n")
+            assert next(items) == b"find -Z -- y\\n"
+            say(b"search 2 version 0 lines 0\\n")
+        """
+        session = await aio.Session.start(stand_in(code))
+        with stopped(session.pid):
+            put = asyncio.create_task(session.put("a", b"x" * 1_000_000))
+            await asyncio.sleep(0.1)
+            search = asyncio.create_task(session.find("x"))
+            await asyncio.sleep(0.1)
+            self.assertFalse(put.done() or search.done())
+            search.cancel()
+            await asyncio.wait([search])
+        async with asyncio.timeout(SECONDS):
+            await put
+            self.assertTrue(search.cancelled())
+            self.assertEqual((await session.find("y")).hits(), [])
+            self.assertEqual(await session.close(SECONDS), 0)
+
     async def test_a_program_that_is_none(self) -> None:
         for code, error in (
             ("say(b'hello\\n'); time.sleep(60)", tsearch.NotUnderstood),

@@ -16,7 +16,7 @@ import unittest
 import unittest.mock
 import zlib
 
-from helpers import PACKAGE, SECONDS, Model, found_in, shown, stop, until
+from helpers import PACKAGE, SECONDS, Model, found_in, shown, stop, stopped, until
 from serving import serving
 
 import tsearch
@@ -155,6 +155,32 @@ class Clusters(unittest.IsolatedAsyncioTestCase):
                 self.assertEqual([(hit.text, answer.version) for hit in answer], [(b"y", 2), (b"x", 2), (b"y", 2)])
                 self.assertEqual((await cluster.publish()).documents, 3)
                 self.assertEqual([hit.text for hit in await cluster.find("")], [b"y", b"x", b"z"])
+
+    async def test_a_search_that_nobody_waits_for_is_not_sent(self) -> None:
+        """It was cancelled while it waited behind another one."""
+        from tsearch.cluster import _Lane
+        from tsearch.query import Query
+
+        send, sent = _Lane._send, []
+
+        async def note(lane: _Lane, items: list) -> list:
+            sent.extend(item.pattern for item in items if lane._number == 1 and isinstance(item, Query))
+            return await send(lane, items)
+
+        async with asyncio.timeout(SECONDS):
+            await self.cluster.publish()
+            with unittest.mock.patch.object(_Lane, "_send", note):
+                with stopped((await self.cluster.pids())[1]):
+                    first = asyncio.create_task(self.cluster.find("first"))
+                    await asyncio.sleep(0.1)
+                    others = [asyncio.create_task(self.cluster.find("other")) for _ in range(3)]
+                    await asyncio.sleep(0.1)
+                    for task in others:
+                        task.cancel()
+                    await asyncio.wait(others)
+                await first
+                await self.cluster.find("last")
+        self.assertEqual(sent, [b"first", b"last"])
 
     def worker_of(self, program: int) -> int:
         """The process of the worker that has started a program."""

@@ -1,6 +1,7 @@
 """The core, which has no input and output: what is sent, and what the bytes that come settle, however they are cut."""
 
 import random
+import tracemalloc
 import unittest
 
 import helpers  # puts the package on the path of modules
@@ -149,6 +150,21 @@ class Receiving(unittest.TestCase):
             for piece in pieces(written):
                 core.receive(piece)
             self.check(sent)
+
+    def test_what_has_come_is_not_copied_with_each_piece(self) -> None:
+        core, count = Core(), 2_000
+        search = core.find(Query.of("x"))[0]
+        core.receive(b"search 1 version 0 lines %d\n" % count)
+        piece = b"a\0" + b"1:" + b"x" * 1_000 + b"\n"
+        tracemalloc.start()
+        self.addCleanup(tracemalloc.stop)
+        for _ in range(count - 1):
+            tracemalloc.reset_peak()
+            before, _ = tracemalloc.get_traced_memory()
+            core.receive(piece)
+            self.assertLess(tracemalloc.get_traced_memory()[1] - before, 100 * len(piece))
+        self.assertEqual(core.receive(piece), [search])
+        self.assertEqual(search.value.data, piece * count)
 
     def test_end_in_the_middle_settles_all(self) -> None:
         for end in range(0, 300, 3):

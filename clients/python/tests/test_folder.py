@@ -8,6 +8,7 @@ import signal
 import subprocess
 import tempfile
 import time
+import tracemalloc
 import types
 import unittest
 import unittest.mock
@@ -105,6 +106,26 @@ class Folders(unittest.TestCase):
                 folder.refresh()
                 self.assertEqual([hit.text for hit in self.session.find("")], [b"%04d" % (number + 5_000)])
                 self.assertEqual(folder.refresh().put, 0)
+
+    def test_a_file_that_has_not_changed_is_not_read_again(self) -> None:
+        """Once its times would show the next change, neither after it was new nor after it has changed."""
+        folder = tsearch.Folder(self.session, self.top)
+        path, opened, open_file = os.fsencode(self.top / "a"), [], os.open
+
+        def note(name: bytes, *words: int) -> int:
+            if name == path:
+                opened.append(name)
+            return open_file(name, *words)
+
+        for body, pause in (b"one\n", 0), (b"two\n", 0), (b"three\n", 0.2), (b"four\n", 0.2):
+            self.write("a", body)
+            time.sleep(pause)
+            self.assertEqual(folder.refresh().put, 1)
+            time.sleep(0.2)
+            folder.refresh()
+            with unittest.mock.patch("tsearch.folder.os.open", note):
+                again = folder.refresh()
+            self.assertEqual((again.put, again.published, opened), (0, None, []))
 
     def test_kinds_that_change(self) -> None:
         folder = tsearch.Folder(self.session, self.top)
@@ -277,6 +298,22 @@ class Repositories(Folders):
 
 
 class Tasks(unittest.IsolatedAsyncioTestCase):
+    async def test_few_files_are_in_memory_at_a_time(self) -> None:
+        body = b"some text\n" * 100_000
+        with tempfile.TemporaryDirectory() as name:
+            for number in range(60):
+                pathlib.Path(name, f"f{number}").write_bytes(body)
+            async with aio.Session.started() as session, asyncio.timeout(SECONDS):
+                folder = aio.Folder(session, name)
+                tracemalloc.start()
+                self.addCleanup(tracemalloc.stop)
+                before, _ = tracemalloc.get_traced_memory()
+                refreshed = await folder.refresh()
+                most = tracemalloc.get_traced_memory()[1] - before
+            self.assertEqual((refreshed.put, refreshed.published.bytes), (60, 60 * len(body)))
+            # a few mebibytes are read ahead, and as many are being sent
+            self.assertLess(most, 30 << 20)
+
     async def test_a_folder_for_asyncio(self) -> None:
         with tempfile.TemporaryDirectory() as name:
             top = pathlib.Path(name)

@@ -10,11 +10,13 @@ import sys
 import tempfile
 import threading
 import time
+import tracemalloc
 import unittest
 
 from helpers import SECONDS, SLOW, Model, hits_of, plain, shown, slow_documents, stand_in, state_of, stop, stopped, until
 
 import tsearch
+from tsearch.query import document_pattern
 
 
 def threads(count, run) -> list:
@@ -109,6 +111,18 @@ class Answers(unittest.TestCase):
             for name in names:
                 session.remove(name).wait(SECONDS)
             self.assertEqual(session.publish().documents, 0)
+
+    def test_escaped_texts(self) -> None:
+        """The pattern that is made of a text finds this text alone, whatever its bytes mean in a pattern."""
+        texts = [b"a%cb" % byte for byte in range(1, 256) if byte != 10] + [b"ab", b"aab", b"a{2}b", b"a(b)c", b"[ab]", b"^a$"]
+        with tsearch.Session() as session:
+            for text in texts:
+                session.put(text, text)
+            session.publish()
+            for text in texts:
+                found = session.find(tsearch.escape(text), whole_lines=True, timeout=SECONDS)
+                self.assertEqual(plain(found), [(text, 1, text)])
+                self.assertEqual(session.find("", names=document_pattern(text), names_only=True).names(), [text])
 
     def test_loads(self) -> None:
         with tempfile.TemporaryDirectory() as folder, tsearch.Session() as session:
@@ -294,6 +308,30 @@ class Time(unittest.TestCase):
                 for number in range(20_000):
                     session.put(f"f{number}", b"x")
             self.assertEqual(session.publish(SECONDS).documents, 20_000)
+
+    def test_an_item_does_not_go_through_all_that_wait(self) -> None:
+        with tsearch.Session() as session:
+            session.status(SECONDS)
+            with stopped(session.pid):
+                for _ in range(30_000):
+                    session.put("a", b"x")
+                tracemalloc.start()
+                self.addCleanup(tracemalloc.stop)
+                before, _ = tracemalloc.get_traced_memory()
+                session.put("a", b"x")
+                most = tracemalloc.get_traced_memory()[1] - before
+            # a list of all that waits takes half a megabyte, and what is read at a time a quarter of one
+            self.assertLess(most, 400_000)
+
+    def test_how_many_searches_are_at_the_program(self) -> None:
+        """One more waits for its turn."""
+        for most in 1, 3:
+            session = tsearch.Session(stand_in("list(items)"), most_open=most)
+            searches = [session.begin("x", timeout=SECONDS) for _ in range(most)]
+            self.assertRaises(TimeoutError, session.begin, "x", timeout=0.2)
+            self.assertFalse(any(search.done() for search in searches))
+            session.kill()
+            session.close()
 
     def test_sync_waits_for_no_later_search(self) -> None:
         code = """

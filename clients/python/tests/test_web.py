@@ -220,7 +220,35 @@ class Filters(unittest.TestCase):
 
 
 @unittest.skipUnless(importlib.util.find_spec("aiohttp"), "the library aiohttp is missing (python3-aiohttp)")
+class Turns(unittest.TestCase):
+    def test_a_visitor_who_reads_nothing_holds_up_nobody(self) -> None:
+        """With one search at a time: a turn is for the search, and not for the reading of its answer."""
+        with serving("--most-searches", "1", "--most-lines", "100000") as server:
+            for number in range(4):
+                (server.top / f"two/large{number}").write_bytes(b"a few words of a long file, and so on\n" * 25_000)
+            until(lambda: server.get("/metrics")[1].count(b'tsearch_documents{repository="two"} 106'))
+            host, port = server.address.removeprefix("http://").split(":")
+            with socket.create_connection((host, int(port))) as visitor:
+                visitor.sendall(b"GET /api/find?q=words&repository=two HTTP/1.1\r\nHost: localhost\r\n\r\n")
+                until(lambda: server.get("/metrics")[1].count(b'tsearch_web_searches_total{outcome="answered"} 1\n'))
+                # the answer is longer than what the system takes
+                self.assertEqual(len(server.hits("int main", repository="one")), 1)
+
+
+@unittest.skipUnless(importlib.util.find_spec("aiohttp"), "the library aiohttp is missing (python3-aiohttp)")
 class Changes(unittest.TestCase):
+    def test_what_is_kept_of_what_has_changed(self) -> None:
+        """The newest of it, up to a number of bytes, however much has changed before."""
+        from tsearch.answers import Answer, View
+        from tsearch.web.repositories import History
+
+        history = History(most=1_000)
+        for version in range(1, 101):
+            history.change(b"a", Answer(1, version - 1, 1, False, View.LINES, b"%0100d" % version))
+            history.publish({b"a"}, version)
+        kept = [history.at(b"a", version) for version in range(100)]
+        self.assertEqual([found and found.data for found in kept], [None] * 90 + [b"%0100d" % (version + 1) for version in range(90, 100)])
+
     def test_files_of_the_answer_s_version(self) -> None:
         with serving() as server:
             path = pathlib.Path(server.top, "one/src/main.c")
