@@ -3,16 +3,17 @@
 
 A session has two copies of its documents, and a publish brings one of them up to date. So what was removed is gone from
 both after two publishes. Then most of the memory that the documents took must be given back, or used for others. Each test is
-made with sessions without readers and with two.
+made with sessions without readers and with two. A session with readers that has nothing else to do needs one publish.
 
 Usage: tests/given_back.py [NAME..]   The last line counts: N passed, M failed.
 """
 
 import random
+import time
 
 from built import put
 from counted import Wrong, run_tests
-from live import MEBIBYTE, READERS, faults_with_each
+from live import MEBIBYTE, READERS, SECONDS, Session, faults_with_each
 
 # The part of the memory that may stay.
 PART = 1 / 4
@@ -83,6 +84,22 @@ def lists_of_many_numbers(start):
         session.end(0)
 
 
+def bodies_while_a_session_is_idle():
+    """They are replaced, and published once. No item follows."""
+    body = b"some text\n" * 100_000
+    with Session("--readers", "2") as session:
+        documents = Documents(session, [])
+        full = documents.memory(b"".join(put(b"%d" % number, body) for number in range(40)))
+        session.send(b"".join(put(b"%d" % number, b"x") for number in range(40)) + b"publish\n")
+        left, end = full, time.monotonic() + SECONDS
+        while left - documents.begin > PART * (full - documents.begin):
+            if time.monotonic() > end:
+                raise Wrong(f"{documents.begin} bytes before the documents, {full} with them, and {left} after they were replaced")
+            time.sleep(0.05)
+            left = session.memory("VmRSS")
+        session.end(0)
+
+
 if __name__ == "__main__":
     TESTS = [lists_of_many_trigrams, lists_of_many_numbers]
-    run_tests(TESTS, faults_with_each(TESTS, READERS), len(TESTS))
+    run_tests(TESTS + [bodies_while_a_session_is_idle], faults_with_each(TESTS, READERS), len(TESTS))

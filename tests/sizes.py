@@ -73,6 +73,12 @@ def publishes_of_a_put():
     return Case(script, answers(1, count, [b"a:1:%d" % (count - 1)]), [MANY_COMMANDS + ALONE, SESSION, READING])
 
 
+def very_many_publishes_of_a_put():
+    count = OVER_20_BITS
+    script = b"put a 1\nx\npublish\n" * count + b"put a 1\ny\npublish\nsearch .\n"
+    return Case(script, answers(1, count + 1, [b"a:1:y"]), [["--max-commands", "2000000"] + SESSION])
+
+
 def publishes_of_nothing():
     return Case(b"put a 1\nx\n" + b"publish\n" * OVER_20_BITS + b"search x\n", answers(1, 1, [b"a:1:x"]), [TWO_READERS, SESSION, READING])
 
@@ -148,6 +154,13 @@ def body_of_line_feeds():
     return Case(script, wanted, [ALONE, TWO_READERS, SESSION, READING], 2)
 
 
+def lines_of_a_session():
+    """More than 2^24 of them, in bodies."""
+    count = 17
+    wanted = b"line %d refused: bad line\n" % (count * (GREATEST_BODY + 2) + 1)
+    return Case(put(b"a", b"\n" * GREATEST_BODY) * count + b"what\n", wanted, [ALONE, SESSION, READING], 2)
+
+
 def lines_of_an_answer():
     half = OVER_20_BITS // 2
     hits = [b"%s:%d:" % (name, line) for name in (b"a", b"b") for line in range(1, half + 1)]
@@ -180,6 +193,7 @@ CASES = [
     puts_before_a_publish,
     all_commands_there_are,
     publishes_of_a_put,
+    very_many_publishes_of_a_put,
     publishes_of_nothing,
     removes,
     loads,
@@ -190,6 +204,7 @@ CASES = [
     comments_and_empty_lines,
     lines_that_are_refused,
     body_of_line_feeds,
+    lines_of_a_session,
 ]
 
 

@@ -356,7 +356,7 @@ def long_searches_are_too_slow(start):
 
 def searches_have_much_time(start):
     """With a limit that none of them comes to, slow and quick searches are answered."""
-    for limit in "60000", "4294967295":
+    for limit in "60000", "65536", "100000", "4294967295":
         with start("--search-ms", limit) as session:
             talk = Talk(session, readers_of(start), timed=True)
             first, second = talk.ask(SLOW_SEARCH, QUICK_SEARCH)

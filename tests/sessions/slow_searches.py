@@ -54,7 +54,7 @@ AFTER_SHORT, AFTER_LONG = SHORT.count(b"\n") + 1, LONG.count(b"\n") + 1
 
 
 def texts_come_beside_a_long_search(start):
-    """A put, a publish and a search, and refusals, are not held up."""
+    """A put, a publish, a load and a search, and refusals, are not held up."""
     with start() as session:
         session.send(LONG + SLOW_SEARCH)
         line = AFTER_LONG + 1
@@ -68,8 +68,9 @@ def texts_come_beside_a_long_search(start):
             line += 5
         session.ask(b"search (\n", b"search 12 refused: group not closed at 0\n")
         session.ask(b"remove b\n", REFUSED % (line + 1, b"no such file"))
+        session.ask(b"load b nothing/here\n", REFUSED % (line + 2, b"cannot load"))
         # the session goes on to wait for the answer
-        session.ask(b"put b\n", REFUSED % (line + 2, b"bad put"))
+        session.ask(b"put b\n", REFUSED % (line + 3, b"bad put"))
         session.expect_quiet()
 
 
@@ -136,6 +137,17 @@ def sync_waits_for_a_slow_search(start):
         for text in REFUSED % (AFTER_SHORT + 3, b"bad line"), b"search 2 version 2 lines 1\na:1:hi\n", FOUND % (3, 2):
             same("the next entry", session.read_entry(), text)
         session.expect(b"search 4 refused: group not closed at 0\n")
+        session.end(2)
+
+
+def many_items_wait_behind_a_sync(start):
+    """They are carried out in their order once the search has its answer."""
+    with start() as session:
+        session.send(SHORT + SLOW_SEARCH + b"sync\n" + b"what\nsearch (\n" * 50)
+        same("the next entry", session.read_entry(), FOUND % (1, 1))
+        for number in range(50):
+            session.expect(REFUSED % (AFTER_SHORT + 2 + 2 * number, b"bad line"))
+            session.expect(b"search %d refused: group not closed at 0\n" % (number + 2))
         session.end(2)
 
 
@@ -215,6 +227,7 @@ WITH_READERS = [
     replacements_beside_a_long_search_leave_memory_level,
     nobody_reads_while_a_long_search_is_at_work,
     sync_waits_for_a_slow_search,
+    many_items_wait_behind_a_sync,
     input_that_ends_with_searches_open,
     fault_that_ends_a_session_with_a_search_open,
     line_longer_than_any_after_a_slow_search,

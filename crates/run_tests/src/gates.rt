@@ -71,12 +71,16 @@ pub(crate) enum Rule {
     Held(Point),
 }
 
-/// A gate with a rule.
+/// A gate with a rule. It shows whether search 1 was about to match, and how many searches are done.
 #[derive(Drop)]
 pub(crate) struct Turns {
     rule: Rule,
     pub(crate) first: Flag,
     pub(crate) second: Flag,
+    pub(crate) matching: Flag,
+    done: AtomicU64,
+    /// Whether a wait for searches was given up.
+    left: AtomicBool,
 }
 
 impl Turns {
@@ -85,6 +89,9 @@ impl Turns {
             rule,
             first: Flag::new(),
             second: Flag::new(),
+            matching: Flag::new(),
+            done: AtomicU64::new(0),
+            left: AtomicBool::new(false),
         }
     }
 
@@ -96,9 +103,29 @@ impl Turns {
         })
     }
 
+    /// Returns once so many searches are done, or after `LOOKS` looks.
+    pub(crate) fn wait_for(&self, searches: u64) {
+        for _ in 0..LOOKS {
+            if self.done.load(Ordering::SeqCst) >= searches {
+                return;
+            }
+        }
+        self.left.store(true, Ordering::SeqCst);
+    }
+
     /// Whether a wait was given up.
     pub(crate) fn is_given_up(&self) -> bool {
-        self.first.is_given_up() || self.second.is_given_up()
+        let left = self.left.load(Ordering::SeqCst);
+        left || self.first.is_given_up() || self.second.is_given_up()
+    }
+
+    /// Notes where a search is.
+    fn note(&self, search: u32, point: Point) {
+        if point == Point::Done {
+            self.done.fetch_add(1, Ordering::SeqCst);
+        } else if search == 1 && point == Point::Matching {
+            self.matching.raise();
+        }
     }
 
     /// Holds a search for a while.
@@ -128,6 +155,7 @@ impl Turns {
 
 impl Gate for Turns {
     fn turn(&self, search: u32, point: Point) {
+        self.note(search, point);
         match self.rule {
             Rule::Open => {}
             Rule::Late => self.delay(search, point),

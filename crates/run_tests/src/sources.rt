@@ -21,10 +21,15 @@ pub(crate) const FILES: &[File<'static>] = &[
         path: b"p",
         bytes: b"z",
     },
+    File {
+        path: b"d",
+        bytes: b"v",
+    },
 ];
 
 /// A table of files. A read fails if its path is not in the table, or if it is the one that is chosen to fail. With a
-/// gate, the table returns `q` only once a search is held there, and releases the search when it is asked for `p`.
+/// gate, the table returns `q` only once a search is held there, and releases the search when it is asked for `p`. It returns
+/// `d` only once as many searches are done as there were reads.
 #[derive(Drop)]
 pub(crate) struct Table<'a> {
     files: &'a [File<'a>],
@@ -62,8 +67,8 @@ impl<'a> Table<'a> {
     }
 }
 
-/// Waits for the held search, or releases it.
-fn meet(gate: Option<&Turns>, path: &[u8]) {
+/// Waits for the held search, or releases it, or waits for so many searches.
+fn meet(gate: Option<&Turns>, path: &[u8], reads: u32) {
     let Some(gate) = gate else {
         return;
     };
@@ -71,6 +76,8 @@ fn meet(gate: Option<&Turns>, path: &[u8]) {
         gate.first.wait();
     } else if path == b"p".as_slice() {
         gate.second.raise();
+    } else if path == b"d".as_slice() {
+        gate.wait_for(u64::from(reads));
     }
 }
 
@@ -85,7 +92,7 @@ impl Source for Table<'_> {
     fn read(&mut self, alloc: Global, path: &[u8]) -> Result<Vec<u8>, Fault> {
         let failures = self.failures;
         self.reads = self.reads.saturating_add(1);
-        meet(self.gate, path);
+        meet(self.gate, path, self.reads);
         if path == self.large {
             return Err(Fault::OutOfMemory);
         }

@@ -4,6 +4,7 @@ use crate::gates::{LOOKS, Rule, Turns};
 use crate::sessions::{READERS, served};
 use crate::sources::{FILES, Table};
 use crate::streams::{AWAY, Input, Output, Stops, Turn};
+use crate::words::repeated;
 use live::LiveError;
 use std::alloc::{AllocError, Global};
 use std::process::Abort;
@@ -243,5 +244,43 @@ fn an_output_that_fails_ends_the_session(rt: HostRuntime) -> Result<(), Fail> {
         assert!(rt; flushed.load(Ordering::SeqCst) != AWAY);
         flushed.store(1, Ordering::SeqCst);
     }
+    Ok(())
+}
+
+/// How many documents a search goes through that would take minutes.
+const LONG: usize = 40;
+
+/// Documents, in each of whose 1,000 lines of 251 bytes the pattern is looked for in milliseconds, a search that is held, and a
+/// line that is refused.
+fn long_script(alloc: Global) -> Result<&'static [u8], AllocError> {
+    let mut line = [b'a'; 251];
+    line[0] = b'x';
+    line[250] = b'\n';
+    let body = repeated(alloc, b"", &line, 1_000, b"\n")?;
+    let mut script = Vec::new(alloc);
+    for number in 0..LONG {
+        let head = format!(in alloc; "put f{number} 251000\n")?;
+        script.extend_from_slice(head.as_bytes())?;
+        script.extend_from_slice(&body)?;
+    }
+    script.extend_from_slice(b"publish\nsearch x(a|([ab]?){255}{15}c|d$)*e\nload h q\nbad\n")?;
+    Ok(&*script.leak())
+}
+
+/// When the output of a session fails, a search that is at work is given up, so its reader is soon at the end.
+#[test]
+fn searches_are_given_up_at_the_end(rt: HostRuntime) -> Result<(), Fail> {
+    let alloc = rt.alloc();
+    let mut stops = Stops::NEVER;
+    stops.failing = 1;
+    let gate = Turns::lent(alloc, Rule::Held(Point::Matching))?;
+    let mut source = Table::at_gate(FILES, gate.turns);
+    let mut out = Output::new(alloc, stops, None);
+    let input = Input::new(long_script(alloc)?, 65_536);
+    let ended = served(&rt, alloc, input, 1, &mut source, &mut out, gate)?;
+    assert!(rt; ended == Err(LiveError::OutputClosed));
+    gate.turns.second.raise();
+    gate.turns.wait_for(1);
+    assert!(rt; !gate.turns.is_given_up());
     Ok(())
 }

@@ -133,7 +133,7 @@ fn publish_during_matching(rt: HostRuntime) -> Result<(), Fail> {
         text: b"search 1 version 1 lines 1\nf:1:x\nsearch 2 version 4 lines 1\nf:1:y\n",
         status: 0,
     };
-    expect_held(&rt, rt.alloc(), &case, Point::Matching)
+    expect_held(&rt, rt.alloc(), &case, Point::Matching, true)
 }
 
 /// While the one reader is held before it has looked at anything, the script goes on, with a publish. The reader then
@@ -148,11 +148,11 @@ fn publish_before_a_search_begins(rt: HostRuntime) -> Result<(), Fail> {
         text: b"search 1 version 3 lines 0\nsearch 2 version 3 lines 1\nf:1:y\n",
         status: 0,
     };
-    expect_held(&rt, rt.alloc(), &case, Point::Begin)
+    expect_held(&rt, rt.alloc(), &case, Point::Begin, true)
 }
 
 /// While the one reader is held in a search, that is cancelled, twice, and it is open until then. The search has one entry,
-/// and the reader answers the next one.
+/// and the reader answers the next one. If it was cancelled at its beginning, its candidates are not taken.
 #[test]
 fn a_held_search_is_cancelled(rt: HostRuntime) -> Result<(), Fail> {
     let case = Case {
@@ -163,8 +163,8 @@ fn a_held_search_is_cancelled(rt: HostRuntime) -> Result<(), Fail> {
         text: b"search 1 refused: cancelled\nline 6 status version 1 documents 1 bytes 1 accepted 2 of 9 open 1\nline 8 status version 1 documents 1 bytes 1 accepted 2 of 9 open 0\nline 10 refused: no such search\nsearch 2 version 1 lines 1\nf:1:x\n",
         status: 2,
     };
-    expect_held(&rt, rt.alloc(), &case, Point::Begin)?;
-    expect_held(&rt, rt.alloc(), &case, Point::Matching)
+    expect_held(&rt, rt.alloc(), &case, Point::Begin, false)?;
+    expect_held(&rt, rt.alloc(), &case, Point::Matching, true)
 }
 
 /// A search with no time at all is too slow, whoever answers it. One whose pattern has a fault is refused for that, and a
@@ -192,16 +192,49 @@ fn searches_with_a_limit_of_time(rt: HostRuntime) -> Result<(), Fail> {
     expect_always(&rt, rt.alloc(), &timely, &mut source)
 }
 
-/// The case has its text with one reader, which answers its searches, the first of them while it is held at a point.
+/// The case has its text with one reader, which answers its searches, the first of them while it is held at a point. That
+/// one takes its candidates, or it does not.
 fn expect_held<R: Threads + Wait + Clock + Abort + Sync>(
     rt: &R,
     alloc: Global,
     case: &Case<'_>,
     point: Point,
+    takes: bool,
 ) -> Result<(), Fail> {
     let gate = Turns::new(Rule::Held(point));
     let mut source = Table::at_gate(FILES, &gate);
     expect(rt, alloc, case, 1, &mut source, &gate)?;
+    assert!(rt; !gate.is_given_up());
+    assert!(rt; gate.matching.is_raised() == takes);
+    Ok(())
+}
+
+/// How many searches and loads there are, more than answers that can wait for a run.
+const BESIDE: usize = 100;
+
+/// A run takes answers while it carries out other items, so its reader is never held up by it for long: of the loads behind
+/// the searches, each comes only once as many searches are done.
+#[test]
+fn answers_are_taken_beside_loads(rt: HostRuntime) -> Result<(), Fail> {
+    let alloc = rt.alloc();
+    let mut script = repeated(alloc, b"put f 1\nx\npublish\n", b"search x\n", BESIDE, b"")?;
+    let mut text = Vec::new(alloc);
+    for search in 1..=BESIDE {
+        script.extend_from_slice(b"load g d\n")?;
+        let answer = format!(in alloc; "search {search} version 1 lines 1\nf:1:x\n")?;
+        text.extend_from_slice(answer.as_bytes())?;
+    }
+    let case = Case {
+        script: script.as_slice(),
+        max_commands: 1_000,
+        search_ms: None,
+        stats: false,
+        text: text.as_slice(),
+        status: 0,
+    };
+    let gate = Turns::new(Rule::Open);
+    let mut source = Table::at_gate(FILES, &gate);
+    expect(&rt, alloc, &case, 1, &mut source, &gate)?;
     assert!(rt; !gate.is_given_up());
     Ok(())
 }

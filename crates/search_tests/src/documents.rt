@@ -2,7 +2,7 @@
 //! documents come and go, is tested with the built program.
 
 use crate::fixtures::{document, index_of, lists};
-use index::{Command, Held, Index, Name, NameError};
+use index::{Body, Command, Held, Index, MAX_BODY, Name, NameError};
 use posting::List;
 use search::Taken;
 use std::alloc::{AllocError, Global};
@@ -283,6 +283,35 @@ fn a_body_is_shared(rt: HostRuntime) -> Result<(), Fail> {
     let (name, body) = document(rt.alloc(), b"f", b"abc")?;
     let held = Held::new(body)?;
     assert!(rt; stays_in_one(&rt, rt.alloc(), &name, &held, b"abc")?);
+    Ok(())
+}
+
+/// Puts documents with this body under 94 names that begin with a number.
+fn put_shared(
+    rt: &impl Abort,
+    alloc: Global,
+    index: &mut Index,
+    number: u8,
+    held: &Held,
+) -> Result<(), Fail> {
+    for other in 33..127u8 {
+        let name = Name::new(alloc, &[number, other])?;
+        assert!(rt; index.version() < 5000);
+        index.apply_put(&name, held)?;
+    }
+    Ok(())
+}
+
+/// The bodies of an index can have more bytes than 32 bits count. Here all documents share the longest one.
+#[test]
+fn bodies_of_over_4_gib(rt: HostRuntime) -> Result<(), Fail> {
+    let longest = vec![in rt.alloc(); b'\n'; MAX_BODY]?;
+    let held = Held::new(Body::new(longest)?)?;
+    let mut index = Index::new(rt.alloc());
+    for number in 128..172u8 {
+        put_shared(&rt, rt.alloc(), &mut index, number, &held)?;
+    }
+    assert_eq!(rt; index.held_bytes(), 44 * 94 * 1048576);
     Ok(())
 }
 

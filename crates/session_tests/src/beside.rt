@@ -190,9 +190,13 @@ const OTHERWISE: &[u8] = b"search 2 version 1 lines 0\nsearch 1 version 1 lines 
 const PUBLISHES: &[u8] =
     b"search x\nput a 1\nx\npublish\nput b 1\nx\npublish\nremove a\npublish\nsearch x\n";
 
-/// An answer has the version that its reader met, though later ones are published before it is handed in. Answers come in
-/// any order. A search that is asked later gets no older version.
-const ROWS: [Row; 10] = [
+/// A search, another one that is asked after a publish, and a publish.
+const TWO_BESIDE: &[u8] =
+    b"put a 1\nx\npublish\nsearch x\nput b 1\nx\npublish\nsearch x\nput c 1\nx\npublish\n";
+
+/// An answer has the version that its reader met, though later ones are published before it is handed in, and later searches
+/// are open. Answers come in any order. A search that is asked later gets no older version.
+const ROWS: [Row; 11] = [
     (PUBLISH_BESIDE, b"iii1iid", FIRST),
     (PUBLISH_BESIDE, b"iii2dii", FIRST),
     (PUBLISH_BESIDE, b"iiiii2d", SECOND),
@@ -214,6 +218,11 @@ const ROWS: [Row; 10] = [
         PUBLISHES,
         b"iiiii1iiir2dd",
         b"search 1 version 2 lines 2\na:1:x\nb:1:x\nsearch 2 version 3 lines 1\nb:1:x\n",
+    ),
+    (
+        TWO_BESIDE,
+        b"iii1iiiiid2d",
+        b"search 1 version 1 lines 1\na:1:x\nsearch 2 version 3 lines 3\na:1:x\nb:1:x\nc:1:x\n",
     ),
 ];
 
