@@ -27,6 +27,7 @@ import tempfile
 
 from built import PROGRAM, TOP, need_program
 from counted import Counted, Wrong
+from lines import FOR_THE_SIMULATION
 
 SECONDS = 300
 SCRIPT, SESSION = "script", "session"
@@ -183,6 +184,10 @@ SMALL = put(b"a", b"hello world") + b"publish\n"
 VIEWS = [b"-C 0", b"-C 1", b"--column", b"--spans", b"-l", b"-c", b"-q"]
 
 
+# Stars inside stars: columns and spans of these patterns go by the simulation. The first of them is in no line below.
+STARS, STARS_OR_X, EMPTY_STARS = b"((a*b)*c)*d", b"((a*b)*c)*d|x", b"((a*b)*c)*"
+
+
 def published(count):
     """Documents in both copies of the index, with nothing pending."""
     return documents(count) + b"publish\n" * 3
@@ -285,6 +290,12 @@ def different_trigrams_of_a_body(n):
     return after(b"", put(b"a", b"".join(bytes(chance.choices(range(33, 127), k=9)) + b"\n" for _ in range(n))))
 
 
+def trigrams_of_two_documents(n):
+    chance = random.Random(1)
+    body = b"".join(bytes(chance.choices(range(33, 127), k=9)) + b"\n" for _ in range(n))
+    return after(b"", put(b"a", body) + put(b"b", body) + b"publish\n")
+
+
 def length_of_a_searched_body(n):
     return after(put(b"a", b"some text\n" * n) + b"publish\n", b"search e.*z\n")
 
@@ -340,12 +351,28 @@ def names_after_a_prefix(n):
     return after(first + published(n), b"searchin ^a/ qrst\n" * 10)
 
 
+def candidates_behind_names_under_a_prefix(n):
+    """400 names begin with the prefix, and N candidates come after them. There are over eight times as many documents."""
+    first = b"".join(put(b"a/%d" % number, b"abcd") for number in range(400))
+    others = b"".join(put(b"g%d" % number, b"no") for number in range(10 * n + 4_000))
+    return after(first + others + documents(n) + b"publish\n" * 3, b"searchin ^a/ abcd\n" * 10)
+
+
 def puts_and_removes_beside_documents(n):
     return after(published(n), b"put g 11\nhello world\nremove g\n" * 20 + b"publish\n")
 
 
 def few_candidates_with_common_trigrams(n):
     return after(published(n), b"search abcd.*defg.*uvwxyz\n" * 10)
+
+
+def few_candidates_of_alternatives(n):
+    """Each alternative begins with trigrams that all documents have, and only four documents have a trigram that follows."""
+    return after(published(n), b"search two defg (four|five)\n" * 10)
+
+
+def few_candidates_beside_common_alternatives(n):
+    return after(published(n), b"search (abcd|defg).*uvwxyz\n" * 10)
 
 
 def union_of_lists(n):
@@ -380,6 +407,47 @@ def members_of_a_union(n):
     puts = b"".join(put(b"f%d" % number, texts[number % n]) for number in range(1024)) + b"publish\n"
     asked = b"searchin ^$ %s\n" % b"|".join(texts) * 10
     return asked + puts, puts + asked
+
+
+def columns_far_along_a_line(n):
+    """The match of each line is at its end."""
+    return after(put(b"a", (b"a" * n + b"x\n") * 10) + b"publish\n", b"find --column -- x\n")
+
+
+def columns_far_along_a_line_by_the_simulation(n):
+    return after(put(b"a", b"a" * n + b"x\n") + b"publish\n", b"find --column -- %s\n" % STARS_OR_X)
+
+
+def columns_of_empty_matches(n):
+    """Beyond a search for the same lines. The first match of each is empty and at its front, so no line is read for it."""
+    lines = put(b"a", (b"a" * n + b"\n") * 20) + b"publish\n"
+    return lines + b"find -- %s\n" % EMPTY_STARS, lines + b"find --column -- %s\n" % EMPTY_STARS
+
+
+def spans_of_a_line_by_the_simulation(n):
+    return after(put(b"a", b"x" * n) + b"publish\n", b"find --spans -- %s\n" % STARS_OR_X)
+
+
+def whole_words_in_long_lines(n):
+    """The first match of each line is right before a word byte, and far from the last one."""
+    return after(put(b"a", (b"xs " + b"a" * n + b" x\n") * 10) + b"publish\n", b"find -w --column -- x\n")
+
+
+def lines_that_match_at_their_front(n):
+    """The simulation reads no more of them."""
+    return after(put(b"a", (b"x" + b"a" * n + b"\n") * 50) + b"publish\n", b"find -q -- x%s\n" % FOR_THE_SIMULATION)
+
+
+def counts_of_a_byte_that_is_in_no_line(n):
+    """The matcher leaves a line, however much is still to be counted."""
+    lines = put(b"a", (b"a" * 100 + b"\n") * 100) + b"publish\n"
+    return after(lines, b"find -v -q -- ([b-d]{%d}){16}\n" % n)
+
+
+def length_of_a_pattern_behind_words(n):
+    """Beyond the same pattern without the words. It is refused as too long."""
+    words = b"-n a " * 16 + b"-N b " * 16
+    return SMALL + b"find -- %s\n" % (b"x" * n), SMALL + b"find %s-- %s\n" % (words, b"x" * n)
 
 
 def stars(n):
@@ -421,6 +489,7 @@ GROWTHS = [
     Row(length_of_a_comment, 1_000_000),
     Row(length_of_a_body, 10_000),
     Row(different_trigrams_of_a_body, 2_000, (SESSION,)),
+    Row(trigrams_of_two_documents, 500, (SESSION,)),
     Row(length_of_a_searched_body, 10_000, (SESSION,)),
     Row(lines_searched_one_by_one, 200, (SESSION,)),
     Row(length_of_a_searched_line, 1_500, (SESSION,)),
@@ -434,8 +503,11 @@ GROWTHS = [
     Row(candidates_that_are_few, 1000, (SESSION,), LEVEL, LEVEL),
     Row(candidates_that_are_few_under_a_prefix, 400, (SESSION,), LEVEL, LEVEL),
     Row(names_after_a_prefix, 1000, (SESSION,), LEVEL, LEVEL),
+    Row(candidates_behind_names_under_a_prefix, 500, (SESSION,), LEVEL, LEVEL),
     Row(puts_and_removes_beside_documents, 1000, (SESSION,), LEVEL, LEVEL),
     Row(few_candidates_with_common_trigrams, 1000, (SESSION,), LEVEL, LEVEL),
+    Row(few_candidates_of_alternatives, 1000, (SESSION,), LEVEL, LEVEL),
+    Row(few_candidates_beside_common_alternatives, 1000, (SESSION,), LEVEL, LEVEL),
     Row(union_of_lists, 1000, (SESSION,)),
     Row(intersection_of_lists, 1000, (SESSION,)),
     Row(members_of_a_union, 48, (SESSION,), 1.5),
@@ -443,6 +515,14 @@ GROWTHS = [
     Row(documents_while_the_last_is_replaced, 1000, (SESSION,), LEVEL, LEVEL),
     Row(documents_while_some_are_replaced, 1000, (SESSION,)),
     Row(documents_while_some_are_removed, 1000, (SESSION,)),
+    Row(columns_far_along_a_line, 3_000, (SESSION,), 6),
+    Row(columns_far_along_a_line_by_the_simulation, 4_000, (SESSION,), 6),
+    Row(columns_of_empty_matches, 1_000, (SESSION,), LEVEL),
+    Row(spans_of_a_line_by_the_simulation, 1_000, (SESSION,)),
+    Row(whole_words_in_long_lines, 3_000, (SESSION,), 6),
+    Row(lines_that_match_at_their_front, 1_000, (SESSION,), LEVEL, LEVEL),
+    Row(counts_of_a_byte_that_is_in_no_line, 60, (SESSION,), LEVEL, LEVEL),
+    Row(length_of_a_pattern_behind_words, 250_000, (SESSION,), LEVEL, LEVEL),
     Row(stars_inside_stars, 4, (SESSION,)),
     Row(stars_inside_stars_for_names, 4, (SESSION,)),
 ]
@@ -525,6 +605,35 @@ def bytes_of_gaps(body):
     return sum(max((after - before).bit_length() + 6, 7) // 7 for before, after in zip([0] + numbers, numbers))
 
 
+def text_of_many_trigrams(lines):
+    """Lines of nine letters, each of which has some seven trigrams of its own."""
+    chance = random.Random(1)
+    return b"".join(bytes(chance.choices(range(33, 127), k=9)) + b"\n" for _ in range(lines))
+
+
+def trigrams_that_one_document_has(runs):
+    """A document takes no more memory once it is replaced by the same body."""
+    body = text_of_many_trigrams(4_000)
+    none, once, twice = (runs.memory(SESSION, (put(b"a", body) + b"publish\n" * 3) * times + b"search y\n").held for times in (0, 1, 2))
+    yield "bytes more of a document that is replaced by the same", twice - once, none - once, 65_536
+
+
+def documents_that_are_gone(runs):
+    """Little is left of 20,000 documents that came and went, a hundred with each publish. Two with the same text stay."""
+    stay = put(b"a", b"some text") + put(b"b", b"some text") + b"publish\n" * 3
+    come = b"".join(put(b"f%d" % number, b"some text") + b"publish\n" * (number % 100 == 99) for number in range(20_000))
+    go = b"".join(b"remove f%d\n" % number + b"publish\n" * (number % 100 == 99) for number in range(20_000))
+    before, after_it = (runs.memory(SESSION, stay + script + b"publish\n" * 3 + b"search y\n").held for script in (b"", come + go))
+    yield "bytes in use after 20,000 documents came and went", after_it - before, -before, 65_536
+
+
+def pages_of_a_document_that_comes_and_goes(runs):
+    """A document of some 3,000 trigrams that comes and goes takes its pages once."""
+    once = put(b"a", text_of_many_trigrams(440)) + b"publish\nremove a\npublish\n"
+    few, many = (runs.memory(SESSION, SMALL + once * times).requests for times in (10, 110))
+    yield "requests for 100 times that a document comes and goes", many - few, 0, 100 * 60
+
+
 def names_that_are_kept(runs):
     """A document that is replaced keeps the memory of its name."""
     puts = b"".join(put(b"n" * 240 + b"%d" % number, b"x") for number in range(1000))
@@ -537,6 +646,24 @@ def room_under_a_prefix(runs):
     base = put(b"a/0", b"abcd") + documents(4_000) + b"publish\n" * 3
     before, after_it = (runs.memory(SESSION, base + search, 80_000).large for search in (b"", b"searchin ^a/ abcd\n"))
     yield "requests of at least 80,000 bytes for a name of 4,001", after_it - before, 0, 0
+
+
+def room_for_candidates(runs):
+    """For 1,000 candidates, which are a sixth of the documents, no room is made for as many as there are documents."""
+    others = b"".join(put(b"g%d" % number, b"no") for number in range(5_000))
+    base = documents(1_000) + others + b"publish\n" * 3
+    before, after_it = (runs.memory(SESSION, base + search, 80_000).large for search in (b"", b"search abcd.*q\n"))
+    yield "requests of at least 80,000 bytes for 1,000 candidates of 6,000", after_it - before, 0, 0
+
+
+def lists_are_passed_in_blocks(runs):
+    """A search for a text that four of 16,000 documents have goes through the lists of two more trigrams, and through that of all documents."""
+    few, many = (counts_of(runs, candidates_with_two_common_trigrams, count, SESSION)[0] for count in (4_000, 16_000))
+    yield "instructions for 20 times 36,000 bytes of lists", many - few, 0, 3_000_000
+
+
+def candidates_with_two_common_trigrams(n):
+    return after(published(n), b"search abcd.*uvwxyz\n" * 20)
 
 
 def patterns_are_compiled_once(runs):
@@ -558,6 +685,43 @@ def lines_are_matched_once(runs):
     yield "requests for 30,000 hits", many - few, 0, 50
     few, many = (counts_of(runs, length_of_a_searched_body, count, SESSION)[0] for count in (10_000, 90_000))
     yield "instructions for 800,000 bytes that are searched", many - few, 0, 720_000
+    # too large for the engine: so many sets are stepped over by the matcher, from all positions of each line that are left
+    line, sets = b"a" * 100 + b"\n", b"find -q -- [ab]{255}[ab]{255}[ab]{129}c|^a\n"
+    few, many = (runs.instructions(SESSION, put(b"a", line * count) + b"publish\n" + sets) for count in (100, 300))
+    yield "instructions for 200 lines of 100 bytes by the matcher", many - few, 0, 8_000_000
+
+
+def simulations_are_made_once(runs):
+    """One is made for all lines of a document."""
+    for words in b"--column", b"--spans":
+        search = b"publish\nfind %s -- %s\n" % (words, STARS_OR_X)
+        few, many = (runs.memory(SESSION, put(b"a", b"x\n" * count) + search).requests for count in (1_000, 4_000))
+        yield f"requests for 3,000 more lines with {words.decode()}", many - few, 0, 50
+
+
+def simulations_are_small(runs):
+    """A simulation takes at most 1,000 bytes for each byte of its pattern, and 64 KiB. With columns a search has one more than without."""
+    chance = random.Random(1)
+    pattern = b"(((%s)*0)*1)*2" % b"|".join(bytes(chance.choices(range(97, 123), k=3)) for _ in range(250))
+    lines = put(b"a", b"2\n") + b"publish\n"
+    one, two = (runs.memory(SESSION, lines + b"find %s-- %s\n" % (words, pattern)).most for words in (b"", b"--column "))
+    yield f"bytes for a simulation of {len(pattern)} bytes", two - one, 1, 1_000 * len(pattern) + 65_536
+
+
+def simulations_of_equal_patterns(runs):
+    """An alternative of bytes takes no more work than a set, and a count of what can be left out no more than what it stands for. The
+    work is what columns take beyond the lines, which are read whole for them."""
+    letters = bytes(range(97, 123))
+    alternatives, counts = letters * 10 + b"01\n", b"ab" * 10 + b"c"
+    pairs = [
+        (alternatives, b"(((%s)*0)*1)+" % b"|".join(bytes([letter]) for letter in letters), b"(([a-z]*0)*1)+"),
+        (counts * 10 + b"01\n", b"((([ab]{0,20}c)*0)*1)+", b"(((%sc)*0)*1)+" % (b"[ab]?" * 20)),
+    ]
+    for line, *patterns in pairs:
+        lines = put(b"a", line * 20) + b"publish\n"
+        scripts = [[lines + b"find %s-- %s\n" % (words, pattern) for words in (b"--column ", b"")] for pattern in patterns]
+        work, other = (runs.instructions(SESSION, more) - runs.instructions(SESSION, less) for more, less in scripts)
+        yield f"instructions for {patterns[0].decode()[:40]}", work, other // 2, 2 * other
 
 
 def texts_are_written_once(runs):
@@ -584,19 +748,62 @@ def searches_beside_others(runs):
     large = b"".join(put(b"f%d" % number, b"some text\n" * 100_000) for number in range(20)) + b"publish\n"
     small = put(b"a", b"some text\n" * 100) + b"publish\n"
     for way, own in (SCRIPT_BESIDE, 2), (SESSION_BESIDE, 3):
-        for what, script, more in ("a small search", small + b"search e.*z\n", 0), ("a large search", large + b"search e.*z\n", 2):
+        for what, script, more in (
+            ("a small search", small + b"search e.*z\n", 0),
+            ("a large search", large + b"search e.*z\n", 2),
+            ("three large searches, one after the other", large + b"search e.*z\nsync\n" * 3, 6),
+        ):
             yield f"threads of a {way} with {what}", runs.memory(way, script).threads, own + more, own + more
     many = large + b"search e.*z\n" * 20
-    yield f"threads of a {SCRIPT_BESIDE} with many searches", runs.memory(SCRIPT_BESIDE, many).threads, 4, 4
+    # the last of them can be alone, and go on in three threads
+    yield f"threads of a {SCRIPT_BESIDE} with many searches", runs.memory(SCRIPT_BESIDE, many).threads, 2, 12
     for way in BOTH:
         yield f"threads of a {way} without readers", runs.memory(way, many).threads, 0, 0
+    # one part of a search, and more text than one thread forms at a time
+    hits = runs.memory(SCRIPT_BESIDE, put(b"a", b"some text\n" * 100_000) + b"publish\nsearch t\n")
+    yield f"threads of a {SCRIPT_BESIDE} with {len(hits.text)} bytes of hits", hits.threads, 2 + 2, len(hits.text) // 32_768
+
+
+def texts_are_formed_beside_one_another(runs):
+    """A run forms the text of a large answer in three threads, of which it starts two for each 384 KiB. The search itself is small."""
+    long = put(b"a", b"\n" * 500_000) + b"publish\nsearch ^\n"
+    made = runs.memory(SCRIPT_BESIDE, long)
+    pieces = len(made.text) // 393_216
+    yield f"threads of a {SCRIPT_BESIDE} with a text of 4.9 MB", made.threads, 2 + 2 * pieces, 2 + 4 * pieces
+
+
+def searches_come_before_the_second_copy(runs):
+    """A search that is there when a publish is over is taken before the second copy of the index is brought up to date. The last put takes
+    so long that what follows it has been read by then."""
+    chance = random.Random(1)
+    puts = b"".join(put(b"f%d" % number, bytes(chance.choices(range(33, 255), k=10_000)) + b"\n") for number in range(40))
+    puts += put(b"last", b"".join(bytes(chance.choices(range(33, 127), k=100)) + b"\n" for _ in range(10_000)))
+    first, both = (runs.memory(SESSION_BESIDE, puts + b"publish\n" * count + b"search y\n").held for count in (1, 3))
+    yield "bytes in use less when a search behind the first publish is answered", both - first, 2_000_000, both
 
 
 def parts_of_a_search_are_even(runs):
-    """Of a search of nine bodies of one length in three threads, each looks at three bodies."""
+    """Of a search of nine bodies of one length in three threads, each looks at three bodies, and of one of two bodies no thread at both."""
     large = b"".join(put(b"f%d" % number, b"some text\n" * 60_000) for number in range(9)) + b"publish\n"
-    counts = runs.instructions_of_threads(SCRIPT_BESIDE, large + b"search e.*z\n")
-    yield "instructions of the thread that does most of a search", max(counts), sum(counts) // 4, sum(counts) // 2
+    most, all_of_them = most_of_a_thread(runs, large + b"search e.*z\n")
+    yield "instructions of the thread that does most of a search", most, all_of_them // 4, all_of_them // 2
+    two = b"".join(put(b"f%d" % number, b"some text\n" * 100_000) for number in range(2)) + b"publish\n"
+    most, all_of_them = most_of_a_thread(runs, two + b"search e.*z\n")
+    yield "instructions of the thread that does most of a search of two bodies", most, all_of_them // 3, all_of_them * 2 // 3
+
+
+def most_of_a_thread(runs, script):
+    """The instructions of the thread that does most, and those of all, in the run of three in which it does least: on a busy machine a thread
+    can begin so late that another one has done its part."""
+    counts = [runs.instructions_of_threads(SCRIPT_BESIDE, script) for _ in range(3)]
+    return min((max(threads), sum(threads)) for threads in counts)
+
+
+def parts_of_a_search_are_gone_through_once(runs):
+    """Also where a limit is gone beyond in the last of three parts."""
+    large = b"".join(put(b"f%d" % number, b"some text\n" * 60_000 + b"end\n" * (number == 8) * 10) for number in range(9)) + b"publish\n"
+    limited, whole = (sum(runs.instructions_of_threads(SCRIPT_BESIDE, large + b"find %s-- n.*d\n" % words)) for words in (b"-m 1 ", b""))
+    yield "instructions of a search with a limit", limited, whole // 2, whole * 5 // 4
 
 
 def publishes_change_one_copy(runs):
@@ -617,8 +824,12 @@ def memory_of_what_is_short(runs):
     """What takes little memory, or gives it back."""
     yield "bytes in use at once by a session with nothing", runs.memory(SESSION, b"").most, 0, 262_144
     yield "requests of 2 MiB for a put of 20 MB", runs.memory(SESSION, put(b"a", b"x" * 20_000_000), 2 << 20).large, 0, 0
+    passed, refused = (runs.memory(SCRIPT, script).most for script in (b"#" + b"x" * 20_000_014 + b"\n", put(b"a", b"x" * 20_000_000)))
+    yield "bytes in use at once more for a put of 20 MB in a run than for a comment", refused - passed, -refused, 262_144
     line = b"find " + b"-i " * 400_000 + b"-- x\n"
     yield "bytes in use at once by a line of 1.2 MB", runs.memory(SESSION, line).most, len(line), 4 * len(line)
+    option = b"find -" + b"o" * 1_200_000 + b" -- x\n"
+    yield "bytes in use at once by an option of 1.2 MB", runs.memory(SESSION, option).most, len(option), 6 * len(option)
     loads = [b"".join(b"load f%d examples/tree/README\n" % number for number in range(count)) for count in (100, 200)]
     few, many = (runs.memory(SESSION, script + b"publish\n" * 3 + b"search y\n").held for script in loads)
     yield "bytes in use after 100 more loads of a small file", many - few, 0, 100 * 4_096
@@ -627,9 +838,23 @@ def memory_of_what_is_short(runs):
     lines = put(b"a", b"\n" * 500_000) + b"publish\n"
     none, all_lines = (runs.memory(SCRIPT, lines + search).held for search in (b"search y\n", b"search ^\n"))
     yield "bytes in use after the text of a run is written", all_lines - none, -none, 300_000
+    lines += b"publish\n" * 2
+    none, written = (runs.memory(SESSION_BESIDE, lines + search + b"search y\n").held for search in (b"", b"search ^\nsync\n"))
+    yield "bytes in use after the text of an answer that a reader has formed is written", written - none, -none, 600_000
     wide = put(b"a", (b"x" * 16_000 + b"\n") * 64) + b"publish\n"
     one, many = (runs.memory(SCRIPT_BESIDE, wide + b"search x\n" * count).most for count in (1, 16))
     yield "bytes in use at once for 15 more answers of 1 MB in a run", many - one, -one, 3_000_000
+    wide = b"".join(put(b"f%d" % number, (b"x" * 16_000 + b"\n") * 64) for number in range(6)) + b"publish\n"
+    none, answered = (runs.memory(SESSION_BESIDE, wide + search, 700_000).large for search in (b"", b"search x\n"))
+    yield "requests of 700,000 bytes for an answer that is formed in three parts", answered - none, 0, 0
+
+
+def bodies_are_gone_through_fast(runs):
+    """What takes less than an instruction for a byte: line feeds of a body that is too long."""
+    few, many = (runs.instructions(SCRIPT, put(b"a", b"some text\n" * count)) for count in (200_000, 2_000_000))
+    yield "instructions for 18 MB of a body that is too long", many - few, 0, 36_000_000
+    few, many = (runs.memory(SESSION, put(b"a", b"some text\n" * count)).most for count in (10, 100_000))
+    yield "bytes in use at once for a MB with few trigrams", many - few, 1_000_000, 2_000_000
 
 
 def input_is_read_in_large_pieces(runs):
@@ -670,17 +895,29 @@ CHECKS = [
     copies_of_a_body,
     documents_are_analysed_once,
     documents_that_are_kept,
+    trigrams_that_one_document_has,
+    documents_that_are_gone,
+    pages_of_a_document_that_comes_and_goes,
     names_that_are_kept,
     room_under_a_prefix,
+    room_for_candidates,
+    lists_are_passed_in_blocks,
     patterns_are_compiled_once,
     lines_are_matched_once,
+    simulations_are_made_once,
+    simulations_are_small,
+    simulations_of_equal_patterns,
     texts_are_written_once,
     publishes_of_nothing_hold_nothing,
     searches_beside_others,
+    texts_are_formed_beside_one_another,
+    searches_come_before_the_second_copy,
     parts_of_a_search_are_even,
+    parts_of_a_search_are_gone_through_once,
     publishes_change_one_copy,
     small_documents_are_searched_as_a_large_one,
     memory_of_what_is_short,
+    bodies_are_gone_through_fast,
     input_is_read_in_large_pieces,
 ]
 

@@ -105,6 +105,8 @@ def large_counts_beside_stars():
         rb"x((a?b?){255}{8}d$|[ab])*e",
         rb"x(" + rb"([ab]{0,20}c?){3}" * 50 + rb"d$|[ab])*e",
         rb"x([ab]|a([ab]{250}){15}c|d$)*e",
+        # some 1,200 copies around the innermost count
+        rb"x((([ab]{2}c?){40}){30}d$|[ab])*e",
     ]
     for pattern in kinds:
         yield documents_of_lines(lines), pattern, hits_of_lines(lines, plain)

@@ -44,6 +44,7 @@ ROWS = [
     Row("trigrams with sets", "trigrams", 2_000),
     Row("trigrams taken out one by one", "trigrams", 5_000),
     Row("documents", "nothing", 500),
+    Row("late documents", "nothing", 500),
     Row("documents withdrawn", "documents", 500),
     Row("documents with all", "documents", 500),
     Row("documents with some", "documents", 500),

@@ -31,7 +31,7 @@ ALONE, ONE_READER, TWO_READERS = ["--readers", "0"], ["--readers", "1"], ["--rea
 SESSION, READING = ["--live", "--readers", "0"], ["--live", "--readers", "2"]
 # How many bytes an entry of a run may take, and how many the program beside the script and the entries.
 MOST_OF_AN_ENTRY, MOST_BESIDE = 48, 16 * 1_048_576
-MANY_COMMANDS = ["--max-commands", "1000000"]
+MANY_COMMANDS, ALL_COMMANDS = ["--max-commands", "1000000"], ["--max-commands", "4294967294"]
 # The most bytes that the program may take for 16,777,216 hits, whose places take 268,435,456.
 MOST_OF_MANY_HITS = 320 * 1_048_576
 
@@ -90,6 +90,12 @@ def documents():
     hits = [b"%s:1:text %s" % (name, name[1:]) for name in names]
     wanted = answers(1, count, hits) + answers(1, count, [b"f77777:1:text 77777"], 2)
     return Case(script, wanted, [MANY_COMMANDS + ALONE, MANY_COMMANDS + TWO_READERS, SESSION, READING])
+
+
+def documents_over_20_bits():
+    count = OVER_20_BITS
+    script = b"".join(put(b"%d" % number, b"xyz") for number in range(count)) + b"publish\nsearchin ^777777$ xyz\n"
+    return Case(script, answers(1, count, [b"777777:1:xyz"]), [ALL_COMMANDS + ALONE, ALL_COMMANDS + SESSION])
 
 
 def removes():
@@ -190,6 +196,7 @@ CASES = [
     searches_of_a_session,
     lines_of_an_answer,
     documents,
+    documents_over_20_bits,
     puts_before_a_publish,
     all_commands_there_are,
     publishes_of_a_put,
