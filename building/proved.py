@@ -2,34 +2,41 @@
 interrupted goes on where it was."""
 
 import os
-import re
+import pathlib
 import shutil
+import tempfile
 import time
 
+import rooms
 from commands import CannotBuild, end, last_lines, reason_of_failure, say, spent, start
 from sources import CRATES, PROGRAM, crates_of_program
 
 # The file that rt makes of the crate `program`.
 MADE = CRATES / PROGRAM / "out" / PROGRAM
-MEMORY_OF_A_PROOF = 4 << 30
+# How many crates are proved at once, and what the processes of one of them take at most, all together.
+CRATES_AT_ONCE = 3
+MEMORY_OF_A_CRATE = 6 << 30
+# The folder of the rooms begins so.
+ROOMS = "prove-"
 # So many seconds at most pass between two lines of progress.
 QUIET = 60
-# The line that `rt all` writes before what it says of a crate that is done.
-DONE = re.compile(r"(?m)^== (\S+)$")
 
 
 def build(target, out):
     """Proves the crates, each after those that it uses, and several at once. The program goes to the file `target`."""
-    began = time.monotonic()
-    crates = crates_of_program()
-    at_once = proofs_at_once()
-    say(f"proving {len(crates)} crates, up to {at_once} at once, and building the program; from scratch this takes some 40 minutes")
-    # One rt for all of them: of several, each would wait for the others wherever they use the same crates.
-    carry_out(["rt", "all", "check", "--jobs", str(at_once)], crates, began)
+    uses = crates_of_program()
+    progress = Progress(len(uses))
+    at_once, jobs = shares()
+    say(f"proving {len(uses)} crates, up to {at_once} at once, and building the program; from scratch this takes some 25 minutes")
+    libraries = {crate: own for crate, own in uses.items() if crate != PROGRAM}
+    with tempfile.TemporaryDirectory(prefix=ROOMS, dir=out) as folder:
+        failed = rooms.prove(libraries, pathlib.Path(folder), at_once, jobs, progress.tell)
     # The program is built by running it, which writes its help.
-    carry_out(["rt", "run", "--", "--help"], crates, began)
+    failed = failed or build_program(jobs, progress)
+    if failed:
+        raise CannotBuild(reason_of(*failed))
     keep(target, out)
-    say(f"proved and built in {spent(began)}")
+    say(f"proved and built in {spent(progress.began)}")
 
 
 def keep(target, out):
@@ -39,48 +46,53 @@ def keep(target, out):
     os.replace(part, target)
 
 
-def proofs_at_once():
-    """How many crates are proved at once: one for each processor, and for each 4 GiB of memory."""
+def shares():
+    """How many crates are proved at once, and by how many processes each, on these processors and in this memory."""
     available = 0
     with open("/proc/meminfo", encoding="ascii") as lines:
         for line in lines:
             if line.startswith("MemAvailable:"):
                 available = int(line.split()[1]) << 10
-    return max(1, min(len(os.sched_getaffinity(0)), available // MEMORY_OF_A_PROOF))
+    at_once = min(CRATES_AT_ONCE, available // MEMORY_OF_A_CRATE)
+    return (at_once, len(os.sched_getaffinity(0))) if at_once else (1, 1)
 
 
-def carry_out(words, crates, began):
-    """Runs rt for the program and the crates below it, and says which crates are proved, and each while what goes on."""
-    folder = CRATES / PROGRAM
-    (folder / "out").mkdir(exist_ok=True)
-    log = folder / "out" / "build.log"
-    process = start(words, log, cwd=folder)
-    told, last = 0, time.monotonic()
+class Progress:
+    """Says which crates are proved, and each while that it goes on."""
+
+    def __init__(self, count):
+        self.count, self.done = count, 0
+        self.began = self.last = time.monotonic()
+
+    def tell(self, crate):
+        if crate:
+            self.done += 1
+            say(f"{crate} is done ({spent(self.began)} so far, {self.done} of {self.count} crates)")
+        elif time.monotonic() - self.last > QUIET:
+            say(f"still at work ({spent(self.began)} so far)")
+        else:
+            return
+        self.last = time.monotonic()
+
+
+def build_program(jobs, progress):
+    """Proves the crate `program` and builds the program. Returns what `rooms.prove` returns."""
+    process = start(["rt", "run", "--jobs", str(jobs), "--", "--help"], rooms.log_of(PROGRAM), cwd=CRATES / PROGRAM)
     try:
-        ended = False
-        while not ended:
-            ended = process.poll() is not None
-            done = done_in(log, crates)
-            for number, crate in enumerate(done[told:], told + 1):
-                say(f"{crate} is done ({spent(began)} so far, {number} of {len(crates)} crates)")
-            if len(done) > told or time.monotonic() - last > QUIET:
-                last = time.monotonic()
-                if len(done) == told:
-                    say(f"still at work ({spent(began)} so far)")
-            told = len(done)
-            time.sleep(0 if ended else 0.5)
+        while process.poll() is None:
+            progress.tell(None)
+            time.sleep(0.2)
     finally:
         if process.poll() is None:
             end(process)
     if process.returncode != 0:
-        raise CannotBuild(reason_of(process.returncode, log))
+        return PROGRAM, process.returncode
+    progress.tell(PROGRAM)
+    return None
 
 
-def done_in(log, crates):
-    """The crates of which rt says in its log that it is done with them."""
-    return [crate for crate in DONE.findall(log.read_text(errors="replace")) if crate in crates]
-
-
-def reason_of(status, log):
+def reason_of(crate, status):
+    """Why a crate is not proved, or the program not built."""
+    log = rooms.log_of(crate)
     reason = reason_of_failure(status, log, CRATES)
-    return reason or f"the crates are not proved (all that rt wrote is in {log}):\n{last_lines(log)}"
+    return reason or f"{crate} is not proved (all that rt wrote is in {log}):\n{last_lines(log)}"

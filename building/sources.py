@@ -38,11 +38,20 @@ def crates_of_program():
     return ordered
 
 
+def files_in(folders):
+    """All files in these folders, without what Python keeps."""
+    found = [path for folder in folders if folder.is_dir() for path in folder.rglob("*") if path.is_file()]
+    return [path for path in found if "__pycache__" not in path.parts]
+
+
+def files_of(crate):
+    """The files of a crate that are proved or compiled."""
+    return files_in(CRATES / crate / part for part in PARTS)
+
+
 def files():
     """All files that decide which program is built, in a fixed order."""
-    folders = [CRATES / crate / part for crate in crates_of_program() for part in PARTS] + [BUILDING]
-    found = [path for folder in folders if folder.is_dir() for path in folder.rglob("*") if path.is_file()]
-    return [LIST] + sorted(path for path in found if "__pycache__" not in path.parts)
+    return [LIST] + sorted(files_in([BUILDING]) + [path for crate in crates_of_program() for path in files_of(crate)])
 
 
 def checksum():
