@@ -5,13 +5,18 @@ Runs the scripts of this folder one after the other: over the source trees SMALL
 commit, the machine and the versions of the tools, and then what is printed after each script: how long it took, its status, how much of
 the processors' time was used meanwhile, and how much of it the host took. A script that fails does not stop the others.
 
+The small programs are built first, side by side, since nothing is measured yet. One that is not built then is built by its script,
+which says why it can't be.
+
 With --only, only the scripts of these names run. Nothing else should run meanwhile: if the load average of the last minute is over
 1.0, nothing is measured, unless --anyway is given.
 """
 import argparse
+import concurrent.futures
 import os
 import subprocess
 import sys
+import tempfile
 import time
 
 import build
@@ -103,6 +108,23 @@ def ticks():
     return sum(times), sum(times) - idle - stolen, stolen
 
 
+def build_small_programs(names, folder):
+    """Builds these small programs, and has the scripts take them from the folder."""
+    began = time.perf_counter()
+    with concurrent.futures.ThreadPoolExecutor(os.cpu_count()) as pool:
+        built = sum(pool.map(lambda name: is_built(name, os.path.join(folder, name)), names))
+    os.environ["SMALL_PROGRAMS"] = folder
+    return "%d of %d small programs built in %.0f s" % (built, len(names), time.perf_counter() - began)
+
+
+def is_built(name, folder):
+    try:
+        build.build(name, folder)
+        return True
+    except SystemExit:
+        return False
+
+
 def file_of(script, folders, runs):
     """The name of the file for what a run prints: it has the name of the folder if the script runs several times."""
     is_one = [name for name, _ in runs].count(script) == 1
@@ -131,8 +153,11 @@ def main():
         build.need_program()
     os.makedirs(given.results, exist_ok=True)
     worst = 0
-    with open(os.path.join(given.results, "machine.txt"), "a") as told:
+    with open(os.path.join(given.results, "machine.txt"), "a") as told, tempfile.TemporaryDirectory() as folder:
         told.write("\n".join(about_machine()) + "\n")
+        what = build_small_programs([name for name in build.USED if name in {script for script, _ in asked}], folder)
+        print(what, flush=True)
+        told.write(what + "\n")
         for number, (script, folders) in enumerate(asked, 1):
             name = file_of(script, folders, runs)
             status, what = run(script, folders, os.path.join(given.results, name))

@@ -7,7 +7,7 @@ each, the program and the checksum of its sources. `out/current` leads to the on
     --prove        proves the crates and builds the proved program
     --path         prints the path of the program that runs, which is built if need be
     --version      prints its version, and which of the two it is
-    --checksum     prints the checksum of the sources
+    --checksum     prints the checksum of the sources, once no other call builds, and removes what an interrupted one has left
     --keep-proved CHECKSUM   keeps the program that rt has just proved and built of the sources with this checksum
     --compile      compiles the program from nothing, and prints its path; another program goes on to run
     other words    runs the program on them
@@ -155,7 +155,8 @@ def carry_out(words):
     elif words == ["--version"]:
         return say_version()
     elif words == ["--checksum"]:
-        print(checksum())
+        with one_at_a_time():
+            print(checksum())
     elif words[:1] == ["--keep-proved"] and len(words) == 2:
         keep_proved(words[1])
     elif words == ["--compile"]:

@@ -76,11 +76,12 @@ def run(words, log, what, began, **how):
 
 def reason_of(error, otherwise):
     """Why an error of the system ends the build."""
-    if error.errno == errno.ENOSPC or error.errno == errno.EDQUOT:
+    # (a copy of a folder that fails has no number, but the texts of all its errors)
+    if error.errno in (errno.ENOSPC, errno.EDQUOT) or os.strerror(errno.ENOSPC) in str(error):
         return FULL
     if error.errno == errno.ENOMEM:
         return NO_MEMORY
-    return f"{otherwise} ({error.strerror})"
+    return f"{otherwise} ({error.strerror or error})"
 
 
 def reason_of_failure(status, log, folder):

@@ -27,7 +27,7 @@ def build(target, out):
     uses = crates_of_program()
     progress = Progress(len(uses))
     at_once, jobs = shares()
-    say(f"proving {len(uses)} crates, up to {at_once} at once, and building the program; from scratch this takes some 25 minutes")
+    say(f"proving {len(uses)} crates, up to {at_once} at once, and building the program; from scratch this takes some 30 minutes")
     libraries = {crate: own for crate, own in uses.items() if crate != PROGRAM}
     with tempfile.TemporaryDirectory(prefix=ROOMS, dir=out) as folder:
         failed = rooms.prove(libraries, pathlib.Path(folder), at_once, jobs, progress.tell)
