@@ -34,6 +34,9 @@ fn two_readers_at_once(rt: HostRuntime) -> Result<(), Fail> {
 /// such line. Neither finds one.
 const SLOW_SEARCH: &[u8] = b"\npublish\nsearch x(a|([ab]?){255}{15}c|d$)*e\nsearch b\n";
 
+/// In how many runs a search has to overtake another one once: on a busy machine a thread can begin late.
+const RUNS: usize = 50;
+
 /// A search that takes long is matching when the next one begins, and is not done when that one is. No search is held,
 /// so this is also so between the points at which a gate can hold one.
 #[test]
@@ -50,11 +53,24 @@ fn a_search_overtakes_another(rt: HostRuntime) -> Result<(), Fail> {
         text: b"search 1 version 1 lines 0\nsearch 2 version 1 lines 0\n",
         status: 1,
     };
+    let mut is_overtaken = false;
+    for _ in 0..RUNS {
+        is_overtaken = is_overtaken || overtakes(&rt, rt.alloc(), &case)?;
+    }
+    assert!(rt; is_overtaken, "in {RUNS} runs");
+    Ok(())
+}
+
+/// Whether search 2 of the case is done before search 1.
+fn overtakes<R: Threads + Wait + Clock + Abort + Sync>(
+    rt: &R,
+    alloc: Global,
+    case: &Case<'_>,
+) -> Result<bool, Fail> {
     let gate = Overtaking::new();
     let mut source = Table::new(&[], b"", 0);
-    expect(&rt, rt.alloc(), &case, 2, &mut source, &gate)?;
-    assert!(rt; gate.overtaken.is_raised());
-    Ok(())
+    expect(rt, alloc, case, 2, &mut source, &gate)?;
+    Ok(gate.overtaken.is_raised())
 }
 
 /// The case has its text if its searches are done in this order.
