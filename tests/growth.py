@@ -450,6 +450,23 @@ def length_of_a_pattern_behind_words(n):
     return SMALL + b"find -- %s\n" % (b"x" * n), SMALL + b"find %s-- %s\n" % (words, b"x" * n)
 
 
+def whole_words_far_from_the_end_of_a_line(n):
+    """Beyond a search for the same lines. Both matches of each line are at its front, and the first of them is no whole word."""
+    lines = put(b"a", (b"xs x " + b"a" * n + b"\n") * 10) + b"publish\n"
+    return lines + b"find -w -- x\n", lines + b"find -w --column -- x\n"
+
+
+def lines_without_a_match_that_match_at_their_front(n):
+    """Where lines without a match are asked for, no more of a line is read once a match is found in it."""
+    return after(put(b"a", (b"x" + b"a" * n + b"\n") * 50) + b"publish\n", b"find -v -q -- x[a-z]*\n" * 5)
+
+
+def sets_behind_one_that_is_in_no_line(n):
+    """Beyond the same pattern for no document. The matcher leaves a line, however many sets come after the first."""
+    lines, pattern = put(b"a", (b"a" * 50 + b"\n") * 150) + b"publish\n", b"-- %s\n" % (b"b" * n)
+    return lines + (b"find -v -q -n ^$ " + pattern) * 4, lines + (b"find -v -q " + pattern) * 4
+
+
 def stars(n):
     """A pattern of N stars, each inside the next one and after a letter. Without a compiled pattern each of them doubles the work."""
     return b"^(aa)*" + b"(a" * n + b"a*" + b")*" * n + b"b$"
@@ -457,6 +474,11 @@ def stars(n):
 
 def stars_inside_stars(n):
     return after(put(b"a", b"a" * 60 + b"c") + b"publish\n", b"search %s\n" % stars(n))
+
+
+def stars_of_stars(n):
+    """Each of N stars has the next one alone. They are as quick as one."""
+    return after(put(b"a", b"a" * 5_000 + b"c") + b"publish\n", b"search %s\n" % (b"(" * n + b"a+" + b")+" * n + b"b") * 10)
 
 
 def stars_inside_stars_for_names(n):
@@ -520,9 +542,13 @@ GROWTHS = [
     Row(columns_of_empty_matches, 1_000, (SESSION,), LEVEL),
     Row(spans_of_a_line_by_the_simulation, 1_000, (SESSION,)),
     Row(whole_words_in_long_lines, 3_000, (SESSION,), 6),
+    Row(whole_words_far_from_the_end_of_a_line, 1_000, (SESSION,), 3),
     Row(lines_that_match_at_their_front, 1_000, (SESSION,), LEVEL, LEVEL),
+    Row(lines_without_a_match_that_match_at_their_front, 1_000, (SESSION,), LEVEL, LEVEL),
+    Row(sets_behind_one_that_is_in_no_line, 100, (SESSION,), LEVEL, LEVEL),
     Row(counts_of_a_byte_that_is_in_no_line, 60, (SESSION,), LEVEL, LEVEL),
     Row(length_of_a_pattern_behind_words, 250_000, (SESSION,), LEVEL, LEVEL),
+    Row(stars_of_stars, 4, (SESSION,), LEVEL, LEVEL),
     Row(stars_inside_stars, 4, (SESSION,)),
     Row(stars_inside_stars_for_names, 4, (SESSION,)),
 ]
@@ -619,12 +645,12 @@ def trigrams_that_one_document_has(runs):
 
 
 def documents_that_are_gone(runs):
-    """Little is left of 20,000 documents that came and went, a hundred with each publish. Two with the same text stay."""
+    """Little is left of 50,000 documents that came and went, a hundred with each publish. Two with the same text stay."""
     stay = put(b"a", b"some text") + put(b"b", b"some text") + b"publish\n" * 3
-    come = b"".join(put(b"f%d" % number, b"some text") + b"publish\n" * (number % 100 == 99) for number in range(20_000))
-    go = b"".join(b"remove f%d\n" % number + b"publish\n" * (number % 100 == 99) for number in range(20_000))
+    come = b"".join(put(b"f%d" % number, b"some text") + b"publish\n" * (number % 100 == 99) for number in range(50_000))
+    go = b"".join(b"remove f%d\n" % number + b"publish\n" * (number % 100 == 99) for number in range(50_000))
     before, after_it = (runs.memory(SESSION, stay + script + b"publish\n" * 3 + b"search y\n").held for script in (b"", come + go))
-    yield "bytes in use after 20,000 documents came and went", after_it - before, -before, 65_536
+    yield "bytes in use after 50,000 documents came and went", after_it - before, -before, 65_536
 
 
 def pages_of_a_document_that_comes_and_goes(runs):
@@ -635,10 +661,13 @@ def pages_of_a_document_that_comes_and_goes(runs):
 
 
 def names_that_are_kept(runs):
-    """A document that is replaced keeps the memory of its name."""
+    """A document that is replaced keeps the memory of its name. Both copies of the index have the same."""
     puts = b"".join(put(b"n" * 240 + b"%d" % number, b"x") for number in range(1000))
     once, twice = (runs.memory(SESSION, (puts + b"publish\n" * 3) * times + b"search y\n").held for times in (1, 2))
     yield "bytes more after 1,000 names of 240 bytes are replaced", twice - once, -once, 120_000
+    short = b"".join(put(b"n%d" % number, b"x") for number in range(1000))
+    less, more = (runs.memory(SESSION, items + b"publish\n" * 3 + b"search y\n").held for items in (short, puts))
+    yield "bytes more for 1,000 names of 240 bytes than for short ones", more - less, 200_000, 360_000
 
 
 def room_under_a_prefix(runs):
@@ -646,6 +675,30 @@ def room_under_a_prefix(runs):
     base = put(b"a/0", b"abcd") + documents(4_000) + b"publish\n" * 3
     before, after_it = (runs.memory(SESSION, base + search, 80_000).large for search in (b"", b"searchin ^a/ abcd\n"))
     yield "requests of at least 80,000 bytes for a name of 4,001", after_it - before, 0, 0
+    # 200 names of 11,200 begin with it, and 1,200 documents are candidates
+    others = documents(1_000) + b"".join(put(b"g%d" % number, b"no") for number in range(10_000))
+    for prefix in b"a/", b"f2/", b"z/":
+        base = b"".join(put(prefix + b"%d" % number, b"abcd") for number in range(200)) + others + b"publish\n" * 3
+        before, after_it = (runs.memory(SESSION, base + search, 20_000).large for search in (b"", b"searchin ^%s abcd\n" % prefix))
+        yield f"requests of at least 20,000 bytes for 200 names under {prefix.decode()}", after_it - before, 0, 0
+
+
+def answers_without_hits(runs):
+    """A run keeps its answers to its end: no document of which nothing is shown, and no room for hits that are not there."""
+    path = runs.folder / "large"
+    path.write_bytes(b"some text\n" * 100_000)
+
+    def rounds(search):
+        for number in range(3):
+            names = [b"f%d-%d" % (number, at) for at in range(4)]
+            yield b"".join(b"load %s %s\n" % (name, bytes(path)) for name in names) + b"publish\n" + search
+            yield b"".join(b"remove %s\n" % name for name in names) + b"publish\n" * 3
+
+    none, asked = (runs.memory(SCRIPT, b"".join(rounds(search))).most for search in (b"", b"search text.*some\n"))
+    yield "bytes in use at once more if three times four MB that come and go are searched", asked - none, -none, 500_000
+    base = documents(1_000) + b"publish\n"
+    one, many = (runs.memory(SCRIPT, base + b"search defg.*abcd\n" * count).most for count in (1, 101))
+    yield "bytes in use at once for 100 more answers of a run without a hit in 1,000 documents", many - one, 0, 100 * 2_000
 
 
 def room_for_candidates(runs):
@@ -677,6 +730,9 @@ def patterns_are_compiled_once(runs):
     yield "requests of a search of four documents", four, one // 2, one + 10
     for search in b"search [a-z]*xyz\n", b"searchin b$ [a-z]*q$\n", b"searchin ((a*|b)*|c)*b$ [a-z]*xyz\n":
         yield f"requests of {search.decode().strip()}", requests(large[0], search), 0, one // 2
+    # more than is shown is in the first lines
+    first = put(b"a", b"some text\n" * 2) + large[0]
+    yield "requests of a search with a limit", requests(first, b"find -m 1 -- [a-z]*t$\n"), 0, one // 2
 
 
 def lines_are_matched_once(runs):
@@ -689,6 +745,9 @@ def lines_are_matched_once(runs):
     line, sets = b"a" * 100 + b"\n", b"find -q -- [ab]{255}[ab]{255}[ab]{129}c|^a\n"
     few, many = (runs.instructions(SESSION, put(b"a", line * count) + b"publish\n" + sets) for count in (100, 300))
     yield "instructions for 200 lines of 100 bytes by the matcher", many - few, 0, 8_000_000
+    line = b"a" * 90 + b"x\n"
+    few, many = (runs.instructions(SESSION, put(b"a", line * count) + b"publish\nfind --column -- x\n") for count in (100, 400))
+    yield "instructions for 300 columns in lines of 90 bytes", many - few, 0, 9_000_000
 
 
 def simulations_are_made_once(runs):
@@ -697,6 +756,15 @@ def simulations_are_made_once(runs):
         search = b"publish\nfind %s -- %s\n" % (words, STARS_OR_X)
         few, many = (runs.memory(SESSION, put(b"a", b"x\n" * count) + search).requests for count in (1_000, 4_000))
         yield f"requests for 3,000 more lines with {words.decode()}", many - few, 0, 50
+
+
+def simulations_read_no_more_than_they_must(runs):
+    """A line without a match is read once, and a span is looked for no further than it can go."""
+    lines = put(b"a", (b"a" * 10_000 + b"\n") * 5) + b"publish\n"
+    work = runs.instructions(SESSION, lines + b"find -q -- %s%s\n" % (STARS, FOR_THE_SIMULATION)) - runs.instructions(SESSION, lines)
+    yield "instructions for 50,000 bytes in long lines by the simulation", work, 0, 130_000_000
+    few, many = (counts_of(runs, spans_of_a_line_by_the_simulation, count, SESSION)[0] for count in (1_000, 4_000))
+    yield "instructions for 3,000 spans by the simulation", many - few, 0, 20_000_000
 
 
 def simulations_are_small(runs):
@@ -804,6 +872,9 @@ def parts_of_a_search_are_gone_through_once(runs):
     large = b"".join(put(b"f%d" % number, b"some text\n" * 60_000 + b"end\n" * (number == 8) * 10) for number in range(9)) + b"publish\n"
     limited, whole = (sum(runs.instructions_of_threads(SCRIPT_BESIDE, large + b"find %s-- n.*d\n" % words)) for words in (b"-m 1 ", b""))
     yield "instructions of a search with a limit", limited, whole // 2, whole * 5 // 4
+    large = b"".join(put(b"f%d" % number, b"some text\n" * 60_000 + b"end\n") for number in range(9)) + b"publish\n"
+    with_hits = sum(runs.instructions_of_threads(SCRIPT_BESIDE, large + b"find -- n.*d\n"))
+    yield "instructions of a search with hits in each part", with_hits, whole // 2, whole * 5 // 4
 
 
 def publishes_change_one_copy(runs):
@@ -887,7 +958,11 @@ def preparations_are_small(runs):
         shown = search.decode() if len(search) < 60 else search[:57].decode() + "..."
         bytes_more = runs.memory(SESSION, search + b"\n").most - runs.memory(SESSION, easy).most
         yield f"bytes for {shown}", bytes_more, 0, 300 * length + 65_536
-        yield f"instructions for {shown}", runs.instructions(SESSION, search + b"\n") - runs.instructions(SESSION, easy), 0, 80_000_000
+        work = runs.instructions(SESSION, search + b"\n") - runs.instructions(SESSION, easy)
+        yield f"instructions for {shown}", work, 0, 80_000_000
+    # no trigrams are looked for
+    find = b"find -v -- " + HARD[0].split(b" ", 1)[1] + b"\n"
+    yield "instructions for lines without a match", runs.instructions(SESSION, find) - runs.instructions(SESSION, easy), 0, 1_000_000
 
 
 CHECKS = [
@@ -900,11 +975,13 @@ CHECKS = [
     pages_of_a_document_that_comes_and_goes,
     names_that_are_kept,
     room_under_a_prefix,
+    answers_without_hits,
     room_for_candidates,
     lists_are_passed_in_blocks,
     patterns_are_compiled_once,
     lines_are_matched_once,
     simulations_are_made_once,
+    simulations_read_no_more_than_they_must,
     simulations_are_small,
     simulations_of_equal_patterns,
     texts_are_written_once,

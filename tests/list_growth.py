@@ -2,7 +2,8 @@
 """Compares the work and the memory of each operation of the lists over sets of N and of 4N numbers.
 
 A small program over `posting`, list_growth.rt.txt, makes sets and carries out one operation on them. What it takes to make the sets
-is taken off. growth.py says how work and memory are counted. What is left may grow to 4.8 times, or to what the row says.
+is taken off. growth.py says how work and memory are counted. What is left may grow to 4.8 times, or to what the row says. PAIRS
+compares an operation with another one.
 
 The program is compiled with checks, as ./tsearch does it at its first call.
 
@@ -48,10 +49,22 @@ ROWS = [
     Row("documents withdrawn", "documents", 500),
     Row("documents with all", "documents", 500),
     Row("documents with some", "documents", 500),
+    Row("scores", "trigrams", 200),
+]
+
+# An operation and the one that makes what it is carried out on, another two, N, and to how many times the work and the memory of the
+# second the first may come.
+Pair = collections.namedtuple("Pair", "operation base other other_base n most")
+
+PAIRS = [
+    # numbers from 100,000 on, and from 1 on
+    Pair("later documents apart", "nothing", "documents apart", "nothing", 500, 1.1),
+    Pair("like apart", "like", "set numbers", "set", 16_000, 1),
 ]
 
 # Operations, and how many bytes may be in use at once for each number of 4N: a set has a quarter more room than bytes, and eleven bytes.
-BYTES_EACH = {"set": 1.3}
+# Each of the sets of twenty numbers has a slot, a list and its room.
+BYTES_EACH = {"set": 1.3, "scores": 120}
 
 # What is counted, and how much of it is so little that it does not matter how it grew.
 COUNTS = [("instructions", 50_000), ("requests for memory", 50), ("bytes requested", 65_536), ("bytes in use at once", 65_536)]
@@ -94,6 +107,19 @@ def faults_of(program, library, row, show):
     return faults
 
 
+def faults_of_pair(program, library, pair, show):
+    """For each count of a pair, what is wrong, or None."""
+    other = beyond(program, library, Row(pair.other, pair.other_base, pair.n), pair.n)
+    own = beyond(program, library, Row(pair.operation, pair.base, pair.n), pair.n)
+    if show:
+        print(f"{pair.operation:32} {own} {pair.other} {other}", flush=True)
+    faults = []
+    for (what, few), less, more in zip(COUNTS, other, own):
+        told = f"{pair.operation}: {more} {what}, and {less} for {pair.other}"
+        faults.append(told if more > max(few, pair.most * less) else None)
+    return faults
+
+
 def main():
     counted = Counted()
     with tempfile.TemporaryDirectory() as folder:
@@ -101,7 +127,8 @@ def main():
         library = os.path.join(folder, "counting.so")
         subprocess.run(["cc", "-O2", "-shared", "-fPIC", "-x", "c", "-", "-o", library], input=COUNTING, text=True, check=True)
         with concurrent.futures.ThreadPoolExecutor(os.cpu_count()) as pool:
-            for faults in pool.map(lambda row: faults_of(program, library, row, "--show" in sys.argv[1:]), ROWS):
+            jobs = [(faults_of, row) for row in ROWS] + [(faults_of_pair, pair) for pair in PAIRS]
+            for faults in pool.map(lambda job: job[0](program, library, job[1], "--show" in sys.argv[1:]), jobs):
                 counted.judge(faults)
     counted.end()
 
