@@ -14,9 +14,11 @@ import time
 from built import put
 from counted import Wrong, run_tests
 from live import MEBIBYTE, READERS, SECONDS, Session, faults_with_each
+from sessions.slow_searches import SLOW, slow_body
 
 # The part of the memory that may stay.
 PART = 1 / 4
+SLOW_SEARCH = b"searchin ^stays-0$ " + SLOW + b"\n"
 
 
 def random_body(source, length):
@@ -86,11 +88,27 @@ def lists_of_many_numbers(start):
 
 def bodies_while_a_session_is_idle():
     """They are replaced, and published once. No item follows."""
+    replace_and_wait()
+
+
+def bodies_while_a_session_is_idle_behind_a_search():
+    """They are replaced, and published once. A search that takes a while comes right behind that, or is open meanwhile."""
+    replace_and_wait(behind=SLOW_SEARCH)
+    replace_and_wait(before=SLOW_SEARCH)
+
+
+def replace_and_wait(before=b"", behind=b""):
+    """Replaces large bodies, and publishes once, with a search before or behind it or none. Then it waits until most of the memory is given
+    back."""
     body = b"some text\n" * 100_000
     with Session("--readers", "2") as session:
-        documents = Documents(session, [])
+        documents = Documents(session, [slow_body(2, 16_000)])
         full = documents.memory(b"".join(put(b"%d" % number, body) for number in range(40)))
-        session.send(b"".join(put(b"%d" % number, b"x") for number in range(40)) + b"publish\n")
+        session.send(before + b"".join(put(b"%d" % number, b"x") for number in range(40)) + b"publish\n" + behind)
+        if before or behind:
+            head, line = session.read_line(), session.read_line()
+            if not head.startswith(b"search 3 version ") or line != b"stays-0:3:end\n":
+                raise Wrong(f"the slow search is answered by {head!r}, {line!r}")
         left, end = full, time.monotonic() + SECONDS
         while left - documents.begin > PART * (full - documents.begin):
             if time.monotonic() > end:
@@ -102,4 +120,5 @@ def bodies_while_a_session_is_idle():
 
 if __name__ == "__main__":
     TESTS = [lists_of_many_trigrams, lists_of_many_numbers]
-    run_tests(TESTS + [bodies_while_a_session_is_idle], faults_with_each(TESTS, READERS), len(TESTS))
+    ONCE = [bodies_while_a_session_is_idle, bodies_while_a_session_is_idle_behind_a_search]
+    run_tests(TESTS + ONCE, faults_with_each(TESTS, READERS), len(TESTS))

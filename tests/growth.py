@@ -28,16 +28,21 @@ import tempfile
 from built import PROGRAM, TOP, need_program
 from counted import Counted, Wrong
 from lines import FOR_THE_SIMULATION
+from sessions.slow_searches import SLOW, slow_body
 
 SECONDS = 300
 SCRIPT, SESSION = "script", "session"
 # These have threads, which only CHECKS count.
 SCRIPT_BESIDE, SESSION_BESIDE = "script with two readers", "session with two readers"
+# It has one reader, and this one takes one command and refuses more.
+SCRIPT_OF_ONE, SESSION_OF_ONE = "script with one reader", "session for one command"
 WORDS = {
     SCRIPT: ["--readers", "0", "--max-commands", "1000000"],
     SESSION: ["--live", "--readers", "0"],
     SCRIPT_BESIDE: ["--readers", "2"],
     SESSION_BESIDE: ["--live", "--readers", "2"],
+    SCRIPT_OF_ONE: ["--readers", "1"],
+    SESSION_OF_ONE: ["--live", "--readers", "0", "--max-commands", "1"],
 }
 BOTH = (SCRIPT, SESSION)
 MOST = 4.8
@@ -56,6 +61,7 @@ COUNTING = r"""
 #include <stdio.h>
 #include <stdlib.h>
 #include <sys/syscall.h>
+#include <time.h>
 #include <unistd.h>
 extern void *__libc_malloc(size_t), *__libc_realloc(void *, size_t);
 extern void __libc_free(void *);
@@ -100,6 +106,14 @@ int pthread_create(pthread_t *thread, const pthread_attr_t *how, void *(*run)(vo
     if (!create) create = dlsym(RTLD_NEXT, "pthread_create");
     threads++;
     return create(thread, how, run, with);
+}
+int clock_gettime(clockid_t which, struct timespec *time) {
+    static _Atomic int looks;
+    long status = syscall(SYS_clock_gettime, which, time);
+    int look = looks++;
+    if (look && getenv("JUMP")) time->tv_sec += atol(getenv("JUMP"));
+    if (getenv("STEP")) time->tv_sec += look * atol(getenv("STEP"));
+    return status;
 }
 __attribute__((destructor)) static void tell(void) {
     dprintf(2, "counts %ld %ld %ld %ld %ld %ld %ld %ld\n", requests, bytes, most, held, large, reads, writes, threads);
@@ -147,12 +161,23 @@ class Runs:
 
     def instructions_of_threads(self, way, script):
         """How many instructions each thread of a run executes, but for the first one, which takes the items."""
+        return self.instructions_of_all_threads(way, script)[1:]
+
+    def instructions_of_all_threads(self, way, script):
+        """The same, with the first one."""
         with tempfile.TemporaryDirectory(dir=self.folder) as folder:
             out = pathlib.Path(folder) / "out"
             tool = ["valgrind", "--tool=callgrind", "--separate-threads=yes", f"--callgrind-out-file={out}"]
             self.run([*tool, str(PROGRAM), *WORDS[way]], script)
             texts = [path.read_text(errors="replace") for path in sorted(out.parent.glob("out-*"))]
-        return [int(re.search(r"^totals: (\d+)", text, re.MULTILINE)[1]) for text in texts[1:]]
+        return [int(re.search(r"^totals: (\d+)", text, re.MULTILINE)[1]) for text in texts]
+
+    def with_a_clock(self, words, script, **clock):
+        """The requests for memory and the text of a run whose clock goes on by JUMP seconds right after it is first read, or by STEP seconds
+        each time that it is read."""
+        env = dict(os.environ, LD_PRELOAD=str(self.library), **clock)
+        messages, text = self.run([str(PROGRAM), *words], script, env)
+        return int(re.search(r"counts (\d+)", messages)[1]), text
 
     def count_memory(self, way, script, least=0):
         """What memory a run takes, and how often it writes."""
@@ -391,6 +416,10 @@ def documents_while_the_last_is_replaced(n):
     return after(published(n), put(b"f%d" % (n - 1), b"one abcd two defg") * 20 + b"publish\n")
 
 
+def documents_beside_many_publishes(n):
+    return after(published(n), (put(b"g", b"abc") + b"publish\n") * 100)
+
+
 def documents_while_some_are_replaced(n):
     return after(published(n), b"".join(put(b"f%d" % (n * at // 16), b"one abcd two defg") for at in range(16)) + b"publish\n")
 
@@ -535,6 +564,7 @@ GROWTHS = [
     Row(members_of_a_union, 48, (SESSION,), 1.5),
     Row(documents_while_the_first_is_replaced, 1000, (SESSION,), LEVEL, LEVEL),
     Row(documents_while_the_last_is_replaced, 1000, (SESSION,), LEVEL, LEVEL),
+    Row(documents_beside_many_publishes, 1000, (SESSION,), 1.3, LEVEL),
     Row(documents_while_some_are_replaced, 1000, (SESSION,)),
     Row(documents_while_some_are_removed, 1000, (SESSION,)),
     Row(columns_far_along_a_line, 3_000, (SESSION,), 6),
@@ -803,6 +833,20 @@ def texts_are_written_once(runs):
     yield "writes of a run with 3,000 texts", made.writes, 1, len(made.text) // 8192 + 2
 
 
+def items_that_take_no_memory(runs):
+    """A session takes memory for what an item has of its own, and not for its line."""
+    for item in b"sync\n", b"what\n", b"publish\n", b"status\n", b"# a comment\n":
+        few, many = (runs.memory(SESSION, SMALL + item * count).requests for count in (100, 4_100))
+        yield f"requests for 4,000 more times {item.decode().strip()}", many - few, 0, 50
+
+
+def puts_that_are_refused_are_not_analysed(runs):
+    """A put is refused for the number of commands before its body is analysed."""
+    body = text_of_many_trigrams(50_000)
+    one, two = (runs.instructions(SESSION_OF_ONE, put(b"a", b"x") + put(b"b", body) * count) for count in (1, 2))
+    yield f"instructions for a put of {len(body)} bytes that is refused as full", two - one, 0, 10 * len(body)
+
+
 def publishes_of_nothing_hold_nothing(runs):
     few, many = (runs.memory(SESSION, SMALL + b"publish\n" * count + b"search y\n").held for count in (1_000, 20_000))
     yield "bytes in use after 20,000 publishes", many, 0, few
@@ -838,6 +882,41 @@ def texts_are_formed_beside_one_another(runs):
     made = runs.memory(SCRIPT_BESIDE, long)
     pieces = len(made.text) // 393_216
     yield f"threads of a {SCRIPT_BESIDE} with a text of 4.9 MB", made.threads, 2 + 2 * pieces, 2 + 4 * pieces
+
+
+def texts_of_a_session_are_formed_by_its_readers(runs):
+    """The thread that takes the items writes the text of an answer of 40,000 lines, and forms none of them."""
+    lines = put(b"a", b"some text\n" * 40_000) + b"publish\n" * 3
+    none, found = (runs.instructions_of_all_threads(SESSION_BESIDE, lines + search)[0] for search in (b"search y\n", b"search t\n"))
+    yield "instructions of the thread that writes 40,000 lines", found - none, -none, 500_000
+
+
+def searches_that_are_too_slow_are_read_once(runs):
+    """A search that its reader has given up, since its time was over, takes no more memory than one that has an answer."""
+    words, script = ["--live", "--readers", "1", "--search-ms", "5000"], SMALL + b"search (hello|world)+ *[a-z]+$\nsync\n" * 200
+    answered, text = runs.with_a_clock(words, script, STEP="0")
+    yield "searches of 200 that are too slow", text.count(b" refused: too slow"), 0, 0
+    given_up, text = runs.with_a_clock(words, script, STEP="10")
+    yield "searches of 200 that are too slow by a clock that goes on", text.count(b" refused: too slow"), 200, 200
+    yield "requests more for them", given_up - answered, -answered, 0
+
+
+def limits_of_time_are_kept(runs):
+    """With a clock that goes on by ten seconds less than its limit a search is answered, and by ten seconds more it is too slow."""
+    for limit in 60_000, 100_000, 20_000_000, 2_200_000_000, 4_294_967_295:
+        for more in -10, 10:
+            words = ["--readers", "0", "--search-ms", str(limit)]
+            _, text = runs.with_a_clock(words, SMALL + b"search o w\n", JUMP=str(limit // 1_000 + more))
+            late = text.count(b" refused: too slow")
+            yield f"searches with {limit} ms that are too slow {more:+} s from their end", late, int(more > 0), int(more > 0)
+
+
+def searches_that_wait_are_few(runs):
+    """While the one reader of a run has a slow search, 1,024 others can wait for it, and no more are prepared."""
+    slow = put(b"slow", slow_body(6, 16_000)) + SMALL + b"searchin ^slow$ %s\n" % SLOW
+    waiting = b"search %s\n" % (b"[a-z]x" * 60)
+    few, many = (runs.memory(SCRIPT_OF_ONE, slow + waiting * count).most for count in (2_000, 10_000))
+    yield "bytes in use at once for 8,000 more searches behind a slow one", many - few, 0, 8_000 * 2_400
 
 
 def searches_come_before_the_second_copy(runs):
@@ -922,8 +1001,9 @@ def memory_of_what_is_short(runs):
 
 def bodies_are_gone_through_fast(runs):
     """What takes less than an instruction for a byte: line feeds of a body that is too long."""
-    few, many = (runs.instructions(SCRIPT, put(b"a", b"some text\n" * count)) for count in (200_000, 2_000_000))
-    yield "instructions for 18 MB of a body that is too long", many - few, 0, 36_000_000
+    for way in BOTH:
+        few, many = (runs.instructions(way, put(b"a", b"some text\n" * count)) for count in (200_000, 2_000_000))
+        yield f"instructions for 18 MB of a body that is too long in a {way}", many - few, 0, 36_000_000
     few, many = (runs.memory(SESSION, put(b"a", b"some text\n" * count)).most for count in (10, 100_000))
     yield "bytes in use at once for a MB with few trigrams", many - few, 1_000_000, 2_000_000
 
@@ -985,9 +1065,15 @@ CHECKS = [
     simulations_are_small,
     simulations_of_equal_patterns,
     texts_are_written_once,
+    items_that_take_no_memory,
+    puts_that_are_refused_are_not_analysed,
     publishes_of_nothing_hold_nothing,
     searches_beside_others,
     texts_are_formed_beside_one_another,
+    texts_of_a_session_are_formed_by_its_readers,
+    limits_of_time_are_kept,
+    searches_that_are_too_slow_are_read_once,
+    searches_that_wait_are_few,
     searches_come_before_the_second_copy,
     parts_of_a_search_are_even,
     parts_of_a_search_are_gone_through_once,

@@ -25,7 +25,7 @@ import termios
 import threading
 import time
 
-from built import PROGRAM, TOP
+from built import PROGRAM, TOP, put
 from counted import Wrong, faults_of_call, run_tests
 from judge import transcripts
 
@@ -380,14 +380,20 @@ def options_of_a_session():
             same("the status", session.process.wait(SECONDS), 2)
             same("the output", session.process.stdout.read(), b"")
             same("the message", session.process.stderr.read()[: len(begin)], begin)
-    for words in [], ["--readers", "0"], ["--readers", "1"], ["--readers", "2"], ["--readers", "16"]:
+    # a session with readers has a thread for each, one that reads, and the first
+    for words, threads in ([], 4), (["--readers", "0"], 1), (["--readers", "1"], 3), (["--readers", "2"], 4), (["--readers", "16"], 18):
         with Session(*words) as session:
             session.ask(b"search x\n", b"search 1 version 0 lines 0\n")
+            same(f"the threads with {words}", threads_of(session), threads)
             session.end(1)
         with Session(*words, "nothing/here") as session:
             session.end(2, b"tsearch: cannot read the script: nothing/here: No such file or directory\n")
         with Session(*words, ".") as session:
             session.end(2, b"tsearch: cannot read the script: .: Is a directory\n")
+
+
+def threads_of(session):
+    return len(list(pathlib.Path(f"/proc/{session.pid}/task").iterdir()))
 
 
 def threads_that_cannot_be_started():
@@ -399,10 +405,22 @@ def threads_that_cannot_be_started():
         with Session(program=program) as session:
             for item, text in TALK:
                 session.ask(item, text)
-            threads = len(list(pathlib.Path(f"/proc/{session.pid}/task").iterdir()))
+            threads = threads_of(session)
             if threads not in wanted:
                 raise Wrong(f"with {room} KB and {readers} readers there are {threads} threads")
             session.end(2)
+
+
+def commands_behind_a_publish_are_not_shown(start):
+    """A put that comes while the publish before it is at work is accepted, and stays so however long nothing else comes."""
+    text = b"".join(b"line %d of a document\n" % number for number in range(20_000))
+    with start() as session:
+        for number in range(1, 6):
+            session.send(put(b"a", text + b"%d" % number) + b"publish\n" + put(b"b", b"%d" % number))
+            time.sleep(4 * QUIET)
+            answer = b"search %d version %d lines %d\n" % (number, 2 * number - 1, min(number, 2))
+            session.ask(b"search ^[0-9]$\n", answer + b"a:20001:%d\n" % number + (b"b:1:%d\n" % (number - 1) if number > 1 else b""))
+        session.end(0)
 
 
 def input_longer_than_a_script(start):
@@ -556,6 +574,7 @@ WITH_EACH = [
     slow_client_of_a_large_answer,
     client_that_goes_away,
     session_from_a_fifo,
+    commands_behind_a_publish_are_not_shown,
     input_longer_than_a_script,
     line_of_the_greatest_length,
     line_longer_than_any,

@@ -24,11 +24,13 @@ from judge.transcripts import Illegal, entries_of
 
 SECONDS = 300
 
-# Above 65,536; above 100,000; above 2^20 = 1,048,576.
-OVER_16_BITS, OVER_100_000, OVER_20_BITS = 70_000, 110_000, 1_100_000
+# Above 65,536; above 100,000; above 2^20 = 1,048,576; above 2^24 = 16,777,216.
+OVER_16_BITS, OVER_100_000, OVER_20_BITS, OVER_24_BITS = 70_000, 110_000, 1_100_000, 16_800_000
 GREATEST_BODY, GREATEST_SCRIPT = 1_048_576, 67_108_864
 ALONE, ONE_READER, TWO_READERS = ["--readers", "0"], ["--readers", "1"], ["--readers", "2"]
 SESSION, READING = ["--live", "--readers", "0"], ["--live", "--readers", "2"]
+# With one reader a session's answers come in order.
+SESSION_OF_ONE = ["--live", "--readers", "1"]
 # How many bytes an entry of a run may take, and how many the program beside the script and the entries.
 MOST_OF_AN_ENTRY, MOST_BESIDE = 48, 16 * 1_048_576
 MANY_COMMANDS, ALL_COMMANDS = ["--max-commands", "1000000"], ["--max-commands", "4294967294"]
@@ -119,7 +121,7 @@ def searches_of_a_script():
 
 def searches_of_a_session():
     count = OVER_20_BITS
-    return Case(b"put a 1\nx\npublish\n" + b"search x\n" * count, answers(count, 1, [b"a:1:x"]), [SESSION, READING])
+    return Case(b"put a 1\nx\npublish\n" + b"search x\n" * count, answers(count, 1, [b"a:1:x"]), [SESSION, READING, SESSION_OF_ONE])
 
 
 def searches_within_names():
@@ -138,6 +140,12 @@ def searches_that_are_refused():
 
 def syncs():
     return Case(b"put a 1\nx\npublish\n" + b"sync\n" * OVER_20_BITS + b"search x\n", answers(1, 1, [b"a:1:x"]), [TWO_READERS, SESSION, READING])
+
+
+def items_of_a_session():
+    """More than 2^24 of them."""
+    count = OVER_24_BITS
+    return Case(b"sync\n" * count + b"what\n", b"line %d refused: bad line\n" % (count + 1), [SESSION], 2)
 
 
 def comments_and_empty_lines():
@@ -208,6 +216,7 @@ CASES = [
     searches_within_names,
     searches_that_are_refused,
     syncs,
+    items_of_a_session,
     comments_and_empty_lines,
     lines_that_are_refused,
     body_of_line_feeds,

@@ -21,6 +21,7 @@ sys.path.insert(0, str(pathlib.Path(__file__).resolve().parent.parent))
 from built import put  # noqa: E402
 from counted import Wrong, run_tests  # noqa: E402
 from live import MEBIBYTE, SECONDS, faults_with_each  # noqa: E402
+from sessions.slow_searches import SLOW, slow_body  # noqa: E402
 
 
 def words_given():
@@ -166,8 +167,54 @@ def searches_beside_replacements(start):
         session.end(0)
 
 
+def large_answers_that_nobody_reads(start):
+    """Of 60 answers, each of which takes two or three MiB, few are in memory while nobody reads. All come once they are read."""
+    count, lines = 60, 100_000
+    with start() as session:
+        session.send(put(b"a", b"some text\n" * lines) + b"publish\n")
+        session.ask(b"search nothing\n", b"search 1 version 1 lines 0\n")
+        early = session.memory("VmRSS")
+        session.send(b"search x\n" * count)
+        before, stuck = 0, early
+        while before != stuck:
+            before = stuck
+            time.sleep(0.5)
+            stuck = session.memory("VmRSS")
+        if stuck - early > 64 * MEBIBYTE:
+            raise Wrong(f"{early} bytes before the searches, and {stuck} while nobody reads")
+        answers = Answers(session, count + 1, b"".join(b"a:%d:some text\n" % number for number in range(1, lines + 1)))
+        answers.seen[1], answers.missing = 1, count
+        while answers.missing:
+            answers.take()
+        session.end(0)
+
+
+def bodies_behind_a_sync(start):
+    """While a search is at work, at most 16 of the items behind a sync are read ahead. Each body has a byte 0, so none of them is kept."""
+    count, body = 100, b"x" * (MEBIBYTE - 1) + b"\0"
+    documents = b"".join(put(b"slow%d" % number, slow_body(2, 16_000)) for number in range(8)) + b"publish\n"
+    with start() as session:
+        session.send(documents)
+        session.ask(b"search nothing\n", b"search 1 version 8 lines 0\n")
+        early = session.memory("VmHWM")
+        Sender(session, [b"searchin ^slow " + SLOW + b"\nsync\n"] + [put(b"a", body)] * count).start()
+        session.expect(b"search 2 version 8 lines 8\n" + b"".join(b"slow%d:3:end\n" % number for number in range(8)))
+        line = documents.count(b"\n") + 4
+        for number in range(count):
+            session.expect(b"line %d refused: byte 0 in body\n" % (line + 2 * number))
+        most = session.memory("VmHWM")
+        if most - early > 40 * MEBIBYTE:
+            raise Wrong(f"{early} bytes before the search, and {most} at most")
+        session.end(2)
+
+
 TESTS = [client_that_stops_reading, client_that_reads, searches_beside_replacements]
+FEW_READERS = [large_answers_that_nobody_reads, bodies_behind_a_sync]
+
+
+def faults_of(test):
+    return faults_with_each(TESTS + FEW_READERS, ["2", "0", "1"] if test in FEW_READERS else ["2", "0", "16"])(test)
 
 
 if __name__ == "__main__":
-    run_tests(TESTS, faults_with_each(TESTS, ["2", "0", "16"]), os.cpu_count(), GIVEN.names)
+    run_tests(TESTS + FEW_READERS, faults_of, os.cpu_count(), GIVEN.names)
