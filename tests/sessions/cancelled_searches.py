@@ -37,7 +37,9 @@ def long_bodies():
     return {b"long%04d" % number: body for number in range(MANY)}
 
 
-BODIES = {**long_bodies(), b"slow": slow_body(2, 16_000), b"quick": b"hello\n"}
+LONG_BODIES = long_bodies()
+LONG_NAMES = list(LONG_BODIES)
+BODIES = {**LONG_BODIES, b"slow": slow_body(2, 16_000), b"quick": b"hello\n"}
 DOCUMENTS = b"".join(put(*pair) for pair in BODIES.items()) + b"publish\n"
 VERSION, BYTES = len(BODIES), sum(map(len, BODIES.values()))
 
@@ -252,12 +254,19 @@ def answer_of_a_cancelled_search_is_dropped(start):
 
 
 def many_cancels_leave_memory_level(start):
-    """Quick searches, each with a cancel right behind it, and statuses."""
+    """Quick searches, each with a cancel right behind it, and statuses. The searches of a first batch are all open at once, since each reader
+    has a long one: so what the searches of a batch take at most does not depend on how busy the readers are."""
+    readers = readers_of(start)
+    few = b"".join(put(name, BODIES[name]) for name in [b"quick", *LONG_NAMES[:50]])
     with start() as session:
-        talk = Talk(session, readers_of(start), documents=put(b"quick", b"hello\n") + b"publish\n")
+        talk = Talk(session, readers, documents=few + b"publish\n")
+        numbers = talk.ask(*[LONG_SEARCH] * readers, *[QUICK_SEARCH] * (OPEN - readers))
+        talk.cancel(numbers)
+        for _ in numbers:
+            talk.read()
         early = 0
         for batch in range(BATCHES):
-            first = batch * OPEN + 1
+            first = talk.searches + 1
             talk.send(b"".join(QUICK_SEARCH + b"cancel %d\n" % number for number in range(first, first + OPEN)) + b"status\nsync\nstatus\n")
             for _ in range(OPEN + 2):
                 talk.read()
