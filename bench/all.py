@@ -3,7 +3,8 @@
 Runs the scripts of this folder one after the other: over the source trees SMALL, LARGE and MORE, and over a folder of headers
 (/usr/include). What a script prints goes into a file of its own in the folder RESULTS. RESULTS/machine.txt tells the date, the
 commit, the machine and the versions of the tools, and then what is printed after each script: how long it took, its status, how much of
-the processors' time was used meanwhile, and how much of it the host took. A script that fails does not stop the others.
+the processors' time was used meanwhile, and how much of it the host took. A script that fails does not stop the others. RESULTS/page.md
+has all of it, as a page to be added to results/.
 
 The small programs are built first, side by side, since nothing is measured yet. One that is not built then is built by its script,
 which says why it can't be.
@@ -55,6 +56,28 @@ def runs_over(small, large, more, headers):
     ]
 
 
+SECTIONS = {
+    "trees": "Source trees",
+    "finds": "Searches with options",
+    "live": "Memory and changes",
+    "sessions": "Sessions with readers",
+    "cancels": "Cancels and limits of time",
+    "readers": "Readers",
+    "cluster": "Clusters",
+    "growth": "First publish, memory and changes",
+    "lines": "Lines",
+    "checked": "The program that is compiled with checks",
+    "hostile": "Hostile patterns",
+    "matching": "Matching alone",
+    "limits": "Line by line or compiled",
+    "lists": "Posting lists",
+    "trigrams": "Trigrams and queries",
+    "readings": "Readings",
+    "preparing": "What preparing takes",
+    "stack": "Stack",
+    "levels": "Stack for a level",
+    "refused": "Files with long lines",
+}
 SCRIPTS = list(dict.fromkeys(script for script, _ in runs_over("", "", [], "")))
 # These measure no program, or build one of their own.
 WITHOUT_PROGRAM = {*build.USED, "refused"}
@@ -142,6 +165,19 @@ def run(script, folders, path):
     return status, "%.0f s, status %d; of the processors' time %.1f %% was used and the host took %.1f %%" % (time.perf_counter() - start, status, *shares)
 
 
+def write_page(results, runs, names):
+    """Joins what the machine is and what the scripts have printed to a page."""
+    with open(os.path.join(results, "page.md"), "w") as page:
+        with open(os.path.join(results, "machine.txt")) as told:
+            page.write("# Measurements\n\n" + "".join("    " + line for line in told))
+        headings = [SECTIONS[script] for script, _ in runs]
+        for number, (heading, name) in enumerate(zip(headings, names)):
+            if number == 0 or heading != headings[number - 1]:
+                page.write("\n## %s\n" % heading)
+            with open(os.path.join(results, name)) as printed:
+                page.write("\n" + printed.read().strip("\n") + "\n")
+
+
 def main():
     given = words()
     if not given.anyway:
@@ -166,6 +202,7 @@ def main():
             print(line, flush=True)
             told.write(line + "\n")
             told.flush()
+    write_page(given.results, asked, [file_of(script, folders, runs) for script, folders in asked])
     sys.exit(1 if worst else 0)
 
 
