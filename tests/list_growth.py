@@ -95,12 +95,7 @@ def beyond(program, library, row, n):
 def faults_of(program, library, row, show):
     """For each count of a row, what is wrong, or None."""
     small, large = (beyond(program, library, row, n) for n in (row.n, 4 * row.n))
-    if show:
-        print(f"{row.operation:32} {small} {large}", flush=True)
-    faults = []
-    for (what, few), fewer, more in zip(COUNTS, small, large):
-        told = f"{row.operation}: {fewer} {what} with {row.n}, and {more} with {4 * row.n}"
-        faults.append(told if more > max(few, row.most * fewer) else None)
+    faults = faults_beyond(f"{row.operation} with {4 * row.n}", large, f"{row.operation} with {row.n}", small, row.most, show)
     if row.operation in BYTES_EACH:
         most = int(BYTES_EACH[row.operation] * 4 * row.n) + 64
         faults.append(f"{row.operation}: {large[3]} {COUNTS[3][0]}, and at most {most} are allowed" if large[3] > most else None)
@@ -109,14 +104,18 @@ def faults_of(program, library, row, show):
 
 def faults_of_pair(program, library, pair, show):
     """For each count of a pair, what is wrong, or None."""
-    other = beyond(program, library, Row(pair.other, pair.other_base, pair.n), pair.n)
-    own = beyond(program, library, Row(pair.operation, pair.base, pair.n), pair.n)
+    rows = Row(pair.operation, pair.base, pair.n), Row(pair.other, pair.other_base, pair.n)
+    own, other = (beyond(program, library, row, pair.n) for row in rows)
+    return faults_beyond(pair.operation, own, pair.other, other, pair.most, show)
+
+
+def faults_beyond(what, counts, other, others, most, show):
+    """What is wrong where a count is over so many times that of the other, or None."""
     if show:
-        print(f"{pair.operation:32} {own} {pair.other} {other}", flush=True)
+        print(f"{other:32} {others} {what} {counts}", flush=True)
     faults = []
-    for (what, few), less, more in zip(COUNTS, other, own):
-        told = f"{pair.operation}: {more} {what}, and {less} for {pair.other}"
-        faults.append(told if more > max(few, pair.most * less) else None)
+    for (name, few), less, more in zip(COUNTS, others, counts):
+        faults.append(f"{more} {name} of {what}, and {less} of {other}" if more > max(few, most * less) else None)
     return faults
 
 
