@@ -16,6 +16,7 @@ Every answer is compared with that of the one session, byte for byte. What is co
 better two shards are than one, by the medians, and the goal. It needs Debian's python3-distributed, and at best a quiet machine.
 """
 import asyncio
+import importlib.util
 import logging
 import os
 import statistics
@@ -152,6 +153,8 @@ def main():
     folder, *more = command.words(__doc__, 1, 2)
     turns = int(more[0]) if more else 5
     build.need_program()
+    if importlib.util.find_spec("distributed") is None:
+        sys.exit("cluster.py: this Python has no module distributed; Debian's /usr/bin/python3 has that of python3-distributed")
     # The clients and the workers start the program that this names.
     os.environ["TSEARCH"] = build.PROGRAM
     documents, wanted = documents_of(folder), {}

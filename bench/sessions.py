@@ -6,7 +6,7 @@ Prints four tables, over the folder's files or over text of its own:
 - how many searches a second four clients get from one session, each of which waits for its answer before it sends the next, with
   0, 1, 2 and 4 readers, where a search takes some milliseconds by itself;
 - how long it takes from a changed file to an answer in which it is found, in a session with nothing else to do, and while a search is
-  at work that takes more than ten seconds;
+  at work that takes longer than all of these changes;
 - the seconds of a run of 200 searches with many matches (those of readers.py), with 0 and 4 readers.
 
 What is compared is measured in turns, so that the machine is equally fast for all of it. Each table has the least or most and the
@@ -14,7 +14,6 @@ median, and in its last column what is wanted of the medians on four processors.
 """
 import os
 import random
-import select
 import statistics
 import sys
 import tempfile
@@ -117,14 +116,17 @@ def clients():
         session.end()
 
 
-def keep_busy(session):
-    """Has a slow search at work. If the last one was answered meanwhile, its answer is read, and another is sent."""
-    if session.searches > 1 and not select.select([session.process.stdout], [], [], 0)[0]:
-        return
-    if session.searches > 1:
-        session.process.stdout.read(65_536)
+def beside_a_search(session, measure):
+    """Measures while a slow search is at work, which is cancelled afterwards."""
     session.searches += 1
+    slow = session.searches
     session.process.stdin.write(SLOW)
+    result = measure()
+    session.process.stdin.write(b"cancel %d\n" % slow)
+    entry = session.process.stdout.read(65_536)
+    if entry != b"search %d refused: cancelled\n" % slow:
+        sys.exit("bench/sessions.py: the slow search has ended too soon: %r" % entry)
+    return result
 
 
 def changes(documents):
@@ -138,9 +140,10 @@ def changes(documents):
     rng = random.Random(1)
 
     def measure(session):
-        if session is sessions["a long search"]:
-            keep_busy(session)
-        return client.changes(session, documents, names, False, CHANGES, rng)
+        def change():
+            return client.changes(session, documents, names, False, CHANGES, rng)
+
+        return beside_a_search(session, change) if session is sessions["a long search"] else change()
 
     taken = in_turns("changes", sessions, measure)
     idle = statistics.median(taken["nothing else"])
@@ -148,8 +151,8 @@ def changes(documents):
     command.head(columns, "A change of a file of 10 KB, from before it is sent until it is found, with 2 readers")
     for what, seconds in taken.items():
         command.row(what, command.shown(command.times(seconds)), "%.2f" % (statistics.median(seconds) / idle), "at most 2" if what == "a long search" else "")
-    sessions["nothing else"].end()
-    sessions["a long search"].process.kill()
+    for session in sessions.values():
+        session.end()
 
 
 def seconds_of_runs(words):
