@@ -23,7 +23,7 @@ import time
 import build
 
 MOST_LOAD = 1.0
-TOOLS = [["rt", "version"], ["rg", "--version"], ["grep", "--version"], ["dpkg-query", "-W", "codesearch"], ["python3", "--version"]]
+TOOLS = [["rt", "version"], ["rg", "--version"], ["grep", "--version"], ["dpkg-query", "-W", "codesearch"], [sys.executable, "--version"]]
 
 
 def runs_over(small, large, more, headers):
