@@ -69,6 +69,17 @@ def show_nests(program, path, length, most=2.0):
         command.row(depth, *cells)
 
 
+# A star whose body is plain, with large counts in a row.
+LONG = "x([ab]|a([ab]{250}){15}c)*e"
+
+
+def show_long_line(programs, path):
+    line = b"x" + b"ab" * 8000
+    write(path, line)
+    command.head(["pattern"] + ["ms"] * len(programs), "A line of %d bytes `a` and `b` in turns after `x`, which is not matched" % len(line))
+    command.row(command.code(LONG), *("%.1f" % (1000 * seconds_of(program, path, LONG)[0]) for program in programs))
+
+
 def main():
     source, *roots = command.words(__doc__, 1, None)
     with tempfile.TemporaryDirectory() as folder:
@@ -78,6 +89,7 @@ def main():
         for program in programs:
             for length in (100, 1000, 4000):
                 show_nests(program, path, length)
+        show_long_line(programs, path)
 
 
 if __name__ == "__main__":

@@ -6,7 +6,7 @@ Prints four tables, over the folder's files or over text of its own:
 - how many searches a second four clients get from one session, each of which waits for its answer before it sends the next, with
   0, 1, 2 and 4 readers, where a search takes some milliseconds by itself;
 - how long it takes from a changed file to an answer in which it is found, in a session with nothing else to do, and while a search is
-  at work that takes longer than all of these changes;
+  at work that takes longer than all of these changes; the first change of a session, right after the first publish, is told apart;
 - the seconds of a run of 200 searches with many matches (those of readers.py), with 0 and 4 readers.
 
 What is compared is measured in turns, so that the machine is equally fast for all of it. Each table has the least or most and the
@@ -136,8 +136,11 @@ def changes(documents):
         sys.exit("bench/sessions.py: the folder has no file of about 10 KB")
     more = dict(documents)
     more[b"slow_lines"] = b"".join(b"x" + line + b"\n" for line in corpus.random_lines(b"ab", 16_000, 64).splitlines())
-    sessions = {"nothing else": start([2], more)[2], "a long search": start([2], more)[2]}
     rng = random.Random(1)
+    sessions, first = {}, []
+    for what in ("nothing else", "a long search"):
+        sessions[what] = start([2], more)[2]
+        first += client.changes(sessions[what], documents, names, False, 1, rng)
 
     def measure(session):
         def change():
@@ -151,6 +154,7 @@ def changes(documents):
     command.head(columns, "A change of a file of 10 KB, from before it is sent until it is found, with 2 readers")
     for what, seconds in taken.items():
         command.row(what, command.shown(command.times(seconds)), "%.2f" % (statistics.median(seconds) / idle), "at most 2" if what == "a long search" else "")
+    print("\nthe first change of these sessions, sent when the first answer is read: %.2f and %.2f s" % tuple(first))
     for session in sessions.values():
         session.end()
 
