@@ -49,6 +49,7 @@ def show_lines(programs, found, path):
         command.row(command.code(pattern), runs[0][1], *cells, "%.1f" % (1000 * grep))
 
 
+DEPTHS = [1, 2, 4, 8, 12, 16, 20]
 NESTS = [
     ("`((a*\\|b)*\\|c)*`", lambda n: "^(aa)*" + nested(n, "a*", "(%s|b)*") + "c$"),
     ("`((a*a)*a)*`", lambda n: "^(aa)*" + nested(n, "a*", "(%sa)*") + "c$"),
@@ -59,7 +60,7 @@ def show_nests(program, path, length, most=2.0):
     command.head(["nestings"] + [name for name, _ in NESTS], "Microseconds for a line of %d bytes `a` that is not matched, after `^(aa)*`" % length)
     write(path, b"a" * length)
     over = set()
-    for depth in range(1, 21):
+    for depth in DEPTHS:
         cells = []
         for name, pattern in NESTS:
             spent = 0 if name in over else seconds_of(program, path, pattern(depth))[0]
