@@ -40,6 +40,10 @@ pub same_opening : (done : Result ℕ Reason) (commands : List Command) (desk : 
 same_opening (Ok count) commands desk = (refl, refl)
 same_opening (Err why) commands desk = (refl, refl)
 
+pub same_published : (done : Result ℕ Reason) (commands : List Command) (desk : DeskState) → (desk_after done commands desk).published ≡ desk.published
+same_published (Ok count) commands desk = refl
+same_published (Err why) commands desk = refl
+
 no_failure_at : {entry entry' : Entry} → entry ≡ entry' → failures_in (Some entry') ≡ 0 → failures_in (Some entry) ≡ 0
 no_failure_at is none = ap (λ e. failures_in (Some e)) is ∙ none
 
@@ -73,6 +77,7 @@ module _ (Holds : List ℕ → List ℕ → Type 0) (desk : DeskState) (told : K
     limit = (same_opening done (Put name body ∷ []) desk).1;
     accepted = accepted_after line done (Put name body ∷ []) desk;
     tells = nothing (no_version line done) refl;
+    published = λ h. same_published done (Put name body ∷ []) desk ∙ h;
     counted =
         counted_same (entry_of line done) failed
         (no_failure_named name line _ _
@@ -91,6 +96,7 @@ module _ (Holds : List ℕ → List ℕ → Type 0) (desk : DeskState) (told : K
     limit = (same_opening done _ desk).1;
     accepted = accepted_after line done _ desk;
     tells = nothing (no_version line done) refl;
+    published = λ h. same_published done _ desk ∙ h;
     counted = load.counted line;
   })
 
@@ -108,6 +114,7 @@ module _ (Holds : List ℕ → List ℕ → Type 0) (desk : DeskState) (told : K
     limit = (same_opening done (Remove name ∷ []) desk).1;
     accepted = accepted_after line done (Remove name ∷ []) desk;
     tells = nothing (no_version line done) refl;
+    published = λ h. same_published done (Remove name ∷ []) desk ∙ h;
     counted =
         counted_same (entry_of line done) failed
         (no_failure_named name line _ _ (no_failure_in_remove desk.limit (state_of desk.accepted) name line (entry_of line done))
@@ -117,8 +124,8 @@ module _ (Holds : List ℕ → List ℕ → Type 0) (desk : DeskState) (told : K
 -- publishes, and lines that are not valid items
 module _ (Holds : List ℕ → List ℕ → Type 0) (desk : DeskState) (told : Known) (failed line : ℕ) (entry : Entry) where
   pub carried_publish : (desk' : DeskState) (told' : Known) (published : Result ℕ Reason) → entry ≡ published_entry_of line published
-      → IfOk published (λ version. (version ≡ length desk.accepted) × (told' ≡ known desk.opening desk.accepted))
-      → IfErr published (λ why. (why ≡ reason.OutOfMemory) × (told' ≡ told))
+      → IfOk published (λ version. (version ≡ length desk.accepted) × (told' ≡ known desk.opening desk.accepted) × (desk'.published ≡ desk.accepted))
+      → IfErr published (λ why. (why ≡ reason.OutOfMemory) × (told' ≡ told) × (desk'.published ≡ desk.published))
       → desk'.accepted ≡ desk.accepted → (desk'.opening ≡ desk.opening) × (desk'.limit ≡ desk.limit)
       → IsEntered Holds desk told failed (item.numbered line item.publish) entry desk' told' failed
   carried_publish desk' told' (Ok version) is' ok err kept others = rw is' (record {
@@ -131,6 +138,7 @@ module _ (Holds : List ℕ → List ℕ → Type 0) (desk : DeskState) (told : K
     limit = others.1;
     accepted = kept ∙ sym (append-nil desk.accepted);
     tells = all line (ap (Published line) ok.0) ok.1;
+    published = λ h. ok.2 ∙ sym (ap (λ k. k.commands) ok.1);
     counted = counted_same (Published line version) failed refl;
   })
   carried_publish desk' told' (Err why) is' ok err kept others = rw is' (record {
@@ -143,6 +151,7 @@ module _ (Holds : List ℕ → List ℕ → Type 0) (desk : DeskState) (told : K
     limit = others.1;
     accepted = kept ∙ sym (append-nil desk.accepted);
     tells = nothing refl err.1;
+    published = λ h. err.2 ∙ h ∙ sym (ap (λ k. k.commands) err.1);
     counted = counted_same (Refused line why) failed (no_failure_at (ap (Refused line) err.0) refl);
   })
 
@@ -159,6 +168,7 @@ module _ (Holds : List ℕ → List ℕ → Type 0) (desk : DeskState) (told : K
         limit = refl;
         accepted = sym (append-nil desk.accepted);
         tells = nothing refl refl;
+        published = λ h. h;
         counted = counted_same (Refused line reason.BadLine) failed refl;
       })
 
@@ -175,6 +185,7 @@ module _ (Holds : List ℕ → List ℕ → Type 0) (desk : DeskState) (told : K
         limit = refl;
         accepted = sym (append-nil desk.accepted);
         tells = nothing refl refl;
+        published = λ h. h;
         counted = counted_same (Refused line reason.BadPut) failed refl;
       })
 
@@ -191,6 +202,7 @@ module _ (Holds : List ℕ → List ℕ → Type 0) (desk : DeskState) (told : K
         limit = refl;
         accepted = sym (append-nil desk.accepted);
         tells = nothing refl refl;
+        published = λ h. h;
         counted = counted_same (Refused line reason.Truncated) failed refl;
       })
 
@@ -208,5 +220,6 @@ module _ (Holds : List ℕ → List ℕ → Type 0) (desk : DeskState) (told : K
         limit = refl;
         accepted = sym (append-nil desk.accepted);
         tells = nothing refl refl;
+        published = λ h. h;
         counted = counted_same (Refused line reason.BodyNotClosed) failed refl;
       })

@@ -39,7 +39,7 @@ use Rattle.service.specs.declared.taken.Taken.TheVariants as taken_as
 use Rattle.service.specs.Service.{ServiceState, run_of, Fits, Steps, Takes, TakesPut, Gives, answered, not_answered, too_slow, CanStand, versions_in, written_by}
 use Rattle.service.specs.Private.Items.{IsEntered, IsLeft, Tells, all, nothing}
 use Rattle.service.specs.Private.Entries.{entry_of, desk_after}
-use Rattle.service.proofs.CarryLemmas.{carried_put, same_opening}
+use Rattle.service.proofs.CarryLemmas.{carried_put, same_opening, same_published}
 use Rattle.service.specs.Opening.{limits_of}
 use Rattle.service.specs.Private.Closing.{IsService, service_of, with_kept, CanClose, IsAsked, asked_for, refused, IsGivenUp}
 use Rattle.service.specs.Private.Closing.{IsPlaceOf, IsCancelled, given_up, too_late, no_such_search}
@@ -465,6 +465,10 @@ put_is_service desk desk' timed told kept searches awaited lasts name body line 
 pub same_opening_after : (done : Result ℕ Reason) (commands : List Command) (desk desk' : DeskState) → desk' ≡ desk_after done commands desk
     → desk'.opening ≡ desk.opening
 same_opening_after done commands desk desk' left = ap (λ d. d.opening) left ∙ (same_opening done commands desk).0
+
+pub same_published_after : (done : Result ℕ Reason) (commands : List Command) (desk desk' : DeskState) → desk' ≡ desk_after done commands desk
+    → desk'.published ≡ desk.published
+same_published_after done commands desk desk' left = ap (λ d. d.published) left ∙ same_published done commands desk
 
 -- a put that is refused leaves the service as it is
 pub refused_put : (service : ServiceState) (name body : List ℕ) (line : ℕ) (why : Reason) (entry : Entry) → entry ≡ entry_of line (Err why)

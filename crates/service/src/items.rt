@@ -161,8 +161,9 @@ pub fn entry_of(line: u32, done: Result<u32, Reason>) -> Entry
 
 /// Publishes all accepted commands, and keeps what the publish hands out in `told`. Returns the version.
 fn publish<R: Wait>(rt: &R, desk: &mut Desk, told: &mut Told) -> Result<u32, Reason>
-    ensures ok { IfOk result (λ version. (version ≡ length desk.old.accepted) × (told.new ≡ known desk.old.opening desk.old.accepted)) }
-    ensures err { IfErr result (λ reason. (reason ≡ Reason.OutOfMemory) × (told.new ≡ told.old)) }
+    ensures ok { IfOk result (λ version. (version ≡ length desk.old.accepted) × (told.new ≡ known desk.old.opening desk.old.accepted)
+        × (desk.new.published ≡ desk.old.accepted)) }
+    ensures err { IfErr result (λ reason. (reason ≡ Reason.OutOfMemory) × (told.new ≡ told.old) × (desk.new.published ≡ desk.old.published)) }
     ensures accepted { desk.new.accepted ≡ desk.old.accepted }
     ensures opening { (desk.new.opening ≡ desk.old.opening) × (desk.new.limit ≡ desk.old.limit) }
 {

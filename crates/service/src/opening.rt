@@ -39,7 +39,7 @@ impl Model for Opened {
 
     ghost view = { λ o. opened_state o.desk.opening (limits_of o.desk.limit (is_some o.search_ms)) (length o.readings.items) };
 
-    ghost invariant = { λ o. (o.desk.accepted ≡ []) × (o.told ≡ known o.desk.opening []) × (o.reading ≡ known o.desk.opening [])
+    ghost invariant = { λ o. (o.desk.accepted ≡ []) × (o.desk.published ≡ []) × (o.told ≡ known o.desk.opening []) × (o.reading ≡ known o.desk.opening [])
         × All (λ reading. reading ≡ known o.desk.opening []) o.readings.items × (length o.readings.items ≤ 16) };
 }
 

@@ -79,7 +79,8 @@ impl<J: Naming> Model for Service<J> {
     ghost view = { λ s. service_of s.desk (is_some s.search_ms) s.told s.kept.items s.searches s.awaited.items s.lasts.items };
 
     ghost invariant = { λ s. (s.desk.opening ≡ J.book) × (s.told.opening ≡ J.book) × (s.reading.opening ≡ J.book)
-        × IsService (service_of s.desk (is_some s.search_ms) s.told s.kept.items s.searches s.awaited.items s.lasts.items) };
+        × IsService (service_of s.desk (is_some s.search_ms) s.told s.kept.items s.searches s.awaited.items s.lasts.items)
+        × (s.desk.published ≡ s.told.commands) };
 }
 
 impl<J: Naming> Service<J> {
@@ -94,7 +95,7 @@ impl<J: Naming> Service<J> {
         search_ms: Option<u32>,
     ) -> Service<J>
         requires opening { (desk.opening ≡ J.book) × (told.opening ≡ J.book) × (reading.opening ≡ J.book) }
-        requires empty { (desk.accepted ≡ []) × (told.commands ≡ []) }
+        requires empty { (desk.accepted ≡ []) × (desk.published ≡ []) × (told.commands ≡ []) }
         requires kept { kept.items ≡ 0 ∷ [] }
         requires lasts { IsUnused lasts.items }
         ensures { result ≡ record { limits = record { commands = desk.limit; timed = is_some search_ms }; accepted = []; told = []; kept = 0 ∷ []; searches = 0; awaited = []; lasts = lasts.items } }

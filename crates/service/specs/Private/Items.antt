@@ -30,6 +30,7 @@ pub record IsEntered (Holds : List ℕ → List ℕ → Type 0) (desk : DeskStat
   pub limit : desk'.limit ≡ desk.limit
   pub accepted : desk'.accepted ≡ desk.accepted ++ accepted_by (Some entry) (command_of item.item loaded)
   pub tells : Tells desk told entry told'
+  pub published : desk.published ≡ told.commands → desk'.published ≡ told'.commands
   pub counted : IsCounted (failures_in (Some entry)) failed failed'
 
 -- Searches, syncs, cancels and statuses leave the desk as it was.

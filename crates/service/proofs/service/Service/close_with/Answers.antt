@@ -19,4 +19,5 @@ invariant_of-self g c = (
       (subst (λ s. CanClose s c.args.place c.args.reader c.args.answer) (sym c.self.view_is) c.requires) _ _ c.remove-search.result
       c.index.result.now c.remove-search.ensures.value (ap (λ s. s.number) c.search.view_is) c.index.ensures c.version.ensures _
       c.remove-search.ensures.by_index.2 c.self.invariant.3,
+  c.self.invariant.4,
 )

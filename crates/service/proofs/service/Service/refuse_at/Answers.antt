@@ -15,4 +15,5 @@ invariant_of-self g c = (
   c.self.invariant.2,
   refusal_is_service _ c.args.place _ (subst (λ s. c.args.place < length s.awaited) (sym c.self.view_is) c.requires) c.remove-search.result
       c.remove-search.ensures.value (ap (λ s. s.number) c.search.view_is) _ c.remove-search.ensures.by_index.2 c.self.invariant.3,
+  c.self.invariant.4,
 )
