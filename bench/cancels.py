@@ -5,7 +5,7 @@ Prints two tables, in some six minutes, for sessions with one reader over the fo
 - how long it takes from before a cancel is sent until its entry is read, and until the search that is sent with it is answered, which
   finds nothing and takes next to no time by itself. The cancel comes at a random moment of a search that is at work. Searches that are
   answered before their cancels do not count. The patterns are ordinary ones, then ones with stars inside stars or with large counts, and
-  at last one for which 64 KiB of a document of long lines take seconds;
+  at last one with a star of large counts over documents of long lines;
 - how many searches a second a session answers with a limit of time, which no search comes to, and without: for each name and each
   document a search reads the clock if there is a limit, and a flag in any case.
 

@@ -11,8 +11,8 @@ use std::alloc::{AllocError, Global};
 /// A condition on a set of trigrams (Russ Cox, "Regular Expression Matching with a Trigram Index", 2012).
 ///
 /// A query can be of any height. To drop it, to clone it and to compare it, calls nest as deep as it is high. By
-/// measurement (`bench/levels.py`) each level takes 80 bytes of stack to drop or compare, and 240 to clone. `simplify`
-/// takes 528, so 2 MiB of stack bear 3,900 levels that are simplified.
+/// measurement (`bench/levels.py`) each level takes 80 bytes of stack to drop or compare, and 320 to clone. `simplify`
+/// takes 560, so 2 MiB of stack bear 3,700 levels that are simplified.
 #[derive(Clone, Debug, PartialEq, Eq, Drop)]
 pub enum Query {
     /// Every set meets it.
