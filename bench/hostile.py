@@ -4,7 +4,8 @@ A session without readers has texts that are hard for such patterns: lines of 16
 random, of `a` alone, of the three at random, short lines, and a small document with one long line. First come patterns that are
 known to be hard, then `N` patterns (10,000 if not said) that are made at random and then changed step by step towards slower
 ones, over texts of one long line each, in so many searches beside each other (one for each processor if not said). The ten worst
-are shown, measured over the whole texts. The figures are seconds of the processor for each MB, of the worst text. A search that
+are shown, measured over the whole texts. The figures are seconds of the processor for each MB, of the worst text. Last come columns
+and spans that are hard to find, each in documents of its own, with the seconds of the processor for the whole search. A search that
 takes over ten seconds by the clock is given up (`--search-ms`), and its figure is too low.
 """
 import argparse
@@ -64,6 +65,19 @@ def texts(chance, lines=LINES):
     }
 
 
+def within_lines():
+    """Searches for columns and spans: what is searched, in words; its documents; and the words of `find`."""
+    small = {b"%d" % number: b"ax\n" for number in range(8_000)}
+    large = rb"x(" + rb"([ab]{0,20}c?){3}" * 50 + rb"d$|[ab])*e|a"
+    return [
+        ("one line of 8 KB", {b"a": b"a" * 8_190 + b" a\n"}, rb"-w --spans -- (([ab]{0,30}){31}c?)*d|a"),
+        ("one line of 4 KB", {b"a": b"a" * 4_096 + b"\n"}, rb"--spans -- ((([ab]{0,30}){31}c?)*d)?"),
+        ("one line of 16 KB", {b"a": b"a" * 16_384 + b"\n"}, rb"--spans -- ((([ab]{0,5}){5}c?)*d)?"),
+        ("8,000 documents of one line", small, rb"--column -- " + large),
+        ("8,000 documents of one line", small, rb"--spans -- " + large),
+    ]
+
+
 class Session:
     def __init__(self, bodies):
         words = [build.PROGRAM, "--live", "--readers", "0", "--search-ms", str(LIMIT_MS)]
@@ -85,8 +99,12 @@ class Session:
 
     def seconds(self, name, pattern):
         """The seconds of a search, or None if the pattern is refused for itself."""
+        return self.spent(b"searchin ^%s$ %s\n" % (name, pattern))
+
+    def spent(self, search):
+        """The seconds of a search, or None if it is refused for its words."""
         start = self.busy()
-        self.process.stdin.write(b"searchin ^%s$ %s\n" % (name, pattern))
+        self.process.stdin.write(search)
         self.process.stdin.flush()
         head = self.process.stdout.readline()
         if b" refused: " in head and b"too slow" not in head:
@@ -178,6 +196,16 @@ def show(title, rows):
         command.row(command.code(shown), "%.2f" % cost, name.decode())
 
 
+def show_within_lines():
+    command.head(["`find`", "in", "seconds"], "Columns and spans")
+    for what, bodies, find in within_lines():
+        session = Session(bodies)
+        seconds = session.spent(b"find %s\n" % find)
+        session.end()
+        text = find.decode("latin-1")
+        command.row(command.code(text if len(text) <= 250 else "%s... %d bytes" % (text[:80], len(text))), what, "%.3f" % seconds)
+
+
 def main():
     words = argparse.ArgumentParser(description=__doc__, formatter_class=argparse.RawDescriptionHelpFormatter)
     words.add_argument("--tries", type=int, default=10_000)
@@ -200,3 +228,4 @@ def main():
 
 if __name__ == "__main__":
     main()
+    show_within_lines()

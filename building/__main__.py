@@ -62,7 +62,7 @@ def one_at_a_time():
         except BlockingIOError:
             say("another call builds the program; this one waits for it")
             fcntl.flock(held, fcntl.LOCK_EX)
-        for left in [*OUT.glob("compile-*"), *OUT.glob(f"{proved.ROOMS}*")]:
+        for left in [*OUT.glob("compile-*"), *OUT.glob(f"{proved.ROOM}*")]:
             shutil.rmtree(left, ignore_errors=True)
         yield
 

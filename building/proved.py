@@ -1,5 +1,7 @@
-"""Proves the crates, and builds the proved program, by the toolchain's command rt. What is done stays done: a build that is
-interrupted goes on where it was."""
+"""Proves the crates, and builds the proved program, by `rt ci` of the toolchain, in a copy of the program's crates.
+
+The copy has no tests and no edits that must be refused, so `rt ci` proves there what the program stands on, and no more. It keeps on
+this machine each crate that it has proved: a build that is interrupted goes on where it was, and `./test` proves only the rest."""
 
 import os
 import pathlib
@@ -7,92 +9,108 @@ import shutil
 import tempfile
 import time
 
-import rooms
 from commands import CannotBuild, end, last_lines, reason_of_failure, say, spent, start
-from sources import CRATES, PROGRAM, crates_of_program
+from sources import CRATES, LIST, PARTS, PROGRAM, TOP, crates_of_program
 
 # The file that rt makes of the crate `program`.
-MADE = CRATES / PROGRAM / "out" / PROGRAM
-# How many crates are proved at once, and what the processes of one of them take at most, all together.
-CRATES_AT_ONCE = 3
-MEMORY_OF_A_CRATE = 6 << 30
-# The folder of the rooms begins so.
-ROOMS = "prove-"
-# So many seconds at most pass between two lines of progress.
+MADE = pathlib.Path("crates") / PROGRAM / "out" / PROGRAM
+# What else of the repository rt reads: the handles that are allowed, and what the program is run on and must write.
+HANDLES = "HANDLES"
+RUN_ON = ("stdin", "stdout", "args", "status", "data")
+# The folder of the copy begins so.
+ROOM = "prove-"
+# How many seconds pass between two looks at what rt writes, and between two lines of progress at most.
+LOOK = 0.2
 QUIET = 60
 
 
 def build(target, out):
     """Proves the crates, each after those that it uses, and several at once. The program goes to the file `target`."""
-    uses = crates_of_program()
-    progress = Progress(len(uses))
-    at_once, jobs = shares()
-    say(f"proving {len(uses)} crates, up to {at_once} at once, and building the program; from scratch this takes some 30 minutes")
-    libraries = {crate: own for crate, own in uses.items() if crate != PROGRAM}
-    with tempfile.TemporaryDirectory(prefix=ROOMS, dir=out) as folder:
-        failed = rooms.prove(libraries, pathlib.Path(folder), at_once, jobs, progress.tell)
-    # The program is built by running it, which writes its help.
-    failed = failed or build_program(jobs, progress)
-    if failed:
-        raise CannotBuild(reason_of(*failed))
-    keep(target, out)
+    crates, log = list(crates_of_program()), out / "prove.log"
+    say(f"proving {len(crates)} crates, and building the program; from scratch this takes up to half an hour")
+    with tempfile.TemporaryDirectory(prefix=ROOM, dir=out) as folder:
+        room = pathlib.Path(folder)
+        copy_sources(crates, room)
+        progress = Progress(crates)
+        status = prove(room, log, progress)
+        if status != 0:
+            raise CannotBuild(reason_of(status, log))
+        keep_file(room / MADE, target, out)
     say(f"proved and built in {spent(progress.began)}")
 
 
 def keep(target, out):
-    """Copies the program that rt has made to the file `target`."""
+    """Copies the program that `rt ci` has made in this repository to the file `target`."""
+    keep_file(TOP / MADE, target, out)
+
+
+def keep_file(made, target, out):
     part = out / "proved.part"
-    shutil.copy2(MADE, part)
+    shutil.copy2(made, part)
     os.replace(part, target)
 
 
-def shares():
-    """How many crates are proved at once, and by how many processes each, on these processors and in this memory."""
-    available = 0
-    with open("/proc/meminfo", encoding="ascii") as lines:
-        for line in lines:
-            if line.startswith("MemAvailable:"):
-                available = int(line.split()[1]) << 10
-    at_once = min(CRATES_AT_ONCE, available // MEMORY_OF_A_CRATE)
-    return (at_once, len(os.sched_getaffinity(0))) if at_once else (1, 1)
+def copy_sources(crates, room):
+    """Copies what rt reads of these crates to a folder that it takes for a repository."""
+    (room / ".git").mkdir()
+    for crate in crates:
+        for part in (*PARTS, *RUN_ON):
+            path = CRATES / crate / part
+            if path.is_dir():
+                shutil.copytree(path, room / "crates" / crate / part)
+            elif path.is_file():
+                shutil.copy2(path, room / "crates" / crate / part)
+    listed = LIST.read_text().splitlines(keepends=True)
+    (room / LIST.name).write_text("".join(line for line in listed if line.partition(":")[0].split()[:1] in [[crate] for crate in crates]))
+    if (TOP / HANDLES).is_file():
+        shutil.copy2(TOP / HANDLES, room / HANDLES)
+
+
+def prove(room, log, progress):
+    """Runs `rt ci` in a folder. What it writes goes to the file `log`. Returns its status."""
+    process = start(["rt", "ci"], log, cwd=room)
+    try:
+        while process.poll() is None:
+            progress.tell(log)
+            time.sleep(LOOK)
+    finally:
+        if process.poll() is None:
+            end(process)
+    progress.tell(log)
+    return process.returncode
 
 
 class Progress:
     """Says which crates are proved, and each while that it goes on."""
 
-    def __init__(self, count):
-        self.count, self.done = count, 0
+    def __init__(self, crates):
+        self.left, self.count, self.read = set(crates), len(crates), 0
         self.began = self.last = time.monotonic()
 
-    def tell(self, crate):
-        if crate:
-            self.done += 1
-            say(f"{crate} is done ({spent(self.began)} so far, {self.done} of {self.count} crates)")
-        elif time.monotonic() - self.last > QUIET:
+    def tell(self, log):
+        for crate in self.proved(log):
+            done = self.count - len(self.left)
+            say(f"{crate} is done ({spent(self.began)} so far, {done} of {self.count} crates)")
+            self.last = time.monotonic()
+        if time.monotonic() - self.last > QUIET:
             say(f"still at work ({spent(self.began)} so far)")
-        else:
-            return
-        self.last = time.monotonic()
+            self.last = time.monotonic()
+
+    def proved(self, log):
+        """The crates that rt has called proved, or kept from an earlier run, since the last look."""
+        with open(log, "rb") as written:
+            written.seek(self.read)
+            whole, line_end, _ = written.read().rpartition(b"\n")
+        self.read += len(whole + line_end)
+        for line in whole.decode(errors="replace").splitlines():
+            said, _, rest = line.partition(" ")
+            crate, _, what = rest.partition(" ")
+            if said == "rt:" and crate in self.left and (what == "proved" or what.startswith("is kept")):
+                self.left.remove(crate)
+                yield crate
 
 
-def build_program(jobs, progress):
-    """Proves the crate `program` and builds the program. Returns what `rooms.prove` returns."""
-    process = start(["rt", "run", "--jobs", str(jobs), "--", "--help"], rooms.log_of(PROGRAM), cwd=CRATES / PROGRAM)
-    try:
-        while process.poll() is None:
-            progress.tell(None)
-            time.sleep(0.2)
-    finally:
-        if process.poll() is None:
-            end(process)
-    if process.returncode != 0:
-        return PROGRAM, process.returncode
-    progress.tell(PROGRAM)
-    return None
-
-
-def reason_of(crate, status):
-    """Why a crate is not proved, or the program not built."""
-    log = rooms.log_of(crate)
+def reason_of(status, log):
+    """Why the crates are not proved, or the program not built."""
     reason = reason_of_failure(status, log, CRATES)
-    return reason or f"{crate} is not proved (all that rt wrote is in {log}):\n{last_lines(log)}"
+    return reason or f"the program is not proved (all that rt wrote is in {log}):\n{last_lines(log)}"

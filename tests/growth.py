@@ -28,6 +28,7 @@ import tempfile
 from built import PROGRAM, TOP, need_program
 from counted import Counted, Wrong
 from lines import FOR_THE_SIMULATION
+from live import Session
 from sessions.slow_searches import SLOW, slow_body
 
 SECONDS = 300
@@ -36,6 +37,7 @@ SCRIPT, SESSION = "script", "session"
 SCRIPT_BESIDE, SESSION_BESIDE = "script with two readers", "session with two readers"
 # It has one reader, and this one takes one command and refuses more.
 SCRIPT_OF_ONE, SESSION_OF_ONE = "script with one reader", "session for one command"
+SESSION_OF_ONE_READER, SESSION_IN_TIME = "session with one reader", "session with a limit of time"
 WORDS = {
     SCRIPT: ["--readers", "0", "--max-commands", "1000000"],
     SESSION: ["--live", "--readers", "0"],
@@ -43,8 +45,11 @@ WORDS = {
     SESSION_BESIDE: ["--live", "--readers", "2"],
     SCRIPT_OF_ONE: ["--readers", "1"],
     SESSION_OF_ONE: ["--live", "--readers", "0", "--max-commands", "1"],
+    SESSION_OF_ONE_READER: ["--live", "--readers", "1"],
+    SESSION_IN_TIME: ["--live", "--readers", "1", "--search-ms", "4294967295"],
 }
 BOTH = (SCRIPT, SESSION)
+PER_THREAD = ["valgrind", "--tool=callgrind", "--separate-threads=yes"]
 MOST = 4.8
 # What grows with a logarithm, or not at all.
 LEVEL = 2
@@ -54,6 +59,7 @@ COUNTS = [("instructions", 200_000), ("requests for memory", 100), ("bytes reque
 COUNTING = r"""
 #define _GNU_SOURCE
 #include <dlfcn.h>
+#include <errno.h>
 #include <malloc.h>
 #include <pthread.h>
 #include <stdatomic.h>
@@ -65,7 +71,7 @@ COUNTING = r"""
 #include <unistd.h>
 extern void *__libc_malloc(size_t), *__libc_realloc(void *, size_t);
 extern void __libc_free(void *);
-static _Atomic long requests, bytes, large, reads, writes, threads, used, most, held, least;
+static _Atomic long requests, bytes, large, reads, writes, threads, looks, used, most, held, least;
 static void count(size_t size) {
     if (!least) least = getenv("LEAST") ? atol(getenv("LEAST")) : -1;
     requests++;
@@ -108,24 +114,24 @@ int pthread_create(pthread_t *thread, const pthread_attr_t *how, void *(*run)(vo
     return create(thread, how, run, with);
 }
 int clock_gettime(clockid_t which, struct timespec *time) {
-    static _Atomic int looks;
     long status = syscall(SYS_clock_gettime, which, time);
-    int look = looks++;
+    long look = looks++;
+    if (getenv("BROKEN")) return errno = EINVAL, -1;
     if (look && getenv("JUMP")) time->tv_sec += atol(getenv("JUMP"));
     if (getenv("STEP")) time->tv_sec += look * atol(getenv("STEP"));
     return status;
 }
 __attribute__((destructor)) static void tell(void) {
-    dprintf(2, "counts %ld %ld %ld %ld %ld %ld %ld %ld\n", requests, bytes, most, held, large, reads, writes, threads);
+    dprintf(2, "counts %ld %ld %ld %ld %ld %ld %ld %ld %ld\n", requests, bytes, most, held, large, reads, writes, threads, looks);
 }
 void _exit(int status) { tell(); syscall(SYS_exit_group, status); __builtin_unreachable(); }
 """
 
 
 # What a run has taken: the requests for memory and their bytes, the most bytes in use at once, those in use when the last text was
-# written, the requests of at least so many bytes, how often the input was read and text was written, how many threads were started, and the
-# text.
-Memory = collections.namedtuple("Memory", "requests bytes most held large reads writes threads text")
+# written, the requests of at least so many bytes, how often the input was read and text was written, how many threads were started, how
+# often the clock was looked at, and the text.
+Memory = collections.namedtuple("Memory", "requests bytes most held large reads writes threads looks text")
 
 
 class Runs:
@@ -165,16 +171,33 @@ class Runs:
 
     def instructions_of_all_threads(self, way, script):
         """The same, with the first one."""
+        return self.instructions_by_thread(way, lambda command: self.run(command, script))
+
+    def instructions_by_thread(self, way, run):
+        """The same of a program that `run` runs by a command."""
         with tempfile.TemporaryDirectory(dir=self.folder) as folder:
             out = pathlib.Path(folder) / "out"
-            tool = ["valgrind", "--tool=callgrind", "--separate-threads=yes", f"--callgrind-out-file={out}"]
-            self.run([*tool, str(PROGRAM), *WORDS[way]], script)
+            run([*PER_THREAD, f"--callgrind-out-file={out}", str(PROGRAM), *WORDS[way]])
             texts = [path.read_text(errors="replace") for path in sorted(out.parent.glob("out-*"))]
         return [int(re.search(r"^totals: (\d+)", text, re.MULTILINE)[1]) for text in texts]
 
+    def instructions_of_a_talk(self, way, script, rounds):
+        """How many instructions the thread that takes the items executes if a client sends a script, and then so many lines of no known
+        form, each once the one before is refused."""
+
+        def talk(command):
+            with Session(program=command) as session:
+                session.send(script)
+                for number in range(rounds):
+                    session.ask(b"what\n", b"line %d refused: bad line\n" % (script.count(b"\n") + 1 + number))
+                session.process.stdin.close()
+                session.process.wait(SECONDS)
+
+        return self.instructions_by_thread(way, talk)[0]
+
     def with_a_clock(self, words, script, **clock):
         """The requests for memory and the text of a run whose clock goes on by JUMP seconds right after it is first read, or by STEP seconds
-        each time that it is read."""
+        each time that it is read, or can never be read if BROKEN is given."""
         env = dict(os.environ, LD_PRELOAD=str(self.library), **clock)
         messages, text = self.run([str(PROGRAM), *words], script, env)
         return int(re.search(r"counts (\d+)", messages)[1]), text
@@ -211,6 +234,8 @@ VIEWS = [b"-C 0", b"-C 1", b"--column", b"--spans", b"-l", b"-c", b"-q"]
 
 # Stars inside stars: columns and spans of these patterns go by the simulation. The first of them is in no line below.
 STARS, STARS_OR_X, EMPTY_STARS = b"((a*b)*c)*d", b"((a*b)*c)*d|x", b"((a*b)*c)*"
+# The same for whole lines: each word begins at the line's start.
+STARS_AT_THE_START = b"^b[acegikmoqsuwyACEGIKMOQSUWY]{80}((c*d)*e)*f"
 
 
 def published(count):
@@ -448,13 +473,23 @@ def columns_far_along_a_line_by_the_simulation(n):
 
 
 def columns_of_empty_matches(n):
-    """Beyond a search for the same lines. The first match of each is empty and at its front, so no line is read for it."""
+    """Beyond a search for the same lines. The first match of each is empty and at its front; the engine passes over the line once."""
     lines = put(b"a", (b"a" * n + b"\n") * 20) + b"publish\n"
     return lines + b"find -- %s\n" % EMPTY_STARS, lines + b"find --column -- %s\n" % EMPTY_STARS
 
 
 def spans_of_a_line_by_the_simulation(n):
     return after(put(b"a", b"x" * n) + b"publish\n", b"find --spans -- %s\n" % STARS_OR_X)
+
+
+def spans_of_whole_words_in_a_long_line(n):
+    """A match begins at each byte, and only the last is a whole word."""
+    return after(put(b"a", b"a" * n + b" a\n") + b"publish\n", b"find -w --spans -- (([ab]{0,30}){31}c?)*d|a\n")
+
+
+def spans_of_a_pattern_that_can_be_empty(n):
+    """The empty text is the only match, at each byte, and no span."""
+    return after(put(b"a", b"a" * n + b"\n") + b"publish\n", b"find --spans -- ((([ab]{0,5}){5}c?)*d)?\n")
 
 
 def whole_words_in_long_lines(n):
@@ -465,6 +500,11 @@ def whole_words_in_long_lines(n):
 def lines_that_match_at_their_front(n):
     """The simulation reads no more of them."""
     return after(put(b"a", (b"x" + b"a" * n + b"\n") * 50) + b"publish\n", b"find -q -- x%s\n" % FOR_THE_SIMULATION)
+
+
+def lines_in_which_nothing_begins_any_more(n):
+    """The simulation leaves a line behind its first byte: no word can begin there, and none has begun."""
+    return after(put(b"a", (b"x" + b"a" * n + b"\n") * 50) + b"publish\n", b"find -q -- %s\n" % STARS_AT_THE_START)
 
 
 def counts_of_a_byte_that_is_in_no_line(n):
@@ -569,11 +609,14 @@ GROWTHS = [
     Row(documents_while_some_are_removed, 1000, (SESSION,)),
     Row(columns_far_along_a_line, 3_000, (SESSION,), 6),
     Row(columns_far_along_a_line_by_the_simulation, 4_000, (SESSION,), 6),
-    Row(columns_of_empty_matches, 1_000, (SESSION,), LEVEL),
+    Row(columns_of_empty_matches, 1_000, (SESSION,)),
     Row(spans_of_a_line_by_the_simulation, 1_000, (SESSION,)),
+    Row(spans_of_whole_words_in_a_long_line, 400, (SESSION,)),
+    Row(spans_of_a_pattern_that_can_be_empty, 400, (SESSION,)),
     Row(whole_words_in_long_lines, 3_000, (SESSION,), 6),
     Row(whole_words_far_from_the_end_of_a_line, 1_000, (SESSION,), 3),
     Row(lines_that_match_at_their_front, 1_000, (SESSION,), LEVEL, LEVEL),
+    Row(lines_in_which_nothing_begins_any_more, 1_000, (SESSION,), LEVEL, LEVEL),
     Row(lines_without_a_match_that_match_at_their_front, 1_000, (SESSION,), LEVEL, LEVEL),
     Row(sets_behind_one_that_is_in_no_line, 100, (SESSION,), LEVEL, LEVEL),
     Row(counts_of_a_byte_that_is_in_no_line, 60, (SESSION,), LEVEL, LEVEL),
@@ -635,6 +678,9 @@ def documents_are_analysed_once(runs):
     for way in BOTH:
         nothing, pending, shown = (runs.instructions(way, script) for script in (b"", put(b"a", body), put(b"a", body) + b"publish\n" * 3))
         yield f"instructions of three publishes in a {way}", shown - pending, 0, (pending - nothing) // 4
+        replaced = put(b"a", b"x") + b"publish\n" * 3 + put(b"a", body)
+        before, after_it = (runs.instructions(way, script) for script in (replaced, replaced + b"publish\n" * 3))
+        yield f"instructions of three publishes of a replacement in a {way}", after_it - before, 0, (pending - nothing) // 4
 
 
 def documents_that_are_kept(runs):
@@ -781,11 +827,20 @@ def lines_are_matched_once(runs):
 
 
 def simulations_are_made_once(runs):
-    """One is made for all lines of a document."""
+    """One is made for all lines of a document, and for all documents."""
     for words in b"--column", b"--spans":
         search = b"publish\nfind %s -- %s\n" % (words, STARS_OR_X)
         few, many = (runs.memory(SESSION, put(b"a", b"x\n" * count) + search).requests for count in (1_000, 4_000))
         yield f"requests for 3,000 more lines with {words.decode()}", many - few, 0, 50
+        few, many = (requests_for_documents(runs, words, count) for count in (100, 400))
+        yield f"requests for 300 more documents with {words.decode()}", many - few, 0, 300 * 3
+
+
+def requests_for_documents(runs, words, count):
+    """The requests for columns or spans in so many documents of one line, beyond those for its lines."""
+    lines = b"".join(put(b"f%d" % number, b"x\n") for number in range(count)) + b"publish\n"
+    with_words, without = (runs.memory(SESSION, lines + b"find %s -- %s\n" % (more, STARS_OR_X)).requests for more in (words, b""))
+    return with_words - without
 
 
 def simulations_read_no_more_than_they_must(runs):
@@ -901,6 +956,31 @@ def searches_that_are_too_slow_are_read_once(runs):
     yield "requests more for them", given_up - answered, -answered, 0
 
 
+def clocks_are_looked_at_seldom(runs):
+    """A search with a limit of time looks at the clock for each 64 KiB that is matched, and for each 64 KiB of text, not for each line."""
+    made = runs.memory(SESSION_IN_TIME, put(b"a", b"some text\n" * 40_000) + b"publish\nsearch t\n")
+    yield "looks at the clock for 40,000 lines", made.looks, 1, (400_000 + len(made.text)) // 65_536 + 20
+
+
+def answers_of_readers_stand(runs):
+    """The thread that takes the items makes no answer again that a reader has made, also if there is one reader, and if over 1,024 versions
+    were published since a search was asked that is still open."""
+    body = put(b"a", b"some text\n" * 100_000)
+    search = b"searchin ^a$ e.*z\n"
+    for way in SCRIPT_OF_ONE, SESSION_OF_ONE_READER:
+        none, asked = (first_thread(runs, way, body + b"publish\n" + search * count) for count in (0, 20))
+        yield f"instructions of the first thread for 20 searches of 1 MB in a {way}", asked - none, 0, 20 * 200_000
+    slow = put(b"slow", slow_body(2, 16_000)) + body + b"publish\nsearchin ^slow$ %s\n" % SLOW
+    slow += (put(b"b", b"x") + b"publish\n") * 1_100
+    none, asked = (first_thread(runs, SESSION_BESIDE, slow + search * count + b"cancel 1\n") for count in (0, 20))
+    yield "instructions of the first thread for 20 searches of 1 MB beside 1,100 publishes", asked - none, -none, 20 * 200_000
+
+
+def first_thread(runs, way, script):
+    """The instructions of the thread that takes the items."""
+    return runs.instructions_of_all_threads(way, script)[0]
+
+
 def limits_of_time_are_kept(runs):
     """With a clock that goes on by ten seconds less than its limit a search is answered, and by ten seconds more it is too slow."""
     for limit in 60_000, 100_000, 20_000_000, 2_200_000_000, 4_294_967_295:
@@ -909,6 +989,17 @@ def limits_of_time_are_kept(runs):
             _, text = runs.with_a_clock(words, SMALL + b"search o w\n", JUMP=str(limit // 1_000 + more))
             late = text.count(b" refused: too slow")
             yield f"searches with {limit} ms that are too slow {more:+} s from their end", late, int(more > 0), int(more > 0)
+
+
+def searches_have_no_limit_without_a_clock(runs):
+    """Where the clock cannot be read, a search is answered that takes far longer than its limit of a millisecond."""
+    body = slow_body(1, 16_000)
+    script = put(b"a", body) + put(b"b", body) + b"publish\nsearch %s\n" % SLOW
+    for readers in "0", "1":
+        words = ["--readers", readers, "--search-ms", "1"]
+        for what, clock, late in ("that goes", {}, 1), ("that cannot be read", {"BROKEN": "1"}, 0):
+            _, text = runs.with_a_clock(words, script, **clock)
+            yield f"searches that are too slow by a clock {what}, with {readers} readers", text.count(b" refused: too slow"), late, late
 
 
 def searches_that_wait_are_few(runs):
@@ -960,6 +1051,12 @@ def publishes_change_one_copy(runs):
     """A publish changes the copy that no reader sees. The other one is changed by the next publish."""
     pending, once, twice = (runs.instructions(SCRIPT, documents(1000) + b"publish\n" * count) for count in (0, 1, 2))
     yield "instructions of a publish of nothing behind another", twice - once, (once - pending) // 2, 2 * (once - pending)
+
+
+def copies_are_brought_up_to_date_once(runs):
+    """A session that waits for items brings the second copy up to date when it first waits after a publish, and not each time."""
+    pending, shown = (runs.instructions_of_a_talk(SESSION_OF_ONE_READER, put(b"a", b"x") + b"publish\n" * count, 400) for count in (0, 1))
+    yield "instructions of the first thread for 400 waits behind a publish", shown - pending, -pending, 400 * 100
 
 
 def small_documents_are_searched_as_a_large_one(runs):
@@ -1071,6 +1168,9 @@ CHECKS = [
     searches_beside_others,
     texts_are_formed_beside_one_another,
     texts_of_a_session_are_formed_by_its_readers,
+    clocks_are_looked_at_seldom,
+    searches_have_no_limit_without_a_clock,
+    answers_of_readers_stand,
     limits_of_time_are_kept,
     searches_that_are_too_slow_are_read_once,
     searches_that_wait_are_few,
@@ -1078,6 +1178,7 @@ CHECKS = [
     parts_of_a_search_are_even,
     parts_of_a_search_are_gone_through_once,
     publishes_change_one_copy,
+    copies_are_brought_up_to_date_once,
     small_documents_are_searched_as_a_large_one,
     memory_of_what_is_short,
     bodies_are_gone_through_fast,

@@ -1,9 +1,9 @@
 #!/usr/bin/env python3
-"""Shows that a search cannot take a lock: `Reading::take` with a lock around the index does not compile. The tests of `shared` are
-what is compiled, with the crates below them.
+"""Shows that a search cannot take a lock where it has no right to wait: a look at the published index with a lock around it does not
+compile. The tests of `shared` are what is compiled, with the crates below them.
 
-A call that may wait for another thread takes a handle with the bound `Wait`. `Reading::search`, `take`, `learn` and `seen` get
-no such handle. The compiler refuses the code before the prover sees it, so it cannot be an edit of must-fail.
+A call that may wait for another thread takes a handle with the bound `Wait`. `Reading::look`, `counts`, `learn` and `seen` get no
+such handle, and neither does `search::take`, which a search looks with. The compiler refuses the code before the prover sees it, so it cannot be an edit of must-fail.
 
 Usage: tests/refused/lock_refused.py   The last line counts: N passed, M failed.
 """
@@ -19,10 +19,12 @@ import copies  # noqa: E402
 from built import script_name  # noqa: E402
 from counted import Counted  # noqa: E402
 
-OLD = "            let taken = take(asked.alloc, &shelf.index, asked.prepared);\n"
-NEW = """            let lock = std::sync::Mutex::new(&shelf.index);
-            let index = lock.lock(&asked.alloc);
-            let taken = take(asked.alloc, *index, asked.prepared);
+OLD = "    match reading.look(|index| search::take(alloc, index, prepared)) {\n"
+NEW = """    match reading.look(|index| {
+        let lock = std::sync::Mutex::new(index);
+        let held = lock.lock(&alloc);
+        search::take(alloc, *held, prepared)
+    }) {
 """
 WANTED = "the trait bound `Global: Wait` is not satisfied"
 
@@ -30,12 +32,12 @@ WANTED = "the trait bound `Global: Wait` is not satisfied"
 def main():
     with tempfile.TemporaryDirectory() as folder:
         copies.copy_crates(folder, ["shared_tests"])
-        crate = pathlib.Path(folder, "crates", "shared")
-        text = (crate / "src/reading.rt").read_text(encoding="utf-8")
+        crate = pathlib.Path(folder, "crates", "shared_tests")
+        text = (crate / "src/fixtures.rt").read_text(encoding="utf-8")
         if text.count(OLD) != 1:
-            sys.exit(f"{script_name()}: reading.rt does not have the lines to replace")
-        (crate / "src/reading.rt").write_text(text.replace(OLD, NEW), encoding="utf-8")
-        done = subprocess.run(["rt", "try", "--test"], cwd=crate.parent / "shared_tests", capture_output=True, text=True, check=False)
+            sys.exit(f"{script_name()}: fixtures.rt does not have the line to replace")
+        (crate / "src/fixtures.rt").write_text(text.replace(OLD, NEW), encoding="utf-8")
+        done = subprocess.run(["rt", "try", "--test"], cwd=crate, capture_output=True, text=True, check=False)
     errors = [line for line in (done.stdout + done.stderr).splitlines() if ": error" in line]
     refused = done.returncode != 0 and len(errors) == 1 and WANTED in errors[0]
     what = "a lock around the index: %s" % ("; ".join(errors) or "NOT REFUSED")

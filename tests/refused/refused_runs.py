@@ -44,6 +44,8 @@ SESSION, READING = ["--live"] + NO_READERS, ["--live"] + TWO_READERS
 TIMES = [(NO_READERS, 1), (TWO_READERS, 5), (SESSION, 1), (READING, 5)]
 # With readers, a run can make some more requests than the one before.
 MORE = 20
+# How long a run may take, and the runs that have taken longer.
+SECONDS, FEW_ENDLESS, ENDLESS = 30, 8, []
 
 # A body that is too large to be matched line by line, and searches of it, with the outcome if there is no memory to compile the pattern,
 # or in the last search the name pattern, and how many requests that takes at least.
@@ -88,9 +90,15 @@ SECOND_REFUSED, THIRD_REFUSED = b"search 2 refused: out of memory\n", b"search 3
 
 def run(library, script, words, refused, least=0):
     """The status, the output and the messages of the run whose request with this number is refused, and how many there were.
-    With `least`, only requests of at least that many bytes count, and the first `refused` of them are refused."""
+    With `least`, only requests of at least that many bytes count, and the first `refused` of them are refused. A run that does not
+    end has no status. Once some runs have not ended, the others have less time."""
     env = dict(os.environ, LD_PRELOAD=library, REFUSED=str(refused), LEAST=str(least))
-    done = subprocess.run([PROGRAM, *words], input=script, env=env, capture_output=True, check=False, timeout=60)
+    limit = SECONDS if len(ENDLESS) < FEW_ENDLESS else 1
+    try:
+        done = subprocess.run([PROGRAM, *words], input=script, env=env, capture_output=True, check=False, timeout=limit)
+    except subprocess.TimeoutExpired:
+        ENDLESS.append(refused)
+        return None, b"", b"it did not end\n", refused
     messages, count = re.fullmatch(rb"(.*)requests (\d+)\n", done.stderr, re.DOTALL).groups()
     return done.returncode, done.stdout, messages, int(count)
 

@@ -15,13 +15,14 @@ import random
 import re
 import subprocess
 import sys
+import time
 
 sys.path.insert(0, str(pathlib.Path(__file__).resolve().parent.parent))
 
-from built import PROGRAM, put  # noqa: E402
+from built import PROGRAM, TOP, put  # noqa: E402
 from counted import Wrong, run_tests  # noqa: E402
 from judge import transcripts  # noqa: E402
-from live import MEBIBYTE, SECONDS, Session, faults_with_each, same  # noqa: E402
+from live import MEBIBYTE, QUIET, SECONDS, Session, faults_with_each, same  # noqa: E402
 from sessions.slow_searches import SLOW, TABLE, slow_body  # noqa: E402
 
 ROUNDS, OPEN, BATCHES = 2, 1_000, 80
@@ -151,14 +152,24 @@ def every_second_of_many_open_searches(start):
 
 
 def cancelled_search_frees_its_reader(start):
-    """All readers have long searches, and a quick one waits. Once the first is cancelled, the quick one is answered."""
+    """All readers have long searches, and a quick one waits. Once the first is cancelled, the quick one is answered. Meanwhile the client asks
+    for statuses, a hundred at most with a pause between them, so that a reader that goes on is found after some seconds."""
     readers = readers_of(start)
     with start() as session:
         talk = Talk(session, readers)
         held, (quick,) = talk.ask(*[LONG_SEARCH] * readers), talk.ask(QUICK_SEARCH)
         session.expect_quiet()
         talk.cancel(held[:1])
-        talk.expect(CANCELLED % held[0], QUICK % quick)
+        talk.expect(CANCELLED % held[0])
+        for _ in range(100):
+            time.sleep(QUIET)
+            talk.send(b"status\n")
+            entry = talk.read()
+            if entry == QUICK % quick:
+                break
+        same("the entry of the quick search", entry, QUICK % quick)
+        if b" status " not in talk.read():
+            raise Wrong("the status has no entry")
         talk.expect_open(readers - 1)
         talk.leave()
 
@@ -184,6 +195,32 @@ def spans_are_given_up_within_a_line():
         session.ask(find, TOO_SLOW % 3)
         session.ask(b"searchin ^c$ x\n", b"search 4 version 1 lines 0\n")
         session.end(2)
+
+
+def too_slow_within(documents, search):
+    """A search that its documents take far longer than its time is given up. One that does not look at the clock until it is over is answered."""
+    for readers in "1", "0":
+        with Session("--readers", readers, "--search-ms", "60") as session:
+            session.send(documents + b"publish\n")
+            session.ask(search, TOO_SLOW % 1)
+            session.end(2)
+
+
+def searches_are_given_up_within_a_document():
+    """It is one large document, and nothing is found in it."""
+    too_slow_within(put(b"large", slow_body(60, 16_000)[:-4]), b"search " + SLOW + b"\n")
+
+
+def searches_are_given_up_before_columns():
+    """The lines are matched without a look at the clock, which takes longer than the search has. No column is looked for then."""
+    lines = slow_body(4, 16_000)[:-4].replace(b"\n", b"d\n")
+    too_slow_within(put(b"lines", lines), b"find --column -- " + SLOW.replace(b"|^end$", b"|d$") + b"\n")
+
+
+def searches_are_given_up_while_names_are_matched():
+    source = random.Random(1)
+    names = (b"x%s%d" % (bytes(source.choices(b"ab", k=230)), number) for number in range(3_000))
+    too_slow_within(b"".join(put(name, b"y") for name in names), b"searchin " + SLOW + b" y\n")
 
 
 def cancel_behind_a_sync(start):
@@ -402,7 +439,7 @@ def status_behind_very_many_searches_that_are_too_slow():
 
 def run(readers, *words, items):
     """The status and the text of a run that begins with the documents."""
-    done = subprocess.run([PROGRAM, "--readers", str(readers), *words], input=DOCUMENTS + items, capture_output=True, check=False, timeout=2 * SECONDS)
+    done = subprocess.run([PROGRAM, "--readers", str(readers), *words], input=DOCUMENTS + items, cwd=TOP, capture_output=True, check=False, timeout=2 * SECONDS)
     same("standard error", done.stderr, b"")
     return done.returncode, done.stdout
 
@@ -416,6 +453,16 @@ def run_that_cancels_long_searches():
     cancelled = b"".join(CANCELLED % number for number in range(1, 21))
     for readers in 1, 2, 16:
         same("the run", run(readers, items=items), (2, cancelled + b"".join(shown) + REFUSED % (line + 43, NO_SUCH_SEARCH) + QUICK % 21))
+
+
+def items_of_a_run_beside_a_long_search():
+    """A put, a load, a remove and a publish do not wait for it, whatever the number of readers: each status shows that it is open."""
+    line = DOCUMENTS.count(b"\n") + 2
+    items = LONG_SEARCH + b"status\n" + put(b"new", b"hi") + b"load more examples/tree/README\nremove quick\npublish\nstatus\ncancel 1\n"
+    size = BYTES + len(b"hi") + len((TOP / "examples/tree/README").read_bytes()) - len(BODIES[b"quick"])
+    wanted = CANCELLED % 1 + STATUS % (line, VERSION, VERSION, BYTES, VERSION, 1) + STATUS % (line + 6, VERSION + 3, VERSION + 1, size, VERSION + 3, 1)
+    for readers in 1, 2, 16:
+        same("the run", run(readers, items=items), (2, wanted))
 
 
 def run_whose_searches_are_too_slow():
@@ -473,9 +520,13 @@ WITH_READERS = [
 WITH_EACH = [long_searches_are_too_slow, searches_have_much_time]
 ONCE = [
     spans_are_given_up_within_a_line,
+    searches_are_given_up_within_a_document,
+    searches_are_given_up_before_columns,
+    searches_are_given_up_while_names_are_matched,
     time_of_a_search_that_waits_for_a_reader,
     status_behind_very_many_searches_that_are_too_slow,
     run_that_cancels_long_searches,
+    items_of_a_run_beside_a_long_search,
     run_whose_searches_are_too_slow,
     runs_and_sessions_with_slow_searches_are_legal,
 ]

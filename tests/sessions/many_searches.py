@@ -12,15 +12,16 @@ import argparse
 import os
 import pathlib
 import re
+import subprocess
 import sys
 import threading
 import time
 
 sys.path.insert(0, str(pathlib.Path(__file__).resolve().parent.parent))
 
-from built import put  # noqa: E402
+from built import PROGRAM, put  # noqa: E402
 from counted import Wrong, run_tests  # noqa: E402
-from live import MEBIBYTE, SECONDS, faults_with_each  # noqa: E402
+from live import MEBIBYTE, SECONDS, Session, faults_with_each  # noqa: E402
 from sessions.slow_searches import SLOW, slow_body  # noqa: E402
 
 
@@ -35,6 +36,8 @@ GIVEN = words_given()
 # Searches that nobody reads the answers of. They are more bytes than the pipe and the session's buffer take.
 UNREAD = 40_000
 PART = 1 << 20
+# While so many searches are open, no item is taken.
+MOST_OPEN = 1_024
 HEAD = re.compile(rb"search (\d+) version (\d+) lines (\d+)\n")
 
 
@@ -189,6 +192,23 @@ def large_answers_that_nobody_reads(start):
         session.end(0)
 
 
+def few_of_many_searches_are_open(*words):
+    """A status behind a slow search and 3,000 quick ones is taken while at most 1,023 of them are open."""
+    script = put(b"slow", slow_body(4, 16_000)) + b"publish\nsearchin ^slow$ " + SLOW + b"\n" + b"searchin ^b h\n" * 3_000 + b"status\n"
+    done = subprocess.run([PROGRAM, *words, "--readers", "1"], input=script, capture_output=True, check=False, timeout=SECONDS)
+    found = re.search(rb"^line \d+ status .* open (\d+)\n", done.stdout, re.MULTILINE)
+    if not found or int(found[1]) > MOST_OPEN - 1:
+        raise Wrong(f"the status is {found and found[0]}")
+
+
+def few_searches_of_a_session_are_open():
+    few_of_many_searches_are_open("--live")
+
+
+def few_searches_of_a_run_are_open():
+    few_of_many_searches_are_open()
+
+
 def bodies_behind_a_sync(start):
     """While a search is at work, at most 16 of the items behind a sync are read ahead. Each body has a byte 0, so none of them is kept."""
     count, body = 100, b"x" * (MEBIBYTE - 1) + b"\0"
@@ -208,8 +228,22 @@ def bodies_behind_a_sync(start):
         session.end(2)
 
 
+def few_items_behind_a_sync_are_read():
+    """While a search is at work, a session reads at most 16 items ahead: a sync behind the search, and 15 puts."""
+    documents = b"".join(put(b"slow%d" % number, slow_body(60, 16_000)) for number in range(4)) + b"publish\n"
+    text = put(b"a", b"x" * (MEBIBYTE - 1))
+    with Session("--readers", "1") as session:
+        session.send(documents + b"searchin ^slow " + SLOW + b"\nsync\n")
+        sender = Sender(session, [text] * 40)
+        sender.start()
+        sender.wait_until_stuck()
+        if sender.sent > 15 * len(text):
+            raise Wrong(f"behind a sync {sender.sent // len(text)} puts were read")
+
+
 TESTS = [client_that_stops_reading, client_that_reads, searches_beside_replacements]
 FEW_READERS = [large_answers_that_nobody_reads, bodies_behind_a_sync]
+ONCE = [few_searches_of_a_session_are_open, few_searches_of_a_run_are_open, few_items_behind_a_sync_are_read]
 
 
 def faults_of(test):
@@ -217,4 +251,4 @@ def faults_of(test):
 
 
 if __name__ == "__main__":
-    run_tests(TESTS + FEW_READERS, faults_of, os.cpu_count(), GIVEN.names)
+    run_tests(TESTS + FEW_READERS + ONCE, faults_of, os.cpu_count(), GIVEN.names)

@@ -18,7 +18,7 @@ import threading
 
 sys.path.insert(0, str(pathlib.Path(__file__).resolve().parent.parent))
 
-from built import PROGRAM, put  # noqa: E402
+from built import PROGRAM, TOP, put  # noqa: E402
 from counted import Wrong, run_tests  # noqa: E402
 from judge import transcripts  # noqa: E402
 from live import GREATEST_LINE, MEBIBYTE, SECONDS, Session, faults_with_each, same, send_all  # noqa: E402
@@ -40,13 +40,10 @@ def slow_body(lines, length):
     return b"".join(b"x" + bytes(source.choices(b"ab", k=length - 2)) + b"\n" for _ in range(lines)) + b"end\n"
 
 
-def long_documents():
-    body = slow_body(64, 16_000)
-    return b"".join(put(b"slow%02d" % number, body) for number in range(LONG_DOCUMENTS))
-
+LONG_BODIES = dict.fromkeys((b"slow%02d" % number for number in range(LONG_DOCUMENTS)), slow_body(64, 16_000))
 
 # A search of the first is slow, and one of the second long.
-SHORT, LONG = put(b"slow", slow_body(2, 16_000)) + b"publish\n", long_documents() + b"publish\n"
+SHORT, LONG = put(b"slow", slow_body(2, 16_000)) + b"publish\n", b"".join(put(*pair) for pair in LONG_BODIES.items()) + b"publish\n"
 FOUND = b"search %d version %d lines 1\nslow:3:end\n"
 REFUSED = b"line %d refused: %s\n"
 # The line of the first item after each body.
@@ -71,6 +68,19 @@ def texts_come_beside_a_long_search(start):
         session.ask(b"load b nothing/here\n", REFUSED % (line + 2, b"cannot load"))
         # the session goes on to wait for the answer
         session.ask(b"put b\n", REFUSED % (line + 3, b"bad put"))
+        session.expect_quiet()
+
+
+def loads_and_removes_are_seen_beside_a_long_search(start):
+    """They are carried out and published while the search is at work, and the status says so."""
+    text = (TOP / "examples/tree/README").read_bytes()
+    with start() as session:
+        session.send(LONG + SLOW_SEARCH)
+        session.send(b"load new examples/tree/README\nremove slow00\npublish\n")
+        size = sum(map(len, LONG_BODIES.values())) - len(LONG_BODIES[b"slow00"]) + len(text)
+        version = LONG_DOCUMENTS + 2
+        shown = (AFTER_LONG + 4, version, LONG_DOCUMENTS, size, version)
+        session.ask(b"status\n", b"line %d status version %d documents %d bytes %d accepted %d of 1000000 open 1\n" % shown)
         session.expect_quiet()
 
 
@@ -224,6 +234,7 @@ def sessions_with_slow_searches_are_legal():
 
 WITH_READERS = [
     texts_come_beside_a_long_search,
+    loads_and_removes_are_seen_beside_a_long_search,
     replacements_beside_a_long_search_leave_memory_level,
     nobody_reads_while_a_long_search_is_at_work,
     sync_waits_for_a_slow_search,

@@ -30,6 +30,7 @@ flag name = record (new_rule name) { long = Some name; action = Some SetTrue }
 abbrev pub with_version : App → App
 with_version app = record app { top = record app.top { has_version = true } }
 
+-- the options and the argument of `tsearch`
 abbrev pub command_line : App
 command_line = with_rule (with_rule (with_rule (with_rule (with_rule (with_rule (with_version (new_app (codes "tsearch")))
     (number_option (codes "readers") 0 MAX_READERS))
@@ -91,11 +92,13 @@ pub record AreRefused (arguments : List Text) : Type 0 where
   pub no_help : AskForHelp arguments → ⊥
   pub no_version : AskForVersion arguments → ⊥
 
+-- The arguments ask for this: they give the settings of a run, or they ask for the help or the version.
 abbrev pub IsRequestOf : List Text → Request → Type 0
 IsRequestOf arguments (Run settings) = SpellSettings arguments settings
 IsRequestOf arguments Help = AskForHelp arguments
 IsRequestOf arguments Version = AskForVersion arguments
 
+-- Why arguments are refused: clap finds this kind of fault in them, or memory ran out.
 abbrev pub IsRefusalOf : List Text → ArgumentError → Type 0
 IsRefusalOf arguments (error.Refused e) = IsAmong (kind_of e) (faults_of arguments)
 IsRefusalOf arguments error.OutOfMemory = ⊤

@@ -28,6 +28,7 @@ unfoldable mutual
   height (alt members) = highest members + 1
   height (repeat body least greatest) = height body + 1
 
+  -- the greatest height of these trees
   pub highest : Trees → ℕ
   highest none = 0
   highest (more tree trees) = max (height tree) (highest trees)

@@ -39,3 +39,7 @@ pub data IsTextFault (text : List ℕ) (fault : EreError) : Type 0 where
   too_long : greatest_pattern < length text → fault.kind ≡ TooLong → fault.at ≡ greatest_pattern → IsTextFault text fault
   bad_byte : length text ≤ greatest_pattern → fault.kind ≡ BadByte → fault.at < length text → IsFalse (is_line_byte (slice_index text fault.at))
       → ((k : ℕ) → k < fault.at → IsTrue (is_line_byte (slice_index text k))) → IsTextFault text fault
+
+-- If the text is none for a pattern, the fault says why.
+abbrev pub NamesTextFault : List ℕ → EreError → Type 0
+NamesTextFault text fault = (IsPatternText text → ⊥) → IsTextFault text fault

@@ -3,7 +3,7 @@
 ghost use Rattle.std.specs.Prelude.{◌≡◌, ◌≢◌, ◌<◌, ◌≤◌, IfErr, IfOk, IsFalse, List, OnOk, OnErr, drop, length};
 ghost use Rattle.std.specs.List.{AllByRecursion};
 ghost use Rattle.ere.specs.Limits.{greatest_open, greatest_pattern, height, HasNoTree, IsTreeOf, IsWithinLimits};
-ghost use Rattle.ere.specs.Literal.{IsPatternText, IsTextFault};
+ghost use Rattle.ere.specs.Literal.{IsPatternText, IsTextFault, NamesTextFault};
 ghost use Rattle.ere.specs.Private.Reading.{ends_branch, HasNoTokens, IsBuilt, NoAlternatives, NoAtom, NoBranch, NoDuplication};
 ghost use Rattle.ere.specs.Private.Reading.{NoPiece, NoTimes, ReadsAlternatives, ReadsAtom, ReadsBranch, ReadsDuplications, ReadsPiece};
 ghost use Rattle.ere.specs.Tokens.{opens, SpellsToken, Token as AnyToken, Tokens};
@@ -34,7 +34,9 @@ pub const MAX_OPEN: u8 = 64;
 pub fn parse(alloc: Global, pattern: &[u8]) -> Result<Ere, EreError>
     ensures tree { IfOk result (λ e. IsTreeOf Case.Exact pattern.now (form e)) }
     ensures limits { IfOk result (λ e. IsWithinLimits (form e)) }
+    ensures allowed { OnOk result (IsPatternText pattern.now) }
     ensures refused { IfErr result (λ e. e.kind ≢ EreErrorKind.OutOfMemory → HasNoTree Case.Exact pattern.now) }
+    ensures text { IfErr result (NamesTextFault pattern.now) }
 {
     parse_with(alloc, pattern, Case::Exact)
 }
@@ -48,7 +50,9 @@ pub fn parse(alloc: Global, pattern: &[u8]) -> Result<Ere, EreError>
 pub fn parse_with(alloc: Global, pattern: &[u8], case: Case) -> Result<Ere, EreError>
     ensures tree { IfOk result (λ e. IsTreeOf case pattern.now (form e)) }
     ensures limits { IfOk result (λ e. IsWithinLimits (form e)) }
+    ensures allowed { OnOk result (IsPatternText pattern.now) }
     ensures refused { IfErr result (λ e. e.kind ≢ EreErrorKind.OutOfMemory → HasNoTree case pattern.now) }
+    ensures text { IfErr result (NamesTextFault pattern.now) }
 {
     check_bytes(pattern)?;
     let (part, _end) = alternatives(alloc, case, pattern, 0, 0)?;

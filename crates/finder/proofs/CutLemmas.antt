@@ -27,9 +27,9 @@ pub found_start : (o : Option Match) (from end : ℕ) → Some (from, end) ≡ o
 found_start None from end e = absurd (none-some (from, end) (sym e))
 found_start (Some m) from end e = let same = same_Some (from, end) (m.start, m.trace.end) e in (m, refl, sym (ap (λ (p : ℕ × ℕ). p.0) same))
 
-pub start_within : (re : Re) (text : List ℕ) (m : Match) → find re text 0 ≡ Some m → m.start ≤ length text
+pub start_within : (re : Re) (text : List ℕ) (from : ℕ) (m : Match) → find re text from ≡ Some m → m.start ≤ length text
 unfolding find
-start_within re text m e = (IsFirst-of_first_between _ 0 (length text) m e).to
+start_within re text from m e = (IsFirst-of_first_between _ from (length text) m e).to
 
 -- ---- the end of a line
 
@@ -123,7 +123,7 @@ line_feeds_cut text n = sym (line_feeds_append (take n text) (drop n text)) ∙ 
 
 -- ---- the parts
 
-from_places : (line : List ℕ) → ((k : ℕ) → k < length line → slice_index line k ≢ 10) → NoFeed line
+pub from_places : (line : List ℕ) → ((k : ℕ) → k < length line → slice_index line k ≢ 10) → NoFeed line
 from_places [] each = tt
 from_places (b ∷ line) each = (each 0 (omega arith), from_places line (λ k low. each (suc k) (omega arith)))
 
@@ -228,7 +228,7 @@ module _ (tree : Tree) (re : Re) (stands : StandsFor tree re) (line : List ℕ) 
   found_here None e t = absurd (false≢true t)
   found_here (Some m) e t =
       match_here tree re stands [] line [] m (inl refl) (from_places line none) (inl refl) (omega arith)
-      (omega (arith, start_within re line m e)) (ap (λ t. find re t 0) (append-nil line) ∙ e)
+      (omega (arith, start_within re line 0 m e)) (ap (λ t. find re t 0) (append-nil line) ∙ e)
 
   -- the engine matches in a line by itself exactly where the tree does
   pub line_matches : (found : Bool) → found ≡ is_some (find re line 0) → (IsTrue found → ContainsMatch tree line) × (ContainsMatch tree line → IsTrue found)

@@ -7,3 +7,4 @@ pub mod MatchLemmas
 pub mod CutLemmas
 pub mod LawLemmas
 pub mod Deciding
+mod StartLemmas

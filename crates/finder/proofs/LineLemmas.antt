@@ -27,7 +27,7 @@ get_inside [] after k low = absurd (omega arith)
 get_inside (b ∷ line) after zero low = refl
 get_inside (b ∷ line) after (suc k) low = get_inside line after k (omega arith)
 
-no_feed_at : (line : List ℕ) (k : ℕ) → NoFeed line → k < length line → slice_index line k ≢ 10
+pub no_feed_at : (line : List ℕ) (k : ℕ) → NoFeed line → k < length line → slice_index line k ≢ 10
 no_feed_at [] k none low = absurd (omega arith)
 no_feed_at (b ∷ line) zero none low = none.0
 no_feed_at (b ∷ line) (suc k) none low = no_feed_at line k none.1 (omega arith)

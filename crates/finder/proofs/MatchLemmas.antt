@@ -11,7 +11,7 @@ use Rattle.regex_hir.proofs.FindLemmas.{find_sound, find_complete}
 use Rattle.ere.specs.Tree.{Tree}
 use Rattle.ere.specs.Language.{ContainsMatch}
 use Rattle.lines.specs.Lines.{lines_of}
-use Rattle.matcher.proofs.Meaning.{hit_of_spans, spans_of_hit}
+use Rattle.spans.proofs.Meaning.{hit_of_spans, spans_of_hit}
 use Rattle.finder.specs.Translation.{IsLineAt, StandsFor}
 use Rattle.finder.specs.FirstLine.{IsWholeLines, EndsLine}
 use Rattle.finder.proofs.LineLemmas.{NoFeed, line_at, shown}

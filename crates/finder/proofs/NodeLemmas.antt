@@ -14,7 +14,7 @@ use Rattle.regex_hir.specs.Re.{Re, empty as re_empty, byte_in, look, cat as re_c
 use Rattle.regex_hir.specs.Meaning.{cat_all, alt_all, optional, copies, up_to, at_least, repeat as re_repeat}
 use Rattle.regex_hir.specs.Matches.{Matches}
 use Rattle.ere.specs.Tree.{Tree, empty, set, at_start, at_end, cat, alt, repeat, Trees, none, more}
-use Rattle.matcher.specs.Spans.{Relation, Steps, Spans, SpansEach, SpansSome}
+use Rattle.spans.specs.Spans.{Relation, Steps, Spans, SpansEach, SpansSome}
 use Rattle.matcher.proofs.Walks.{Then}
 use Rattle.finder.specs.Translation.{IsLineAt, Agrees, StandsFor, StandForEach}
 use Rattle.finder.proofs.RelationLemmas.{agrees_as, agrees_stay, agrees_nowhere, agrees_then, agrees_or, Some-steps, agrees_rounds}

@@ -1,6 +1,6 @@
 -- Relations on a line and on a text that agree.
 use Rattle.std.proofs.Common.{◌≡◌, ℕ, zero, suc, ◌+◌, ◌-◌, ◌≤◌, ◌⊎◌, inl, inr, refl, sym, subst, arith}
-use Rattle.matcher.specs.Spans.{Relation, Steps}
+use Rattle.spans.specs.Spans.{Relation, Steps}
 use Rattle.matcher.proofs.Walks.{Then}
 use Rattle.regex_hir.specs.Matches.{Rounds, one_round, next_round}
 use Rattle.finder.specs.Translation.{Agrees}

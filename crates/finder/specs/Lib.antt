@@ -1,3 +1,4 @@
 pub mod Translation
 pub mod FirstLine
 pub mod Patterns
+pub mod Starts

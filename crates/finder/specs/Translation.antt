@@ -6,7 +6,7 @@ use Rattle.regex_hir.specs.declared.look.Look.TheVariants.{StartLf, EndLf}
 use Rattle.regex_hir.specs.Re.{Re}
 use Rattle.regex_hir.specs.Matches.{Matches}
 use Rattle.ere.specs.Tree.{Tree, Trees, none, more}
-use Rattle.matcher.specs.Spans.{Relation, Spans}
+use Rattle.spans.specs.Spans.{Relation, Spans}
 
 -- The text has this line from position `at` on: its bytes are there, none is a line feed, and the engine sees
 -- the start of a line before it and the end of one after it.

@@ -37,11 +37,12 @@ impl Drop for Finder<'_> {
 }
 
 impl<'p> Finder<'p> {
-    ghost use Rattle.std.specs.Prelude.{◌≢◌, ◌↔◌, ◌<◌, ℕ, IsTrue, IfOk, IfSome, IfNone, length, slice_index};
+    ghost use Rattle.std.specs.Prelude.{◌≢◌, ◌≤◌, ◌↔◌, ◌<◌, ℕ, IsTrue, IfOk, IfSome, IfNone, MatchOption, length, slice_index};
     ghost use Rattle.ere.specs.Tree.{Tree};
     ghost use Rattle.ere.specs.Language.{ContainsMatch};
     ghost use Rattle.finder.specs.FirstLine.{IsFirstLine, IsInside, HasNoMatch};
     ghost use Rattle.finder.specs.Patterns.{IsCompiledFrom, IsFinderOf};
+    ghost use Rattle.finder.specs.Starts.{HasNoStartFrom, IsNextStart};
 
     /// A finder for the pattern. An `Err` means that memory ran out.
     pub fn new(alloc: Global, compiled: &'p Compiled) -> Result<Finder<'p>, AllocError>
@@ -59,7 +60,7 @@ impl<'p> Finder<'p> {
         ensures none { IfNone result ((tree : Tree) → IsFinderOf tree self.old → HasNoMatch tree text.now) }
         ensures some { IfSome result (λ line. (tree : Tree) → IsFinderOf tree self.old → IsFirstLine tree text.now line) }
     {
-        let Some(from) = first_match(&mut self.searcher, text) else {
+        let Some(from) = next_match(&mut self.searcher, text, 0) else {
             return None;
         };
         let start = line_start(text, from);
@@ -80,16 +81,29 @@ impl<'p> Finder<'p> {
     {
         self.searcher.is_match(line, 0)
     }
+
+    /// The least offset in the line, from `from` on, at which a match begins, which can be empty. `None` if none begins there.
+    /// The line has no line feed, and `from` is at most its length.
+    pub fn next_start(&mut self, line: &[u8], from: usize) -> Option<usize>
+        requires no_feed { (k : ℕ) → k < length line.now → slice_index line.now k ≢ 10 }
+        requires inside { from ≤ length line.now }
+        ensures same { (tree : Tree) → IsFinderOf tree self.old → IsFinderOf tree self.new }
+        ensures within { IfSome result (λ start. start ≤ length line.now) }
+        ensures found { (tree : Tree) → IsFinderOf tree self.old → MatchOption result (HasNoStartFrom line.now tree from) (IsNextStart line.now tree from) }
+    {
+        next_match(&mut self.searcher, line, from)
+    }
 }
 
-/// Where the engine's first match starts.
-fn first_match(searcher: &mut Searcher<'_>, text: &[u8]) -> Option<usize>
+/// Where the engine's first match starts, from an offset on.
+fn next_match(searcher: &mut Searcher<'_>, text: &[u8], from: usize) -> Option<usize>
+    requires { from ≤ length text.now }
     ensures same { searcher.new.program.now ≡ searcher.old.program.now }
-    ensures found { MatchOption result (find (pattern_of searcher.old.program.now) text.now 0 ≡ None)
-        (λ from. (m : Match) × (find (pattern_of searcher.old.program.now) text.now 0 ≡ Some m) × (m.start ≡ from) × (from ≤ length text.now)) }
+    ensures found { MatchOption result (find (pattern_of searcher.old.program.now) text.now from ≡ None)
+        (λ start. (m : Match) × (find (pattern_of searcher.old.program.now) text.now from ≡ Some m) × (m.start ≡ start) × (start ≤ length text.now)) }
 {
-    match searcher.find(text, 0) {
-        Some((from, _)) => Some(from),
+    match searcher.find(text, from) {
+        Some((start, _)) => Some(start),
         None => None,
     }
 }

@@ -17,6 +17,7 @@ pub record Document : Type 0 where
   pub name : List ℕ
   pub body : List ℕ
 
+-- the document of a number, a name and a body
 abbrev pub document : ℕ → List ℕ → List ℕ → Document
 document number name body = record { number = number; name = name; body = body }
 

@@ -10,6 +10,7 @@ pub record State : Type 0 where
   pub version : ℕ
   pub documents : List Document
 
+-- the state of a version and documents
 abbrev pub state : ℕ → List Document → State
 state version documents = record { version = version; documents = documents }
 
@@ -25,6 +26,7 @@ applied command s = state (s.version + 1) (documents_after (s.version + 1) comma
 abbrev pub body_bytes : List Document → ℕ
 body_bytes documents = sum (map (λ d. length d.body) documents)
 
+-- The document's number is from 1 to the version, its name is a name, and its body is a body.
 abbrev pub IsGoodDocument : ℕ → Document → Type 0
 IsGoodDocument version d = (0 < d.number) × (d.number ≤ version) × IsName d.name × IsBody d.body
 

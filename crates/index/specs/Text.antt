@@ -15,6 +15,7 @@ greatest_name = 255
 abbrev pub is_name_byte : ℕ → Bool
 is_name_byte b = nat_le 33 b && not (b == 127)
 
+-- whether some byte is one that no name has
 abbrev pub has_bad_byte : List ℕ → Bool
 has_bad_byte bytes = list_any (λ b. not (is_name_byte b)) bytes
 
@@ -39,6 +40,7 @@ IsNameFault name_error.OutOfMemory bytes = IsName bytes
 abbrev pub greatest_body : ℕ
 greatest_body = 1048576
 
+-- whether some byte is 0
 abbrev pub has_byte_0 : List ℕ → Bool
 has_byte_0 bytes = list_any (λ b. b == 0) bytes
 

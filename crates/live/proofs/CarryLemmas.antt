@@ -24,10 +24,10 @@ use Rattle.steps.specs.LegalRows as legal
 use Rattle.steps.specs.Rows.{is_sync, version_in, failures_in}
 use Rattle.steps.specs.Steps.{RunState, IsStep, MayTake, Runs, begins, goes_on}
 use Rattle.steps.specs.Steps as steps
-use Rattle.steps.proofs.SourceLemmas.{step_mapped}
+use Rattle.steps.proofs.SourceLemmas.{runs_mapped}
 use Rattle.service.specs.Service.{ServiceState, Fits, Gives, Steps, Takes, TakesPut, run_of, versions_in}
 use Rattle.service.specs.Service as service
-use Rattle.service.specs.Private.Entries.{IsCounted}
+use Rattle.service.specs.Service.{IsCounted}
 use Rattle.service.proofs.ServiceLemmas.{put_takes, gives_step}
 use Rattle.transcript.specs.declared.entry.Entry.{Entry}
 use Rattle.transcript.specs.declared.entry.Entry.TheVariants.{Accepted, Refused, Published, Found, SearchRefused}
@@ -217,13 +217,7 @@ module _ (Holds : List ℕ → List ℕ → Type 0) (options : LiveOptions) wher
   nothing_taken _ none = begins
 
 -- steps for another source
-runs_mapped : (H H' : List ℕ → List ℕ → Type 0) → ((path body : List ℕ) → H path body → H' path body) → (limits : Limits) (readers : ℕ) (from : RunState)
-    (items : List Numbered) (entries : List Entry) (end : RunState) → Runs H limits readers from items entries end → Runs H' limits readers from items entries end
-runs_mapped H H' holds limits readers from _ _ _ begins = begins
-runs_mapped H H' holds limits readers from _ _ _ (goes_on {items} {items'} {taken} {entries} {entries'} {written} {s} {s'} runs step is_items is_entries) =
-    goes_on (runs_mapped H H' holds limits readers from items entries s runs) (step_mapped H H' holds limits readers s taken written s' step) is_items is_entries
-
 pub carry_mapped : (H H' : List ℕ → List ℕ → Type 0) → ((path body : List ℕ) → H path body → H' path body) → (options : LiveOptions)
     (taken : List ReadItem) (entries : List Entry) (end : RunState) → Carry H options taken entries end → Carry H' options taken entries end
 carry_mapped H H' holds options taken entries end carry items shown =
-    runs_mapped H H' holds (limits_in options) options.readers (first_run options) items entries end (carry items shown)
+    runs_mapped H H' holds (limits_in options) options.readers (first_run options) (carry items shown)

@@ -2,22 +2,23 @@
 use Rattle.std.proofs.Common.{◌≡◌, ◌≢◌, ℕ, zero, suc, ◌+◌, ◌<◌, ◌⊎◌, inl, inr, Bool, true, false, List, [], ◌∷◌, ◌++◌, Option, Some, None, Result, Ok, Err, refl, sym, ap, ◌∙◌, subst, arith}
 use Rattle.std.proofs.Common.{append_assoc, append-nil, length}
 use Rattle.std.specs.Prelude.{Contains, IfOk, OnOk, OnErr, ◌↔◌}
-use Rattle.std.specs.Io.KnownBytes.{Appends, Consumes}
-use Rattle.std.proofs.KnownBytes.{Appends-nil, Consumes-nil}
+use Rattle.std.specs.Io.KnownBytes.{Appends}
+use Rattle.std.proofs.KnownBytes.{Appends-nil}
 use Rattle.std.proofs.lemmas.List.{length-replicate}
 use Rattle.std.proofs.lemmas.List.Elements.{All-replicate}
-use Rattle.script.specs.Items.{Item, Numbered, numbered, put, IsItemsOf, done}
+use Rattle.script.specs.Items.{Item, Numbered, numbered, put}
 use Rattle.stream.specs.declared.owned.OwnedItem.{OwnedItem}
 use Rattle.stream.specs.declared.owned.OwnedItem.TheVariants.{Sync}
 use Rattle.stream.specs.Owned.{ShowsOwned}
 use Rattle.reads.specs.declared.item.ReadItem.{ReadItem}
-use Rattle.reads.specs.Read.{AreShown, none, InboxState, inbox_state, CameIn, IsReadOf, EndsBy}
+use Rattle.reads.specs.Read.{AreShown, none, InboxState, inbox_state, Came, CameIn, HasItems, IsReadOf, EndsBy}
 use Rattle.reads.specs.Read as reads
+use Rattle.reads.proofs.FeedLemmas.{some_of_input}
 use Rattle.steps.specs.Entries.{failures_of}
 use Rattle.steps.specs.Rows.{failures_in, version_in}
 use Rattle.steps.specs.Steps.{RunState, IsFirst, last}
 use Rattle.service.specs.Service.{ServiceState, Fits, Gives, Takes, TakesPut, first_service, run_of}
-use Rattle.service.specs.Private.Entries.{IsCounted}
+use Rattle.service.specs.Service.{IsCounted}
 use Rattle.service.proofs.ServiceLemmas.{put_takes}
 use Rattle.service.proofs.ItemLemmas.{counted_same}
 use Rattle.transcript.specs.declared.entry.Entry.{Entry}
@@ -202,8 +203,9 @@ module _ (Holds : List ℕ → List ℕ → Type 0) (options : LiveOptions) (inp
   }
 
   -- More came.
-  pub came_more : (inbox' : InboxState) → CameIn inbox inbox' → IsReadOf input inbox'.came → IsServing Holds options input start inbox' at
-  came_more inbox' (reads.item read is) now_read = record {
+  pub came_more : (inbox' : InboxState) (this : Came) → CameIn this inbox inbox' → IsReadOf input inbox'.came
+      → IsServing Holds options input start inbox' at
+  came_more inbox' (reads.item read) is now_read = record {
     taken = is_serving.taken;
     session = is_serving.session;
     came =
@@ -211,10 +213,10 @@ module _ (Holds : List ℕ → List ℕ → Type 0) (options : LiveOptions) (inp
         ∙ ap (λ l. is_serving.taken ++ l) (sym (ap (λ i. i.held) is));
     read = now_read;
   }
-  came_more inbox' (reads.over failed is) now_read = record {
+  came_more inbox' (reads.end ended) is now_read = record {
     taken = is_serving.taken;
     session = is_serving.session;
-    came = ap (λ i. i.came) is ∙ is_serving.came ∙ ap (λ l. is_serving.taken ++ l) (sym (ap (λ i. i.held) is));
+    came = ap (λ i. i.came) is.1 ∙ is_serving.came ∙ ap (λ l. is_serving.taken ++ l) (sym (ap (λ i. i.held) is.1));
     read = now_read;
   }
 
@@ -242,8 +244,8 @@ module _ (Holds : List ℕ → List ℕ → Type 0) (options : LiveOptions) (inp
   pub serving_event : (inbox' : InboxState) (service : ServiceState) (marks : Marks) (output : Option (List ℕ))
       → TakesEvent input options.stats inbox at.service at.marks at.output inbox' service marks output
       → IsServing Holds options input start inbox' (now service marks at.failed output)
-  serving_event inbox' service marks output (serving.came more read same_service same_marks same_output) =
-      rw (same_service, same_marks, same_output) (came_more inbox' more read)
+  serving_event inbox' service marks output (serving.came this more read same_service same_marks same_output) =
+      rw (same_service, same_marks, same_output) (came_more inbox' this more read)
   serving_event inbox' service marks output (serving.answered same answers) = rw same (serving_answered service marks output answers)
 
   pub cut_event : (service : ServiceState) (output : Option (List ℕ)) → FailsAtEvent options.stats at.service at.output service output
@@ -371,18 +373,14 @@ module _ (Holds : List ℕ → List ℕ → Type 0) (options : LiveOptions) (inp
   pub is_broken : (failed' : ℕ) (output' : Option (List ℕ)) → IsCutOff Holds options input first failed' output'
       → IsBroken options Holds failed failed' input output output'
   is_broken failed' output' cut =
-      let of = cut.read.1 in
+      let of = cut.read in
       let split = shown_split cut.taken cut.untaken of.items of.shown in
       record {
-        script = of.script;
-        others = of.others;
-        left = cut.read.0;
         items = split.0;
-        untaken = split.1;
+        others = split.1 ++ of.others;
         entries = cut.stopped.entries;
         end = cut.stopped.end;
-        read = of.consumed;
-        are_items = subst (IsItemsOf of.script) split.2 of.whole;
+        are_items = subst (HasItems input) (ap (λ l. l ++ of.others) split.2 ∙ append_assoc split.0 split.1 of.others) of.first;
         steps = steps_of split.0 cut.taken cut.stopped.entries cut.stopped.end failed' cut.stopped.carry split.3 cut.stopped.failures;
         written = cut.stopped.written;
       }
@@ -392,19 +390,14 @@ module _ (Holds : List ℕ → List ℕ → Type 0) (options : LiveOptions) (inp
   is_served inbox at status over is ends =
       let session = over.0.session in
       let all : over.0.taken ≡ inbox.came = sym (over.0.came ∙ ap (λ l. over.0.taken ++ l) over.1 ∙ append-nil over.0.taken) in
-      let whole = ends.1 in
       record {
-        script = whole.script;
-        left = ends.0;
-        items = whole.items;
+        items = ends.items;
         entries = session.entries;
         end = run_of at.service session.published;
-        read = whole.consumed;
-        are_items = whole.whole;
-        over = whole.over;
+        are_items = ends.all;
         steps =
-            steps_of whole.items over.0.taken session.entries (run_of at.service session.published) at.failed session.carry
-            (subst (λ l. AreShown l whole.items) (sym all) whole.shown) session.failures;
+            steps_of ends.items over.0.taken session.entries (run_of at.service session.published) at.failed session.carry
+            (subst (λ l. AreShown l ends.items) (sym all) ends.shown) session.failures;
         settled = over.2;
         written = session.written;
         is_status = is ∙ ap status_by session.marks;
@@ -423,15 +416,11 @@ module _ (Holds : List ℕ → List ℕ → Type 0) (options : LiveOptions) (inp
   -- It never began.
   pub never_begun : IsBroken options Holds failed failed input output output
   never_begun = record {
-    script = [];
-    others = [];
-    left = input;
     items = [];
-    untaken = [];
+    others = (some_of_input input).0;
     entries = [];
     end = first_run options;
-    read = Consumes-nil input;
-    are_items = done;
+    are_items = (some_of_input input).1;
     steps = steps_of [] [] [] (first_run options) failed (nothing_taken Holds options) none (record { rises = inl (omega arith); stays = λ most. most });
     written = written_all output output [] (Appends-nil output);
   }

@@ -1,8 +1,8 @@
 -- What a session promises.
 use Rattle.std.specs.Prelude.{◌≡◌, ℕ, List, ◌++◌, Option, [], is_some}
-use Rattle.std.specs.Io.KnownBytes.{Appends, Consumes}
-use Rattle.script.specs.Items.{Numbered, IsItemsOf}
-use Rattle.reads.specs.Read.{IsOver}
+use Rattle.std.specs.Io.KnownBytes.{Appends}
+use Rattle.script.specs.Items.{Numbered}
+use Rattle.reads.specs.Read.{HasItems}
 use Rattle.steps.specs.Entries.{failures_of}
 use Rattle.steps.specs.LegalRows.{Limits, IsFailedTimes}
 use Rattle.steps.specs.Steps.{RunState, IsFirst, Runs}
@@ -24,35 +24,27 @@ pub record AreSteps (options : LiveOptions) (Holds : List ℕ → List ℕ → T
   pub runs : Runs Holds (limits_in options) options.readers begin items entries end
   pub failures : IsFailedTimes (failures_of entries) failed failed'
 
--- A session whose reading ended: legal steps take exactly the items of the bytes that were read, in their order, until no
--- search is open. The text that was written is that of their entries, and the status is that of the entries. input: the
--- bytes of the input. old, new: what has been written, before and after.
+-- A session whose reading ended: legal steps take exactly the items of the input, in their order, until no search is open.
+-- The text that was written is that of their entries, and the status is that of the entries. input: the bytes of the
+-- input. old, new: what has been written, before and after.
 pub record IsServed (options : LiveOptions) (Holds : List ℕ → List ℕ → Type 0) (failed failed' : ℕ) (input old new : Option (List ℕ))
     (status : ℕ) : Type 0 where
-  pub script : List ℕ
-  pub left : Option (List ℕ)
   pub items : List Numbered
   pub entries : List Entry
   pub end : RunState
-  pub read : Consumes input left script
-  pub are_items : IsItemsOf script items
-  pub over : IsOver input left items
+  pub are_items : HasItems input items
   pub steps : AreSteps options Holds failed failed' items entries end
   pub settled : end.awaited ≡ []
   pub written : Appends old new (text_of_transcript options.stats entries)
   pub is_status : status ≡ status_of entries
 
--- A session that ended early: what was written is a beginning of the text of legal steps that take the first items of a
--- beginning of the input.
+-- A session that ended early: what was written is a beginning of the text of legal steps that take the first items of the
+-- input. The others are not taken.
 pub record IsBroken (options : LiveOptions) (Holds : List ℕ → List ℕ → Type 0) (failed failed' : ℕ) (input old new : Option (List ℕ)) : Type 0 where
-  pub script : List ℕ
-  pub others : List ℕ
-  pub left : Option (List ℕ)
   pub items : List Numbered
-  pub untaken : List Numbered
+  pub others : List Numbered
   pub entries : List Entry
   pub end : RunState
-  pub read : Consumes input left (script ++ others)
-  pub are_items : IsItemsOf script (items ++ untaken)
+  pub are_items : HasItems input (items ++ others)
   pub steps : AreSteps options Holds failed failed' items entries end
   pub written : AppendsFront old new (text_of_transcript options.stats entries)

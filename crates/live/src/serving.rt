@@ -49,9 +49,9 @@ pub struct LiveOptions {
 /// Each text is written whole and flushed. At most 16 items are read ahead and 1,024 searches are open, so a reader of the
 /// output that stops also stops the input. Neither the script nor the entries are kept.
 ///
-/// What is written is the text of the entries of legal steps that take exactly the items of the bytes that were read
+/// What is written is the text of the entries of legal steps that take exactly the items of the input
 /// (`docs/DEFINITIONS.md`). After an `Err`, which says why the session ended early, it is a beginning of such a text, for
-/// some of the items. The source holds afterwards what it held before, and its count of failures has not fallen.
+/// the first of the items. The source holds afterwards what it held before, and its count of failures has not fallen.
 ///
 /// The threads are not waited for. After an `Err` the one that reads may still wait for the input: it ends when its read
 /// returns, or with the process.

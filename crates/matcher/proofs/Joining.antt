@@ -9,9 +9,9 @@ use Rattle.std.specs.Int.{trailing_zeros}
 use Rattle.matcher.specs.declared.words.TheConstants.{WORDS}
 use Rattle.matcher.specs.Private.Bounds.{room_of, IsBounded}
 use Rattle.ere.specs.Bits.{has_bit}
-use Rattle.matcher.specs.PositionSets.{has_position}
+use Rattle.spans.specs.PositionSets.{has_position}
 use Rattle.matcher.specs.Private.Moves.{more_unless, absent_below, absent, HasNone, IsEither, IsNew}
-use Rattle.matcher.proofs.Bits.{false≢true, some_bit, position_in, same_word, empty_word, none_held, position_set_same, position_set_other}
+use Rattle.spans.proofs.Bits.{false≢true, some_bit, position_in, same_word, empty_word, position_set_same, position_set_other}
 use Rattle.matcher.proofs.Shifting.{none_before, none_after}
 
 -- A position has room only if there are no more words than a line needs, and they hold it.
@@ -21,6 +21,9 @@ in_room position size held = go (nat_le size WORDS) refl held
     go : (t : Bool) → nat_le size WORDS ≡ t → position < (if t then 64 * size else 0) → (size ≤ WORDS) × (position < 64 * size)
     go true e inside = (grind (arith, nat_tests), inside)
     go false e inside = absurd (omega arith)
+
+pub none_held : (words : List ℕ) → ((i : ℕ) → get_or words i 0 ≡ 0) → HasNone words
+none_held words none = record { none = λ k. empty_word words k (none (k / 64)) }
 
 -- A set is empty if all its words up to its end are 0, and not if one of them is not 0.
 pub none_in_bounds : {size : ℕ} {words : List ℕ} {first end : ℕ} → IsBounded size words first end → (at : ℕ) → end ≤ at

@@ -1,19 +1,12 @@
-pub mod Bits
 pub mod Flooding
 pub mod Shifting
 pub mod Passing
 pub mod Joining
 pub mod OneWords
-pub mod Dropping
-pub mod Meaning
 pub mod Walks
 pub mod Rounds
 pub mod Longer
 pub mod MemberLemmas
 pub mod HeightLemmas
 pub mod StepLemmas
-pub mod StartLemmas
-pub mod SpanLemmas
-pub mod SpanLaws
-pub mod StartLaws
 mod AnchoredLemmas

@@ -6,7 +6,7 @@ use Rattle.std.proofs.lemmas.List.{get_or-take}
 use Rattle.ere.specs.ByteSet.{has}
 use Rattle.ere.specs.declared.tree.Ere.{Ere}
 use Rattle.ere.specs.Tree.{form, trees_of, Tree, empty, set, at_start, cat, alt, repeat}
-use Rattle.matcher.specs.Spans.{Relation, Steps, Spans, SpansEach, SpansSome}
+use Rattle.spans.specs.Spans.{Relation, Steps, Spans, SpansEach, SpansSome}
 use Rattle.matcher.specs.Private.Longer.{HoldsInLonger}
 
 pub holds_empty : HoldsInLonger empty

@@ -5,12 +5,12 @@ use Rattle.std.proofs.lemmas.List.{get_or_past}
 use Rattle.std.proofs.lemmas.Bool.Decides.{nat_tests}
 use Rattle.ere.specs.Tree as tree
 use Rattle.ere.specs.Bits.{has_bit}
-use Rattle.matcher.specs.PositionSets.{has_position}
+use Rattle.spans.specs.PositionSets.{has_position}
 use Rattle.matcher.specs.Private.Moves.{absent, HasNone, IsEither, IsNew, Moves}
 use Rattle.matcher.specs.Private.Moving.{passes, arrives, comes, flood}
-use Rattle.matcher.specs.Spans.{Spans, Steps}
+use Rattle.spans.specs.Spans.{Spans, Steps}
 use Rattle.ere.proofs.Bits.{has_zero}
-use Rattle.matcher.proofs.Bits.{or_none, position_in, empty_word}
+use Rattle.spans.proofs.Bits.{or_none, position_in, empty_word}
 use Rattle.matcher.proofs.Joining.{some_position, added_grows}
 use Rattle.matcher.proofs.Shifting.{and_false, none_passes, comes_word, moves_shifted, moves_swept}
 

@@ -6,7 +6,7 @@ use Rattle.ere.specs.ByteSet.{has}
 use Rattle.ere.specs.Bits.{has_bit}
 use Rattle.matcher.specs.Private.Moving.{passes, IsPassing, IsPassingFrom}
 use Rattle.ere.proofs.Bits.{has_zero}
-use Rattle.matcher.proofs.Bits.{has_no_more}
+use Rattle.spans.proofs.Bits.{has_no_more}
 
 pub passes_is : (members : List Bool) (line : List ℕ) (at : ℕ) → at < length line → passes members line at ≡ has members (get_or line at 0)
 passes_is members line at inside = let test : nat_lt at (length line) ≡ true = grind (arith, nat_tests) in rw test refl

@@ -3,11 +3,11 @@ use Rattle.std.proofs.Common.{◌≡◌, ℕ, zero, suc, ◌+◌, ◌-◌, ◌�
 use Rattle.std.proofs.Common.{Option, Some, None, ◌⊎◌, inl, inr, refl, sym, subst, ◌∙◌, arith}
 use Rattle.ere.specs.declared.tree.Ere.{Ere}
 use Rattle.ere.specs.Tree.{form, trees_of, Tree, empty, cat, alt, repeat, Trees, more}
-use Rattle.matcher.specs.Spans.{Relation, Steps, Spans, SpansEach, SpansSome}
-use Rattle.matcher.specs.PositionSets.{has_position}
+use Rattle.spans.specs.Spans.{Relation, Steps, Spans, SpansEach, SpansSome}
+use Rattle.spans.specs.PositionSets.{has_position}
 use Rattle.matcher.specs.Private.Moves.{HasNone, IsEither, IsNew, Moves, MovesIf, MovesPast}
 use Rattle.matcher.specs.Private.Rounds.{AnySteps, MoreSteps, Covered, IsRounded, GoesOn, IsWidened}
-use Rattle.matcher.proofs.Bits.{false≢true}
+use Rattle.spans.proofs.Bits.{false≢true}
 use Rattle.matcher.proofs.Walks.{not_held, in_left, in_right, in_either, decide, moves_none, moves_then, moves_each_more}
 use Rattle.matcher.proofs.Walks.{trees_from, steps_split, steps_join}
 

@@ -8,12 +8,12 @@ use Rattle.ere.specs.ByteSet.{has}
 use Rattle.ere.specs.Tree as tree
 use Rattle.matcher.specs.Private.Bounds.{IsBounded}
 use Rattle.matcher.specs.Private.Moving.{passes, arrives, comes, flood}
-use Rattle.matcher.specs.Spans.{Spans, Steps}
+use Rattle.spans.specs.Spans.{Spans, Steps}
 use Rattle.ere.specs.Bits.{has_bit}
-use Rattle.matcher.specs.PositionSets.{has_position}
+use Rattle.spans.specs.PositionSets.{has_position}
 use Rattle.matcher.specs.Private.Moves.{Moves}
 use Rattle.ere.proofs.Bits.{has_zero}
-use Rattle.matcher.proofs.Bits.{false≢true, position_in, same_word, empty_word, position_set_same, position_set_other}
+use Rattle.spans.proofs.Bits.{false≢true, position_in, same_word, empty_word, position_set_same, position_set_other}
 
 pub and_false : (a b : Bool) → b ≡ false → (a && b) ≡ false
 and_false true b e = e

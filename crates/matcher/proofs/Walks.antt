@@ -6,13 +6,13 @@ use Rattle.std.proofs.lemmas.Bool.Decides.{nat_tests}
 use Rattle.std.proofs.lemmas.List.{at_drop_more, at_drop_all}
 use Rattle.ere.specs.declared.tree.Ere.{Ere}
 use Rattle.ere.specs.Tree.{form, trees_of, Tree, empty, at_start, at_end, cat, alt, repeat, Trees, none, more}
-use Rattle.matcher.specs.Spans.{Relation, Steps, Spans, SpansEach, SpansSome}
-use Rattle.matcher.specs.PositionSets.{has_position}
+use Rattle.spans.specs.Spans.{Relation, Steps, Spans, SpansEach, SpansSome}
+use Rattle.spans.specs.PositionSets.{has_position}
 use Rattle.matcher.specs.Private.Moves.{HasNone, IsEither, IsNew, Moves}
 use Rattle.ere.specs.Language.{ContainsMatch}
 use Rattle.matcher.specs.Private.Rounds.{AnySteps}
-use Rattle.matcher.proofs.Bits.{false≢true}
-use Rattle.matcher.proofs.Meaning.{hit_of_spans, spans_of_hit}
+use Rattle.spans.proofs.Bits.{false≢true}
+use Rattle.spans.proofs.Meaning.{hit_of_spans, spans_of_hit}
 
 pub not_held : {places : List ℕ} → HasNone places → (k : ℕ) → IsTrue (has_position places k) → ⊥
 not_held empties k h = false≢true (sym (empties.none k) ∙ h)

@@ -3,4 +3,3 @@ pub mod Bounds
 pub mod Moving
 pub mod Longer
 pub mod Rounds
-pub mod Starts

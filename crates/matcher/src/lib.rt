@@ -6,14 +6,11 @@
 #![tactic(auto)]
 
 mod anchored;
-mod laws;
 mod one_word;
 mod plain;
 mod position_set;
 mod positions;
-mod spans;
 mod star_height;
-mod starts;
 mod steps;
 mod trees;
 mod walk;
@@ -31,13 +28,7 @@ use crate::walk::advance;
 use crate::words::BITS;
 pub use anchored::anchored_text;
 use ere::Ere;
-pub use laws::{
-    matches_have_starts, no_starts_without_matches, one_list_of_spans, spans_are_words,
-    whole_words_by_positions,
-};
 use lines::MAX_LINE;
-pub use spans::{Span, first_span};
-pub use starts::first_start;
 pub use steps::is_quick;
 pub use words::{WORDS, step};
 

@@ -3,9 +3,7 @@
 ghost use Rattle.std.specs.Prelude.{ℕ};
 
 use crate::position_set::PositionSet;
-use crate::words::{
-    BITS, either, followed, from_bit, last_bit, moved_up, only_bit, reached, through_bit, without,
-};
+use crate::words::{BITS, either, followed, moved_up, only_bit, reached, through_bit, without};
 use ere::ByteSet;
 use std::marker::Model;
 
@@ -62,14 +60,6 @@ impl PositionSet for OneWord {
 
     fn keep(&mut self, position: usize) {
         self.word = only_bit(self.word, position);
-    }
-
-    fn drop_below(&mut self, first: usize) {
-        self.word = from_bit(self.word, first);
-    }
-
-    fn last_below(&self, limit: usize) -> Option<usize> {
-        last_bit(self.word, limit)
     }
 
     fn add(&mut self, fresh: &mut OneWord) -> bool {

@@ -1,10 +1,10 @@
 //! What the walk asks of a set of positions.
 
-ghost use Rattle.std.specs.Prelude.{◌≡◌, ◌≤◌, ◌<◌, ℕ, ◌+◌, ◌&&◌, ◌==◌, nat_le, IsTrue, MatchBool, MatchOption, List, length, slice_index};
+ghost use Rattle.std.specs.Prelude.{◌≡◌, ◌<◌, ℕ, ◌&&◌, ◌==◌, nat_le, IsTrue, MatchBool, List, length, slice_index};
 ghost use Rattle.ere.specs.Tree.{set};
-ghost use Rattle.matcher.specs.Spans.{Spans, Steps};
-ghost use Rattle.matcher.specs.PositionSets.{has_position};
-ghost use Rattle.matcher.specs.Private.Moves.{absent, HasNone, HasNoneFrom, IsEither, IsNew, Moves};
+ghost use Rattle.spans.specs.Spans.{Spans, Steps};
+ghost use Rattle.spans.specs.PositionSets.{has_position};
+ghost use Rattle.matcher.specs.Private.Moves.{absent, HasNone, IsEither, IsNew, Moves};
 
 use ere::ByteSet;
 
@@ -54,17 +54,6 @@ pub trait PositionSet: Drop {
     fn keep(&mut self, position: usize)
         requires { position < room }
         ensures { (k : ℕ) → has_position (words self.new) k ≡ (k == position && has_position (words self.old) k) };
-
-    /// Takes out the positions below `first`.
-    fn drop_below(&mut self, first: usize)
-        requires { first < room }
-        ensures { (k : ℕ) → has_position (words self.new) k ≡ (nat_le first k && has_position (words self.old) k) };
-
-    /// The greatest position below `limit`, if there is any.
-    fn last_below(&self, limit: usize) -> Option<usize>
-        requires { limit ≤ room }
-        ensures { MatchOption result (HasNoneFrom (words self.now) 0 limit) (λ last. (last < limit)
-            × IsTrue (has_position (words self.now) last) × HasNoneFrom (words self.now) (last + 1) limit) };
 
     /// Adds the positions of `fresh`, and removes from `fresh` those that were already in the set.
     /// Returns whether any was new.

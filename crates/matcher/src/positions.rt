@@ -3,10 +3,7 @@
 ghost use Rattle.std.specs.Prelude.{◌≤◌, ◌<◌, ℕ};
 
 use crate::position_set::PositionSet;
-use crate::words::{
-    BITS, either, every, first_held, from_bit, last_bit, only_bit, shift, sweep, through_bit,
-    without,
-};
+use crate::words::{BITS, either, every, first_held, only_bit, shift, sweep, through_bit, without};
 use ere::ByteSet;
 use std::marker::Model;
 
@@ -111,23 +108,6 @@ impl<const N: usize> PositionSet for Positions<N> {
         self.words[i] = stays;
         self.first = i;
         self.end = i + 1;
-    }
-
-    fn drop_below(&mut self, first: usize) {
-        for i in self.first..self.end {
-            self.words[i] = from_bit(self.words[i], first.saturating_sub(i * BITS).min(BITS));
-        }
-        self.first = first_held(&self.words, self.first, self.end);
-    }
-
-    fn last_below(&self, limit: usize) -> Option<usize> {
-        for i in (self.first..self.end).rev() {
-            let below = limit.saturating_sub(i * BITS).min(BITS);
-            if let Some(bit) = last_bit(self.words[i], below) {
-                return Some(i * BITS + bit);
-            }
-        }
-        None
     }
 
     fn add(&mut self, fresh: &mut Positions<N>) -> bool {

@@ -2,7 +2,7 @@
 
 ghost use Rattle.std.specs.Prelude.{◌≡◌, ℕ, IsTrue, List};
 ghost use Rattle.ere.specs.Tree.{form};
-ghost use Rattle.matcher.specs.Spans.{Spans};
+ghost use Rattle.spans.specs.Spans.{Spans};
 ghost use Rattle.matcher.specs.StarHeight.{is_set};
 
 use ere::Ere;

@@ -2,7 +2,7 @@
 
 ghost use Rattle.std.specs.Prelude.{ℕ, suc, Some, ◌≤◌, ◌<◌, IsTrue, List, length, map};
 ghost use Rattle.ere.specs.Tree.{form, repeat, trees_of};
-ghost use Rattle.matcher.specs.Spans.{Spans, SpansEach, SpansSome, Steps};
+ghost use Rattle.spans.specs.Spans.{Spans, SpansEach, SpansSome, Steps};
 ghost use Rattle.matcher.specs.Private.Moves.{Moves, MovesIf, MovesPast};
 ghost use Rattle.matcher.specs.Private.Longer.{HoldsInLonger};
 ghost use Rattle.matcher.specs.Private.Rounds.{EndsRounds, GoesOn, IsWidened, KeepsRounds};

@@ -1,9 +1,9 @@
 //! Sets of positions as words of 64 bits: position k is bit k mod 64 of word k / 64.
 
-ghost use Rattle.std.specs.Prelude.{◌≡◌, ℕ, ◌+◌, ◌-◌, ◌*◌, ◌≤◌, ◌<◌, ◌↔◌, ◌&&◌, ◌||◌, ◌==◌, nat_le, nat_lt, false, not, IsTrue, MatchOption, length, slice_index};
+ghost use Rattle.std.specs.Prelude.{◌≡◌, ℕ, ◌+◌, ◌-◌, ◌*◌, ◌≤◌, ◌<◌, ◌↔◌, ◌&&◌, ◌||◌, ◌==◌, nat_le, nat_lt, false, not, IsTrue, length, slice_index};
 ghost use Rattle.ere.specs.ByteSet.{has};
 ghost use Rattle.ere.specs.Bits.{has_bit};
-ghost use Rattle.matcher.specs.PositionSets.{has_position};
+ghost use Rattle.spans.specs.PositionSets.{has_position};
 ghost use Rattle.matcher.specs.Private.Bounds.{IsBounded};
 ghost use Rattle.matcher.specs.Private.Moving.{passes, arrives, flood, IsPassing, IsPassingFrom};
 
@@ -258,31 +258,6 @@ pub(crate) fn only_bit(word: u64, bit: usize) -> u64
     ensures { (b : ℕ) → has_bit result b ≡ (b == bit && has_bit word b) }
 {
     word & 1u64 << bit
-}
-
-/// The word with the bits below `first` cleared.
-pub(crate) fn from_bit(word: u64, first: usize) -> u64
-    requires { first ≤ 64 }
-    ensures { (b : ℕ) → b < 64 → has_bit result b ≡ (nat_le first b && has_bit word b) }
-{
-    if first == 0 {
-        return word;
-    }
-    without(word, through_bit(first - 1))
-}
-
-/// The highest bit of the word below bit `limit`, or `None` if there is none.
-pub(crate) fn last_bit(word: u64, limit: usize) -> Option<usize>
-    requires { limit ≤ 64 }
-    ensures { MatchOption result ((b : ℕ) → b < limit → has_bit word b ≡ false) (λ last. (last < limit) × IsTrue (has_bit word last)
-        × ((b : ℕ) → last < b → b < limit → has_bit word b ≡ false)) }
-{
-    for bit in (0..limit).rev() {
-        if has_at(word, bit) {
-            return Some(bit);
-        }
-    }
-    None
 }
 
 /// The bits from 0 to `last`, both included.

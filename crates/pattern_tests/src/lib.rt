@@ -16,7 +16,3 @@ mod made;
 mod matching;
 #[cfg(test)]
 mod patterns;
-#[cfg(test)]
-mod spans;
-#[cfg(test)]
-mod starts;

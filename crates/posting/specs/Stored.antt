@@ -7,7 +7,7 @@ unfoldable pub groups : ℕ → ℕ → List ℕ
 groups zero n = n ∷ []
 groups (suc more) n = if nat_lt n 128 then n ∷ [] else (n % 128 + 128) ∷ groups more (n / 128)
 
--- 32 bits take five groups at most
+-- the bytes of a number: 32 bits take five groups at most
 abbrev pub bytes_of : ℕ → List ℕ
 bytes_of n = groups 4 n
 

@@ -18,10 +18,12 @@ mutual
     all_of : Formulas → Formula
     one_of : Formulas → Formula
 
+  -- a list of formulas
   pub data Formulas : Type 0 where
     none : Formulas
     more : Formula → Formulas → Formulas
 
+-- the formulas of a list
 abbrev pub formulas_of : List Formula → Formulas
 formulas_of [] = none
 formulas_of (formula ∷ formulas) = more formula (formulas_of formulas)
@@ -49,22 +51,27 @@ unfoldable mutual
   is_met (all_of members) set = are_all_met members set
   is_met (one_of members) set = is_one_met members set
 
+  -- whether a set meets each of the formulas
   pub are_all_met : Formulas → TrigramSet → Bool
   are_all_met none set = true
   are_all_met (more member members) set = is_met member set && are_all_met members set
 
+  -- whether a set meets at least one of the formulas
   pub is_one_met : Formulas → TrigramSet → Bool
   is_one_met none set = false
   is_one_met (more member members) set = is_met member set || is_one_met members set
 
+-- whether the formula is a conjunction
 abbrev pub is_all_of : Formula → Bool
 is_all_of (all_of members) = true
 is_all_of _ = false
 
+-- whether the formula is a disjunction
 abbrev pub is_one_of : Formula → Bool
 is_one_of (one_of members) = true
 is_one_of _ = false
 
+-- There are at least two formulas.
 abbrev pub HasTwo : Formulas → Type 0
 HasTwo none = ⊥
 HasTwo (more member none) = ⊥

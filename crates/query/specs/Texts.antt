@@ -5,6 +5,7 @@ use Rattle.std.specs.declared.alloc.Global.{Global}
 use Rattle.std.specs.declared.vec.Vec.{Vec}
 use Rattle.query.specs.Trigrams.{TrigramSet, has_all_trigrams}
 
+-- a list of texts
 abbrev pub Texts : Type 0
 Texts = List (List ℕ)
 

@@ -1,3 +1,4 @@
 pub mod Read
 pub mod Next
+pub mod Laws
 pub mod Private

@@ -3,7 +3,17 @@ use Rattle.std.specs.Prelude.{◌≡◌, ◌≢◌, ◌⊎◌, [], ◌∷◌, �
 use Rattle.reads.specs.declared.history.Naming.{Ghosts}
 use Rattle.reads.specs.declared.message.Next.{Next}
 use Rattle.reads.specs.declared.message.Next.TheVariants.{Item, End}
-use Rattle.reads.specs.Read.{FeedState, end_state}
+use Rattle.reads.specs.Read.{Came, item, end, FeedState, InboxState, end_state}
+
+-- what the message says
+abbrev pub came_of : {K : Type 0} {N : Ghosts K} → Next K N → Came
+came_of (Item sent) = item sent.item
+came_of (End ended) = end ended
+
+-- The message is the next one after what came, and the reading had not ended.
+abbrev pub IsNextOf : {K : Type 0} {N : Ghosts K} → Next K N → InboxState → Type 0
+IsNextOf (Item sent) at = (at.over ≡ None) × (sent.read ≡ at.came ++ sent.item ∷ [])
+IsNextOf (End ended) at = (at.over ≡ None) × (ended.read ≡ at.came)
 
 -- An item was read after all others; or nothing was, and the reading has ended.
 abbrev pub Comes : {K : Type 0} {N : Ghosts K} → FeedState → Next K N → FeedState → Type 0

@@ -4,7 +4,7 @@ use Rattle.std.specs.Io.KnownBytes.{Consumes, IsAtEnd}
 use Rattle.logbook.specs.Pages.{Book}
 use Rattle.script.specs.Items.{Item, Numbered, numbered, ItemsFrom, IsItemsOf}
 use Rattle.stream.specs.declared.item.StreamError.{StreamError}
-use Rattle.stream.specs.Stream.{StreamState, IsFault}
+use Rattle.stream.specs.Stream.{StreamState}
 use Rattle.stream.specs.Owned.{ShowsOwned}
 use Rattle.reads.specs.declared.item.ReadItem.{ReadItem}
 
@@ -23,10 +23,23 @@ pub data AreShown : List ReadItem → List Numbered → Type 0 where
   one_more : {reads : List ReadItem} {items : List Numbered} (read : ReadItem) (item : Item) → ShowsOwned read.item item → AreShown reads items
       → AreShown (read ∷ reads) (numbered read.line item ∷ items)
 
--- Nothing is left of the input, if its bytes were known, or the last item is a fault that ends the reading.
-pub data IsOver (input left : Option (List ℕ)) (items : List Numbered) : Type 0 where
-  at_end : OnSome input (IsAtEnd left) → IsOver input left items
-  at_fault : (others : List Numbered) (line : ℕ) (item : Item) → items ≡ others ++ numbered line item ∷ [] → IsFault item → IsOver input left items
+-- The input has these items. If its bytes are not known, some bytes have them.
+abbrev pub HasItems : Option (List ℕ) → List Numbered → Type 0
+HasItems None items = (script : List ℕ) × IsItemsOf script items
+HasItems (Some script) items = IsItemsOf script items
+
+-- These items were read of the input: they are the first ones that it has.
+pub record IsReadOf (input : Option (List ℕ)) (read : List ReadItem) : Type 0 where
+  pub items : List Numbered
+  pub others : List Numbered
+  pub shown : AreShown read items
+  pub first : HasItems input (items ++ others)
+
+-- All items of the input were read.
+pub record IsAllOf (input : Option (List ℕ)) (read : List ReadItem) : Type 0 where
+  pub items : List Numbered
+  pub shown : AreShown read items
+  pub all : HasItems input items
 
 -- What was read so far, how far the stream is, the error that ended the reading, and what is left of the input.
 pub record FeedState : Type 0 where
@@ -35,6 +48,7 @@ pub record FeedState : Type 0 where
   pub failed : Option StreamError
   pub left : Option (List ℕ)
 
+-- the state of a feed, by its parts
 abbrev pub feed_state : List ReadItem → StreamState → Option StreamError → Option (List ℕ) → FeedState
 feed_state read stream failed left = record { read = read; stream = stream; failed = failed; left = left }
 
@@ -47,32 +61,29 @@ pub record IsReading (input : Option (List ℕ)) (at : FeedState) : Type 0 where
   pub shown : AreShown at.read items
   pub goes_on : (rest : List ℕ) (others : List Numbered) → ItemsFrom at.stream.line rest others → IsItemsOf (script ++ rest) (items ++ others)
 
--- The reading has ended, and the items of the bytes that were read are those that were read.
-pub record IsWhole (input left : Option (List ℕ)) (read : List ReadItem) : Type 0 where
+-- The bytes that were read have these items and no others: nothing is left of the input, if its bytes were known, or nothing that follows
+-- the bytes would be an item.
+pub data IsOver (input left : Option (List ℕ)) (script : List ℕ) (items : List Numbered) : Type 0 where
+  at_end : OnSome input (IsAtEnd left) → IsItemsOf script items → IsOver input left script items
+  at_fault : ((rest : List ℕ) → IsItemsOf (script ++ rest) items) → IsOver input left script items
+
+-- These bytes were read of the input, and their items are those that were read. The reading has ended.
+pub record IsFinished (input : Option (List ℕ)) (at : FeedState) : Type 0 where
   pub script : List ℕ
   pub items : List Numbered
-  pub consumed : Consumes input left script
-  pub shown : AreShown read items
-  pub whole : IsItemsOf script items
-  pub over : IsOver input left items
+  pub consumed : Consumes input at.left script
+  pub shown : AreShown at.read items
+  pub over : IsOver input at.left script items
 
--- The reading ended early: the items that were read are those of a beginning of the bytes that were read.
-pub record IsCut (input left : Option (List ℕ)) (read : List ReadItem) : Type 0 where
-  pub script : List ℕ
-  pub others : List ℕ
-  pub items : List Numbered
-  pub consumed : Consumes input left (script ++ others)
-  pub shown : AreShown read items
-  pub whole : IsItemsOf script items
+-- The reading ended early, and these bytes were read: what was read before is known.
+abbrev pub HasFailed : Option (List ℕ) → FeedState → Type 0
+HasFailed input at = ((bytes : List ℕ) × Consumes input at.left bytes) × IsReadOf input at.read
 
--- These items were read of the input.
-abbrev pub IsReadOf : Option (List ℕ) → List ReadItem → Type 0
-IsReadOf input read = (left : Option (List ℕ)) × IsCut input left read
-
+-- What was read, by the error that ended the reading, if one did, and whether the reading has ended.
 abbrev pub IsFedBy : Option StreamError → Bool → Option (List ℕ) → FeedState → Type 0
 IsFedBy None false input at = IsReading input at
-IsFedBy None true input at = IsWhole input at.left at.read
-IsFedBy (Some error) ended input at = IsCut input at.left at.read
+IsFedBy None true input at = IsFinished input at
+IsFedBy (Some error) ended input at = HasFailed input at
 
 -- The feed has read this of the input, which had these bytes at first if they were known.
 abbrev pub IsFed : Option (List ℕ) → FeedState → Type 0
@@ -83,11 +94,12 @@ pub record EndState : Type 0 where
   pub read : List ReadItem
   pub failed : Option StreamError
 
+-- how a reading ended, by its parts
 abbrev pub end_state : List ReadItem → Option StreamError → EndState
 end_state read failed = record { read = read; failed = failed }
 
 abbrev pub EndsBy : Option (List ℕ) → List ReadItem → Option StreamError → Type 0
-EndsBy input read None = (left : Option (List ℕ)) × IsWhole input left read
+EndsBy input read None = IsAllOf input read
 EndsBy input read (Some error) = Unit {0}
 
 -- What came of a reading: the items that are not taken yet, all items, and how the reading ended, if it did.
@@ -96,6 +108,7 @@ pub record InboxState : Type 0 where
   pub came : List ReadItem
   pub over : Option (Option StreamError)
 
+-- the state of an inbox, by its parts
 abbrev pub inbox_state : List ReadItem → List ReadItem → Option (Option StreamError) → InboxState
 inbox_state held came over = record { held = held; came = came; over = over }
 
@@ -104,7 +117,12 @@ abbrev pub EndsIf : Option (List ℕ) → List ReadItem → Option (Option Strea
 EndsIf input came None = Unit {0}
 EndsIf input came (Some failed) = EndsBy input came failed
 
--- An item came, after all that came before it, or the end of the reading.
-pub data CameIn (old new : InboxState) : Type 0 where
-  item : (read : ReadItem) → new ≡ inbox_state (old.held ++ read ∷ []) (old.came ++ read ∷ []) None → CameIn old new
-  over : (failed : Option StreamError) → new ≡ inbox_state old.held old.came (Some failed) → CameIn old new
+-- What comes of a reading: an item, or how it ended.
+pub data Came : Type 0 where
+  item : ReadItem → Came
+  end : EndState → Came
+
+-- This came: an item, after all that came before it; or the end of the reading, after all of it.
+abbrev pub CameIn : Came → InboxState → InboxState → Type 0
+CameIn (item read) old new = new ≡ inbox_state (old.held ++ read ∷ []) (old.came ++ read ∷ []) None
+CameIn (end ended) old new = (ended.read ≡ old.came) × (new ≡ inbox_state old.held old.came (Some ended.failed))

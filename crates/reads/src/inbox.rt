@@ -1,8 +1,9 @@
 //! The other end of a reading: what came, and was not taken yet.
 
-ghost use Rattle.std.specs.Prelude.{◌≡◌, ◌≢◌, true, false, [], ◌∷◌, None, IfSome, IfNone, OnOk, OnErr, MatchBool, slice_get};
+ghost use Rattle.std.specs.Prelude.{◌≡◌, ◌≢◌, true, false, [], ◌∷◌, ◌++◌, Err, None, IfSome, IfNone, OnOk, OnErr, MatchBool, slice_get};
 ghost use Rattle.stream.specs.declared.owned.OwnedItem.TheVariants.{Sync as sync};
-ghost use Rattle.reads.specs.Read.{CameIn, EndsIf, IsReadOf, inbox_state};
+ghost use Rattle.reads.specs.Read.{CameIn, EndsIf, IsReadOf, end as came_end, inbox_state, item as came_item};
+ghost use Rattle.reads.specs.Next.{IsNextOf, came_of};
 
 use crate::history::{Front, Naming};
 use crate::item::ReadItem;
@@ -56,13 +57,14 @@ impl<K: Naming> Inbox<K> {
         }
     }
 
-    /// Takes in what came next.
+    /// Takes in what came next: an item, or the end of the reading.
     ///
     /// An `Err` is `Lost` if that is not the message after the last one that came, or if the reading has ended already,
     /// and `OutOfMemory` if there is no memory to hold it. Nothing has changed then.
     pub fn take_in(&mut self, next: Next<K>) -> Result<(), InboxError>
-        ensures ok { OnOk result (CameIn self.old self.new) }
+        ensures ok { OnOk result (CameIn (came_of next) self.old self.new) }
         ensures err { OnErr result (self.new ≡ self.old) }
+        ensures lost { result ≡ Err InboxError.Lost → ¬ IsNextOf next self.old }
         ensures read { IsReadOf K.input self.new.came }
     {
         if self.over.is_some() {
@@ -76,8 +78,9 @@ impl<K: Naming> Inbox<K> {
 
     fn hold(&mut self, sent: Sent<K>) -> Result<(), InboxError>
         requires { self.old.over ≡ None }
-        ensures ok { OnOk result (CameIn self.old self.new) }
+        ensures ok { OnOk result (CameIn (came_item sent.item) self.old self.new) }
         ensures err { OnErr result (self.new ≡ self.old) }
+        ensures lost { result ≡ Err InboxError.Lost → sent.read ≢ self.old.came ++ sent.item ∷ [] }
         ensures read { IsReadOf K.input self.new.came }
     {
         if !sent.follows(&self.came) {
@@ -94,8 +97,9 @@ impl<K: Naming> Inbox<K> {
     }
 
     fn end(&mut self, ended: Ended<K>) -> Result<(), InboxError>
-        ensures ok { OnOk result (CameIn self.old self.new) }
+        ensures ok { OnOk result (CameIn (came_end ended) self.old self.new) }
         ensures err { OnErr result (self.new ≡ self.old) }
+        ensures lost { result ≡ Err InboxError.Lost → ended.read ≢ self.old.came }
         ensures read { IsReadOf K.input self.new.came }
     {
         let Ended { read, failed } = ended;

@@ -6,10 +6,12 @@ mod feed;
 mod history;
 mod inbox;
 mod item;
+mod laws;
 mod message;
 
 pub use feed::Feed;
 pub use history::{Book, Front, Naming, Opened};
 pub use inbox::{Inbox, InboxError};
 pub use item::ReadItem;
+pub use laws::read_items_are_first;
 pub use message::{Ended, Next, Sent};

@@ -1,10 +1,12 @@
 -- Lists made of lists, and lists of settings.
-use Rattle.std.proofs.Common.{◌≡◌, ℕ, suc, ◌+◌, ◌<◌, Bool, ◌||◌, cond, List, [], ◌∷◌, ◌++◌, length, map, get_or, take, drop, Option, Some, None}
+use Rattle.std.proofs.Common.{◌≡◌, ℕ, suc, ◌+◌, ◌<◌, Bool, true, false, ◌||◌, cond, List, [], ◌∷◌, ◌++◌, length, map, get_or, take, drop, Option, Some, None}
 use Rattle.std.proofs.Common.{refl, sym, ap, subst, ◌∙◌, arith, length-append}
-use Rattle.std.specs.Prelude.{slice_get, count_by, fold}
-use Rattle.std.specs.List.{AllPairs, cons_option, filter_map, list_any}
+use Rattle.std.specs.Prelude.{slice_get, count_by, fold, find, option_map}
+use Rattle.std.specs.Option.{option_or}
+use Rattle.std.specs.List.{All, AllPairs, cons_option, filter_map, list_any}
 use Rattle.std.proofs.lemmas.List.{take_more, take-append-drop}
-use Rattle.std.proofs.lemmas.List.Elements.{filter_map-append}
+use Rattle.std.proofs.lemmas.List.Elements.{All-head, All-tail, filter_map-append}
+use Rattle.std.proofs.lemmas.List.Folds.{find-append}
 use Rattle.std.proofs.lemmas.List.Sums.{sum_by-append}
 use Rattle.std.proofs.Math.ListN.{get_or-append}
 use Rattle.std.proofs.Math.Seq.{get_or-append_seam, drop-cons}
@@ -53,3 +55,27 @@ pub pair_at : {X : Type 0} (R : X → X → Type 0) (xs : List X) (y : X) (ys : 
 pair_at R xs y ys pairs k d inside =
     let one = pairs k (length xs) d inside (omega (arith, length-append xs (y ∷ ys))) in
     subst (λ x. R x y) (get_or-append xs (y ∷ ys) d k inside) (subst (λ x. R (get_or (xs ++ y ∷ ys) k d) x) (get_or-append_seam xs y ys d) one)
+
+-- ---- the first element that passes a test
+
+pub find-map : {X Y : Type 0} (p : Y → Bool) (g : X → Y) (xs : List X) → find p (map g xs) ≡ option_map g (find (λ x. p (g x)) xs)
+find-map p g [] = refl
+find-map {X} p g (x ∷ xs) = go (p (g x)) (find-map p g xs)
+  where
+    go : (b : Bool) → find p (map g xs) ≡ option_map g (find (λ y. p (g y)) xs)
+        → cond b (Some (g x)) (find p (map g xs)) ≡ option_map g (cond b (Some x) (find (λ y. p (g y)) xs))
+    go true others = refl
+    go false others = others
+
+pub find_none : {X : Type 0} (p : X → Bool) (xs : List X) → All (λ x. p x ≡ false) xs → find p xs ≡ None
+find_none p [] none = refl
+find_none p (x ∷ xs) none =
+    ap (λ b. cond b (Some x) (find p xs)) (All-head (λ y. p y ≡ false) x xs none) ∙ find_none p xs (All-tail (λ y. p y ≡ false) x xs none)
+
+pub find_here : {X : Type 0} (p : X → Bool) (xs : List X) (i : ℕ) (d : X) → i < length xs → All (λ x. p x ≡ false) (take i xs)
+    → p (get_or xs i d) ≡ true → find p xs ≡ Some (get_or xs i d)
+find_here p xs i d inside none here =
+    let later = drop (i + 1) xs in
+    ap (find p) (split_at xs i d inside) ∙ find-append p (take i xs) (get_or xs i d ∷ later)
+    ∙ ap (λ o. option_or o (find p (get_or xs i d ∷ later))) (find_none p (take i xs) none)
+    ∙ ap (λ b. cond b (Some (get_or xs i d)) (find p later)) here

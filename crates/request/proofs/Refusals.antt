@@ -1,12 +1,13 @@
 -- What a text says is one thing, and after a fault nothing is spelled.
-use Rattle.std.proofs.Common.{◌≡◌, ◌≢◌, ℕ, true, false, IsFalse, List, [], ◌∷◌, ◌++◌}
-use Rattle.std.proofs.Common.{Some, None, refl, sym, ap, subst, ◌∙◌, arith, inl, inr, codes}
-use Rattle.std.specs.List.{Any}
+use Rattle.std.proofs.Common.{◌≡◌, ◌≢◌, ℕ, ◌≤◌, ◌<◌, Bool, true, false, cond, IsFalse, List, [], ◌∷◌, ◌++◌}
+use Rattle.std.proofs.Common.{Option, Some, None, refl, sym, ap, subst, ◌∙◌, arith, inl, inr, codes}
+use Rattle.std.specs.Prelude.{nat_le}
+use Rattle.std.proofs.lemmas.Bool.Decides.{nat_tests}
 use Rattle.std.proofs.lemmas.List.{append-nil}
-use Rattle.request.specs.Faults.{IsFaultAt, IsFirstFault, IsNamed}
+use Rattle.request.specs.Faults.{IsFaultAt, IsFirstFault, IsNamed, first_clash, reason_of}
 use Rattle.request.specs.Find.{HasNoFind, IsFindOf, Options, SpellsFind, options_of}
-use Rattle.request.specs.Names.{clashes, is_repeatable, is_same, option_named, takes}
-use Rattle.request.specs.Settings.{Argument, IsAllowed, Setting, SpellsArgument, SpellsSetting, SpellsSettings, number}
+use Rattle.request.specs.Names.{clashes, is_same, option_named, range_text, takes, text_of}
+use Rattle.request.specs.Settings.{Argument, IsAllowed, Setting, SpellsArgument, SpellsSetting, SpellsSettings, count_of, greatest_times, number}
 use Rattle.request.specs.Settings.{SpellsSettings as spelled}
 use Rattle.request.specs.Words.{after_word, first_word}
 use Rattle.request.specs.declared.fault.FindFault.{FindFault}
@@ -15,8 +16,8 @@ use Rattle.request.specs.declared.names.OptionName.{OptionName}
 use Rattle.request.specs.declared.names.Takes.{Takes}
 use Rattle.request.specs.declared.names.Takes.TheVariants.{Nothing, Word, Number}
 use Rattle.request.proofs.ListLemmas.{count_by-append, pair_at}
-use Rattle.request.proofs.SettingLemmas.{counted}
-use Rattle.request.proofs.NameLemmas.{clash_if_excluded, clash_if_twice, no_option, no_word, same_itself}
+use Rattle.request.proofs.SettingLemmas.{counted, no_clash}
+use Rattle.request.proofs.NameLemmas.{no_option, no_word, same_itself, same_name}
 
 one_argument : (taken : Takes) (from left right : List ℕ) (a b : Argument) → SpellsArgument taken from left a → SpellsArgument taken from right b
     → (left ≡ right) × (a ≡ b)
@@ -92,13 +93,13 @@ next spelled.done = ends refl refl
 next (spelled.more {middle = m} {setting = s} {settings = others} one rest) = goes_on s m others one refl
 
 module _ (rest : List ℕ) (settings : List Setting) where
-  clash : (setting : Setting) (others : List Setting) (name : OptionName) → IsAllowed (settings ++ setting ∷ others) → Any (λ s. s.name ≡ name) settings
-      → clashes name setting.name ≡ true → ⊥
-  clash setting others name allowed some test =
-      let pair = pair_at (λ earlier later. IsFalse (clashes earlier.name later.name)) settings setting others allowed.together some.0 some.1 some.2 in
-      let free : clashes name setting.name ≡ false = subst (λ n. clashes n setting.name ≡ false) (ap (λ s. s.name) some.3 ∙ some.4) pair in
-      let no : true ≡ false = sym test ∙ free in
-      absurd (cc no)
+  unclashed : (setting : Setting) (others : List Setting) (name earlier : OptionName) → IsAllowed (settings ++ setting ∷ others) → name ≡ setting.name
+      → first_clash name settings ≡ Some earlier → ⊥
+  unclashed setting others name earlier allowed same clash =
+      let free = no_clash settings setting.name (λ k d inside.
+      pair_at (λ before later. IsFalse (clashes before.name later.name)) settings setting others allowed.together k d inside) in
+      let both : Some earlier ≡ None = sym clash ∙ ap (λ n. first_clash n settings) same ∙ free in
+      absurd (cc both)
 
   -- At a fault nothing goes on.
   refused : (fault : FindFault) → fault ≢ OutOfMemory → IsFaultAt settings rest fault → (setting : Setting) (middle : List ℕ) (others : List Setting)
@@ -106,16 +107,14 @@ module _ (rest : List ℕ) (settings : List Setting) where
   refused (BadOption word) real h setting middle others one allowed =
       let both : None ≡ Some setting.name = sym h.2 ∙ one.named in absurd (cc both)
   refused (Twice name) real h setting middle others one allowed =
-      let same : name ≡ setting.name = one_name rest name setting.name h.0 one.named in
-      clash setting others name allowed h.2 (clash_if_twice name setting.name same (subst (λ n. is_repeatable n ≡ false) same h.1))
+      unclashed setting others name name allowed (one_name rest name setting.name h.0 one.named) h.1
   refused (Exclude earlier name) real h setting middle others one allowed =
-      let same : name ≡ setting.name = one_name rest name setting.name h.0 one.named in
-      clash setting others earlier allowed h.3 (subst (λ n. clashes earlier n ≡ true) same (clash_if_excluded earlier name h.2))
+      unclashed setting others name earlier allowed (one_name rest name setting.name h.0 one.named) h.2
   refused (TooOften name) real h setting middle others one allowed =
       let same : setting.name ≡ name = one_name rest setting.name name one.named h.0 in
       let here : is_same setting.name name ≡ true = ap (λ n. is_same n name) same ∙ same_itself name in
       let more = count_by-append (λ s. is_same s.name name) (setting ∷ []) others in
-      omega (arith, allowed.few name, count_by-append (λ s. is_same s.name name) settings (setting ∷ others), more, counted setting name true here, h.1)
+      omega (arith, allowed.few name, count_by-append (λ s. is_same s.name name) settings (setting ∷ others), more, counted setting name true here, h.2)
   refused (NeedsNumber name) real h setting middle others one allowed =
       let same : setting.name ≡ name = one_name rest setting.name name one.named h.0 in
       let taken : takes setting.name ≡ Number h.2 h.3 = ap takes same ∙ h.4 in
@@ -170,3 +169,106 @@ pub one_find : (text : List ℕ) (options other : Options) (pattern another : Li
 one_find text options other pattern another h k =
     let same = one_spelling text h.settings k.settings pattern another h.spelled k.spelled in
     (h.is_options ∙ ap options_of same.0 ∙ sym k.is_options, same.1)
+
+-- ---- one first fault
+
+-- Of two readings of one text, one goes on where the other stops, or they stop at one place.
+data Compared (left right : List ℕ) (first second : List Setting) : Type 0 where
+  left_stops : (setting : Setting) (middle : List ℕ) (others : List Setting) → SpellsSetting left middle setting → second ≡ first ++ setting ∷ others
+      → Compared left right first second
+  right_stops : (setting : Setting) (middle : List ℕ) (others : List Setting) → SpellsSetting right middle setting → first ≡ second ++ setting ∷ others
+      → Compared left right first second
+  both_stop : left ≡ right → first ≡ second → Compared left right first second
+
+longer : {left right : List ℕ} {first second : List Setting} (setting other : Setting) → setting ≡ other → Compared left right first second
+    → Compared left right (setting ∷ first) (other ∷ second)
+longer {first = first} setting other same (left_stops s m others one is) =
+    left_stops s m others one (ap (λ t. other ∷ t) is ∙ ap (λ x. x ∷ (first ++ s ∷ others)) (sym same))
+longer {second = second} setting other same (right_stops s m others one is) =
+    right_stops s m others one (ap (λ t. setting ∷ t) is ∙ ap (λ x. x ∷ (second ++ s ∷ others)) same)
+longer {second = second} setting other same (both_stop at is) = both_stop at (ap (λ t. setting ∷ t) is ∙ ap (λ x. x ∷ second) same)
+
+compare : {text left right : List ℕ} {first second : List Setting} → SpellsSettings text left first → SpellsSettings text right second
+    → Compared left right first second
+compare spelled.done spelled.done = both_stop refl refl
+compare spelled.done (spelled.more {middle = m} {setting = s} {settings = others} one rest) = left_stops s m others one refl
+compare (spelled.more {middle = m} {setting = s} {settings = others} one rest) spelled.done = right_stops s m others one refl
+compare {text} {left} {right} (spelled.more {middle = m} {setting = s} {settings = first} one others)
+    (spelled.more {middle = m'} {setting = s'} {settings = second} two others') =
+    let same = one_setting text m m' s s' one two in
+    longer s s' same.1 (compare others (subst (λ t. SpellsSettings t right second) (sym same.0) others'))
+
+-- what is said of an option, by the first clash, whether it is there too often, and what it takes
+abbrev said : OptionName → Option OptionName → Bool → Takes → List ℕ
+said name (Some earlier) often taken =
+    cond (is_same earlier name) (reason_of (Twice name)) (reason_of (Exclude earlier name))
+said name None true taken = reason_of (TooOften name)
+said name None false Nothing = []
+said name None false Word = reason_of NoSeparator
+said name None false (Number least greatest) = reason_of (NeedsNumber name)
+
+-- what is said at the front of a text whose first word names this option or none
+abbrev said_at : List Setting → Option OptionName → List ℕ → List ℕ
+said_at settings None [] = reason_of NoSeparator
+said_at settings None (b ∷ text) = codes "bad option " ++ first_word (b ∷ text)
+said_at settings (Some name) text = said name (first_clash name settings) (nat_le greatest_times (count_of name settings)) (takes name)
+
+module _ (settings : List Setting) where
+  abbrev said_here : List ℕ → List ℕ
+  said_here text = said_at settings (option_named (first_word text)) text
+
+  -- of an option that the first word names, which clashes with nothing
+  said_free : (text : List ℕ) (name : OptionName) (often : Bool) (taken : Takes) → IsNamed text name → first_clash name settings ≡ None
+      → nat_le greatest_times (count_of name settings) ≡ often → takes name ≡ taken → said_here text ≡ said name None often taken
+  said_free text name often taken named free times is =
+      ap (λ o. said_at settings o text) named ∙ ap (λ o. said name o (nat_le greatest_times (count_of name settings)) (takes name)) free
+      ∙ ap (λ b. said name None b (takes name)) times ∙ ap (said name None often) is
+
+  -- and of one that clashes
+  said_clash : (text : List ℕ) (name earlier : OptionName) (same : Bool) → IsNamed text name → first_clash name settings ≡ Some earlier
+      → is_same earlier name ≡ same → said_here text ≡ cond same (reason_of (Twice name)) (reason_of (Exclude earlier name))
+  said_clash text name earlier same named clash is =
+      ap (λ o. said_at settings o text) named ∙ ap (λ o. said name o (nat_le greatest_times (count_of name settings)) (takes name)) clash
+      ∙ ap (λ b. cond b (reason_of (Twice name)) (reason_of (Exclude earlier name))) is
+
+  few_times : (name : OptionName) → count_of name settings < greatest_times → nat_le greatest_times (count_of name settings) ≡ false
+  few_times name few = grind (arith, nat_tests, few)
+
+  many_times : (name : OptionName) → greatest_times ≤ count_of name settings → nat_le greatest_times (count_of name settings) ≡ true
+  many_times name many = grind (arith, nat_tests, many)
+
+  other_name : (earlier name : OptionName) → earlier ≢ name → is_same earlier name ≡ false
+  other_name earlier name other = go (is_same earlier name) refl
+    where
+      go : (b : Bool) → is_same earlier name ≡ b → is_same earlier name ≡ false
+      go true same = absurd (other (same_name earlier name same))
+      go false is = is
+
+  fault_says : (fault : FindFault) (text : List ℕ) → fault ≢ OutOfMemory → IsFaultAt settings text fault → reason_of fault ≡ said_here text
+  fault_says (BadOption word) [] real h = absurd (h.0 refl)
+  fault_says (BadOption word) (b ∷ text) real h =
+      ap (λ w. codes "bad option " ++ w) h.3 ∙ sym (ap (λ o. said_at settings o (b ∷ text)) h.2)
+  fault_says (Twice name) text real h = sym (said_clash text name name true h.0 h.1 (same_itself name))
+  fault_says (Exclude earlier name) text real h = sym (said_clash text name earlier false h.0 h.2 (other_name earlier name h.1))
+  fault_says (TooOften name) text real h = sym (said_free text name true (takes name) h.0 h.1 (many_times name h.2) refl)
+  fault_says (NeedsNumber name) text real h =
+      sym (said_free text name false (Number h.2 h.3) h.0 (no_clash settings name h.1.together) (few_times name h.1.few) h.4)
+  fault_says NoSeparator text real (inl nothing) = sym (ap said_here nothing ∙ ap (λ o. said_at settings o []) no_word)
+  fault_says NoSeparator text real (inr h) =
+      sym (said_free text h.0 false Word h.1 (no_clash settings h.0 h.2.together) (few_times h.0 h.2.few) h.3)
+  fault_says OutOfMemory text real h = absurd (real refl)
+
+pub one_first_fault : (text : List ℕ) (fault other : FindFault) → IsFirstFault text fault → IsFirstFault text other → fault ≢ OutOfMemory
+    → other ≢ OutOfMemory → reason_of fault ≡ reason_of other
+one_first_fault text fault other first second real real' = go (compare first.before second.before)
+  where
+    go : Compared first.rest second.rest first.settings second.settings → reason_of fault ≡ reason_of other
+    go (left_stops setting middle others one is) =
+        absurd (refused first.rest first.settings fault real first.here setting middle others one (subst IsAllowed is second.allowed))
+    go (right_stops setting middle others one is) =
+        absurd (refused second.rest second.settings other real' second.here setting middle others one (subst IsAllowed is first.allowed))
+    go (both_stop at is) =
+        fault_says first.settings fault first.rest real first.here
+        ∙ ap (λ r. said_at first.settings (option_named (first_word r)) r) at
+        ∙ ap (λ s. said_at s (option_named (first_word second.rest)) second.rest) is
+        ∙ sym (fault_says second.settings other second.rest real' second.here)

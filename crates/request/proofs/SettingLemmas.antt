@@ -1,19 +1,19 @@
 -- Settings, one after the other.
-use Rattle.std.proofs.Common.{◌≡◌, ℕ, ◌<◌, ◌≤◌, Bool, true, false, cond, IsFalse, List, [], ◌∷◌, ◌++◌, length, get_or, take}
-use Rattle.std.proofs.Common.{refl, ap, subst, ◌∙◌, arith}
-use Rattle.std.specs.Prelude.{count_by}
-use Rattle.std.specs.List.{All, Any}
-use Rattle.std.proofs.lemmas.List.{get_or-map, length-map, take_all}
+use Rattle.std.proofs.Common.{◌≡◌, ℕ, ◌<◌, ◌≤◌, Bool, true, false, cond, IsFalse, List, [], ◌∷◌, ◌++◌, length, get_or, take, Some, None}
+use Rattle.std.proofs.Common.{refl, sym, ap, subst, ◌∙◌, arith}
+use Rattle.std.specs.Prelude.{count_by, option_map}
+use Rattle.std.specs.List.{All}
+use Rattle.std.proofs.lemmas.List.{take_all}
 use Rattle.std.proofs.lemmas.List.Elements.{All-map}
 use Rattle.std.proofs.lemmas.List.Quantifiers.{all_pairs_push}
-use Rattle.request.specs.Faults.{IsFree}
+use Rattle.request.specs.Faults.{IsFree, first_clash}
 use Rattle.request.specs.Names.{clashes, is_same}
 use Rattle.request.specs.Private.Kept.{shown_setting, shown_settings}
 use Rattle.request.specs.Settings.{IsAllowed, Setting, SpellsSetting, SpellsSettings, count_of, greatest_times}
 use Rattle.request.specs.Settings.{SpellsSettings as spelled}
 use Rattle.request.specs.declared.names.OptionName.{OptionName}
 use Rattle.request.specs.declared.settings.Setting as kept
-use Rattle.request.proofs.ListLemmas.{count_by-append, count_by-map}
+use Rattle.request.proofs.ListLemmas.{count_by-append, count_by-map, find-map, find_here, find_none}
 use Rattle.request.proofs.NameLemmas.{same_name}
 
 -- one more setting
@@ -52,25 +52,29 @@ pub shown_push : (settings : List kept.Setting) (setting : kept.Setting)
 shown_push [] setting = refl
 shown_push (first ∷ settings) setting = ap (λ t. shown_setting first ∷ t) (shown_push settings setting)
 
--- a setting of an option among those that are kept
-pub some_shown : (settings : List kept.Setting) (k : ℕ) (d : kept.Setting) (name : OptionName) → k < length settings
-    → (get_or settings k d).name ≡ name → Any (λ setting. setting.name ≡ name) (shown_settings settings)
-some_shown settings k d name inside same = (
-  k,
-  shown_setting (get_or settings k d),
-  omega (arith, length-map settings shown_setting),
-  get_or-map shown_setting settings k d (shown_setting (get_or settings k d)) inside,
-  same,
-)
+-- ---- the first clash
 
-pub free_of_all : (settings : List kept.Setting) (name : OptionName) (at times : ℕ) → length settings ≤ at
-    → All (λ s. clashes s.name name ≡ false) (take at settings) → times ≡ count_by (λ s. is_same s.name name) (take at settings) → times < 16
-    → IsFree name (shown_settings settings)
-free_of_all settings name at times past together counts few =
-    let whole : take at settings ≡ settings = take_all at settings past in
-    let all : All (λ s. clashes s.name name ≡ false) settings = subst (λ t. All (λ s. clashes s.name name ≡ false) t) whole together in
-    let number : times ≡ count_by (λ s. is_same s.name name) settings = counts ∙ ap (count_by (λ s. is_same s.name name)) whole in
-    record {
-      together = All-map (λ earlier. IsFalse (clashes earlier.name name)) shown_setting settings all;
-      few = omega (arith, count_by-map (λ s. is_same s.name name) shown_setting settings, number);
-    }
+pub no_clash : (settings : List Setting) (name : OptionName) → All (λ s. IsFalse (clashes s.name name)) settings → first_clash name settings ≡ None
+no_clash settings name free = ap (option_map (λ s. s.name)) (find_none (λ s. clashes s.name name) settings free)
+
+-- the first of the settings that are kept
+pub clash_here : (settings : List kept.Setting) (k : ℕ) (d : kept.Setting) (name : OptionName) → k < length settings
+    → All (λ s. clashes s.name name ≡ false) (take k settings) → clashes (get_or settings k d).name name ≡ true
+    → first_clash name (shown_settings settings) ≡ Some (get_or settings k d).name
+clash_here settings k d name inside free here =
+    ap (option_map (λ s. s.name)) (find-map (λ s. clashes s.name name) shown_setting settings
+    ∙ ap (option_map shown_setting) (find_here (λ s. clashes s.name name) settings k d inside free here))
+
+-- ---- all settings that are kept, once all are looked at
+
+pub free_of_all : (settings : List kept.Setting) (name : OptionName) (at : ℕ) → length settings ≤ at
+    → All (λ s. clashes s.name name ≡ false) (take at settings) → All (λ s. IsFalse (clashes s.name name)) (shown_settings settings)
+free_of_all settings name at past together =
+    All-map (λ earlier. IsFalse (clashes earlier.name name)) shown_setting settings
+    (subst (λ t. All (λ s. clashes s.name name ≡ false) t) (take_all at settings past) together)
+
+pub counted_all : (settings : List kept.Setting) (name : OptionName) (at times : ℕ) → length settings ≤ at
+    → times ≡ count_by (λ s. is_same s.name name) (take at settings) → times ≡ count_of name (shown_settings settings)
+counted_all settings name at times past counts =
+    counts ∙ ap (count_by (λ s. is_same s.name name)) (take_all at settings past)
+    ∙ sym (count_by-map (λ s. is_same s.name name) shown_setting settings)

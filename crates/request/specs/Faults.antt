@@ -1,7 +1,7 @@
 -- Why a `find` is refused: the first fault from the left.
-use Rattle.std.specs.Prelude.{◌≡◌, ◌≢◌, ℕ, ◌≤◌, ◌<◌, IsTrue, IsFalse, List, [], ◌++◌, Some, None, codes, ◌⊎◌}
-use Rattle.std.specs.List.{All, Any}
-use Rattle.request.specs.Names.{clashes, excludes, is_repeatable, option_named, range_text, takes, text_of}
+use Rattle.std.specs.Prelude.{◌≡◌, ◌≢◌, ℕ, ◌≤◌, ◌<◌, IsFalse, List, [], ◌++◌, Option, Some, None, codes, ◌⊎◌, find, option_map}
+use Rattle.std.specs.List.{All}
+use Rattle.request.specs.Names.{clashes, option_named, range_text, takes, text_of}
 use Rattle.request.specs.Settings.{Setting, SpellsSettings, IsAllowed, SpellsNumber, count_of, greatest_times}
 use Rattle.request.specs.Words.{after_word, first_word}
 use Rattle.request.specs.declared.fault.FindFault.{FindFault}
@@ -24,6 +24,11 @@ pub record IsFree (name : OptionName) (settings : List Setting) : Type 0 where
   pub together : All (λ earlier. IsFalse (clashes earlier.name name)) settings
   pub few : count_of name settings < greatest_times
 
+-- the option of the leftmost setting that this option clashes with
+abbrev pub first_clash : OptionName → List Setting → Option OptionName
+first_clash name settings = option_map (λ setting. setting.name) (find (λ setting. clashes setting.name name) settings)
+
+-- The text begins with the word of this option.
 abbrev pub IsNamed : List ℕ → OptionName → Type 0
 IsNamed text name = option_named (first_word text) ≡ Some name
 
@@ -31,10 +36,9 @@ IsNamed text name = option_named (first_word text) ≡ Some name
 abbrev pub IsFaultAt : List Setting → List ℕ → FindFault → Type 0
 IsFaultAt settings text (BadOption word) =
     (text ≢ []) × (first_word text ≢ codes "--") × (option_named (first_word text) ≡ None) × (word.now ≡ first_word text)
-IsFaultAt settings text (Twice name) = IsNamed text name × IsFalse (is_repeatable name) × Any (λ setting. setting.name ≡ name) settings
-IsFaultAt settings text (Exclude earlier name) =
-    IsNamed text name × (earlier ≢ name) × IsTrue (excludes earlier name) × Any (λ setting. setting.name ≡ earlier) settings
-IsFaultAt settings text (TooOften name) = IsNamed text name × (greatest_times ≤ count_of name settings)
+IsFaultAt settings text (Twice name) = IsNamed text name × (first_clash name settings ≡ Some name)
+IsFaultAt settings text (Exclude earlier name) = IsNamed text name × (earlier ≢ name) × (first_clash name settings ≡ Some earlier)
+IsFaultAt settings text (TooOften name) = IsNamed text name × (first_clash name settings ≡ None) × (greatest_times ≤ count_of name settings)
 IsFaultAt settings text (NeedsNumber name) =
     IsNamed text name × IsFree name settings × (least greatest : ℕ) × (takes name ≡ Number least greatest)
     × ((n : ℕ) → SpellsNumber (first_word (after_word text)) n → least ≤ n → n ≤ greatest → ⊥)

@@ -17,6 +17,7 @@ pub record NameTest : Type 0 where
   pub pattern : List ℕ
   pub wanted : Bool
 
+-- what the settings of a `find` say
 pub record Options : Type 0 where
   pub case : Case
   pub literal : Bool
@@ -29,21 +30,26 @@ pub record Options : Type 0 where
   pub view : View
   pub zero : Bool
 
+-- whether one of the settings is of this option
 abbrev pub has_option : OptionName → List Setting → Bool
 has_option name settings = list_any (λ setting. is_same setting.name name) settings
 
+-- how case is read if it is ignored, and if it is not
 abbrev pub case_if : Bool → Case
 case_if ignored = if ignored then Ignore else Exact
 
+-- the pattern of names that an option gives, if it gives one
 abbrev pub test_in : OptionName → Argument → Option NameTest
 test_in option.Named (argument.text pattern) = Some (record { pattern = pattern; wanted = true })
 test_in option.NotNamed (argument.text pattern) = Some (record { pattern = pattern; wanted = false })
 test_in _ _ = None
 
+-- the most lines, or names, that an option gives, if it gives that
 abbrev pub limit_in : OptionName → Argument → Option ℕ
 limit_in option.Limit (argument.number n) = Some n
 limit_in _ _ = None
 
+-- the view that an option gives, if it gives one
 abbrev pub view_in : OptionName → Argument → Option View
 view_in option.Names _ = Some view.Names
 view_in option.Counts _ = Some view.Counts

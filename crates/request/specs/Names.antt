@@ -45,6 +45,7 @@ abbrev pub range_text : OptionName → List ℕ
 range_text Context = codes "0 to 1000"
 range_text _ = codes "1 to 4294967295"
 
+-- whether two options are the same
 abbrev pub is_same : OptionName → OptionName → Bool
 is_same left right = bytes_eq (text_of left) (text_of right)
 

@@ -33,10 +33,12 @@ SpellsArgument Word from rest argument = (from ≢ []) × (rest ≡ after_word f
 SpellsArgument (Number least greatest) from rest argument =
     (n : ℕ) × SpellsNumber (first_word from) n × (least ≤ n) × (n ≤ greatest) × (rest ≡ after_word from) × (argument ≡ number n)
 
+-- the word of an option, and what follows it
 pub record SpellsSetting (from rest : List ℕ) (setting : Setting) : Type 0 where
   pub named : option_named (first_word from) ≡ Some setting.name
   pub followed : SpellsArgument (takes setting.name) (after_word from) rest setting.argument
 
+-- any number of settings, one after the other
 pub data SpellsSettings : List ℕ → List ℕ → List Setting → Type 0 where
   done : {from : List ℕ} → SpellsSettings from from []
   more : {from middle rest : List ℕ} {setting : Setting} {settings : List Setting} → SpellsSetting from middle setting

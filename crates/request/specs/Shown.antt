@@ -4,9 +4,11 @@ use Rattle.request.specs.Find.{NameTest, Options}
 use Rattle.request.specs.declared.options.FindOptions.{FindOptions}
 use Rattle.request.specs.declared.options.NameTest as program
 
+-- a program's pattern of names, without the place of its bytes in memory
 abbrev pub shown_test : program.NameTest → NameTest
 shown_test test = record { pattern = test.pattern.now; wanted = test.wanted }
 
+-- a program's options of a find, without places in memory
 abbrev pub shown_options : FindOptions → Options
 shown_options options = record {
   case = options.case;

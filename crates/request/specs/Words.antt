@@ -2,6 +2,7 @@
 use Rattle.std.specs.Prelude.{ℕ, Bool, ◌==◌, List}
 use Rattle.std.specs.List.{after_first, before_first}
 
+-- whether the byte is a space, which ends a word
 abbrev pub is_space : ℕ → Bool
 is_space b = b == 32
 

@@ -14,6 +14,6 @@ mod words;
 
 pub use fault::FindFault;
 pub use find::{Find, read_find};
-pub use laws::one_find;
+pub use laws::{every_option_is_named, one_find, one_first_fault};
 pub use names::OptionName;
 pub use options::{FindOptions, NameTest, View};

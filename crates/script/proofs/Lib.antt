@@ -1,3 +1,4 @@
 pub mod FieldLemmas
 pub mod ReaderLemmas
 pub mod OneReading
+pub mod EveryTextLemmas

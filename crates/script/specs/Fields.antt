@@ -9,9 +9,11 @@ pub record Fields : Type 0 where
   pub first : List ℕ
   pub others : Option (List ℕ)
 
+-- the fields, with one more byte at the front of the first
 abbrev pub with_byte_in_front : ℕ → Fields → Fields
 with_byte_in_front b fields = record { first = b ∷ fields.first; others = fields.others }
 
+-- the fields of a line
 unfoldable pub fields_of : List ℕ → Fields
 fields_of [] = record { first = []; others = None }
 fields_of (b ∷ line) = if b == 32 then record { first = []; others = Some line } else with_byte_in_front b (fields_of line)

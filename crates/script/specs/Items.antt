@@ -10,6 +10,7 @@ use Rattle.ere.specs.Classes.{is_digit}
 use Rattle.ere.specs.Tokens.{decimal_value}
 use Rattle.script.specs.Fields.{fields_of, IsPutHeader}
 
+-- what a line of a script asks for; a put has a body after its line
 pub data Item : Type 0 where
   put : (name body : List ℕ) → Item
   load : (name path : List ℕ) → Item
@@ -36,6 +37,7 @@ pub record Numbered : Type 0 where
   pub line : ℕ
   pub item : Item
 
+-- an item with the number of its line
 abbrev pub numbered : ℕ → Item → Numbered
 numbered line item = record { line = line; item = item }
 
@@ -44,6 +46,7 @@ abbrev pub is_blank : List ℕ → Bool
 is_blank [] = true
 is_blank (b ∷ line) = b == 35
 
+-- whether the text is this keyword
 abbrev pub is_keyword : List ℕ → List ℕ → Bool
 is_keyword keyword text = bytes_eq keyword text
 
@@ -108,9 +111,11 @@ item_of keyword (Some others) = item_of_keyword_and_others keyword others
 abbrev pub item_of_line : List ℕ → Item
 item_of_line line = item_of (fields_of line).first (fields_of line).others
 
+-- The text has no line feed.
 abbrev pub IsLine : List ℕ → Type 0
 IsLine line = AllByRecursion (λ b. b ≢ 10) line
 
+-- how many line feeds are in the text
 abbrev pub line_feeds : List ℕ → ℕ
 line_feeds text = count_by (λ b. b == 10) text
 

@@ -17,6 +17,11 @@ pub fn items_are_one()
     ensures { (n : ℕ) (text : List ℕ) (items items' : List NumberedItem) → ItemsFrom n text items → ItemsFrom n text items' → items ≡ items' }
 {}
 
+/// Each text has items, whatever the number of its first line.
+pub fn texts_have_items()
+    ensures { (n : ℕ) (text : List ℕ) → (items : List NumberedItem) × ItemsFrom n text items }
+{}
+
 /// A line says one thing.
 pub fn lines_say_one_thing()
     ensures { (line : List ℕ) (said said' : LineValue) → Says line said → Says line said' → SayTheSame said said' }

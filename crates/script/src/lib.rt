@@ -10,6 +10,6 @@ mod reader;
 
 pub use feeds::line_feeds;
 pub use item::{Item, Numbered};
-pub use laws::{items_are_one, lines_say_one_thing, script_limit};
+pub use laws::{items_are_one, lines_say_one_thing, script_limit, texts_have_items};
 pub use line::{Line, read_line};
 pub use reader::{MAX_SCRIPT, ScriptReader};

@@ -1,16 +1,16 @@
--- Hits of one document, as its rows are formed from them: their numbers rise, and their lines are not too long.
-use Rattle.std.proofs.Common.{◌≡◌, ℕ, zero, suc, ◌+◌, ◌≤◌, ◌<◌, ◌||◌, Bool, true, false, nat_lt, Option, Some, None, List, [], ◌∷◌, ◌++◌, map, length, take, slice_index, refl, sym, subst, arith}
+-- Hits of one document, as its rows are formed from them: their numbers rise, and their lines have no line feed.
+use Rattle.std.proofs.Common.{◌≡◌, ℕ, zero, suc, ◌+◌, ◌≤◌, ◌<◌, Option, Some, None, List, [], ◌∷◌, ◌++◌, map, length, take, slice_index, sym, subst, arith}
 use Rattle.std.specs.Prelude.{All}
-use Rattle.std.specs.List.{AllByRecursion, list_any}
+use Rattle.std.specs.List.{AllByRecursion}
 use Rattle.std.specs.List.Sorted.{IsStrictlyIncreasing}
-use Rattle.std.proofs.lemmas.Bool.{false≢true}
-use Rattle.std.proofs.lemmas.Bool.Decides.{nat_tests}
 use Rattle.std.proofs.lemmas.List.Elements.{All-nil, All-cons}
-use Rattle.index.specs.Text.{has_long_line}
+use Rattle.finder.proofs.Deciding.{lines-feedless}
+use Rattle.finder.proofs.LineLemmas.{NoFeed, no_feed_at}
 use Rattle.index.specs.declared.document.SharedDocument.{SharedDocument}
 use Rattle.lines.specs.Lines.{lines_of}
 use Rattle.search.specs.Private.Added.{AddsUpTo}
 use Rattle.search.specs.Private.Documents.{lines_of_taken}
+use Rattle.search.specs.Private.Seekers.{IsOneLine}
 use Rattle.search.specs.Scan.{Hit}
 use Rattle.search.specs.Selects.{Selects, done, keep, skip, numbered}
 use Rattle.search.specs.View.{limited}
@@ -63,21 +63,15 @@ increasing low k zero (x ∷ xs) r e inside = absurd (omega arith)
 
 -- ---- lines
 
-short-lines : (lines : List (List ℕ)) → list_any (λ line. nat_lt 16384 (length line)) lines ≡ false → AllByRecursion (λ line. length line ≤ 16384) lines
-short-lines [] none = tt
-short-lines (line ∷ lines) none = go (nat_lt 16384 (length line)) refl none (short-lines lines)
-  where
-    go : (b : Bool) → nat_lt 16384 (length line) ≡ b → (b || list_any (λ l. nat_lt 16384 (length l)) lines) ≡ false
-        → (list_any (λ l. nat_lt 16384 (length l)) lines ≡ false → AllByRecursion (λ l. length l ≤ 16384) lines)
-        → AllByRecursion (λ l. length l ≤ 16384) (line ∷ lines)
-    go true e none rest = absurd (false≢true (sym none))
-    go false e none rest = (let low : length line ≤ 16384 = grind (arith, nat_tests) in low, rest none)
+one-lines : (lines : List (List ℕ)) → AllByRecursion NoFeed lines → AllByRecursion IsOneLine lines
+one-lines [] each = tt
+one-lines (line ∷ lines) each = (λ k low. no_feed_at line k each.0 low, one-lines lines each.1)
 
-short-numbered : (name : List ℕ) (line : ℕ) (texts : List (List ℕ)) → AllByRecursion (λ text. length text ≤ 16384) texts
-    → AllByRecursion (λ (h : Hit). length h.text ≤ 16384) (numbered name line texts)
+one-numbered : (name : List ℕ) (line : ℕ) (texts : List (List ℕ)) → AllByRecursion IsOneLine texts
+    → AllByRecursion (λ (h : Hit). IsOneLine h.text) (numbered name line texts)
 unfolding numbered
-short-numbered name line [] each = tt
-short-numbered name line (text ∷ texts) each = (each.0, short-numbered name (suc line) texts each.1)
+one-numbered name line [] each = tt
+one-numbered name line (text ∷ texts) each = (each.0, one-numbered name (suc line) texts each.1)
 
 all-from : (P : Hit → Type 0) (xs : List Hit) → AllByRecursion P xs → All P xs
 all-from P [] h = All-nil P
@@ -93,9 +87,9 @@ module _ (Has : Hit → Type 0) (d : SharedDocument) (most : Option ℕ) (hits :
       let first = subst (λ hs. Rises 1 hs) (sym adds.appended) (rises-left 1 adds.added adds.rest all) in
       λ k inside. increasing 1 k (k + 1) (limited limit hits) (rises-limited 1 limit hits first) (omega arith) inside
 
-  pub short : has_long_line d.held ≡ false → All (λ h. length h.text ≤ 16384) (limited limit hits)
-  short none =
-      let P = λ (h : Hit). length h.text ≤ 16384 in
-      let all = All-Selects P adds.selected (short-numbered d.name 1 (lines_of d.held) (short-lines (lines_of d.held) none)) in
+  pub feedless : All (λ h. IsOneLine h.text) (limited limit hits)
+  feedless =
+      let P = λ (h : Hit). IsOneLine h.text in
+      let all = All-Selects P adds.selected (one-numbered d.name 1 (lines_of d.held) (one-lines (lines_of d.held) (lines-feedless d.held))) in
       let first = subst (λ hs. AllByRecursion P hs) (sym adds.appended) (All-left P adds.added adds.rest all) in
       all-from P (limited limit hits) (All-limited P limit hits first)

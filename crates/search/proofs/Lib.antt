@@ -24,5 +24,6 @@ mod GathersLemmas
 mod JoinLemmas
 mod FitLemmas
 mod AnswerLemmas
+mod OneAnswer
 mod RequestLemmas
 mod ShownLemmas

@@ -5,9 +5,9 @@ use Rattle.std.proofs.Math.Seq.{take-suc}
 use Rattle.std.proofs.lemmas.List.{length-map, take_all}
 use Rattle.std.proofs.lemmas.Option.{slice_get_within, get_or_from_slice_get, slice_get-get_or, slice_get-map}
 use Rattle.std.proofs.lemmas.List.Elements.{All-nil, All-cons}
-use Rattle.ere.specs.Limits.{HasNoTree, IsTreeOf, IsWithinLimits}
+use Rattle.ere.specs.Limits.{IsTreeOf, IsWithinLimits}
 use Rattle.ere.specs.Edges.{IsSizeFault, too_deep, too_large}
-use Rattle.ere.specs.Literal.{IsPatternText, IsTextFault, too_long, bad_byte, literal_tree}
+use Rattle.ere.specs.Literal.{IsPatternText, IsTextFault, NamesTextFault, too_long, bad_byte, literal_tree}
 use Rattle.ere.specs.Spelling.{Spells}
 use Rattle.ere.specs.Tree.{Tree}
 use Rattle.ere.specs.declared.case.Case.{Case}
@@ -23,8 +23,8 @@ use Rattle.trigram.specs.Analysis.{condition}
 use Rattle.search.specs.Tests.{test_of}
 use Rattle.search.specs.declared.asked.Test.{Test as PreparedTest}
 use Rattle.search.specs.Queries.{IsQueryOf}
-use Rattle.search.specs.Pattern.{Test}
-use Rattle.search.specs.Request.{AreTestsOf, asked_tree, HaveTrees, IsReadAs, IsRequestFault, IsTestOf, IsTreeFor}
+use Rattle.search.specs.Pattern.{IsTreeFault, Test}
+use Rattle.search.specs.Request.{AreTestsOf, asked_tree, HaveTrees, IsPatternFault, IsReadAs, IsRequestFault, IsTestOf, IsTreeFor}
 
 -- a text spells at most one tree
 abbrev pub OneTree : Type 0
@@ -45,11 +45,28 @@ pub not_within : (tree : Tree) (fault : EreError) → IsSizeFault tree fault →
 not_within tree fault (too_deep above kind at) within = omega (arith, within.low)
 not_within tree fault (too_large low above kind at) within = omega (arith, within.small)
 
+-- a text that is none for a pattern, or is none that spells a tree
+pub unread_fault : (options : Options) (text : List ℕ) (fault : EreError) → NamesTextFault text fault
+    → ((tree : Tree) → IsReadAs options.literal options.case text tree → ⊥) → IsPatternFault options text fault
+unread_fault options text fault bytes none = record {
+  no_tree = λ tree for. none tree for.spelled;
+  bytes = bytes;
+  size = λ tree read. absurd (none tree read);
+}
+
 -- the tree of the text is not within the limits with its edges
-pub no_tree_for : OneTree → (options : Options) (text : List ℕ) (own tree : Tree) → IsReadAs options.literal options.case text own
-    → (IsWithinLimits (asked_tree options own) → ⊥) → IsTreeFor options text tree → ⊥
-no_tree_for law options text own tree read over for =
-    over (subst (λ t. IsWithinLimits (asked_tree options t)) (read_once law options.literal options.case text tree own for.spelled read) for.limits)
+pub edged_fault : OneTree → (options : Options) (text : List ℕ) (own : Tree) (fault : EreError) → IsPatternText text
+    → IsReadAs options.literal options.case text own → IsSizeFault (asked_tree options own) fault → IsPatternFault options text fault
+edged_fault law options text own fault allowed read over = record {
+  no_tree =
+      λ tree for.
+      not_within (asked_tree options own) fault over
+      (subst (λ t. IsWithinLimits (asked_tree options t)) (read_once law options.literal options.case text tree own for.spelled read) for.limits);
+  bytes = λ none. absurd (none allowed);
+  size =
+      λ tree other.
+      subst (λ t. IsSizeFault (asked_tree options t) fault) (read_once law options.literal options.case text own tree read other) over;
+}
 
 -- ---- conditions
 
@@ -85,12 +102,13 @@ next_name names at name there =
     ∙ (take-suc names at name inside ∙ ap (λ x. take at names ++ x ∷ []) (get_or_from_slice_get names at name name there))
 
 -- the first of the names that has no tree
-pub name_fault : (options : Options) (text : List ℕ) (at : ℕ) (name : NameTest) (tests : List Test)
+pub name_fault : (options : Options) (text : List ℕ) (at : ℕ) (name : NameTest) (fault : EreError) (tests : List Test)
     → AreTestsOf options.name_case (take at options.names) tests → slice_get options.names at ≡ Some name
-    → HasNoTree options.name_case name.pattern → IsRequestFault options text (at + 1)
-name_fault options text at name tests are there none =
+    → IsTreeFault options.name_case name.pattern fault → IsRequestFault options text (at + 1) fault
+name_fault options text at name fault tests are there none =
     let next : suc at ≡ at + 1 = omega arith in
-    subst (IsRequestFault options text) next (have_trees options.name_case (take at options.names) tests are, name, there, none)
+    subst (λ n. IsRequestFault options text n fault) next
+    (have_trees options.name_case (take at options.names) tests are, name, there, none)
 
 -- ---- the patterns of names as the program has them
 

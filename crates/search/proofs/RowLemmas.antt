@@ -8,21 +8,21 @@ use Rattle.std.proofs.lemmas.Bool.{cases_lt}
 use Rattle.std.proofs.lemmas.Bool.Decides.{nat_tests}
 use Rattle.std.proofs.lemmas.Grind.{flat_map-append}
 use Rattle.std.proofs.lemmas.List.{append-nil, length-append}
-use Rattle.matcher.specs.declared.spans.Span.{Span}
+use Rattle.spans.specs.declared.span.Span.{Span}
 use Rattle.lines.specs.Lines.{lines_of}
 use Rattle.search.specs.declared.places.Hit.{Hit as ShownHit}
 use Rattle.search.specs.Hits.{hit_of}
 use Rattle.ere.specs.Tree.{Tree}
-use Rattle.matcher.specs.FirstSpan.{AreSpans, HasNoSpan, IsFirstSpan}
+use Rattle.spans.specs.FirstSpan.{AreSpans, HasNoSpan, IsFirstSpan}
 use Rattle.search.specs.Request.{Request}
 use Rattle.search.specs.Scan.{Hit}
 use Rattle.search.specs.Selects.{found, numbered}
 use Rattle.search.specs.Text.{text_of_hit, text_of_hits, text_of_row, text_of_rows, text_of_span, text_of_spans}
-use Rattle.search.specs.View.{Row, hit, near, gap, is_near, rows_from, RowsOf, done, more, stretches, shown_tree, with_spans, IsColumnRow, IsSpansRow}
+use Rattle.search.specs.View.{Row, hit, at_column, near, gap, is_near, rows_from, RowsOf, done, more, stretches, shown_tree, IsColumnRow, IsSpansRow}
 use Rattle.search.specs.View.{name as name_row, count as count_row}
 use Rattle.request.specs.declared.options.View.{View}
 use Rattle.request.specs.declared.options.View.TheVariants as view
-use Rattle.matcher.specs.FirstStart.{HasNoStart}
+use Rattle.spans.specs.FirstStart.{HasNoStart, IsFirstStart}
 use Rattle.search.specs.Private.Rows.{AreRowsOf, begins_at, row_at, gap_before, rows_of_line}
 
 -- ---- texts
@@ -511,24 +511,15 @@ shown_text old first second new place matches colon text end first_is second_is 
     ∙ ((λ i. ((old ++ place) ++ matches) ++ (colon_is i ++ (text ++ (end_is i ++ []))))
     ∙ parts old place matches (58 ∷ []) text (10 ∷ [])))
 
--- the spans of the matches that are shown
-pub spans_row : (request : Request) (found : Hit) (tree : Tree) (whole_words : Bool) (spans : List Span) → tree ≡ shown_tree request
-    → whole_words ≡ is_some request.word → AreSpans found.text tree whole_words 0 spans → IsSpansRow request found (with_spans spans found)
-spans_row request found tree whole_words spans same_tree same_words are = (
-  spans,
-  subst (λ t. AreSpans found.text t (is_some request.word) 0 spans) same_tree (subst (λ w. AreSpans found.text tree w 0 spans) same_words are),
-  refl,
-)
+-- the column of a line's first match, and a line without a match, which has none
+pub has_column : (request : Request) (found : Hit) (whole_words : Bool) (start : ℕ) → whole_words ≡ is_some request.word
+    → IsFirstStart found.text (shown_tree request) whole_words start → IsColumnRow request found (at_column (start + 1) found)
+has_column request found whole_words start same is =
+    inl (start, subst (λ w. IsFirstStart found.text (shown_tree request) w start) same is, refl)
 
--- a line without a match has no column
-pub no_column : (request : Request) (found : Hit) (tree : Tree) (whole_words : Bool) → tree ≡ shown_tree request
-    → whole_words ≡ is_some request.word → HasNoStart found.text tree whole_words → IsColumnRow request found (hit found)
-no_column request found tree whole_words same_tree same_words none =
-    inr (
-      subst (λ t. HasNoStart found.text t (is_some request.word)) same_tree
-          (subst (λ w. HasNoStart found.text tree w) same_words none),
-      refl,
-    )
+pub no_column : (request : Request) (found : Hit) (whole_words : Bool) → whole_words ≡ is_some request.word
+    → HasNoStart found.text (shown_tree request) whole_words → IsColumnRow request found (hit found)
+no_column request found whole_words same none = inr (subst (λ w. HasNoStart found.text (shown_tree request) w) same none, refl)
 
 -- ---- what is shown of a document
 

@@ -3,6 +3,7 @@ pub mod Tests
 pub mod Prepared
 pub mod Request
 pub mod Scan
+pub mod CalledOff
 pub mod Front
 pub mod Selects
 pub mod Commands
@@ -12,6 +13,7 @@ pub mod Parts
 pub mod View
 pub mod Text
 pub mod Shown
+pub mod Laws
 pub mod Queries
 pub mod Taken
 pub mod Private

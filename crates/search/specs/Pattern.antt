@@ -4,7 +4,9 @@ use Rattle.ere.specs.declared.case.Case.{Case}
 use Rattle.ere.specs.declared.case.Case.TheVariants.{Exact}
 use Rattle.ere.specs.Language.{ContainsMatch}
 use Rattle.ere.specs.Tree.{Tree}
-use Rattle.ere.specs.Limits.{IsTreeOf}
+use Rattle.ere.specs.Limits.{HasNoTree, IsTreeOf}
+use Rattle.ere.specs.Literal.{NamesTextFault}
+use Rattle.ere.specs.declared.error.EreError.{EreError}
 
 -- a tree, and whether it is asked for texts without a match of it
 pub record Test : Type 0 where
@@ -44,3 +46,7 @@ pub record IsPatternWithin (case : Case) (name_text text : List ℕ) (pattern : 
 -- the text has a tree
 abbrev pub HasTree : Case → List ℕ → Type 0
 HasTree case text = (tree : Tree) × IsTreeOf case text tree
+
+-- The text has no tree. If it is too long for a pattern or has a bad byte, the fault says so.
+abbrev pub IsTreeFault : Case → List ℕ → EreError → Type 0
+IsTreeFault case text fault = HasNoTree case text × NamesTextFault text fault

@@ -2,15 +2,16 @@
 use Rattle.std.specs.Prelude.{◌≡◌, ◌≢◌, ℕ, zero, suc, ◌<◌, ◌&&◌, Bool, not, true, false, List, [], ◌∷◌, length, Option, Some, None, if◌then◌else◌, take}
 use Rattle.std.specs.Prelude.{MatchBool, slice_get}
 use Rattle.std.specs.List.{All}
-use Rattle.ere.specs.Edges.{line_tree, word_tree}
-use Rattle.ere.specs.Limits.{HasNoTree, IsTreeOf, IsWithinLimits}
-use Rattle.ere.specs.Literal.{IsPatternText, literal_tree}
+use Rattle.ere.specs.Edges.{line_tree, word_tree, IsSizeFault}
+use Rattle.ere.specs.Limits.{IsTreeOf, IsWithinLimits}
+use Rattle.ere.specs.Literal.{IsPatternText, literal_tree, NamesTextFault}
 use Rattle.ere.specs.Tree.{Tree}
 use Rattle.ere.specs.declared.case.Case.{Case}
+use Rattle.ere.specs.declared.error.EreError.{EreError}
 use Rattle.request.specs.Find.{NameTest, Options}
 use Rattle.request.specs.declared.options.View.{View}
 use Rattle.request.specs.declared.options.View.TheVariants as view
-use Rattle.search.specs.Pattern.{Pattern, Test}
+use Rattle.search.specs.Pattern.{IsTreeFault, Pattern, Test}
 
 -- word: if only whole words count, the tree that they are words of; the pattern's tree has their edges too.
 -- limit: the most lines that are shown, or names where names are shown. zero: whether a zero byte comes after each name.
@@ -67,10 +68,17 @@ pub record IsRequestOf (options : Options) (text : List ℕ) (request : Request)
 abbrev pub HaveTrees : Case → List NameTest → Type 0
 HaveTrees case names = All (λ name. (tree : Tree) × IsTreeOf case name.pattern tree) names
 
--- Why the options ask for nothing with this text: the first of the patterns of names that has no tree, by its number from 1;
--- or, if they all have one, the pattern itself, for which the number is 0.
-abbrev pub IsRequestFault : Options → List ℕ → ℕ → Type 0
-IsRequestFault options text zero = HaveTrees options.name_case options.names × ((tree : Tree) → IsTreeFor options text tree → ⊥)
-IsRequestFault options text (suc at) =
+-- The options' pattern has no tree within the limits, with what `-w` or `-x` adds. If its text is too long or has a bad byte, the
+-- fault says so. If the text has a tree without what they add, the fault says which limit is passed with it.
+pub record IsPatternFault (options : Options) (text : List ℕ) (fault : EreError) : Type 0 where
+  pub no_tree : (tree : Tree) → IsTreeFor options text tree → ⊥
+  pub bytes : NamesTextFault text fault
+  pub size : (tree : Tree) → IsReadAs options.literal options.case text tree → IsSizeFault (asked_tree options tree) fault
+
+-- Why the options ask for nothing with this text: the fault of the first of the patterns of names that has no tree, by its
+-- number from 1; or, if they all have one, that of the pattern itself, for which the number is 0.
+abbrev pub IsRequestFault : Options → List ℕ → ℕ → EreError → Type 0
+IsRequestFault options text zero fault = HaveTrees options.name_case options.names × IsPatternFault options text fault
+IsRequestFault options text (suc at) fault =
     HaveTrees options.name_case (take at options.names)
-    × (name : NameTest) × (slice_get options.names at ≡ Some name) × HasNoTree options.name_case name.pattern
+    × (name : NameTest) × (slice_get options.names at ≡ Some name) × IsTreeFault options.name_case name.pattern fault

@@ -1,6 +1,6 @@
 -- The text of what is shown of an answer (this program's choice; `NAME:LINE:TEXT`, `NAME-LINE-TEXT` and `--` follow grep's form).
 use Rattle.std.specs.Prelude.{◌≡◌, ℕ, ◌+◌, Bool, true, false, if◌then◌else◌, List, [], ◌∷◌, ◌++◌, take, length, flat_map, codes, decimal}
-use Rattle.matcher.specs.declared.spans.Span.{Span}
+use Rattle.spans.specs.declared.span.Span.{Span}
 use Rattle.request.specs.declared.options.View.{View}
 use Rattle.request.specs.declared.options.View.TheVariants as view
 use Rattle.search.specs.Scan.{Hit}

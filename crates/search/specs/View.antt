@@ -7,9 +7,9 @@ use Rattle.std.specs.Str.{bytes_eq}
 use Rattle.ere.specs.Tree.{Tree}
 use Rattle.index.specs.Documents.{Document}
 use Rattle.index.specs.State.{State}
-use Rattle.matcher.specs.FirstSpan.{AreSpans}
-use Rattle.matcher.specs.FirstStart.{HasNoStart, IsFirstStart}
-use Rattle.matcher.specs.declared.spans.Span.{Span}
+use Rattle.spans.specs.FirstSpan.{AreSpans}
+use Rattle.spans.specs.FirstStart.{HasNoStart, IsFirstStart}
+use Rattle.spans.specs.declared.span.Span.{Span}
 use Rattle.request.specs.declared.options.View.{View}
 use Rattle.request.specs.declared.options.View.TheVariants as view
 use Rattle.search.specs.Request.{Request}

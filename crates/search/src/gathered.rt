@@ -1,21 +1,24 @@
 //! What is shown of documents, gathered document after document.
 
 ghost use Rattle.std.specs.List.Sorted.{IsStrictlyIncreasing};
-ghost use Rattle.std.specs.Prelude.{All, map, ◌≡◌, ◌+◌, ◌≤◌, ◌∷◌, [], true, false, Some, length, take, IfOk, OnOk, MatchBool};
+ghost use Rattle.std.specs.Prelude.{All, map, ◌≡◌, ◌+◌, ◌≤◌, ◌∷◌, [], true, false, Some, length, take, IfOk, IfErr, OnOk, MatchBool};
 ghost use Rattle.ere.specs.Tree.{form};
+ghost use Rattle.search.specs.CalledOff.{IsCalledOffOnlyIf};
+ghost use Rattle.search.specs.declared.unanswered.Unanswered.TheVariants.{OutOfMemory};
 ghost use Rattle.search.specs.Private.Gathered.{Gathers, GathersMore, HaveOwnNames, AddsRows, AsksForName, left_from, one_more};
-ghost use Rattle.search.specs.Private.Ways.{Finds};
+ghost use Rattle.search.specs.Private.Seekers.{CanShow, IsOneLine};
+ghost use Rattle.search.specs.Private.Ways.{AreFew, Finds};
 ghost use Rattle.search.specs.View.{is_over, limited, shows_names};
 
 use crate::matching::{few_documents, scan_document};
 use crate::pattern::Prepared;
 use crate::places::Places;
 use crate::rows::append_rows;
+use crate::seeker::{Seeker, compile_word, compiled_of_shown, shown_seeker};
 use crate::unanswered::Unanswered;
 use crate::watch::{Watch, ask};
 use crate::way::{Way, compile, way_by};
 use index::SharedDocument;
-use lines::MAX_LINE;
 use request::View;
 use std::alloc::Global;
 
@@ -48,7 +51,7 @@ pub(crate) struct Gathered {
 /// What is shown of these documents, which have different names. Where lines near hits are shown, the first stretch has
 /// a gap before it too. No line is looked at once it is known that there are more than are shown. `watch` gets the
 /// number of each document, and is asked whether the answer is wanted before each document, before each further piece
-/// of one, and before each column and each span is looked for.
+/// of one, and before each pass over a line that looks for a column or a span.
 ///
 /// `CalledOff` is returned once `watch` says that the answer is not wanted. `OutOfMemory` means that memory ran out, or
 /// that a name or a body has too many handles.
@@ -58,7 +61,8 @@ pub(crate) fn gather<W: Watch>(
     documents: &[SharedDocument],
     watch: &mut W,
 ) -> Result<Gathered, Unanswered>
-    ensures { IfOk result (λ gathered. HaveOwnNames documents.now → Gathers wanted.now documents.now gathered) }
+    ensures gathers { IfOk result (λ gathered. HaveOwnNames documents.now → Gathers wanted.now documents.now gathered) }
+    ensures called_off { IfErr result (IsCalledOffOnlyIf (W.has_said_no watch.new)) }
 {
     let mut gathered = Gathered {
         hits: Places::new(alloc),
@@ -81,12 +85,26 @@ fn gather_few<W: Watch>(
     gathered: &mut Gathered,
     watch: &mut W,
 ) -> Result<usize, Unanswered>
-    ensures within { IfOk result (λ few. few ≤ length documents.now) }
+    ensures few { IfOk result (AreFew (form wanted.now.prepared.now.line.tree) documents.now) }
     ensures gathers { IfOk result (λ few. GathersMore wanted.now (take few documents.now) gathered.old gathered.new) }
+    ensures called_off { IfErr result (IsCalledOffOnlyIf (W.has_said_no watch.new)) }
 {
     let few = few_documents(&wanted.prepared.line, documents);
+    if few == 0 {
+        return Ok(0);
+    }
     let mut way = Way::Matcher;
-    gather_by(alloc, wanted, &mut way, &documents[..few], gathered, watch)?;
+    let none = None;
+    let mut seeker = shown_seeker(alloc, wanted.prepared, &none)?;
+    gather_by(
+        alloc,
+        wanted,
+        &mut way,
+        &mut seeker,
+        &documents[..few],
+        gathered,
+        watch,
+    )?;
     Ok(few)
 }
 
@@ -99,7 +117,8 @@ fn gather_compiled<W: Watch>(
     gathered: &mut Gathered,
     watch: &mut W,
 ) -> Result<(), Unanswered>
-    ensures { OnOk result (GathersMore wanted.now documents.now gathered.old gathered.new) }
+    ensures gathers { OnOk result (GathersMore wanted.now documents.now gathered.old gathered.new) }
+    ensures called_off { IfErr result (IsCalledOffOnlyIf (W.has_said_no watch.new)) }
 {
     if documents.is_empty() {
         return Ok(());
@@ -109,20 +128,34 @@ fn gather_compiled<W: Watch>(
     }
     let compiled = compile(alloc, &wanted.prepared.line.tree);
     let mut way = way_by(alloc, &wanted.prepared.line.tree, &compiled)?;
-    gather_by(alloc, wanted, &mut way, documents, gathered, watch)
+    let word = compile_word(alloc, wanted.prepared);
+    let shown = compiled_of_shown(wanted.prepared, &compiled, &word);
+    let mut seeker = shown_seeker(alloc, wanted.prepared, shown)?;
+    gather_by(
+        alloc,
+        wanted,
+        &mut way,
+        &mut seeker,
+        documents,
+        gathered,
+        watch,
+    )
 }
 
-/// Gathers from these documents, by this way.
+/// Gathers from these documents, by this way and with this seeker.
 fn gather_by<W: Watch>(
     alloc: Global,
     wanted: &Wanted<'_>,
     way: &mut Way<'_>,
+    seeker: &mut Option<Seeker<'_>>,
     documents: &[SharedDocument],
     gathered: &mut Gathered,
     watch: &mut W,
 ) -> Result<(), Unanswered>
-    requires { Finds (form wanted.now.prepared.now.line.tree) way.old }
-    ensures { OnOk result (GathersMore wanted.now documents.now gathered.old gathered.new) }
+    requires way { Finds (form wanted.now.prepared.now.line.tree) way.old }
+    requires seeker { CanShow wanted.now.prepared.now seeker.old }
+    ensures gathers { OnOk result (GathersMore wanted.now documents.now gathered.old gathered.new) }
+    ensures called_off { IfErr result (IsCalledOffOnlyIf (W.has_said_no watch.new)) }
 {
     for document in documents {
         if gathered.more {
@@ -130,7 +163,7 @@ fn gather_by<W: Watch>(
         }
         ask(watch)?;
         watch.reads(document.number);
-        gather_one(alloc, wanted, way, document, gathered, watch)?;
+        gather_one(alloc, wanted, way, seeker, document, gathered, watch)?;
     }
     Ok(())
 }
@@ -140,22 +173,35 @@ fn gather_one<W: Watch>(
     alloc: Global,
     wanted: &Wanted<'_>,
     way: &mut Way<'_>,
+    seeker: &mut Option<Seeker<'_>>,
     document: &SharedDocument,
     gathered: &mut Gathered,
     watch: &mut W,
 ) -> Result<(), Unanswered>
     requires way { Finds (form wanted.now.prepared.now.line.tree) way.old }
+    requires seeker { CanShow wanted.now.prepared.now seeker.old }
     requires more { gathered.old.more ≡ false }
     ensures way { Finds (form wanted.now.prepared.now.line.tree) way.new }
+    ensures seeker { CanShow wanted.now.prepared.now seeker.new }
     ensures gathers { OnOk result (GathersMore wanted.now (document.now ∷ []) gathered.old gathered.new) }
+    ensures called_off { IfErr result (IsCalledOffOnlyIf (W.has_said_no watch.new)) }
 {
     if wanted.lines {
         return gather_lines(wanted, way, document, gathered, watch);
     }
     match wanted.prepared.view {
-        View::Names => gather_name(alloc, wanted, way, document, Some(1), gathered, watch),
-        View::Counts => gather_name(alloc, wanted, way, document, None, gathered, watch),
-        _ => gather_rows(alloc, wanted, way, document, gathered, watch),
+        View::Names => gather_name(
+            alloc,
+            wanted,
+            way,
+            seeker,
+            document,
+            Some(1),
+            gathered,
+            watch,
+        ),
+        View::Counts => gather_name(alloc, wanted, way, seeker, document, None, gathered, watch),
+        _ => gather_rows(alloc, wanted, way, seeker, document, gathered, watch),
     }
 }
 
@@ -172,6 +218,7 @@ fn gather_lines<W: Watch>(
     requires lines { wanted.now.lines ≡ true }
     ensures way { Finds (form wanted.now.prepared.now.line.tree) way.new }
     ensures gathers { OnOk result (GathersMore wanted.now (document.now ∷ []) gathered.old gathered.new) }
+    ensures called_off { IfErr result (IsCalledOffOnlyIf (W.has_said_no watch.new)) }
 {
     let most = one_over(wanted.limit);
     scan_document(
@@ -193,16 +240,20 @@ fn gather_rows<W: Watch>(
     alloc: Global,
     wanted: &Wanted<'_>,
     way: &mut Way<'_>,
+    seeker: &mut Option<Seeker<'_>>,
     document: &SharedDocument,
     gathered: &mut Gathered,
     watch: &mut W,
 ) -> Result<(), Unanswered>
     requires way { Finds (form wanted.now.prepared.now.line.tree) way.old }
+    requires seeker { CanShow wanted.now.prepared.now seeker.old }
     requires more { gathered.old.more ≡ false }
     requires rows { wanted.now.lines ≡ false }
     requires view { shows_names wanted.now.prepared.now.view ≡ false }
     ensures way { Finds (form wanted.now.prepared.now.line.tree) way.new }
+    ensures seeker { CanShow wanted.now.prepared.now seeker.new }
     ensures gathers { OnOk result (GathersMore wanted.now (document.now ∷ []) gathered.old gathered.new) }
+    ensures called_off { IfErr result (IsCalledOffOnlyIf (W.has_said_no watch.new)) }
 {
     let left = left_of(wanted.limit, gathered.count);
     let mut hits = Places::new(alloc);
@@ -219,7 +270,15 @@ fn gather_rows<W: Watch>(
     if count == 0 {
         return Ok(());
     }
-    add_rows(wanted.prepared, document, &hits, count, gathered, watch)
+    add_rows(
+        wanted.prepared,
+        document,
+        &hits,
+        count,
+        seeker,
+        gathered,
+        watch,
+    )
 }
 
 /// Gathers the name of one document, if it has a hit. `most` hits of it are looked for, if its name can still be shown.
@@ -227,17 +286,21 @@ fn gather_name<W: Watch>(
     alloc: Global,
     wanted: &Wanted<'_>,
     way: &mut Way<'_>,
+    seeker: &mut Option<Seeker<'_>>,
     document: &SharedDocument,
     most: Option<usize>,
     gathered: &mut Gathered,
     watch: &mut W,
 ) -> Result<(), Unanswered>
     requires way { Finds (form wanted.now.prepared.now.line.tree) way.old }
+    requires seeker { CanShow wanted.now.prepared.now seeker.old }
     requires more { gathered.old.more ≡ false }
     requires rows { wanted.now.lines ≡ false }
     requires view { AsksForName wanted.now.prepared.now.view most }
     ensures way { Finds (form wanted.now.prepared.now.line.tree) way.new }
+    ensures seeker { CanShow wanted.now.prepared.now seeker.new }
     ensures gathers { OnOk result (GathersMore wanted.now (document.now ∷ []) gathered.old gathered.new) }
+    ensures called_off { IfErr result (IsCalledOffOnlyIf (W.has_said_no watch.new)) }
 {
     let left = left_of(wanted.limit, gathered.count);
     let mut hits = Places::new(alloc);
@@ -257,7 +320,7 @@ fn gather_name<W: Watch>(
     if hits.lines().is_empty() {
         return Ok(());
     }
-    add_rows(wanted.prepared, document, &hits, 1, gathered, watch)
+    add_rows(wanted.prepared, document, &hits, 1, seeker, gathered, watch)
 }
 
 /// Whether nothing is left of a limit.
@@ -276,14 +339,25 @@ fn add_rows<W: Watch>(
     document: &SharedDocument,
     hits: &Places,
     count: usize,
+    seeker: &mut Option<Seeker<'_>>,
     gathered: &mut Gathered,
     watch: &mut W,
 ) -> Result<(), Unanswered>
     requires rising { IsStrictlyIncreasing (map (λ h. h.line) hits.now) }
-    requires short { All (λ h. length h.text ≤ MAX_LINE) hits.now }
-    ensures { OnOk result (AddsRows prepared.now document.now hits.now count gathered.old gathered.new) }
+    requires lines { All (λ h. IsOneLine h.text) hits.now }
+    requires seeker { CanShow prepared.now seeker.old }
+    ensures seeker { CanShow prepared.now seeker.new }
+    ensures rows { OnOk result (AddsRows prepared.now document.now hits.now count gathered.old gathered.new) }
+    ensures called_off { IfErr result (IsCalledOffOnlyIf (W.has_said_no watch.new)) }
 {
-    let rows = append_rows(&mut gathered.text, prepared, document, &hits.lines(), watch)?;
+    let rows = append_rows(
+        &mut gathered.text,
+        prepared,
+        document,
+        &hits.lines(),
+        seeker,
+        watch,
+    )?;
     gathered.rows = sum_of(gathered.rows, rows)?;
     gathered.count = sum_of(gathered.count, count)?;
     Ok(())
@@ -291,7 +365,8 @@ fn add_rows<W: Watch>(
 
 /// The sum. An `Err` is `OutOfMemory`: the sum is too great. No memory holds so many rows.
 pub(crate) fn sum_of(left: usize, right: usize) -> Result<usize, Unanswered>
-    ensures { IfOk result (λ sum. sum ≡ left + right) }
+    ensures sum { IfOk result (λ sum. sum ≡ left + right) }
+    ensures memory { IfErr result (λ e. e ≡ OutOfMemory) }
 {
     match left.checked_add(right) {
         Some(sum) => Ok(sum),

@@ -6,6 +6,9 @@ ghost use Rattle.index.specs.State.{state_of};
 ghost use Rattle.search.specs.Pattern.{Pattern};
 ghost use Rattle.search.specs.Scan.{Hit, Answer, IsAnswerOf};
 ghost use Rattle.search.specs.Commands.{IsHitOfPut};
+ghost use Rattle.search.specs.Laws.{AnswersAreOne, ShownAreOne};
+
+use spans::one_list_of_spans;
 
 /// The answer for the state that commands leave follows from the commands: its version is their number, and its hits
 /// are exactly the lines that the pattern asks for in the last `Put` of each name, if no later command names it.
@@ -15,3 +18,15 @@ pub fn answers_follow_commands()
     ensures hits { (commands : List CommandValue) (pattern : Pattern) (answer : Answer) (found : Hit) →
         IsAnswerOf (state_of commands) pattern answer → Contains answer.hits found ↔ IsHitOfPut commands pattern found }
 {}
+
+/// In a state a pattern has at most one answer.
+pub fn one_answer()
+    ensures { AnswersAreOne }
+{}
+
+/// In a state at most one thing is what a request shows, whatever its view.
+pub fn one_shown()
+    ensures { ShownAreOne }
+{
+    one_list_of_spans();
+}

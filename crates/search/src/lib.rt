@@ -29,7 +29,7 @@ mod way;
 pub use answer::Answer;
 pub use ere::{EreError, EreErrorKind};
 pub use index::{Body, BodyError, BodyErrorKind, Command, Held, Index, Name, NameError};
-pub use laws::answers_follow_commands;
+pub use laws::{answers_follow_commands, one_answer, one_shown};
 pub use parts::{Part, PartText};
 pub use pattern::{Prepared, WithinError};
 pub use places::{Hit, Lines};

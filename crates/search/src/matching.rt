@@ -1,9 +1,10 @@
 //! The lines of documents that pass a test.
 
-ghost use Rattle.std.specs.Prelude.{◌≡◌, ◌≢◌, ◌<◌, ◌≤◌, ◌+◌, ℕ, List, false, [], ◌∷◌, length, slice_index, OnOk, All, MatchBool};
+ghost use Rattle.std.specs.Prelude.{◌≡◌, ◌≢◌, ◌<◌, ◌≤◌, ◌+◌, ℕ, List, false, [], ◌∷◌, length, slice_index, IfErr, OnOk, All, MatchBool};
 ghost use Rattle.ere.specs.Tree.{Tree, form};
 ghost use Rattle.index.specs.Text.{greatest_body, has_long_line};
 ghost use Rattle.finder.specs.Patterns.{IsFinderOf};
+ghost use Rattle.search.specs.CalledOff.{IsCalledOffOnlyIf};
 ghost use Rattle.search.specs.Pattern.{with_match};
 ghost use Rattle.search.specs.Tests.{test_of};
 ghost use Rattle.search.specs.Places.{hits_at, IsPlaced};
@@ -83,6 +84,7 @@ pub(crate) fn scan_document<W: Watch>(
     ensures way { Finds (form test.now.tree) way.new }
     ensures short { OnOk result (has_long_line document.now.held ≡ false) }
     ensures hits { OnOk result (AddsUpTo most (IsAsked (test_of test.now)) (lines_of_taken document.now) hits.old hits.new) }
+    ensures called_off { IfErr result (IsCalledOffOnlyIf (W.has_said_no watch.new)) }
 {
     match add_document(
         test,
@@ -120,6 +122,7 @@ fn add_document<W: Watch>(
     ensures placed { OnOk result (All (IsPlaced documents.new.items) places.new.items) }
     ensures hits { OnOk result (AddsUpTo most (IsAsked (test_of test.now)) (lines_of_taken document.now)
         (hits_at documents.old.items places.old.items) (hits_at documents.new.items places.new.items)) }
+    ensures called_off { IfErr result (IsCalledOffOnlyIf (W.has_said_no watch.new)) }
 {
     let Ok(number) = u32::try_from(documents.len()) else {
         return Err(Unanswered::OutOfMemory);
@@ -148,6 +151,7 @@ fn scan_body<W: Watch>(
     ensures short { OnOk result (has_long_line body.now ≡ false) }
     ensures places { OnOk result ((name : List ℕ) → AddsPlacesUpTo most (test_of test.now) document name body.now
         (lines_of_document name body.now) places.old.items places.new.items) }
+    ensures called_off { IfErr result (IsCalledOffOnlyIf (W.has_said_no watch.new)) }
 {
     let mut rest = body.as_bytes();
     let mut offset = 0;

@@ -1,8 +1,9 @@
 //! The documents whose names pass the tests of a search.
 
-ghost use Rattle.std.specs.Prelude.{IfOk, map, take};
+ghost use Rattle.std.specs.Prelude.{IfOk, IfErr, map, take};
 ghost use Rattle.ere.specs.Tree.{form};
 ghost use Rattle.ere.specs.Limits.{IsWithinLimits};
+ghost use Rattle.search.specs.CalledOff.{IsCalledOffOnlyIf};
 ghost use Rattle.search.specs.Prepared.{pattern_of};
 ghost use Rattle.search.specs.Tests.{test_of};
 ghost use Rattle.search.specs.Selects.{Selects, IsNamed, IsNamedForAll};
@@ -28,7 +29,8 @@ pub(crate) fn named<W: Watch>(
     documents: Vec<SharedDocument>,
     watch: &mut W,
 ) -> Result<Vec<SharedDocument>, Unanswered>
-    ensures { IfOk result (λ kept. Selects (IsNamedForAll (pattern_of prepared.now).names) documents.items kept.items) }
+    ensures kept { IfOk result (λ kept. Selects (IsNamedForAll (pattern_of prepared.now).names) documents.items kept.items) }
+    ensures called_off { IfErr result (IsCalledOffOnlyIf (W.has_said_no watch.new)) }
 {
     let mut kept = documents;
     for test in &prepared.names {
@@ -44,9 +46,13 @@ fn with_names<W: Watch>(
     documents: Vec<SharedDocument>,
     watch: &mut W,
 ) -> Result<Vec<SharedDocument>, Unanswered>
-    ensures { IfOk result (λ kept. Selects (IsNamed (test_of test.now)) documents.items kept.items) }
+    ensures kept { IfOk result (λ kept. Selects (IsNamed (test_of test.now)) documents.items kept.items) }
+    ensures called_off { IfErr result (IsCalledOffOnlyIf (W.has_said_no watch.new)) }
 {
-    if documents.is_empty() || is_quick(&test.tree) {
+    if documents.as_slice().is_empty() {
+        return Ok(documents);
+    }
+    if is_quick(&test.tree) {
         // Names are short, so compiling the pattern does not pay.
         let mut way = Way::Matcher;
         return with_names_by(alloc, test, &mut way, documents, watch);
@@ -65,7 +71,8 @@ fn with_names_by<W: Watch>(
     watch: &mut W,
 ) -> Result<Vec<SharedDocument>, Unanswered>
     requires { Finds (form test.now.tree) way.old }
-    ensures { IfOk result (λ kept. Selects (IsNamed (test_of test.now)) documents.items kept.items) }
+    ensures kept { IfOk result (λ kept. Selects (IsNamed (test_of test.now)) documents.items kept.items) }
+    ensures called_off { IfErr result (IsCalledOffOnlyIf (W.has_said_no watch.new)) }
 {
     let mut kept = Vec::new(alloc);
     for document in documents {

@@ -2,10 +2,10 @@
 
 ghost use Rattle.std.specs.Prelude.{◌≡◌, ◌≢◌, ◌∷◌, [], map, IfOk, IfErr, MatchBool};
 ghost use Rattle.ere.specs.Tree.{Tree};
-ghost use Rattle.ere.specs.Limits.{HasNoTree, IsTreeOf};
+ghost use Rattle.ere.specs.Limits.{IsTreeOf};
 ghost use Rattle.query.specs.Query.{formula_of, is_met};
 ghost use Rattle.trigram.proofs.Sameness.{same-prop};
-ghost use Rattle.search.specs.Pattern.{with_match};
+ghost use Rattle.search.specs.Pattern.{IsTreeFault, with_match};
 ghost use Rattle.search.specs.Queries.{IsQueryOf};
 ghost use Rattle.search.specs.Scan.{can_have};
 ghost use Rattle.search.specs.Tests.{test_of};
@@ -49,8 +49,7 @@ pub struct WithinError {
 
 impl Prepared {
     ghost use Rattle.std.specs.Prelude.{◌≡◌, ◌≢◌, map, IfOk, IfErr, MatchBool};
-    ghost use Rattle.ere.specs.Limits.{HasNoTree};
-    ghost use Rattle.search.specs.Pattern.{IsPatternOf, IsPatternWithin, HasTree};
+    ghost use Rattle.search.specs.Pattern.{IsPatternOf, IsPatternWithin, IsTreeFault, HasTree};
     ghost use Rattle.search.specs.Prepared.{pattern_of, request_of};
     ghost use Rattle.search.specs.Queries.{IsQueryOf};
     ghost use Rattle.search.specs.Request.{all_lines_of};
@@ -64,7 +63,7 @@ impl Prepared {
     pub fn new(alloc: Global, pattern: &[u8]) -> Result<Prepared, EreError>
         ensures pattern { IfOk result (λ p. IsPatternOf Case.Exact pattern.now (pattern_of p)) }
         ensures request { IfOk result (λ p. request_of p ≡ all_lines_of (pattern_of p)) }
-        ensures refused { IfErr result (λ e. e.kind ≢ EreErrorKind.OutOfMemory → HasNoTree Case.Exact pattern.now) }
+        ensures refused { IfErr result (λ e. e.kind ≢ EreErrorKind.OutOfMemory → IsTreeFault Case.Exact pattern.now e) }
     {
         Prepared::with_case(alloc, pattern, Case::Exact)
     }
@@ -76,7 +75,7 @@ impl Prepared {
     pub fn with_case(alloc: Global, pattern: &[u8], case: Case) -> Result<Prepared, EreError>
         ensures pattern { IfOk result (λ p. IsPatternOf case pattern.now (pattern_of p)) }
         ensures request { IfOk result (λ p. request_of p ≡ all_lines_of (pattern_of p)) }
-        ensures refused { IfErr result (λ e. e.kind ≢ EreErrorKind.OutOfMemory → HasNoTree case pattern.now) }
+        ensures refused { IfErr result (λ e. e.kind ≢ EreErrorKind.OutOfMemory → IsTreeFault case pattern.now e) }
     {
         let (line, query) = analysed(alloc, pattern, case)?;
         Ok(Prepared::all_lines(line, Vec::new(alloc), query))
@@ -95,7 +94,7 @@ impl Prepared {
         ensures pattern { IfOk result (λ p. IsPatternWithin Case.Exact name_pattern.now pattern.now (pattern_of p)) }
         ensures request { IfOk result (λ p. request_of p ≡ all_lines_of (pattern_of p)) }
         ensures refused { IfErr result (λ e. e.error.kind ≢ EreErrorKind.OutOfMemory →
-            MatchBool e.in_name (HasNoTree Case.Exact name_pattern.now) (HasTree Case.Exact name_pattern.now × HasNoTree Case.Exact pattern.now)) }
+            MatchBool e.in_name (IsTreeFault Case.Exact name_pattern.now e.error) (HasTree Case.Exact name_pattern.now × IsTreeFault Case.Exact pattern.now e.error)) }
     {
         Prepared::within_with_case(alloc, name_pattern, pattern, Case::Exact)
     }
@@ -114,7 +113,7 @@ impl Prepared {
         ensures pattern { IfOk result (λ p. IsPatternWithin case name_pattern.now pattern.now (pattern_of p)) }
         ensures request { IfOk result (λ p. request_of p ≡ all_lines_of (pattern_of p)) }
         ensures refused { IfErr result (λ e. e.error.kind ≢ EreErrorKind.OutOfMemory →
-            MatchBool e.in_name (HasNoTree Case.Exact name_pattern.now) (HasTree Case.Exact name_pattern.now × HasNoTree case pattern.now)) }
+            MatchBool e.in_name (IsTreeFault Case.Exact name_pattern.now e.error) (HasTree Case.Exact name_pattern.now × IsTreeFault case pattern.now e.error)) }
     {
         let names = match name_tests(alloc, name_pattern) {
             Ok(names) => names,
@@ -156,7 +155,7 @@ impl Prepared {
 /// The tests of names with a match of the pattern.
 fn name_tests(alloc: Global, name_pattern: &[u8]) -> Result<Vec<Test>, EreError>
     ensures tests { IfOk result (λ tests. (tree : Tree) × IsTreeOf Case.Exact name_pattern.now tree × (map test_of tests.items ≡ with_match tree ∷ [])) }
-    ensures refused { IfErr result (λ e. e.kind ≢ EreErrorKind.OutOfMemory → HasNoTree Case.Exact name_pattern.now) }
+    ensures refused { IfErr result (λ e. e.kind ≢ EreErrorKind.OutOfMemory → IsTreeFault Case.Exact name_pattern.now e) }
 {
     let tree = parse(alloc, name_pattern)?;
     let mut names = Vec::new(alloc);
@@ -173,7 +172,7 @@ fn name_tests(alloc: Global, name_pattern: &[u8]) -> Result<Vec<Test>, EreError>
 fn analysed(alloc: Global, pattern: &[u8], case: Case) -> Result<(Test, Query), EreError>
     ensures test { IfOk result (λ both. (tree : Tree) × IsTreeOf case pattern.now tree × (test_of both.0 ≡ with_match tree)) }
     ensures query { IfOk result (λ both. IsQueryOf (test_of both.0) both.1) }
-    ensures refused { IfErr result (λ e. e.kind ≢ EreErrorKind.OutOfMemory → HasNoTree case pattern.now) }
+    ensures refused { IfErr result (λ e. e.kind ≢ EreErrorKind.OutOfMemory → IsTreeFault case pattern.now e) }
 {
     let tree = parse_with(alloc, pattern, case)?;
     match analyse(alloc, &tree) {

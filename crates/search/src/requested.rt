@@ -1,12 +1,14 @@
 //! Searches with options.
 
 ghost use Rattle.std.specs.Prelude.{◌≡◌, ◌≢◌, ◌++◌, ◌∷◌, [], ℕ, List, Some, None, if◌then◌else◌, IfOk, IfErr, OnOk, map, option_map};
-ghost use Rattle.ere.specs.Limits.{HasNoTree, IsWithinLimits};
+ghost use Rattle.ere.specs.Edges.{IsSizeFault};
+ghost use Rattle.ere.specs.Limits.{IsWithinLimits};
+ghost use Rattle.ere.specs.Literal.{IsPatternText, NamesTextFault};
 ghost use Rattle.ere.specs.Tree.{Tree, form};
 ghost use Rattle.request.specs.Shown.{shown_options, shown_test};
-ghost use Rattle.search.specs.Pattern.{Test as TestValue};
+ghost use Rattle.search.specs.Pattern.{IsTreeFault, Test as TestValue};
 ghost use Rattle.search.specs.Queries.{IsQueryOf};
-ghost use Rattle.search.specs.Request.{AreTestsOf, asked_tree, asks_for_words, IsReadAs, IsRequestFault, IsTestOf, IsTreeFor};
+ghost use Rattle.search.specs.Request.{AreTestsOf, asked_tree, asks_for_words, IsPatternFault, IsReadAs, IsRequestFault, IsTestOf, IsTreeFor};
 ghost use Rattle.search.specs.Tests.{test_of};
 
 use crate::asked::Test;
@@ -50,7 +52,7 @@ impl Prepared {
     pub fn find(alloc: Global, find: &Find<'_>) -> Result<Prepared, FindError>
         ensures request { IfOk result (λ p. IsRequestOf (shown_options find.now.options) find.now.pattern.now (request_of p)) }
         ensures refused { IfErr result (λ e. e.error.kind ≢ EreErrorKind.OutOfMemory →
-            IsRequestFault (shown_options find.now.options) find.now.pattern.now e.name) }
+            IsRequestFault (shown_options find.now.options) find.now.pattern.now e.name e.error) }
     {
         let options = &find.options;
         let names = tests_of(alloc, options)?;
@@ -73,7 +75,7 @@ impl Prepared {
 fn tests_of(alloc: Global, options: &FindOptions<'_>) -> Result<Vec<Test>, FindError>
     ensures tests { IfOk result (λ tests. AreTestsOf options.now.name_case (shown_options options.now).names (map test_of tests.items)) }
     ensures refused { IfErr result (λ e. e.error.kind ≢ EreErrorKind.OutOfMemory →
-        (text : List ℕ) → IsRequestFault (shown_options options.now) text e.name) }
+        (text : List ℕ) → IsRequestFault (shown_options options.now) text e.name e.error) }
 {
     let names = options.names.as_slice();
     let mut tests = Vec::new(alloc);
@@ -98,7 +100,7 @@ fn add_test(
 ) -> Result<(), EreError>
     ensures test { OnOk result ((test : TestValue) × IsTestOf case (shown_test name.now) test
         × (map test_of tests.new.items ≡ map test_of tests.old.items ++ test ∷ [])) }
-    ensures refused { IfErr result (λ e. e.kind ≢ EreErrorKind.OutOfMemory → HasNoTree case name.now.pattern.now) }
+    ensures refused { IfErr result (λ e. e.kind ≢ EreErrorKind.OutOfMemory → IsTreeFault case name.now.pattern.now e) }
 {
     let tree = parse_with(alloc, name.pattern, case)?;
     let inverted = !name.wanted;
@@ -112,8 +114,7 @@ fn asked_of(alloc: Global, options: &FindOptions<'_>, text: &[u8]) -> Result<Ask
         × (test_of asked.line ≡ record { tree = asked_tree (shown_options options.now) tree; inverted = options.now.invert })
         × (option_map (λ test. form test.tree) asked.word ≡ if asks_for_words (shown_options options.now) then Some tree else None)) }
     ensures query { IfOk result (λ asked. IsQueryOf (test_of asked.line) asked.query) }
-    ensures refused { IfErr result (λ e. e.kind ≢ EreErrorKind.OutOfMemory →
-        (tree : Tree) → IsTreeFor (shown_options options.now) text.now tree → ⊥) }
+    ensures refused { IfErr result (λ e. e.kind ≢ EreErrorKind.OutOfMemory → IsPatternFault (shown_options options.now) text.now e) }
 {
     let tree = line_tree_of(alloc, options, text)?;
     let line = Test {
@@ -130,8 +131,7 @@ fn line_tree_of(alloc: Global, options: &FindOptions<'_>, text: &[u8]) -> Result
     ensures tree { IfOk result (λ e. (tree : Tree) × IsTreeFor (shown_options options.now) text.now tree
         × (form e ≡ asked_tree (shown_options options.now) tree)) }
     ensures limits { IfOk result (λ e. IsWithinLimits (form e)) }
-    ensures refused { IfErr result (λ e. e.kind ≢ EreErrorKind.OutOfMemory →
-        (tree : Tree) → IsTreeFor (shown_options options.now) text.now tree → ⊥) }
+    ensures refused { IfErr result (λ e. e.kind ≢ EreErrorKind.OutOfMemory → IsPatternFault (shown_options options.now) text.now e) }
 {
     let tree = read_tree(alloc, options, text)?;
     one_tree();
@@ -167,6 +167,8 @@ fn asks_for_words(options: &FindOptions<'_>) -> bool
 fn read_tree(alloc: Global, options: &FindOptions<'_>, text: &[u8]) -> Result<Ere, EreError>
     ensures tree { IfOk result (λ e. IsReadAs options.now.literal options.now.case text.now (form e)) }
     ensures limits { IfOk result (λ e. IsWithinLimits (form e)) }
+    ensures allowed { OnOk result (IsPatternText text.now) }
+    ensures bytes { IfErr result (λ e. e.kind ≢ EreErrorKind.OutOfMemory → NamesTextFault text.now e) }
     ensures refused { IfErr result (λ e. e.kind ≢ EreErrorKind.OutOfMemory →
         (tree : Tree) → IsReadAs options.now.literal options.now.case text.now tree → ⊥) }
 {
@@ -181,7 +183,7 @@ fn edged(alloc: Global, options: &FindOptions<'_>, tree: Ere) -> Result<Ere, Ere
     requires { IsWithinLimits (form tree) }
     ensures ok { IfOk result (λ e. (form e ≡ asked_tree (shown_options options.now) (form tree)) × IsWithinLimits (form e)) }
     ensures refused { IfErr result (λ e. e.kind ≢ EreErrorKind.OutOfMemory →
-        IsWithinLimits (asked_tree (shown_options options.now) (form tree)) → ⊥) }
+        IsSizeFault (asked_tree (shown_options options.now) (form tree)) e) }
 {
     if options.whole_lines {
         return as_line(alloc, tree);

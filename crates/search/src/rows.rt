@@ -1,36 +1,34 @@
 //! The rows of one document.
 
-ghost use Rattle.std.specs.Prelude.{◌≡◌, ◌<◌, ◌≤◌, ◌+◌, ◌++◌, ◌∷◌, Bool, List, filter, length, map, nat_le, is_some, IfOk, OnOk};
+ghost use Rattle.std.specs.Prelude.{◌≡◌, ◌<◌, ◌≤◌, ◌+◌, ◌++◌, ◌∷◌, Bool, List, filter, length, map, nat_le, is_some, IfOk, IfErr, OnOk};
 ghost use Rattle.std.specs.List.{All};
 ghost use Rattle.std.specs.List.Sorted.{IsStrictlyIncreasing};
-ghost use Rattle.ere.specs.Tree.{form};
 ghost use Rattle.lines.specs.Lines.{lines_of};
-ghost use Rattle.matcher.specs.FirstSpan.{AreSpans};
-ghost use Rattle.matcher.specs.declared.spans.Span.{Span};
+ghost use Rattle.spans.specs.FirstSpan.{AreSpans};
+ghost use Rattle.spans.specs.declared.span.Span.{Span};
+ghost use Rattle.search.specs.CalledOff.{IsCalledOffOnlyIf};
 ghost use Rattle.search.specs.Hits.{hit_of};
 ghost use Rattle.search.specs.Prepared.{request_of};
 ghost use Rattle.search.specs.Text.{text_of_place, text_of_row, text_of_rows, text_of_span, text_of_spans};
 ghost use Rattle.search.specs.View.{Row, hit, at_column, near, name, count, IsColumnRow, IsSpansRow, RowsOf, shown_tree, stretches};
 ghost use Rattle.search.specs.Private.Rows.{AreRowsOf, begins_at, gap_before, row_at, rows_of_line};
-ghost use Rattle.search.specs.Private.Seekers.{Seeks};
+ghost use Rattle.search.specs.Private.Seekers.{CanShow, IsOneLine, Seeks};
 
-use crate::asked::Test;
 use crate::pattern::Prepared;
 use crate::places::{Hit, Lines};
 use crate::seeker::Seeker;
 use crate::text::{after_name, append_all, append_hit, append_lines};
 use crate::unanswered::Unanswered;
-use crate::watch::{Watch, ask};
+use crate::watch::Watch;
 use index::SharedDocument;
 use itoa::Buffer;
-use lines::MAX_LINE;
-use matcher::Span;
 use memchr::memchr;
 use request::View;
-use std::alloc::{AllocError, Global};
+use spans::Span;
+use std::alloc::AllocError;
 
-/// Appends the rows of one document, of which these hits are shown; returns how many rows they are. `watch` is asked
-/// whether the answer is wanted before each column and each span is looked for.
+/// Appends the rows of one document, of which these hits are shown; returns how many rows they are. `seeker` finds the
+/// matches within lines, if these are shown. `watch` is asked whether the answer is wanted before each pass over a line.
 ///
 /// `CalledOff` is returned once `watch` says that the answer is not wanted, and `OutOfMemory` means that memory ran
 /// out. After an `Err`, `out` has any bytes.
@@ -39,18 +37,30 @@ pub(crate) fn append_rows<W: Watch>(
     prepared: &Prepared,
     document: &SharedDocument,
     hits: &Lines<'_>,
+    seeker: &mut Option<Seeker<'_>>,
     watch: &mut W,
 ) -> Result<usize, Unanswered>
     requires rising { IsStrictlyIncreasing (map (λ h. h.line) hits.now) }
-    requires short { All (λ h. length h.text ≤ MAX_LINE) hits.now }
-    ensures { IfOk result (λ n. (rows : List Row) × AreRowsOf (request_of prepared.now) prepared.now.view document.now.name document.now.held hits.now rows
+    requires lines { All (λ h. IsOneLine h.text) hits.now }
+    requires seeker { CanShow prepared.now seeker.old }
+    ensures seeker { CanShow prepared.now seeker.new }
+    ensures rows { IfOk result (λ n. (rows : List Row) × AreRowsOf (request_of prepared.now) prepared.now.view document.now.name document.now.held hits.now rows
         × (n ≡ length rows) × (out.new.items ≡ out.old.items ++ text_of_rows prepared.now.zero rows)) }
+    ensures called_off { IfErr result (IsCalledOffOnlyIf (W.has_said_no watch.new)) }
 {
     match prepared.view {
         View::Lines => Ok(append_hits(out, prepared.zero, hits)?),
         View::Context(most) => Ok(append_stretches(out, prepared.zero, most, document, hits)?),
-        View::Column => append_columns(out, prepared, hits, watch),
-        View::Spans => append_spanned(out, prepared, hits, watch),
+        View::Column => match seeker {
+            Some(seeker) => append_columns(out, prepared, hits, seeker, watch),
+            // There is one.
+            None => Ok(0),
+        },
+        View::Spans => match seeker {
+            Some(seeker) => append_spanned(out, prepared, hits, seeker, watch),
+            // There is one.
+            None => Ok(0),
+        },
         View::Names => Ok(append_name(out, prepared.zero, document)?),
         View::Counts => Ok(append_count(out, prepared.zero, document, hits.len())?),
         View::Header => Ok(0),
@@ -221,23 +231,14 @@ fn append_place(out: &mut Vec<u8>, zero: bool, after: u8, line: &Hit<'_>) -> Res
 
 // ---- matches within lines
 
-/// The test whose matches are shown, and whether they must be whole words.
-fn shown_test(prepared: &Prepared) -> (&Test, bool)
-    ensures tree { form result.0.now.tree ≡ shown_tree (request_of prepared.now) }
-    ensures whole_words { result.1 ≡ is_some (request_of prepared.now).word }
+/// Whether the matches that are shown must be whole words.
+fn shows_words(prepared: &Prepared) -> bool
+    ensures { result ≡ is_some (request_of prepared.now).word }
 {
     match &prepared.word {
-        Some(word) => (word, true),
-        None => (&prepared.line, false),
+        Some(_) => true,
+        None => false,
     }
-}
-
-/// The way in which the matches that are shown are looked for. An `Err` means that there is no memory for it.
-fn shown_seeker(alloc: Global, prepared: &Prepared) -> Result<Seeker, AllocError>
-    ensures { IfOk result (Seeks (shown_tree (request_of prepared.now))) }
-{
-    let (test, _) = shown_test(prepared);
-    Seeker::new(alloc, &test.tree)
 }
 
 /// Appends each hit with the column of its first match.
@@ -245,37 +246,40 @@ fn append_columns<W: Watch>(
     out: &mut Vec<u8>,
     prepared: &Prepared,
     hits: &Lines<'_>,
+    seeker: &mut Seeker<'_>,
     watch: &mut W,
 ) -> Result<usize, Unanswered>
-    requires { All (λ h. length h.text ≤ MAX_LINE) hits.now }
-    ensures { IfOk result (λ n. (rows : List Row) × RowsOf (IsColumnRow (request_of prepared.now)) hits.now rows
+    requires lines { All (λ h. IsOneLine h.text) hits.now }
+    requires seeks { Seeks (shown_tree (request_of prepared.now)) seeker.old }
+    ensures seeks { Seeks (shown_tree (request_of prepared.now)) seeker.new }
+    ensures rows { IfOk result (λ n. (rows : List Row) × RowsOf (IsColumnRow (request_of prepared.now)) hits.now rows
         × (n ≡ length rows) × (out.new.items ≡ out.old.items ++ text_of_rows prepared.now.zero rows)) }
+    ensures called_off { IfErr result (IsCalledOffOnlyIf (W.has_said_no watch.new)) }
 {
-    let mut seeker = shown_seeker(*out.allocator(), prepared)?;
     for found in hits.again() {
-        ask(watch)?;
-        append_column(out, prepared, &mut seeker, &found)?;
+        append_column(out, prepared, seeker, &found, watch)?;
     }
     Ok(hits.len())
 }
 
 /// Appends a hit with the column of its first match, if it has one.
-fn append_column(
+fn append_column<W: Watch>(
     out: &mut Vec<u8>,
     prepared: &Prepared,
-    seeker: &mut Seeker,
+    seeker: &mut Seeker<'_>,
     found: &Hit<'_>,
-) -> Result<(), AllocError>
-    requires short { length found.now.text.now ≤ MAX_LINE }
+    watch: &mut W,
+) -> Result<(), Unanswered>
+    requires one_line { IsOneLine found.now.text.now }
     requires seeks { Seeks (shown_tree (request_of prepared.now)) seeker.old }
     ensures seeks { Seeks (shown_tree (request_of prepared.now)) seeker.new }
     ensures row { OnOk result ((row : Row) × IsColumnRow (request_of prepared.now) (hit_of found.now) row
         × (out.new.items ≡ out.old.items ++ text_of_row prepared.now.zero row)) }
+    ensures called_off { IfErr result (IsCalledOffOnlyIf (W.has_said_no watch.new)) }
 {
-    let (test, whole_words) = shown_test(prepared);
-    match seeker.first_start(&test.tree, found.text, whole_words) {
-        Some(start) => append_at_column(out, prepared.zero, start + 1, found),
-        None => append_hit(out, prepared.zero, found),
+    match seeker.first_start(found.text, shows_words(prepared), watch)? {
+        Some(start) => Ok(append_at_column(out, prepared.zero, start + 1, found)?),
+        None => Ok(append_hit(out, prepared.zero, found)?),
     }
 }
 
@@ -307,15 +311,18 @@ fn append_spanned<W: Watch>(
     out: &mut Vec<u8>,
     prepared: &Prepared,
     hits: &Lines<'_>,
+    seeker: &mut Seeker<'_>,
     watch: &mut W,
 ) -> Result<usize, Unanswered>
-    requires { All (λ h. length h.text ≤ MAX_LINE) hits.now }
-    ensures { IfOk result (λ n. (rows : List Row) × RowsOf (IsSpansRow (request_of prepared.now)) hits.now rows
+    requires lines { All (λ h. IsOneLine h.text) hits.now }
+    requires seeks { Seeks (shown_tree (request_of prepared.now)) seeker.old }
+    ensures seeks { Seeks (shown_tree (request_of prepared.now)) seeker.new }
+    ensures rows { IfOk result (λ n. (rows : List Row) × RowsOf (IsSpansRow (request_of prepared.now)) hits.now rows
         × (n ≡ length rows) × (out.new.items ≡ out.old.items ++ text_of_rows prepared.now.zero rows)) }
+    ensures called_off { IfErr result (IsCalledOffOnlyIf (W.has_said_no watch.new)) }
 {
-    let mut seeker = shown_seeker(*out.allocator(), prepared)?;
     for found in hits.again() {
-        append_with_spans(out, prepared, &mut seeker, &found, watch)?;
+        append_with_spans(out, prepared, seeker, &found, watch)?;
     }
     Ok(hits.len())
 }
@@ -325,43 +332,44 @@ fn append_spanned<W: Watch>(
 fn append_with_spans<W: Watch>(
     out: &mut Vec<u8>,
     prepared: &Prepared,
-    seeker: &mut Seeker,
+    seeker: &mut Seeker<'_>,
     found: &Hit<'_>,
     watch: &mut W,
 ) -> Result<(), Unanswered>
-    requires short { length found.now.text.now ≤ MAX_LINE }
+    requires one_line { IsOneLine found.now.text.now }
     requires seeks { Seeks (shown_tree (request_of prepared.now)) seeker.old }
     ensures seeks { Seeks (shown_tree (request_of prepared.now)) seeker.new }
     ensures row { OnOk result ((row : Row) × IsSpansRow (request_of prepared.now) (hit_of found.now) row
         × (out.new.items ≡ out.old.items ++ text_of_row prepared.now.zero row)) }
+    ensures called_off { IfErr result (IsCalledOffOnlyIf (W.has_said_no watch.new)) }
 {
     append_place(out, prepared.zero, b':', found)?;
-    let (test, whole_words) = shown_test(prepared);
-    append_spans(out, test, seeker, found.text, whole_words, watch)?;
+    append_spans(out, prepared, seeker, found.text, watch)?;
     append_all(out, &[b":".as_slice(), found.text, b"\n".as_slice()])?;
     Ok(())
 }
 
-/// Appends the spans of a line, with commas between them. `watch` is asked before each is looked for.
+/// Appends the spans of a line, with commas between them.
 fn append_spans<W: Watch>(
     out: &mut Vec<u8>,
-    test: &Test,
-    seeker: &mut Seeker,
+    prepared: &Prepared,
+    seeker: &mut Seeker<'_>,
     line: &[u8],
-    whole_words: bool,
     watch: &mut W,
 ) -> Result<(), Unanswered>
-    requires short { length line.now ≤ MAX_LINE }
-    requires seeks { Seeks (form test.now.tree) seeker.old }
-    ensures seeks { Seeks (form test.now.tree) seeker.new }
-    ensures spans { OnOk result ((spans : List Span) × AreSpans line.now (form test.now.tree) whole_words 0 spans
+    requires one_line { IsOneLine line.now }
+    requires seeks { Seeks (shown_tree (request_of prepared.now)) seeker.old }
+    ensures seeks { Seeks (shown_tree (request_of prepared.now)) seeker.new }
+    ensures spans { OnOk result ((spans : List Span)
+        × AreSpans line.now (shown_tree (request_of prepared.now)) (is_some (request_of prepared.now).word) 0 spans
         × (out.new.items ≡ out.old.items ++ text_of_spans spans)) }
+    ensures called_off { IfErr result (IsCalledOffOnlyIf (W.has_said_no watch.new)) }
 {
+    let whole_words = shows_words(prepared);
     let mut from = 0;
     let mut before = b"".as_slice();
     loop {
-        ask(watch)?;
-        let Some(span) = seeker.first_span(&test.tree, line, from, whole_words) else {
+        let Some(span) = seeker.first_span(line, from, whole_words, watch)? else {
             return Ok(());
         };
         append_span(out, before, span)?;

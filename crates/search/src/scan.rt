@@ -1,6 +1,7 @@
 //! Searches of an index.
 
-ghost use Rattle.std.specs.Prelude.{IfOk};
+ghost use Rattle.std.specs.Prelude.{IfOk, IfErr};
+ghost use Rattle.search.specs.CalledOff.{IsCalledOffOnlyIf};
 ghost use Rattle.search.specs.Scan.{IsAnswerOf};
 ghost use Rattle.search.specs.Prepared.{pattern_of};
 
@@ -34,7 +35,8 @@ pub fn find_watched<W: Watch>(
     prepared: &Prepared,
     watch: &mut W,
 ) -> Result<Answer, Unanswered>
-    ensures { IfOk result (λ answer. IsAnswerOf index.now (pattern_of prepared.now) answer) }
+    ensures answer { IfOk result (λ answer. IsAnswerOf index.now (pattern_of prepared.now) answer) }
+    ensures called_off { IfErr result (IsCalledOffOnlyIf (W.has_said_no watch.new)) }
 {
     take(alloc, index, prepared)?.answer_watched(alloc, watch)
 }

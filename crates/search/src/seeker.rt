@@ -1,74 +1,379 @@
-//! The ways in which the matches within a line are looked for.
+//! How the matches within a line are looked for.
 
+ghost use Rattle.std.specs.Prelude.{◌≡◌, ◌<◌, ◌≤◌, ℕ, length, IfOk, IfErr, IfSome, MatchOption};
+ghost use Rattle.ere.specs.Tree.{Tree, form};
+ghost use Rattle.finder.specs.Patterns.{IsCompiledFrom, IsFinderOf};
+ghost use Rattle.simulation.specs.Simulations.{IsSimulationOf};
+ghost use Rattle.spans.specs.FirstSpan.{HasNoSpan, IsFirstSpan};
+ghost use Rattle.spans.specs.FirstStart.{HasNoStart, IsFirstStart};
+ghost use Rattle.spans.specs.Passes.{NoSpanBegins, SomeSpanBegins};
+ghost use Rattle.search.specs.CalledOff.{IsCalledOffOnlyIf};
+ghost use Rattle.search.specs.Prepared.{request_of};
+ghost use Rattle.search.specs.Private.Seekers.{CanShow, IsLeastStart, IsOneLine, IsTried, shows_matches};
+ghost use Rattle.search.specs.View.{shown_tree};
+
+use crate::asked::Test;
+use crate::pattern::Prepared;
+use crate::unanswered::Unanswered;
+use crate::watch::{Watch, ask};
+use crate::way::compile;
 use ere::Ere;
-use lines::MAX_LINE;
-use matcher::{Span, first_span, first_start, is_quick};
+use finder::{Compiled, Finder};
+use request::View;
 use simulation::Simulation;
+use spans::Span;
 use std::alloc::{AllocError, Global};
 
-/// How the matches of a tree within a line are looked for. Both ways find the same matches.
+/// How many starts of matches are tried, each as the start of a span. Almost always the first one is a span's. If none of
+/// these is, the start is found by halving, so that the number of passes over a line is bounded.
+const TRIES: usize = 4;
+
+/// What looks for the matches of a tree within a line.
 #[derive(Drop)]
-pub enum Seeker {
-    /// By the matcher, for a tree for which a line costs it few steps.
-    Matcher,
-    /// By the simulation, for any other tree. Its time for a byte is bounded for every tree.
-    Simulation(Simulation),
+pub struct Seeker<'p> {
+    /// Finds where matches begin, if the tree's pattern is compiled.
+    pub(crate) finder: Option<Finder<'p>>,
+    /// Finds where matches end, and where they begin if the finder does not say it.
+    pub(crate) simulation: Simulation,
 }
 
-impl Seeker {
-    ghost use Rattle.std.specs.Prelude.{◌≤◌, IfOk, MatchOption, length};
-    ghost use Rattle.ere.specs.Limits.{IsWithinLimits};
-    ghost use Rattle.ere.specs.Tree.{form};
-    ghost use Rattle.matcher.specs.FirstSpan.{HasNoSpan, IsFirstSpan};
-    ghost use Rattle.matcher.specs.FirstStart.{HasNoStart, IsFirstStart};
-    ghost use Rattle.search.specs.Private.Seekers.{Seeks};
+/// What is known of the first span after some starts were tried.
+enum Tried {
+    /// It is this one.
+    Span(Span),
+    /// It begins at this offset or later, if there is one.
+    From(usize),
+}
 
-    /// The way for the tree: the matcher if the tree is quick, and otherwise the simulation. An `Err` means that there is no
-    /// memory for the simulation.
-    pub fn new(alloc: Global, tree: &Ere) -> Result<Seeker, AllocError>
-        requires { IsWithinLimits (form tree.now) }
+impl<'p> Seeker<'p> {
+    ghost use Rattle.std.specs.Prelude.{◌≡◌, ◌≤◌, IfOk, IfErr, IfSome, MatchOption};
+    ghost use Rattle.ere.specs.Limits.{IsWithinLimits};
+    ghost use Rattle.ere.specs.Tree.{Tree, form};
+    ghost use Rattle.finder.specs.Patterns.{IsCompiledFrom};
+    ghost use Rattle.spans.specs.FirstSpan.{HasNoSpan, IsFirstSpan};
+    ghost use Rattle.spans.specs.FirstStart.{HasNoStart, IsFirstStart};
+    ghost use Rattle.search.specs.CalledOff.{IsCalledOffOnlyIf};
+    ghost use Rattle.search.specs.Private.Seekers.{IsOneLine, IsTried, Seeks};
+
+    /// A seeker of the tree's matches. It uses the compiled pattern of the tree, if there is one and there is memory for it.
+    ///
+    /// An `Err` means that there is no memory for the simulation.
+    pub fn new(
+        alloc: Global,
+        tree: &Ere,
+        compiled: &'p Option<Compiled>,
+    ) -> Result<Seeker<'p>, AllocError>
+        requires limits { IsWithinLimits (form tree.now) }
+        requires compiled { IfSome compiled.now (IsCompiledFrom (form tree.now)) }
         ensures { IfOk result (Seeks (form tree.now)) }
     {
-        if is_quick(tree) {
-            return Ok(Seeker::Matcher);
-        }
-        let simulation = Simulation::new(alloc, tree)?;
-        Ok(Seeker::Simulation(simulation))
+        Ok(Seeker {
+            finder: finder_by(alloc, compiled),
+            simulation: Simulation::new(alloc, tree)?,
+        })
     }
 
-    /// What `matcher::first_span` finds: the first part of the line from the offset `from` on that is a match of the tree and
-    /// not empty, or `None` if there is none. This must be the way for the tree.
-    pub fn first_span(
+    /// The first part of the line from the offset `from` on that is a match and not empty: of these the ones that begin
+    /// leftmost, and of them the longest (POSIX.1-2017 XBD 9.1). With `whole_words` only parts with no letter, digit or `_`
+    /// right before them and right after them count. `None` if there is no such part. The line has no line feed.
+    ///
+    /// The line is passed over a few times or, if the start is found by halving, up to some thirty times for a line of 16,384
+    /// bytes. `watch` is asked before each pass: `CalledOff` means that it said that the answer is not wanted.
+    pub fn first_span<W: Watch>(
         &mut self,
-        tree: &Ere,
         line: &[u8],
         from: usize,
         whole_words: bool,
-    ) -> Option<Span>
-        requires limits { IsWithinLimits (form tree.now) }
-        requires short { length line.now ≤ MAX_LINE }
-        requires seeks { Seeks (form tree.now) self.old }
-        ensures seeks { Seeks (form tree.now) self.new }
-        ensures found { MatchOption result (HasNoSpan line.now (form tree.now) whole_words from) (IsFirstSpan line.now (form tree.now) whole_words from) }
+        watch: &mut W,
+    ) -> Result<Option<Span>, Unanswered>
+        requires one_line { IsOneLine line.now }
+        requires seeks { (tree : Tree) × Seeks tree self.old }
+        ensures same { (tree : Tree) → Seeks tree self.old → Seeks tree self.new }
+        ensures found { IfOk result (λ found. (tree : Tree) → Seeks tree self.old
+            → MatchOption found (HasNoSpan line.now tree whole_words from) (IsFirstSpan line.now tree whole_words from)) }
+        ensures called_off { IfErr result (IsCalledOffOnlyIf (W.has_said_no watch.new)) }
     {
-        match self {
-            Seeker::Matcher => first_span(tree, line, from, whole_words),
-            Seeker::Simulation(simulation) => simulation.first_span(line, from, whole_words),
+        let next = match self.try_starts(line, from, whole_words, watch)? {
+            Tried::Span(span) => return Ok(Some(span)),
+            Tried::From(next) => next,
+        };
+        halved_span(&mut self.simulation, line, next, whole_words, watch)
+    }
+
+    /// Where the leftmost match in the line begins (POSIX.1-2017 XBD 9.1), as an offset from 0 to the line's length. The match
+    /// can be empty. With `whole_words` only matches with no letter, digit or `_` right before them and right after them
+    /// count. `None` if the line has no such match. The line has no line feed.
+    ///
+    /// `watch` is asked before each pass over the line: `CalledOff` means that it said that the answer is not wanted.
+    pub fn first_start<W: Watch>(
+        &mut self,
+        line: &[u8],
+        whole_words: bool,
+        watch: &mut W,
+    ) -> Result<Option<usize>, Unanswered>
+        requires one_line { IsOneLine line.now }
+        requires seeks { (tree : Tree) × Seeks tree self.old }
+        ensures same { (tree : Tree) → Seeks tree self.old → Seeks tree self.new }
+        ensures found { IfOk result (λ found. (tree : Tree) → Seeks tree self.old
+            → MatchOption found (HasNoStart line.now tree whole_words) (IsFirstStart line.now tree whole_words)) }
+        ensures called_off { IfErr result (IsCalledOffOnlyIf (W.has_said_no watch.new)) }
+    {
+        if whole_words {
+            return halved_start(&mut self.simulation, line, true, watch);
+        }
+        match &mut self.finder {
+            Some(finder) => {
+                ask(watch)?;
+                Ok(finder.next_start(line, 0))
+            }
+            None => halved_start(&mut self.simulation, line, false, watch),
         }
     }
 
-    /// What `matcher::first_start` finds: where the leftmost match of the tree in the line begins, which can be empty, or `None`
-    /// if there is none. This must be the way for the tree.
-    pub fn first_start(&mut self, tree: &Ere, line: &[u8], whole_words: bool) -> Option<usize>
-        requires limits { IsWithinLimits (form tree.now) }
-        requires short { length line.now ≤ MAX_LINE }
-        requires seeks { Seeks (form tree.now) self.old }
-        ensures seeks { Seeks (form tree.now) self.new }
-        ensures found { MatchOption result (HasNoStart line.now (form tree.now) whole_words) (IsFirstStart line.now (form tree.now) whole_words) }
+    /// Tries some starts of matches that the finder gives, from the offset `from` on, each as the start of a span.
+    fn try_starts<W: Watch>(
+        &mut self,
+        line: &[u8],
+        from: usize,
+        whole_words: bool,
+        watch: &mut W,
+    ) -> Result<Tried, Unanswered>
+        requires one_line { IsOneLine line.now }
+        requires seeks { (tree : Tree) × Seeks tree self.old }
+        ensures same { (tree : Tree) → Seeks tree self.old → Seeks tree self.new }
+        ensures tried { IfOk result (λ tried. (tree : Tree) → Seeks tree self.old → IsTried line.now tree whole_words from tried) }
+        ensures called_off { IfErr result (IsCalledOffOnlyIf (W.has_said_no watch.new)) }
     {
-        match self {
-            Seeker::Matcher => first_start(tree, line, whole_words),
-            Seeker::Simulation(simulation) => simulation.first_start(line, whole_words),
+        match &mut self.finder {
+            Some(finder) => try_each(finder, &mut self.simulation, line, from, whole_words, watch),
+            None => Ok(Tried::From(from)),
         }
     }
+}
+
+// ---- the seeker of what is shown
+
+/// The pattern of the tree without the edges of words, compiled, if its matches are shown. `None` also means that its tables
+/// would be too large, or that memory ran out.
+pub(crate) fn compile_word(alloc: Global, prepared: &Prepared) -> Option<Compiled>
+    ensures { IfSome (request_of prepared.now).word (λ tree. IfSome result (IsCompiledFrom tree)) }
+{
+    match &prepared.word {
+        Some(word) => {
+            if shows_matches(prepared.view) {
+                compile(alloc, &word.tree)
+            } else {
+                None
+            }
+        }
+        None => None,
+    }
+}
+
+/// The compiled pattern of the tree whose matches are shown: of the tree without the edges of words, if there is one, and
+/// otherwise of the test of lines.
+pub(crate) fn compiled_of_shown<'p>(
+    prepared: &Prepared,
+    line: &'p Option<Compiled>,
+    word: &'p Option<Compiled>,
+) -> &'p Option<Compiled>
+    requires line { IfSome line.now (IsCompiledFrom (form prepared.now.line.tree)) }
+    requires word { IfSome (request_of prepared.now).word (λ tree. IfSome word.now (IsCompiledFrom tree)) }
+    ensures { IfSome result.now (IsCompiledFrom (shown_tree (request_of prepared.now))) }
+{
+    if prepared.word.is_some() { word } else { line }
+}
+
+/// A seeker of the matches that are shown, or `None` if none are. It uses the compiled pattern of their tree, if there is one.
+///
+/// An `Err` means that there is no memory for the simulation.
+pub(crate) fn shown_seeker<'p>(
+    alloc: Global,
+    prepared: &Prepared,
+    compiled: &'p Option<Compiled>,
+) -> Result<Option<Seeker<'p>>, AllocError>
+    requires { IfSome compiled.now (IsCompiledFrom (shown_tree (request_of prepared.now))) }
+    ensures { IfOk result (CanShow prepared.now) }
+{
+    if !shows_matches(prepared.view) {
+        return Ok(None);
+    }
+    let seeker = Seeker::new(alloc, &shown_test(prepared).tree, compiled)?;
+    Ok(Some(seeker))
+}
+
+/// The test whose matches are shown.
+fn shown_test(prepared: &Prepared) -> &Test
+    ensures { form result.now.tree ≡ shown_tree (request_of prepared.now) }
+{
+    match &prepared.word {
+        Some(word) => word,
+        None => &prepared.line,
+    }
+}
+
+/// Whether columns or spans are shown.
+fn shows_matches(view: View) -> bool
+    ensures { result ≡ shows_matches view }
+{
+    match view {
+        View::Column | View::Spans => true,
+        _ => false,
+    }
+}
+
+// ---- a line
+
+/// A finder of the compiled pattern, if there is one and there is memory for it.
+fn finder_by<'p>(alloc: Global, compiled: &'p Option<Compiled>) -> Option<Finder<'p>>
+    ensures { (tree : Tree) → IfSome compiled.now (IsCompiledFrom tree) → IfSome result (IsFinderOf tree) }
+{
+    if let Some(compiled) = compiled {
+        if let Ok(finder) = Finder::new(alloc, compiled) {
+            return Some(finder);
+        }
+    }
+    None
+}
+
+/// Tries some starts of matches, from the offset `from` on, each as the start of a span.
+fn try_each<W: Watch>(
+    finder: &mut Finder<'_>,
+    simulation: &mut Simulation,
+    line: &[u8],
+    from: usize,
+    whole_words: bool,
+    watch: &mut W,
+) -> Result<Tried, Unanswered>
+    requires one_line { IsOneLine line.now }
+    requires simulation { (tree : Tree) × IsSimulationOf tree simulation.old }
+    ensures finder { (tree : Tree) → IsFinderOf tree finder.old → IsFinderOf tree finder.new }
+    ensures simulation { (tree : Tree) → IsSimulationOf tree simulation.old → IsSimulationOf tree simulation.new }
+    ensures tried { IfOk result (λ tried. (tree : Tree) → IsFinderOf tree finder.old → IsSimulationOf tree simulation.old
+        → IsTried line.now tree whole_words from tried) }
+    ensures called_off { IfErr result (IsCalledOffOnlyIf (W.has_said_no watch.new)) }
+{
+    let mut next = from;
+    let mut tries = 0;
+    while tries < TRIES && next < line.len() {
+        ask(watch)?;
+        let Some(start) = finder.next_start(line, next) else {
+            return Ok(Tried::From(line.len()));
+        };
+        ask(watch)?;
+        if let Some(end) = simulation.longest_end(line, start, whole_words) {
+            return Ok(Tried::Span(Span { start, end }));
+        }
+        next = start + 1;
+        tries += 1;
+    }
+    Ok(Tried::From(next))
+}
+
+/// The first span of the line from the offset `from` on, whose start is found by halving.
+fn halved_span<W: Watch>(
+    simulation: &mut Simulation,
+    line: &[u8],
+    from: usize,
+    whole_words: bool,
+    watch: &mut W,
+) -> Result<Option<Span>, Unanswered>
+    requires { (tree : Tree) × IsSimulationOf tree simulation.old }
+    ensures same { (tree : Tree) → IsSimulationOf tree simulation.old → IsSimulationOf tree simulation.new }
+    ensures found { IfOk result (λ found. (tree : Tree) → IsSimulationOf tree simulation.old
+        → MatchOption found (HasNoSpan line.now tree whole_words from) (IsFirstSpan line.now tree whole_words from)) }
+    ensures called_off { IfErr result (IsCalledOffOnlyIf (W.has_said_no watch.new)) }
+{
+    let Some(start) = least_start(simulation, line, from, line.len(), whole_words, watch)? else {
+        return Ok(None);
+    };
+    ask(watch)?;
+    match simulation.longest_end(line, start, whole_words) {
+        Some(end) => Ok(Some(Span { start, end })),
+        // A span begins there, so one ends.
+        None => Ok(None),
+    }
+}
+
+/// Where the leftmost match in the line begins, found by halving. It can be empty. `None` if there is none.
+fn halved_start<W: Watch>(
+    simulation: &mut Simulation,
+    line: &[u8],
+    whole_words: bool,
+    watch: &mut W,
+) -> Result<Option<usize>, Unanswered>
+    requires { (tree : Tree) × IsSimulationOf tree simulation.old }
+    ensures same { (tree : Tree) → IsSimulationOf tree simulation.old → IsSimulationOf tree simulation.new }
+    ensures found { IfOk result (λ found. (tree : Tree) → IsSimulationOf tree simulation.old
+        → MatchOption found (HasNoStart line.now tree whole_words) (IsFirstStart line.now tree whole_words)) }
+    ensures called_off { IfErr result (IsCalledOffOnlyIf (W.has_said_no watch.new)) }
+{
+    ask(watch)?;
+    let empty = simulation.first_empty(line, whole_words);
+    let past = empty.unwrap_or(line.len());
+    match least_start(simulation, line, 0, past, whole_words, watch)? {
+        Some(start) => Ok(Some(start)),
+        None => Ok(empty),
+    }
+}
+
+/// The least offset, from `from` on and before `past`, at which a span of the line begins, or `None` if none begins there.
+fn least_start<W: Watch>(
+    simulation: &mut Simulation,
+    line: &[u8],
+    from: usize,
+    past: usize,
+    whole_words: bool,
+    watch: &mut W,
+) -> Result<Option<usize>, Unanswered>
+    requires { (tree : Tree) × IsSimulationOf tree simulation.old }
+    ensures same { (tree : Tree) → IsSimulationOf tree simulation.old → IsSimulationOf tree simulation.new }
+    ensures found { IfOk result (λ found. (tree : Tree) → IsSimulationOf tree simulation.old
+        → MatchOption found (NoSpanBegins line.now tree whole_words from past) (IsLeastStart line.now tree whole_words from past)) }
+    ensures called_off { IfErr result (IsCalledOffOnlyIf (W.has_said_no watch.new)) }
+{
+    let mut first = from;
+    let mut width = 1;
+    while first < past {
+        // A block of positions, each twice as long as the one before, so that a start nearby is found soon.
+        let end = first.saturating_add(width).min(past);
+        ask(watch)?;
+        if simulation.has_span(line, first, end, whole_words) {
+            let start = least_of(simulation, line, first, end, whole_words, watch)?;
+            return Ok(Some(start));
+        }
+        first = end;
+        width = width.saturating_mul(2);
+    }
+    Ok(None)
+}
+
+/// The least offset, from `from` on and before `past`, at which a span of the line begins. There is one.
+fn least_of<W: Watch>(
+    simulation: &mut Simulation,
+    line: &[u8],
+    from: usize,
+    past: usize,
+    whole_words: bool,
+    watch: &mut W,
+) -> Result<usize, Unanswered>
+    requires simulation { (tree : Tree) × IsSimulationOf tree simulation.old }
+    requires ordered { from ≤ past }
+    ensures same { (tree : Tree) → IsSimulationOf tree simulation.old → IsSimulationOf tree simulation.new }
+    ensures found { IfOk result (λ start. (tree : Tree) → IsSimulationOf tree simulation.old → SomeSpanBegins line.now tree whole_words from past
+        → IsLeastStart line.now tree whole_words from past start) }
+    ensures called_off { IfErr result (IsCalledOffOnlyIf (W.has_said_no watch.new)) }
+{
+    let mut low = from;
+    let mut high = past;
+    while high - low > 1 {
+        let middle = low + (high - low) / 2;
+        ask(watch)?;
+        if simulation.has_span(line, low, middle, whole_words) {
+            high = middle;
+        } else {
+            low = middle;
+        }
+    }
+    Ok(low)
 }

@@ -1,7 +1,9 @@
 //! What is shown of documents, gathered in several parts side by side.
 
-ghost use Rattle.std.specs.Prelude.{◌≡◌, ◌≤◌, ◌++◌, true, false, length, drop, not, ◌+◌, List, IfOk, OnOk, IsTrue, ◌⊎◌};
+ghost use Rattle.std.specs.Prelude.{◌≡◌, ◌≤◌, ◌++◌, true, false, length, drop, not, ◌+◌, List, IfOk, IfErr, OnOk, IsTrue, ◌⊎◌};
 ghost use Rattle.index.specs.declared.document.SharedDocument.{SharedDocument};
+ghost use Rattle.search.specs.CalledOff.{IsCalledOffOnlyIf};
+ghost use Rattle.search.specs.declared.unanswered.Unanswered.TheVariants.{OutOfMemory};
 ghost use Rattle.search.specs.Private.Gathered.{HasGap, HaveOwnNames, Joins, cut_gap, gap_rows, left_from, shows_context, text_held, view_of};
 ghost use Rattle.search.specs.Parts.{text_of_parts};
 ghost use Rattle.search.specs.Text.{text_of_rows};
@@ -55,7 +57,8 @@ pub(crate) fn gather_side_by_side<R: Threads + Sync, W: Watch + Copy + Send>(
     ahead: usize,
     watch: W,
 ) -> Result<Joined, Unanswered>
-    ensures { IfOk result (λ joined. HaveOwnNames documents.now → Joins wanted.now wanted.now.limit documents.now joined) }
+    ensures joins { IfOk result (λ joined. HaveOwnNames documents.now → Joins wanted.now wanted.now.limit documents.now joined) }
+    ensures called_off { IfErr result (IsCalledOffOnlyIf ((w : W) × W.has_said_no w)) }
 {
     let parts = (bytes_of(documents) / PART).min(most).max(1);
     gather_parts(rt, alloc, wanted, documents, parts, ahead / parts, watch)
@@ -97,7 +100,8 @@ fn gather_parts<R: Threads + Sync, W: Watch + Copy + Send>(
     ahead: usize,
     watch: W,
 ) -> Result<Joined, Unanswered>
-    ensures { IfOk result (λ joined. HaveOwnNames documents.now → Joins wanted.now wanted.now.limit documents.now joined) }
+    ensures joins { IfOk result (λ joined. HaveOwnNames documents.now → Joins wanted.now wanted.now.limit documents.now joined) }
+    ensures called_off { IfErr result (IsCalledOffOnlyIf ((w : W) × W.has_said_no w)) }
 {
     if parts < 2 {
         let mut watch = watch;
@@ -111,11 +115,13 @@ fn gather_parts<R: Threads + Sync, W: Watch + Copy + Send>(
     ));
     let front = move || -> Result<Joined, Unanswered>
         requires { IsSync R.row × IsSend W.row }
-        ensures { IfOk result (λ joined. HaveOwnNames first.entry.now → Joins wanted.entry.now wanted.entry.now.limit first.entry.now joined) }
+        ensures joins { IfOk result (λ joined. HaveOwnNames first.entry.now → Joins wanted.entry.now wanted.entry.now.limit first.entry.now joined) }
+        ensures called_off { IfErr result (IsCalledOffOnlyIf ((w : W) × W.has_said_no w)) }
     { gather_parts(rt, alloc, wanted, first, low, ahead, watch) };
     let back = move || -> Result<Joined, Unanswered>
         requires { IsSync R.row × IsSend W.row }
-        ensures { IfOk result (λ joined. HaveOwnNames others.entry.now → Joins wanted.entry.now wanted.entry.now.limit others.entry.now joined) }
+        ensures joins { IfOk result (λ joined. HaveOwnNames others.entry.now → Joins wanted.entry.now wanted.entry.now.limit others.entry.now joined) }
+        ensures called_off { IfErr result (IsCalledOffOnlyIf ((w : W) × W.has_said_no w)) }
     { gather_parts(rt, alloc, wanted, others, high, ahead, watch) };
     let (found, rest) = join(rt, front, back);
     let found = found?;
@@ -139,7 +145,8 @@ pub(crate) fn gather_part<W: Watch>(
     ahead: usize,
     watch: &mut W,
 ) -> Result<Joined, Unanswered>
-    ensures { IfOk result (λ joined. HaveOwnNames documents.now → Joins wanted.now wanted.now.limit documents.now joined) }
+    ensures joins { IfOk result (λ joined. HaveOwnNames documents.now → Joins wanted.now wanted.now.limit documents.now joined) }
+    ensures called_off { IfErr result (IsCalledOffOnlyIf (W.has_said_no watch.new)) }
 {
     let gathered = gather(alloc, wanted, documents, watch)?;
     let (count, more) = (gathered.count, gathered.more);
@@ -191,7 +198,8 @@ fn part_of<W: Watch>(
     watch: &mut W,
 ) -> Result<Part, Unanswered>
     requires { wanted.now.lines ≡ true → from ≡ 0 }
-    ensures { IfOk result (λ part. part ≡ drop from (text_held wanted.now gathered)) }
+    ensures part { IfOk result (λ part. part ≡ drop from (text_held wanted.now gathered)) }
+    ensures called_off { IfErr result (IsCalledOffOnlyIf (W.has_said_no watch.new)) }
 {
     let zero = wanted.prepared.zero;
     if !wanted.lines {
@@ -232,8 +240,9 @@ fn fitted<W: Watch>(
     ahead: usize,
     watch: &mut W,
 ) -> Result<Joined, Unanswered>
-    ensures { IfOk result (λ joined. HaveOwnNames documents.now → Joins wanted.now wanted.now.limit documents.now back
+    ensures joins { IfOk result (λ joined. HaveOwnNames documents.now → Joins wanted.now wanted.now.limit documents.now back
         → Joins wanted.now (left_from wanted.now.limit before) documents.now joined) }
+    ensures called_off { IfErr result (IsCalledOffOnlyIf (W.has_said_no watch.new)) }
 {
     let limit = left_of(wanted.limit, before);
     if fits(limit, before, &back) {
@@ -277,9 +286,10 @@ fn join_parts(
     front: Joined,
     back: Joined,
 ) -> Result<Joined, Unanswered>
-    ensures { IfOk result (λ joined. (first others : List SharedDocument) → HaveOwnNames (first ++ others) → front.more ≡ false
+    ensures joins { IfOk result (λ joined. (first others : List SharedDocument) → HaveOwnNames (first ++ others) → front.more ≡ false
         → Joins wanted.now wanted.now.limit first front → Joins wanted.now (left_from wanted.now.limit front.count) others back
         → Joins wanted.now wanted.now.limit (first ++ others) joined) }
+    ensures memory { IfErr result (λ e. e ≡ OutOfMemory) }
 {
     let mut all = front;
     add_gap(alloc, wanted, &mut all, back.rows)?;
@@ -302,6 +312,7 @@ fn add_gap(
         ++ text_of_rows wanted.now.prepared.now.zero (gap_rows (shows_context (view_of wanted.now)) all.old.rows after)) }
     ensures rows { OnOk result (all.new.rows ≡ all.old.rows + length (gap_rows (shows_context (view_of wanted.now)) all.old.rows after)) }
     ensures count { OnOk result (all.new.count ≡ all.old.count) }
+    ensures memory { IfErr result (λ e. e ≡ OutOfMemory) }
 {
     if !has_gap(wanted, all.rows, after) {
         return Ok(());

@@ -1,6 +1,7 @@
 //! What a search takes out of an index, so that names and lines can be matched without the index.
 
-ghost use Rattle.std.specs.Prelude.{◌≡◌, if◌then◌else◌, IfOk};
+ghost use Rattle.std.specs.Prelude.{◌≡◌, if◌then◌else◌, IfOk, IfErr};
+ghost use Rattle.search.specs.declared.unanswered.Unanswered.TheVariants.{OutOfMemory};
 ghost use Rattle.search.specs.Private.Gathered.{shown_with, view_of};
 ghost use Rattle.search.specs.Prepared.{request_of};
 ghost use Rattle.search.specs.Taken.{IsTakenOf};
@@ -63,9 +64,10 @@ pub fn take<'p>(
 }
 
 impl Taken<'_> {
-    ghost use Rattle.std.specs.Prelude.{IfOk};
+    ghost use Rattle.std.specs.Prelude.{IfOk, IfErr};
     ghost use Rattle.index.specs.State.{State};
     ghost use Rattle.search.specs.Request.{Request};
+    ghost use Rattle.search.specs.CalledOff.{IsCalledOffOnlyIf};
     ghost use Rattle.search.specs.Shown.{IsShownOf};
     ghost use Rattle.search.specs.Scan.{IsAnswerOf};
     ghost use Rattle.search.specs.Taken.{IsTakenOf};
@@ -94,7 +96,8 @@ impl Taken<'_> {
         alloc: Global,
         watch: &mut W,
     ) -> Result<Answer, Unanswered>
-        ensures { IfOk result (λ answer. (state : State) (request : Request) → IsTakenOf state request self.entry → IsAnswerOf state request.pattern answer) }
+        ensures answer { IfOk result (λ answer. (state : State) (request : Request) → IsTakenOf state request self.entry → IsAnswerOf state request.pattern answer) }
+        ensures called_off { IfErr result (IsCalledOffOnlyIf (W.has_said_no watch.new)) }
     {
         let kept = named(alloc, self.prepared, self.candidates, watch)?;
         let wanted = Wanted {
@@ -119,7 +122,8 @@ impl Taken<'_> {
     /// `CalledOff` is returned only after `watch.wants()` said `false`. `OutOfMemory` means that memory ran out, or
     /// that a name or a body has too many handles.
     pub fn show<W: Watch>(self, alloc: Global, watch: &mut W) -> Result<Shown, Unanswered>
-        ensures { IfOk result (λ shown. (state : State) (request : Request) → IsTakenOf state request self.entry → IsShownOf state request shown) }
+        ensures shown { IfOk result (λ shown. (state : State) (request : Request) → IsTakenOf state request self.entry → IsShownOf state request shown) }
+        ensures called_off { IfErr result (IsCalledOffOnlyIf (W.has_said_no watch.new)) }
     {
         let kept = named(alloc, self.prepared, self.candidates, watch)?;
         let wanted = wanted_by(self.prepared);
@@ -148,7 +152,8 @@ impl Taken<'_> {
         ahead: usize,
         watch: W,
     ) -> Result<Shown, Unanswered>
-        ensures { IfOk result (λ shown. (state : State) (request : Request) → IsTakenOf state request self.entry → IsShownOf state request shown) }
+        ensures shown { IfOk result (λ shown. (state : State) (request : Request) → IsTakenOf state request self.entry → IsShownOf state request shown) }
+        ensures called_off { IfErr result (IsCalledOffOnlyIf ((w : W) × W.has_said_no w)) }
     {
         let mut own = watch;
         let kept = named(alloc, self.prepared, self.candidates, &mut own)?;
@@ -197,7 +202,8 @@ fn with_counts(
     candidates: u32,
     joined: Joined,
 ) -> Result<Shown, Unanswered>
-    ensures { IfOk result (λ shown. shown ≡ shown_with view version documents candidates joined) }
+    ensures shown { IfOk result (λ shown. shown ≡ shown_with view version documents candidates joined) }
+    ensures memory { IfErr result (λ e. e ≡ OutOfMemory) }
 {
     let contents = ShownContents {
         view,

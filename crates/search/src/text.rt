@@ -1,7 +1,8 @@
 //! The text of answers.
 
-ghost use Rattle.std.specs.Prelude.{◌≡◌, [], ◌∷◌, ◌++◌, ◌≤◌, length, take, flat_map, IfOk, OnOk, OnErr};
+ghost use Rattle.std.specs.Prelude.{◌≡◌, [], ◌∷◌, ◌++◌, ◌≤◌, length, take, flat_map, IfOk, IfErr, OnOk, OnErr};
 ghost use denote.Param.Send.{IsSync, IsSend};
+ghost use Rattle.search.specs.CalledOff.{IsCalledOffOnlyIf};
 ghost use Rattle.search.specs.Hits.{hit_of};
 ghost use Rattle.search.specs.Parts.{IsFirstText};
 ghost use Rattle.search.specs.Text.{after_name, text_of_hit, text_of_hits, Begins};
@@ -31,7 +32,8 @@ pub(crate) fn text_of_first<W: Watch>(
     most: usize,
     watch: &mut W,
 ) -> Result<(Vec<u8>, usize), Unanswered>
-    ensures { IfOk result (λ formed. IsFirstText zero lines.entry formed.1 formed.0.items) }
+    ensures text { IfOk result (λ formed. IsFirstText zero lines.entry formed.1 formed.0.items) }
+    ensures called_off { IfErr result (IsCalledOffOnlyIf (W.has_said_no watch.new)) }
 {
     let mut text = Vec::new(alloc);
     let mut look = 0;

@@ -1,19 +1,23 @@
 //! Watches of searches.
 
-ghost use Rattle.std.specs.Prelude.{◌≡◌, true, IfErr};
+ghost use Rattle.std.specs.Prelude.{◌≡◌, true, false, IfErr};
 ghost use Rattle.search.specs.declared.unanswered.Unanswered.TheVariants.{CalledOff};
 
 use crate::unanswered::Unanswered;
 
 /// Learns which documents a search looks at, and can call the search off.
 pub trait Watch {
+    /// `wants` has said that the answer is not wanted.
+    ghost has_said_no: { Self → Type 0 };
+
     /// Called just before the lines of the document with this number are matched.
     fn reads(&mut self, number: u32);
 
     /// Whether the answer is still wanted. It is asked before each name that is matched, before each document, at the next
-    /// 64 KiB within one, before each column and each span is looked for, and before each 64 KiB of text that is formed. After
-    /// `false` the search is given up.
-    fn wants(&mut self) -> bool;
+    /// 64 KiB within one, before each pass over a line that looks for a column or a span, and before each 64 KiB of text that
+    /// is formed. After `false` the search is given up.
+    fn wants(&mut self) -> bool
+        ensures { result ≡ false → has_said_no self.new };
 }
 
 /// A watch that does nothing. The answer is always wanted.
@@ -21,6 +25,8 @@ pub trait Watch {
 pub struct NoWatch;
 
 impl Watch for NoWatch {
+    ghost has_said_no = { λ _. ⊥ };
+
     fn reads(&mut self, _number: u32) {}
 
     fn wants(&mut self) -> bool
@@ -32,7 +38,7 @@ impl Watch for NoWatch {
 
 /// Asks whether the answer is still wanted. An `Err` is `CalledOff`: it is not.
 pub(crate) fn ask<W: Watch>(watch: &mut W) -> Result<(), Unanswered>
-    ensures { IfErr result (λ e. e ≡ CalledOff) }
+    ensures { IfErr result (λ e. (e ≡ CalledOff) × W.has_said_no watch.new) }
 {
     if !watch.wants() {
         return Err(Unanswered::CalledOff);

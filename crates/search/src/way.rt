@@ -7,7 +7,7 @@ ghost use Rattle.ere.specs.Limits.{IsWithinLimits};
 ghost use Rattle.finder.specs.Patterns.{IsCompiledFrom};
 ghost use Rattle.search.specs.Pattern.{Passes};
 ghost use Rattle.search.specs.Tests.{test_of};
-ghost use Rattle.search.specs.Private.Ways.{Finds, IsDecided};
+ghost use Rattle.search.specs.Private.Ways.{Finds};
 
 use crate::asked::Test;
 use ere::Ere;
@@ -47,8 +47,7 @@ pub fn way_by<'p>(
 ) -> Result<Way<'p>, AllocError>
     requires limits { IsWithinLimits (form tree.now) }
     requires compiled { IfSome compiled.now (IsCompiledFrom (form tree.now)) }
-    ensures finds { IfOk result (Finds (form tree.now)) }
-    ensures decided { IfOk result (IsDecided (form tree.now) compiled.now) }
+    ensures { IfOk result (Finds (form tree.now)) }
 {
     if let Some(compiled) = compiled {
         if let Ok(finder) = Finder::new(alloc, compiled) {

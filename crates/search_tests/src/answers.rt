@@ -59,6 +59,8 @@ struct Looks {
 }
 
 impl Watch for Looks {
+    ghost has_said_no = { λ _. ⊥ };
+
     fn reads(&mut self, number: u32) {
         let place = number as usize % 512;
         self.counts[place] = self.counts[place].saturating_add(1);

@@ -1,5 +1,7 @@
 //! Searches that are called off, and bodies that are matched in several pieces.
 
+ghost use Rattle.std.specs.Prelude.{◌≤◌};
+
 use crate::fixtures::{Always, index_of, put, text_of_shown};
 use index::Index;
 use request::read_find;
@@ -16,6 +18,8 @@ struct Patience {
 }
 
 impl Watch for Patience {
+    ghost has_said_no = { λ p. p.no_from ≤ p.questions };
+
     fn reads(&mut self, _number: u32) {}
 
     fn wants(&mut self) -> bool {
@@ -269,22 +273,46 @@ fn a_search_is_called_off_at_each_question(rt: HostRuntime) -> Result<(), Fail> 
     Ok(())
 }
 
-/// The words of a `find` of two small documents, and how many questions it asks.
+/// The words of a `find` of two small documents, and how many questions it asks: one for each document, and one for each pass
+/// over a line. A start is looked for in blocks of one position, of two, of four and so on, and an end takes one more pass.
 const ASKED_BETWEEN: [(&[u8], u32); 4] = [
-    // Two documents, and the columns of three hits.
-    (b"--column -- b", 5),
-    // Two documents, and in three hits before each of six spans and behind the last.
-    (b"--spans -- b", 11),
-    // One span alone in the second line.
-    (b"--spans -- b+", 9),
-    // No spans at all.
-    (b"--spans -- c*", 6),
+    // In each of three hits an empty match is looked for, and then a start in a block of one.
+    (b"--column -- b", 8),
+    // In `bbb` three spans in two passes each, in `b b` one in two and one in three, and in `b` one in two.
+    (b"--spans -- b", 15),
+    // One span alone in `bbb`.
+    (b"--spans -- b+", 11),
+    // No spans at all: one block in each of two lines, and two in each of two.
+    (b"--spans -- c*", 8),
 ];
 
 #[test]
 fn a_search_is_called_off_between_columns_and_spans(rt: HostRuntime) -> Result<(), Fail> {
     let index = index_of(&rt, rt.alloc(), b"a x\nbbb\nb b|c b")?;
     for (words, questions) in ASKED_BETWEEN {
+        assert!(rt;
+            is_asked_by(rt.alloc(), &index, words, questions)?,
+            "of {words:?}"
+        );
+    }
+    Ok(())
+}
+
+/// The same for a document that is so large that the pattern is compiled: one line, whose end is the match.
+const ASKED_OF_ONE_LINE: [(&[u8], u32); 3] = [
+    // The document, and where the first match begins.
+    (b"--column -- needle", 2),
+    // The document, where the first match begins, and where the longest one ends.
+    (b"--spans -- needle", 3),
+    // All before the word is a span too.
+    (b"--spans -- x+|needle", 5),
+];
+
+#[test]
+fn a_search_is_called_off_between_passes(rt: HostRuntime) -> Result<(), Fail> {
+    let body = longest_lines(rt.alloc(), 1)?;
+    let index = index_of_body(&rt, rt.alloc(), body.as_slice())?;
+    for (words, questions) in ASKED_OF_ONE_LINE {
         assert!(rt;
             is_asked_by(rt.alloc(), &index, words, questions)?,
             "of {words:?}"

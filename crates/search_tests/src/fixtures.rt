@@ -80,6 +80,8 @@ pub(crate) fn lists(alloc: Global, set: &List, numbers: &[u32]) -> Result<bool, 
 pub(crate) struct Always;
 
 impl Watch for Always {
+    ghost has_said_no = { λ _. ⊥ };
+
     fn reads(&mut self, _number: u32) {}
 
     fn wants(&mut self) -> bool {

@@ -3,7 +3,6 @@ use Rattle.std.proofs.Common.{◌≡◌, ◌≢◌, ℕ, zero, suc, ◌≤◌, �
 use Rattle.ere.specs.declared.error.EreError.{EreError}
 use Rattle.ere.specs.declared.error.EreErrorKind.{EreErrorKind}
 use Rattle.ere.specs.declared.error.EreErrorKind.TheVariants as kind
-use Rattle.ere.specs.Limits.{HasNoTree}
 use Rattle.ere.specs.declared.case.Case.{Case}
 use Rattle.ere.specs.declared.case.Case.TheVariants.{Exact}
 use Rattle.index.specs.State.{State}
@@ -13,7 +12,7 @@ use Rattle.index.specs.declared.error.BodyErrorKind.TheVariants as body
 use Rattle.std.proofs.Common.{length, ◌^◌}
 use Rattle.steps.specs.Rows.{failures_in}
 use Rattle.index.specs.Text.{greatest_body, IsName, IsNameFault, IsBodyFault}
-use Rattle.search.specs.Pattern.{HasTree}
+use Rattle.search.specs.Pattern.{HasTree, IsTreeFault}
 use Rattle.transcript.specs.declared.entry.Entry.{Entry}
 use Rattle.transcript.specs.declared.entry.Entry.TheVariants.{Refused}
 use Rattle.transcript.specs.declared.entry.SearchReason.TheVariants as search_reason
@@ -29,7 +28,8 @@ use Rattle.transcript.specs.declared.entry.SearchReason.{SearchReason}
 use Rattle.steps.specs.Asked.{IsFaultOfSearch, IsFaultOfSearchIn, IsFaultOfFind}
 use Rattle.steps.specs.Asked as asked
 use Rattle.service.specs.Private.Entries as entries
-use Rattle.service.specs.Private.Entries.{IsReasonOfWords, reason_of_find, reason_of_find_of, reason_of_name, reason_of_fault, reason_of_fault_of, HasBodyOrNoMemory, IsRemoveOrNoMemory, IsCounted}
+use Rattle.service.specs.Private.Entries.{IsReasonOfWords, reason_of_find, reason_of_find_of, reason_of_name, reason_of_fault, reason_of_fault_of, HasBodyOrNoMemory, IsRemoveOrNoMemory}
+use Rattle.service.specs.Service.{IsCounted}
 
 pub named_fault : (error : NameError) (bytes : List ℕ) (line : ℕ) (entry : Entry) (Else : Type 0) → IsNameFault error bytes
     → entry ≡ Refused line (reason_of_name error) → IsNamed bytes line entry Else
@@ -103,7 +103,7 @@ reason_in_pattern kind.TooLarge error h = refl
 reason_in_pattern kind.OutOfMemory error h = absurd (h refl)
 
 -- what is met in a pattern that has no tree is why its search is refused
-pub search_fault : (case : Case) (text : List ℕ) (error : EreError) → (error.kind ≢ kind.OutOfMemory → HasNoTree case text)
+pub search_fault : (case : Case) (text : List ℕ) (error : EreError) → (error.kind ≢ kind.OutOfMemory → IsTreeFault case text error)
     → IsFaultOfSearch case text (reason_of_fault false error)
 search_fault case text error none = by_kind (memory_or_not error.kind)
   where
@@ -112,7 +112,7 @@ search_fault case text error none = by_kind (memory_or_not error.kind)
     by_kind (inr fault) = asked.bad_pattern error fault (none fault) (reason_in_pattern error.kind error fault)
 
 pub search_in_fault : (case : Case) (name_text text : List ℕ) (in_name : Bool) (error : EreError)
-    → (error.kind ≢ kind.OutOfMemory → MatchBool in_name (HasNoTree Exact name_text) (HasTree Exact name_text × HasNoTree case text))
+    → (error.kind ≢ kind.OutOfMemory → MatchBool in_name (IsTreeFault Exact name_text error) (HasTree Exact name_text × IsTreeFault case text error))
     → IsFaultOfSearchIn case name_text text (reason_of_fault in_name error)
 search_in_fault case name_text text true error none = by_kind (memory_or_not error.kind)
   where
@@ -161,10 +161,10 @@ reason_of_find_name at kind.TooLarge error h = refl
 reason_of_find_name at kind.OutOfMemory error h = absurd (h refl)
 
 pub find_pattern_fault : (text : List ℕ) (options : Options) (pattern : List ℕ) (fault : FindError) → IsFindOf text options pattern
-    → (fault.error.kind ≢ kind.OutOfMemory → IsRequestFault options pattern fault.name) → IsFaultOfFind text (reason_of_find fault)
+    → (fault.error.kind ≢ kind.OutOfMemory → IsRequestFault options pattern fault.name fault.error) → IsFaultOfFind text (reason_of_find fault)
 find_pattern_fault text options pattern fault asks none = by_kind (memory_or_not fault.error.kind)
   where
-    by_name : (name : ℕ) → IsRequestFault options pattern name → (fault.error.kind ≡ kind.OutOfMemory → ⊥)
+    by_name : (name : ℕ) → IsRequestFault options pattern name fault.error → (fault.error.kind ≡ kind.OutOfMemory → ⊥)
         → IsFaultOfFind text (reason_of_find_of name fault.error.kind fault.error)
     by_name zero bad real = asked.bad_pattern options pattern fault.error real asks bad (reason_of_find_pattern fault.error.kind fault.error real)
     by_name (suc at) bad real =

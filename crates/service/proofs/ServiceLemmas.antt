@@ -36,7 +36,7 @@ use Rattle.steps.specs.Asked as asking
 use Rattle.steps.specs.Steps as steps
 use Rattle.service.specs.declared.taken.Taken.{Taken}
 use Rattle.service.specs.declared.taken.Taken.TheVariants as taken_as
-use Rattle.service.specs.Service.{ServiceState, run_of, Fits, Steps, Takes, TakesPut, Gives, answered, not_answered, too_slow, CanStand, versions_in, written_by}
+use Rattle.service.specs.Service.{ServiceState, run_of, Fits, Steps, Takes, TakesPut, Gives, answered, not_answered, too_slow, CanStand, versions_in, written_by, IsKind, HasNumber}
 use Rattle.service.specs.Private.Items.{IsEntered, IsLeft, Tells, all, nothing}
 use Rattle.service.specs.Private.Entries.{entry_of, desk_after}
 use Rattle.service.proofs.CarryLemmas.{carried_put, same_opening, same_published}
@@ -149,21 +149,34 @@ fits_still was after published told kept fits = record {
 
 -- a search is open, or refused
 pub asked_takes : (Holds : List ℕ → List ℕ → Type 0) (old : ServiceState) (item : Numbered) (result : Taken) (new : ServiceState)
-    → searches_of item.item ≡ 1 → IsAsked item.item old result new → Takes Holds old item (written_by result) new
-asked_takes Holds old item result new one (asked_for task is after) published readers fits may = rw (is, after) (record {
+    → IsAsked item.item old result new → Takes Holds old item (written_by result) new
+asked_takes Holds old item result new (asked_for request asks is after) published readers fits may = rw (is, after) (record {
   step =
-      steps.asked_for item may one refl refl
+      steps.asked_for item request may asks refl refl
       (rw (append-nil published)
       (ap (λ n. record (run_of old published) { searches = old.searches + 1; awaited = old.awaited ++ record { number = old.searches + 1; item = item.item; least = n } ∷ [] })
       (sym fits.latest)));
   fits = fits_still old _ published refl refl fits;
   limits = refl;
 })
-asked_takes Holds old item result new one (refused why fault is) published readers fits may = rw (is.entry, is.left) (record {
+asked_takes Holds old item result new (refused why fault is) published readers fits may = rw (is.entry, is.left) (record {
   step = steps.refused item why may fault refl refl (rw (append-nil published) refl);
   fits = fits_still old _ published refl refl fits;
   limits = refl;
 })
+
+-- the task of an open search has its number
+pub asked_number : (item : Item) (old : ServiceState) (result : Taken) (new : ServiceState) → IsAsked item old result new
+    → HasNumber new.searches result
+asked_number item old result new (asked_for request asks is after) = rw (is, after) refl
+asked_number item old result new (refused why fault is) = rw is.entry tt
+
+-- of other items there is no task
+pub no_number : (searches : ℕ) (item : Item) (result : Taken) → searches_of item ≡ 0 → IsKind item result → HasNumber searches result
+no_number searches item (taken_as.Entry entry) none kind = tt
+no_number searches item (taken_as.Search number) none kind = absurd (omega (arith, none, kind))
+no_number searches item (taken_as.Cancelled entry) none kind = tt
+no_number searches item taken_as.Nothing none kind = tt
 
 pub sync_takes : (Holds : List ℕ → List ℕ → Type 0) (old : ServiceState) (item : Numbered) → is_sync item.item ≡ true → Takes Holds old item [] old
 sync_takes Holds old item is published readers fits may = record {

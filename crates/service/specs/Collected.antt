@@ -36,6 +36,7 @@ slot_by (Some entry) searches number = entry ∷ []
 slot_by None zero number = []
 slot_by None (suc searches) number = SearchRefused number OutOfMemory ∷ []
 
+-- the entry that a row has among those of the run, after so many searches
 abbrev pub slot_of : ℕ → Row → List Entry
 slot_of count row = slot_by row.entry (searches_of row.numbered.item) (count + 1)
 
@@ -44,6 +45,7 @@ abbrev pub slots_from : ℕ → List Row → List Entry
 slots_from count [] = []
 slots_from count (row ∷ rows) = slot_of count row ++ slots_from (count + searches_of row.numbered.item) rows
 
+-- the place of a search, if the item is one
 abbrev pub place_by : ℕ → ℕ → List ℕ
 place_by at zero = []
 place_by at (suc searches) = at ∷ []

@@ -13,5 +13,6 @@ pub record OpenedState : Type 0 where
   pub limits : Limits
   pub readers : ℕ
 
+-- what is opened, by its parts
 abbrev pub opened_state : Book → Limits → ℕ → OpenedState
 opened_state opening limits readers = record { opening = opening; limits = limits; readers = readers }

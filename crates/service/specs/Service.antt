@@ -13,7 +13,7 @@ use Rattle.transcript.specs.declared.entry.Entry.{Entry}
 use Rattle.transcript.specs.declared.entry.Entry.TheVariants.{Found, SearchRefused}
 use Rattle.transcript.specs.declared.entry.SearchReason.TheVariants as reason
 use Rattle.steps.specs.declared.last.Last.{Last}
-use Rattle.steps.specs.LegalRows.{Limits, IsPut}
+use Rattle.steps.specs.LegalRows.{Limits, IsPut, IsFailedTimes, greatest_failures}
 use Rattle.steps.specs.Rows.{accepted_by, version_in, last_or, failures_in, list_of, searches_of}
 use Rattle.steps.specs.StepRows.{searches_in}
 use Rattle.steps.specs.Asked.{Asks}
@@ -57,6 +57,7 @@ pub record Fits (service : ServiceState) (published : List ℕ) : Type 0 where
   pub latest : last_or 0 published ≡ length service.told
   pub kept : (version : ℕ) → Contains service.kept version → (version ≡ 0) ⊎ Contains published version
 
+-- the versions that these entries publish
 abbrev pub versions_in : List Entry → List ℕ
 versions_in entries = flat_map (λ entry. version_in (Some entry)) entries
 
@@ -77,6 +78,10 @@ Takes Holds old item written new =
 pub record TakesPut (old : ServiceState) (name body : List ℕ) (line : ℕ) (entry : Entry) (new : ServiceState) : Type 0 where
   pub legal : IsPut old.limits.commands (state_of old.accepted) name body line entry
   pub left : new ≡ record old { accepted = old.accepted ++ accepted_by (Some entry) (Put name body ∷ []) }
+
+-- The answer is that of these commands, for what the search asks for.
+abbrev pub IsFound : Item → List Command → Shown → Type 0
+IsFound item commands answer = (request : Request) × Asks item request × IsShownOf (state_of commands) request answer
 
 -- An answer that the open search can get: of a version that is kept, or was published last, no older than what was
 -- published before the search was asked and than the reader's last answer, for what the search asks for.
@@ -108,6 +113,16 @@ written_by (taken.Entry entry) = entry ∷ []
 written_by (taken.Search task) = []
 written_by (taken.Cancelled entry) = entry ∷ []
 written_by taken.Nothing = []
+
+-- The task of a search has its number: so many searches have been taken by then.
+abbrev pub HasNumber : ℕ → Taken → Type 0
+HasNumber searches (taken.Search number) = number ≡ searches
+HasNumber searches result = Unit {0}
+
+-- A source's count rose by this number of failures, and no longer changes once it is the greatest.
+pub record IsCounted (failures failed failed' : ℕ) : Type 0 where
+  pub rises : IsFailedTimes failures failed failed'
+  pub stays : failed ≡ greatest_failures → failed' ≡ greatest_failures
 
 -- how many loads failed
 abbrev pub failures_by : Taken → ℕ

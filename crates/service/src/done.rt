@@ -27,7 +27,7 @@ pub struct Done<J: Naming> {
 
 impl<J: Naming> Model for Done<J> {
     ghost use Rattle.std.specs.Prelude.{◌≡◌, ℕ, IfSome};
-    ghost use Rattle.service.specs.Private.Requests.{IsFound};
+    ghost use Rattle.service.specs.Service.{IsFound};
 
     ghost Value = { ℕ };
 

@@ -44,7 +44,9 @@ impl<J: Naming> Reader<J> {
         task: Task,
         ahead: usize,
         gate: &G,
-    ) -> Done<J> {
+    ) -> Done<J>
+        ensures { result ≡ task }
+    {
         let Task {
             number,
             request,
@@ -153,7 +155,7 @@ fn take<'p, G: Gate, W: Watch>(
     if !watch.wants() {
         return Err(Unanswered::CalledOff);
     }
-    let Ok(taken) = reading.take(alloc, prepared) else {
+    let Some(Ok(taken)) = reading.look(|index| search::take(alloc, index, prepared)) else {
         return Err(Unanswered::OutOfMemory);
     };
     gate.turn(number, Point::Matching);

@@ -16,10 +16,9 @@ ghost use Rattle.transcript.specs.declared.entry.SearchReason.TheVariants.{OutOf
 ghost use Rattle.steps.specs.LegalRows.{status_entry};
 ghost use Rattle.steps.specs.Rows.{searches_of, version_in, failures_in};
 ghost use Rattle.steps.specs.Steps.{OpenSearch as OpenSearchValue, last_of};
-ghost use Rattle.service.specs.Service.{ServiceState, Takes, TakesPut, Gives, written_by, failures_by, IsKind};
-ghost use Rattle.service.specs.Private.Entries.{IsCounted};
-ghost use Rattle.service.specs.Private.Requests.{IsFound};
-ghost use Rattle.service.specs.Private.Closing.{CanClose, IsUnused, IsAsked, IsRefused, IsCancelled, IsPlaceOf, IsGivenUp, with_kept, with_search};
+ghost use Rattle.service.specs.Collected.{number_in};
+ghost use Rattle.service.specs.Service.{ServiceState, Takes, TakesPut, Gives, IsFound, IsCounted, written_by, failures_by, IsKind, HasNumber};
+ghost use Rattle.service.specs.Private.Closing.{CanClose, IsUnused, IsAsked, IsRefused, IsCancelled, IsPlaceOf, IsGivenUp, IsOwnEntry, with_kept, with_search};
 
 use crate::done::Done;
 use crate::items::{
@@ -148,6 +147,7 @@ impl<J: Naming> Service<J> {
         ensures takes { Takes (S.holds source.old) self.old (numbered_item item.entry.line (shown_item item.entry.item))
             (written_by result) self.new }
         ensures kind { IsKind (shown_item item.entry.item) result }
+        ensures number { HasNumber self.new.searches result }
         ensures counted { IsCounted (failures_by result) (S.failed source.old) (S.failed source.new) }
         ensures no_less { S.failed source.old ≤ S.failed source.new }
         ensures same { (path body : List ℕ) → (S.holds source.new path body → S.holds source.old path body)
@@ -277,6 +277,7 @@ impl<J: Naming> Service<J> {
     ) -> Result<u32, AllocError>
         requires few { self.old.searches + 1 < 2 ^ 32 }
         ensures ok { OnOk result (self.new ≡ with_search question.now self.old) }
+        ensures number { IfOk result (λ number. number ≡ self.old.searches + 1) }
         ensures err { OnErr result (self.new ≡ self.old) }
     {
         let number = self.searches + 1;
@@ -342,7 +343,9 @@ impl<J: Naming> Service<J> {
         done: Done<J>,
     ) -> Option<Entry>
         ensures some { IfSome result (λ entry. Gives self.old entry self.new) }
+        ensures own { IfSome result (λ entry. number_in entry ≡ done) }
         ensures none { IfNone result (self.new ≡ self.old) }
+        ensures not_open { IfNone result (All (λ search. search.number ≢ done) self.old.awaited) }
         ensures searches { self.new.searches ≡ self.old.searches }
     {
         let place = place_in(&self.awaited, done.number)?;
@@ -375,7 +378,9 @@ impl<J: Naming> Service<J> {
         task: &Task,
     ) -> Option<Entry>
         ensures some { IfSome result (λ entry. Gives self.old entry self.new) }
+        ensures own { IfSome result (λ entry. number_in entry ≡ task.now) }
         ensures none { IfNone result (self.new ≡ self.old) }
+        ensures not_open { IfNone result (All (λ search. search.number ≢ task.now) self.old.awaited) }
         ensures searches { self.new.searches ≡ self.old.searches }
     {
         let place = place_in(&self.awaited, task.number)?;
@@ -412,6 +417,7 @@ impl<J: Naming> Service<J> {
     fn answer_anew<R: Wait + Clock>(&mut self, rt: &R, alloc: Global, place: usize) -> Entry
         requires { place < length self.old.awaited }
         ensures gives { Gives self.old result self.new }
+        ensures own { IsOwnEntry self.old.awaited place result }
         ensures searches { self.new.searches ≡ self.old.searches }
     {
         match Request::read(alloc, self.awaited[place].question.lend()) {
@@ -430,6 +436,7 @@ impl<J: Naming> Service<J> {
     ) -> Entry
         requires { place < length self.old.awaited }
         ensures gives { Gives self.old result self.new }
+        ensures own { IsOwnEntry self.old.awaited place result }
         ensures searches { self.new.searches ≡ self.old.searches }
     {
         if !request.question.is_same(&self.awaited[place].question) {
@@ -454,6 +461,7 @@ impl<J: Naming> Service<J> {
     fn give_up(&mut self, place: usize, error: Unanswered) -> Entry
         requires { place < length self.old.awaited }
         ensures gives { Gives self.old result self.new }
+        ensures own { IsOwnEntry self.old.awaited place result }
         ensures searches { self.new.searches ≡ self.old.searches }
     {
         if error == Unanswered::CalledOff && self.search_ms.is_some() {
@@ -466,6 +474,7 @@ impl<J: Naming> Service<J> {
     fn close_with(&mut self, place: usize, reader: u32, answer: Shown) -> Entry
         requires { CanClose self.old place reader answer }
         ensures gives { Gives self.old result self.new }
+        ensures own { IsOwnEntry self.old.awaited place result }
         ensures searches { self.new.searches ≡ self.old.searches }
     {
         let search = self.awaited.remove(place);

@@ -1,7 +1,6 @@
 //! Searches that are ready to be answered.
 
 ghost use Rattle.std.specs.Prelude.{◌≡◌, IfOk, IfErr};
-ghost use Rattle.ere.specs.Limits.{HasNoTree};
 ghost use Rattle.search.specs.Prepared.{request_of};
 ghost use Rattle.script.specs.Items.{find};
 ghost use Rattle.script.specs.Reading.{shown_item};
@@ -143,7 +142,7 @@ fn reason_of_fault(in_name: bool, error: EreError) -> SearchReason
     }
 }
 
-/// A search that a reader is to answer.
+/// A search that a reader is to answer. Contracts see it as the number of the search.
 #[derive(Drop)]
 pub struct Task {
     /// The number of the search, from 1.
@@ -155,4 +154,12 @@ pub struct Task {
     /// In how many threads its lines may be matched: in one for each reader and one more if no other search was open when
     /// it was asked, and otherwise in one.
     pub(crate) parts: usize,
+}
+
+impl Model for Task {
+    ghost use Rattle.std.specs.Prelude.{ℕ};
+
+    ghost Value = { ℕ };
+
+    ghost view = { λ t. t.number };
 }

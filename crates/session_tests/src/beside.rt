@@ -196,8 +196,9 @@ const TWO_BESIDE: &[u8] =
 
 /// An answer has the version that its reader met, though later ones are published before it is handed in, and later searches
 /// are open. Answers come in any order. A search that is asked later gets no older version.
-const ROWS: [Row; 11] = [
+const ROWS: [Row; 12] = [
     (PUBLISH_BESIDE, b"iii1iid", FIRST),
+    (PUBLISH_BESIDE, b"iii2iid", FIRST),
     (PUBLISH_BESIDE, b"iii2dii", FIRST),
     (PUBLISH_BESIDE, b"iiiii2d", SECOND),
     (PUBLISH_BESIDE, b"iiiiih", SECOND),

@@ -84,23 +84,3 @@ impl From<AllocError> for RemoveError {
         RemoveError::OutOfMemory
     }
 }
-
-/// Why a search is refused.
-#[derive(Clone, Copy, Debug, PartialEq, Eq)]
-pub enum SearchError {
-    /// Memory ran out, or a name or a body has too many handles.
-    OutOfMemory,
-    /// The published documents cannot be entered any more: the desk was closed.
-    NoEntry,
-}
-
-impl From<AllocError> for SearchError {
-    ghost use Rattle.std.specs.Prelude.{◌≡◌};
-    ghost use Rattle.shared.specs.declared.error.SearchError.TheVariants.{OutOfMemory};
-
-    ghost from_gives = { λ _ e. e ≡ OutOfMemory };
-
-    fn from(_: AllocError) -> SearchError {
-        SearchError::OutOfMemory
-    }
-}

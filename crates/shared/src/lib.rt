@@ -19,12 +19,8 @@ mod told;
 
 pub use counts::Counts;
 pub use desk::Desk;
-pub use error::{OpenError, PutError, PutErrorKind, RemoveError, Returned, SearchError};
+pub use error::{OpenError, PutError, PutErrorKind, RemoveError, Returned};
 pub use laws::faults_are_one;
 pub use opening::{MAX_COMMANDS, MAX_READINGS, open, open_with_places};
 pub use reading::Reading;
-pub use search::{
-    Answer, Body, BodyError, BodyErrorKind, EreError, EreErrorKind, Held, Hit, Lines, Name,
-    NameError, Prepared, Taken, WithinError,
-};
 pub use told::Told;

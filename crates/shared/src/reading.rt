@@ -5,21 +5,18 @@ ghost use mathlib.Core.List.{IsPrefix};
 ghost use Rattle.left_right.specs.Sides.{view};
 ghost use Rattle.logbook.specs.Pages.{Book};
 ghost use Rattle.index.specs.State.{state_of};
-ghost use Rattle.search.specs.Prepared.{pattern_of, request_of};
-ghost use Rattle.search.specs.Taken.{IsTakenOf};
-ghost use Rattle.search.specs.Scan.{IsAnswerOf};
+ghost use Rattle.std.specs.Fn.{FnOnceReturnsAt};
 ghost use Rattle.shared.specs.Counts.{AreCountsOf};
 ghost use Rattle.shared.specs.Private.Rule.{HasMet};
 
 use crate::counts::Counts;
-use crate::error::{OpenError, SearchError};
+use crate::error::OpenError;
 use crate::history::Front;
 use crate::rule::{Meet, Note, ShelfReader, ShelfWriter};
 use crate::told::Told;
 use core::mem::replace_with;
-use search::{Answer, Prepared, Taken, take};
-use std::alloc::{AllocError, Global};
-use std::marker::Model;
+use index::Index;
+use std::marker::{Model, PhantomData};
 
 /// What one thread at a time searches with. It has one of the opening's places.
 ///
@@ -92,28 +89,19 @@ impl Reading {
         }
     }
 
-    /// Enters what is published, once, takes what a search needs, and leaves. No name and no line is looked at. It
-    /// never waits.
-    ///
-    /// `OutOfMemory` means that memory ran out, or that a name or a body has too many handles, and `NoEntry` that the
-    /// desk was closed.
-    pub fn take<'p>(
-        &mut self,
-        alloc: Global,
-        prepared: &'p Prepared,
-    ) -> Result<Taken<'p>, SearchError>
+    /// Enters what is published, once, looks at it, and leaves. It never waits. `None` means that the desk was closed.
+    pub fn look<T: Drop, F: FnOnce(&Index) -> T>(&mut self, look: F) -> Option<T>
+        requires { F.IsAlwaysCallable look }
         ensures opening { self.new.opening ≡ self.old.opening }
         ensures seen { IsPrefix self.old.commands self.new.commands }
-        ensures taken { IfOk result (IsTakenOf (state_of self.new.commands) (request_of prepared.now)) }
+        ensures looked { IfSome result (FnOnceReturnsAt F.FnOnce look (state_of self.new.commands)) }
     {
-        let asked = Asked { alloc, prepared };
-        let Some((front, taken)) = replace_with(&mut self.reader, asked, look) else {
-            return Err(SearchError::NoEntry);
+        let visit = Visit {
+            look,
+            found: PhantomData,
         };
-        if !self.meet(front) {
-            return Err(SearchError::NoEntry);
-        }
-        Ok(taken?)
+        let (front, found) = replace_with(&mut self.reader, visit, enter)?;
+        if self.meet(front) { Some(found) } else { None }
     }
 
     /// Counts what is published. It takes no memory and never waits. `None` means that the desk was closed.
@@ -122,8 +110,7 @@ impl Reading {
         ensures seen { IsPrefix self.old.commands self.new.commands }
         ensures counts { IfSome result (AreCountsOf (state_of self.new.commands)) }
     {
-        let (front, counts) = replace_with(&mut self.reader, (), count)?;
-        if self.meet(front) { Some(counts) } else { None }
+        self.look(count)
     }
 
     /// Takes note of a front that was met. `false` means that it lacks something that was seen, which never happens.
@@ -139,65 +126,42 @@ impl Reading {
         self.front = front;
         true
     }
-
-    /// Searches what is published: it takes what it needs, and then matches names and lines. It never waits.
-    ///
-    /// `OutOfMemory` means that memory ran out, or that a name or a body has too many handles, and `NoEntry` that the
-    /// desk was closed.
-    pub fn search(&mut self, alloc: Global, prepared: &Prepared) -> Result<Answer, SearchError>
-        ensures opening { self.new.opening ≡ self.old.opening }
-        ensures seen { IsPrefix self.old.commands self.new.commands }
-        ensures answer { IfOk result (IsAnswerOf (state_of self.new.commands) (pattern_of prepared.now)) }
-    {
-        let taken = self.take(alloc, prepared)?;
-        let answer = taken.answer(alloc)?;
-        Ok(answer)
-    }
 }
 
-/// Enters, counts and leaves. `None` if it cannot enter; otherwise the front that it met and the counts.
-fn count(reader: ShelfReader, _: ()) -> (ShelfReader, Option<(Front, Counts)>)
-    ensures met { (opening : Book) → HasMet opening (view reader.place) → HasMet opening (view result.0.place) }
-    ensures one { IfSome result.1 (λ counted. (opening : Book) → HasMet opening (view reader.place) → counted.0.opening ≡ opening) }
-    ensures counts { IfSome result.1 (λ counted. AreCountsOf (state_of counted.0.commands) counted.1) }
+/// How much the index holds.
+fn count(index: &Index) -> Counts
+    ensures { AreCountsOf index.now result }
 {
-    match reader.enter_as::<Meet>() {
-        Ok(reading) => {
-            let shelf = reading.get();
-            let front = shelf.front.again();
-            let counts = Counts {
-                version: shelf.index.version(),
-                documents: shelf.index.documents(),
-                bytes: shelf.index.held_bytes(),
-            };
-            (reading.leave(), Some((front, counts)))
-        }
-        Err(reader) => (reader, None),
+    Counts {
+        version: index.version(),
+        documents: index.documents(),
+        bytes: index.held_bytes(),
     }
 }
 
-/// What a search asks for.
-#[derive(Clone, Copy)]
-struct Asked<'p> {
-    alloc: Global,
-    prepared: &'p Prepared,
+/// What is done inside, and the type of what it finds.
+struct Visit<T, F> {
+    look: F,
+    found: PhantomData<T>,
 }
 
-/// Enters, takes and leaves. `None` if it cannot enter; otherwise the front that it met and what it took.
-fn look<'p>(
+/// Enters, looks and leaves. `None` if it cannot enter; otherwise the front that it met and what it found.
+fn enter<T: Drop, F: FnOnce(&Index) -> T>(
     reader: ShelfReader,
-    asked: Asked<'p>,
-) -> (ShelfReader, Option<(Front, Result<Taken<'p>, AllocError>)>)
+    visit: Visit<T, F>,
+) -> (ShelfReader, Option<(Front, T)>)
+    requires { F.IsAlwaysCallable visit.look }
     ensures met { (opening : Book) → HasMet opening (view reader.place) → HasMet opening (view result.0.place) }
     ensures one { IfSome result.1 (λ looked. (opening : Book) → HasMet opening (view reader.place) → looked.0.opening ≡ opening) }
-    ensures taken { IfSome result.1 (λ looked. IfOk looked.1 (IsTakenOf (state_of looked.0.commands) (request_of asked.entry.prepared.now))) }
+    ensures looked { IfSome result.1 (λ looked. FnOnceReturnsAt F.FnOnce visit.look (state_of looked.0.commands) looked.1) }
 {
+    let Visit { look, found: _ } = visit;
     match reader.enter_as::<Meet>() {
         Ok(reading) => {
             let shelf = reading.get();
             let front = shelf.front.again();
-            let taken = take(asked.alloc, &shelf.index, asked.prepared);
-            (reading.leave(), Some((front, taken)))
+            let found = look(&shelf.index);
+            (reading.leave(), Some((front, found)))
         }
         Err(reader) => (reader, None),
     }

@@ -2,10 +2,11 @@
 
 ghost use Rattle.std.specs.Prelude.{◌≡◌};
 
-use crate::fixtures::{body, name, one_reading, prepared, publish, put};
+use crate::fixtures::{body, name, one_reading, prepared, publish, put, search, take};
+use search::{Answer, Prepared};
 use shared::{
-    Answer, Desk, MAX_READINGS, OpenError, Prepared, PutError, PutErrorKind, Reading, RemoveError,
-    Returned, SearchError, Told, open, open_with_places,
+    Desk, MAX_READINGS, OpenError, PutError, PutErrorKind, Reading, RemoveError, Returned, Told,
+    open, open_with_places,
 };
 use std::alloc::Global;
 use std::process::Abort;
@@ -135,34 +136,21 @@ fn a_closed_desk_is_not_entered(rt: HostRuntime) {
     let pattern = prepared(alloc, b"x").expect(&rt, "a pattern");
     let (mut desk, mut reading) = one_reading(&rt, alloc, 1);
     assert!(rt; publish(&rt, alloc, &mut desk, b"a", b"x"));
-    assert!(rt; refusal(alloc, &mut reading, &pattern).is_none());
+    assert!(rt; search(alloc, &mut reading, &pattern).is_some());
     desk.close(&rt);
-    let no_entry = Some(SearchError::NoEntry);
-    assert!(rt; refusal_of_take(alloc, &mut reading, &pattern) == no_entry);
-    assert!(rt; refusal(alloc, &mut reading, &pattern) == no_entry);
+    assert!(rt; take(alloc, &mut reading, &pattern).is_none());
+    assert!(rt; reading.look(|_index| 0).is_none());
+    assert!(rt; reading.counts().is_none());
     assert!(rt; reading.seen() == 1);
-}
-
-/// Why a search is refused, if it is.
-fn refusal(alloc: Global, reading: &mut Reading, pattern: &Prepared) -> Option<SearchError> {
-    reading.search(alloc, pattern).err()
-}
-
-fn refusal_of_take(
-    alloc: Global,
-    reading: &mut Reading,
-    pattern: &Prepared,
-) -> Option<SearchError> {
-    reading.take(alloc, pattern).err()
 }
 
 /// Whether a search is answered at this version, over one document, with one line of the document `a`.
 fn finds(alloc: Global, reading: &mut Reading, pattern: &Prepared, version: u32) -> bool
     ensures { reading.new.opening ≡ reading.old.opening }
 {
-    match reading.search(alloc, pattern) {
-        Ok(answer) => answer.version() == version && answer.documents() == 1 && is_of_a(&answer),
-        Err(_) => false,
+    match search(alloc, reading, pattern) {
+        Some(answer) => answer.version() == version && answer.documents() == 1 && is_of_a(&answer),
+        None => false,
     }
 }
 

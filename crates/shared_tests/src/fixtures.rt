@@ -1,9 +1,16 @@
 //! What several tests start from.
 
-ghost use Rattle.std.specs.Prelude.{◌≡◌, ◌<◌, ◌≤◌};
+ghost use Rattle.std.specs.Prelude.{◌≡◌, ◌<◌, ◌≤◌, IfSome};
+ghost use mathlib.Core.List.{IsPrefix};
+ghost use Rattle.index.specs.State.{state_of};
+ghost use Rattle.search.specs.Prepared.{pattern_of, request_of};
+ghost use Rattle.search.specs.Scan.{IsAnswerOf};
+ghost use Rattle.search.specs.Taken.{IsTakenOf};
 ghost use Rattle.shared.specs.declared.opening.TheConstants.{MAX_COMMANDS};
 
-use shared::{Body, Desk, Name, Prepared, Reading, open};
+use index::{Body, Name};
+use search::{Answer, Prepared, Taken};
+use shared::{Desk, Reading, open};
 use std::alloc::Global;
 use std::process::Abort;
 use std::sync::Wait;
@@ -64,4 +71,35 @@ pub(crate) fn publish<R: Wait>(
 /// The pattern, prepared for searches.
 pub(crate) fn prepared(alloc: Global, pattern: &[u8]) -> Option<Prepared> {
     Prepared::new(alloc, pattern).ok()
+}
+
+/// Takes what a search needs from what is published. `None` if there is no memory for it, or the desk was closed.
+pub(crate) fn take<'p>(
+    alloc: Global,
+    reading: &mut Reading,
+    prepared: &'p Prepared,
+) -> Option<Taken<'p>>
+    ensures opening { reading.new.opening ≡ reading.old.opening }
+    ensures seen { IsPrefix reading.old.commands reading.new.commands }
+    ensures taken { IfSome result (IsTakenOf (state_of reading.new.commands) (request_of prepared.now)) }
+{
+    match reading.look(|index| search::take(alloc, index, prepared)) {
+        Some(Ok(taken)) => Some(taken),
+        _ => None,
+    }
+}
+
+/// Searches what is published. `None` if there is no memory for it, or the desk was closed.
+pub(crate) fn search(alloc: Global, reading: &mut Reading, prepared: &Prepared) -> Option<Answer>
+    ensures opening { reading.new.opening ≡ reading.old.opening }
+    ensures seen { IsPrefix reading.old.commands reading.new.commands }
+    ensures answer { IfSome result (IsAnswerOf (state_of reading.new.commands) (pattern_of prepared.now)) }
+{
+    let Some(taken) = take(alloc, reading, prepared) else {
+        return None;
+    };
+    match taken.answer(alloc) {
+        Ok(answer) => Some(answer),
+        Err(_) => None,
+    }
 }

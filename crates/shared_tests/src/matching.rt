@@ -1,8 +1,8 @@
 //! A publish does not wait for a search that is matching names or lines.
 
-use crate::fixtures::{one_reading, prepared, publish};
-use search::{Shown, Watch};
-use shared::{Desk, Prepared, Reading};
+use crate::fixtures::{one_reading, prepared, publish, take};
+use search::{Prepared, Shown, Watch};
+use shared::{Desk, Reading};
 use std::alloc::Global;
 use std::process::Abort;
 use std::sync::Wait;
@@ -28,6 +28,9 @@ struct Held<'a> {
 }
 
 impl Watch for Held<'_> {
+    // Another thread moves the progress, so no contract can say how far it was.
+    ghost has_said_no = { λ _. Unit {0} };
+
     fn reads(&mut self, _number: u32) {}
 
     fn wants(&mut self) -> bool {
@@ -81,7 +84,7 @@ fn search(
     prepared: &Prepared,
     progress: &AtomicU64,
 ) -> Option<Shown> {
-    let taken = reading.take(alloc, prepared).ok()?;
+    let taken = take(alloc, &mut reading, prepared)?;
     taken.show(alloc, &mut Held { progress }).ok()
 }
 

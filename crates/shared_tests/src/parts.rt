@@ -1,8 +1,10 @@
 //! A large search finds in several parts what it finds in one.
 
-use crate::fixtures::{one_reading, prepared, put};
-use search::{Shown, Watch, append_lines};
-use shared::{Desk, Prepared, Reading};
+ghost use Rattle.std.specs.Prelude.{◌≡◌, false};
+
+use crate::fixtures::{one_reading, prepared, put, take};
+use search::{Prepared, Shown, Watch, append_lines};
+use shared::{Desk, Reading};
 use std::alloc::Global;
 use std::process::Abort;
 use std::sync::Wait;
@@ -20,6 +22,8 @@ struct Wanted {
 }
 
 impl Watch for Wanted {
+    ghost has_said_no = { λ w. w.is_wanted ≡ false };
+
     fn reads(&mut self, _number: u32) {}
 
     fn wants(&mut self) -> bool {
@@ -64,7 +68,7 @@ fn finds_last_lines<R: Threads + Sync>(
     most: usize,
     ahead: usize,
 ) -> bool {
-    let Ok(taken) = reading.take(alloc, prepared) else {
+    let Some(taken) = take(alloc, reading, prepared) else {
         return false;
     };
     match taken.show_by(rt, alloc, most, ahead, Wanted { is_wanted: true }) {
@@ -104,10 +108,10 @@ fn is_called_off<R: Threads + Sync>(
     reading: &mut Reading,
     prepared: &Prepared,
 ) -> bool {
-    match reading.take(alloc, prepared) {
-        Ok(taken) => taken
+    match take(alloc, reading, prepared) {
+        Some(taken) => taken
             .show_by(rt, alloc, 4, 100, Wanted { is_wanted: false })
             .is_err(),
-        Err(_) => false,
+        None => false,
     }
 }

@@ -9,8 +9,10 @@ ghost use Rattle.search.specs.Prepared.{pattern_of};
 ghost use Rattle.search.specs.Scan.{IsAnswerOf};
 ghost use Rattle.shared.specs.History.{known};
 
-use crate::fixtures::{body, name, prepared};
-use shared::{Answer, Body, Desk, Name, Prepared, Reading, Told, open};
+use crate::fixtures::{body, name, prepared, search};
+use index::{Body, Name};
+use search::{Answer, Prepared};
+use shared::{Desk, Reading, Told, open};
 use std::alloc::Global;
 use std::sync::Wait;
 use std::thread::{Threads, join};
@@ -39,8 +41,8 @@ fn search_beside_a_put<R: Threads + Wait + Sync>(
         rt,
         || join(
             rt,
-            || search(alloc, one, pattern),
-            || search(alloc, two, pattern),
+            || searched(alloc, one, pattern),
+            || searched(alloc, two, pattern),
         ),
         || publish(rt, desk, document),
     );
@@ -59,10 +61,10 @@ fn publish<R: Wait>(rt: &R, desk: &mut Desk, document: (Name, Body)) -> Option<T
 }
 
 /// Searches, and drops the answer.
-fn search(alloc: Global, mut reading: Reading, pattern: &Prepared) -> Reading
+fn searched(alloc: Global, mut reading: Reading, pattern: &Prepared) -> Reading
     ensures { result.opening ≡ reading.opening }
 {
-    let _answer = reading.search(alloc, pattern);
+    let _answer = search(alloc, &mut reading, pattern);
     reading
 }
 
@@ -79,7 +81,7 @@ fn search_after(
         × IsAnswerOf (state_of commands) (pattern_of pattern.now) answer) }
 {
     reading.learn(told);
-    reading.search(alloc, pattern).ok()
+    search(alloc, &mut reading, pattern)
 }
 
 #[test]

@@ -1,7 +1,8 @@
 //! Searches in threads of their own, while a desk puts and publishes: no answer shows half of a publish.
 
-use crate::fixtures::{prepared, put, two_readings};
-use shared::{Answer, Desk, Prepared, Reading};
+use crate::fixtures::{prepared, put, search, two_readings};
+use search::{Answer, Prepared};
+use shared::{Desk, Reading};
 use std::alloc::Global;
 use std::sync::Wait;
 use std::sync::atomic::{AtomicU64, Ordering};
@@ -72,8 +73,8 @@ fn watch(alloc: Global, mut reading: Reading, pattern: &Prepared, done: &AtomicU
     let mut least = 0;
     for _ in 0..u64::MAX {
         let last = done.load(Ordering::SeqCst) != 0;
-        match reading.search(alloc, pattern) {
-            Ok(answer) if is_whole(&answer) && least <= answer.version() => {
+        match search(alloc, &mut reading, pattern) {
+            Some(answer) if is_whole(&answer) && least <= answer.version() => {
                 least = answer.version();
             }
             _ => return false,

@@ -6,7 +6,7 @@ use Rattle.std.proofs.Common.{◌&&◌, ◌||◌, nat_lt}
 use Rattle.std.proofs.lemmas.List.FromFn.{get_or-map-range_with_len}
 use Rattle.ere.specs.ByteSet.{has, is_line_byte, set_of, union}
 use Rattle.ere.specs.Tree.{Tree, cat, alt, repeat, Trees, none, more}
-use Rattle.matcher.specs.Spans.{Relation, Spans, SpansEach, SpansSome, Steps}
+use Rattle.spans.specs.Spans.{Relation, Spans, SpansEach, SpansSome, Steps}
 use Rattle.simulation.specs.declared.part.Gaps.{Gaps}
 use Rattle.simulation.specs.declared.part.Counts.{Counts}
 use Rattle.simulation.specs.declared.part.Sizes.{Sizes}
@@ -15,7 +15,7 @@ use Rattle.simulation.specs.Parts.{set as one_of}
 use Rattle.simulation.specs.Packing.{IsPacked, StandsFor, nowhere, everywhere, gaps_of_both, gaps_of_either, gaps_of_times}
 use Rattle.simulation.proofs.Tests.{and_left, or_cases, or_left, or_right}
 use Rattle.simulation.proofs.Forward.{reads_forward}
-use Rattle.matcher.proofs.Bits.{false≢true}
+use Rattle.spans.proofs.Bits.{false≢true}
 use Rattle.simulation.proofs.Packing.{gap_everywhere, gap_both}
 use Rattle.std.proofs.Common.{◌^◌, ◌∷◌, drop, is_none, is_some, map, not, rules, Err, IfNone, IfOk, Ok, Result, SomeIff}
 use Rattle.std.proofs.lemmas.List.{at_drop_more, at_drop_all}

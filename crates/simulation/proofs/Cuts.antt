@@ -2,7 +2,7 @@
 use Rattle.std.proofs.Common.{◌≡◌, ℕ, suc, ◌+◌, ◌-◌, ◌*◌, ◌/◌, ◌<◌, ◌≤◌, Bool, ◌&&◌, ◌||◌, IsTrue, List, ◌++◌, length, take, drop, ◌⊎◌, inl, inr}
 use Rattle.std.proofs.Common.{◌↔◌, sym, ap, subst, ◌∙◌, arith, length-drop}
 use Rattle.std.proofs.lemmas.List.{get_or-take, get_or_append_left, take_at, drop_at, length-take-le}
-use Rattle.matcher.proofs.Bits.{same_word}
+use Rattle.spans.proofs.Bits.{same_word}
 use Rattle.simulation.specs.declared.part.Gaps.{Gaps}
 use Rattle.simulation.specs.declared.part.Counts.{Counts}
 use Rattle.simulation.specs.declared.part.Places.{Places}

@@ -1,7 +1,7 @@
 -- Words lead forward, and what is pending ends no earlier than here.
 use Rattle.std.proofs.Common.{◌≡◌, ℕ, zero, suc, ◌+◌, ◌*◌, ◌<◌, ◌≤◌, Bool, true, false, List, ◌⊎◌, inl, inr, refl, arith, drop, nat_lt, nat_le}
 use Rattle.std.proofs.lemmas.Bool.Decides.{nat_tests}
-use Rattle.matcher.specs.Spans.{Relation}
+use Rattle.spans.specs.Spans.{Relation}
 use Rattle.simulation.specs.declared.part.Places.{Places}
 use Rattle.simulation.specs.Parts.{Row as rows}
 use Rattle.simulation.specs.Parts.{Shape, nothing, set, run, both, either, loop, times, Chain, Reads, Row}

@@ -1,5 +1,6 @@
 pub mod Shapes
 pub mod Tests
+pub mod Anchors
 pub mod Forward
 pub mod Steps
 pub mod Words
@@ -12,7 +13,6 @@ pub mod Repeats
 pub mod Building
 pub mod Unrolling
 pub mod Lines
-pub mod Halving
 pub mod Matches
 pub mod Moving
 pub mod Folding

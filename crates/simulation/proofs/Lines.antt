@@ -9,10 +9,10 @@ use Rattle.std.proofs.lemmas.Bool.Decides.{nat_tests}
 use Rattle.std.proofs.lemmas.List.{get_or-drop, get_or-take, get_or_past, length-take}
 use Rattle.ere.specs.Tree.{Tree}
 use Rattle.ere.specs.Language.{ContainsMatch}
-use Rattle.matcher.specs.Private.Starts.{is_word_after}
-use Rattle.matcher.specs.Spans.{Spans}
-use Rattle.matcher.proofs.Bits.{false≢true, empty_word, position_in, position_set_same}
-use Rattle.matcher.proofs.Meaning.{hit_of_spans, spans_of_hit}
+use Rattle.spans.specs.Sides.{is_word_after}
+use Rattle.spans.specs.Spans.{Spans}
+use Rattle.spans.proofs.Bits.{false≢true, empty_word, position_in, position_set_same}
+use Rattle.spans.proofs.Meaning.{hit_of_spans, spans_of_hit}
 use Rattle.simulation.specs.declared.ends.Wanted.{Wanted}
 use Rattle.simulation.specs.declared.part.Gaps.{Gaps}
 use Rattle.simulation.specs.Parts.{Shape, nothing, set, run, both, either, loop, times, is_gap, Reads}

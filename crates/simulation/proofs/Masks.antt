@@ -7,7 +7,7 @@ use Rattle.std.proofs.lemmas.List.{get_or-set_same, get_or-set_other, length-set
 use Rattle.ere.specs.Bits.{has_bit}
 use Rattle.ere.specs.ByteSet.{has}
 use Rattle.ere.proofs.Bits.{has_not, has_zero}
-use Rattle.matcher.proofs.Bits.{and_all, false≢true}
+use Rattle.spans.proofs.Bits.{and_all, false≢true}
 use Rattle.simulation.specs.declared.part.Gaps.{Gaps}
 use Rattle.std.proofs.Common.{Option, Some, None, IfSome, IfOk, Ok, Err, Result}
 use Rattle.simulation.specs.declared.part.Places.{Places}

@@ -1,17 +1,18 @@
 -- What a simulation finds in a line, in the words of the tree.
-use Rattle.std.proofs.Common.{◌≡◌, ℕ, ◌+◌, ◌<◌, ◌≤◌, Bool, List, length, MatchOption, Option, Some, None, unwrap_or, inl, inr, sym, subst, arith}
+use Rattle.std.proofs.Common.{◌≡◌, ℕ, ◌+◌, ◌<◌, ◌≤◌, Bool, true, false, IsTrue, ◌↔◌, List, length, MatchBool, MatchOption, Option, Some, None, inl, inr, refl, sym, subst, arith}
 use Rattle.ere.specs.Tree.{Tree}
-use Rattle.matcher.specs.FirstSpan.{HasNoSpan, IsFirstSpan, IsMatchAt}
-use Rattle.matcher.specs.FirstStart.{HasNoStart, IsFirstStart}
-use Rattle.matcher.specs.Spans.{Spans}
-use Rattle.matcher.proofs.StartLemmas.{free_end, free_start, match_of_free}
+use Rattle.spans.specs.FirstSpan.{IsMatchAt}
+use Rattle.spans.specs.Passes.{HasNoEmpty, HasNoSpanAt, IsFirstEmpty, IsLongestEnd, NoSpanBegins, SomeSpanBegins}
+use Rattle.spans.specs.Spans.{Spans}
+use Rattle.spans.proofs.Bits.{false≢true}
+use Rattle.spans.proofs.Sides.{free_end, free_start, match_of_free}
 use Rattle.simulation.specs.declared.ends.Wanted.{Wanted}
 use Rattle.simulation.specs.declared.part.Gaps.{Gaps}
 use Rattle.simulation.specs.Packing.{IsPacked}
-use Rattle.simulation.specs.Parts.{Shape}
-use Rattle.simulation.specs.Private.Reading.{Begins, HasNoFreeGap, HasWanted, IsFirstGap, IsFreeGap, IsLastEnd, IsLeastStart, IsStart, IsWanted}
-use Rattle.simulation.proofs.Forward.{at_or_past, reads_forward}
-use Rattle.simulation.proofs.Halving.{begins_between}
+use Rattle.simulation.specs.Parts.{begins_at_start, Shape}
+use Rattle.simulation.specs.Private.Reading.{least_past, HasNoFreeGap, HasWanted, IsFirstGap, IsFreeGap, IsLastEnd, IsStart, IsWanted}
+use Rattle.simulation.proofs.Anchors.{none_lost, past_of, words_in}
+use Rattle.simulation.proofs.Forward.{le_or_lt, reads_forward}
 use Rattle.simulation.proofs.Repeats.{reads_inside}
 
 -- A match that is not empty is a word that is looked for, and the other way round.
@@ -48,110 +49,87 @@ match_of_gap : (line : List ℕ) (tree : Tree) (part : Shape) (gaps : Gaps) (who
 match_of_gap line tree part gaps whole_words at packed free =
     match_of_free line tree whole_words at at free.inside (packed.empty line at free.gap) free.free_before free.free_after
 
-pub no_span : (line : List ℕ) (tree : Tree) (part : Shape) (gaps : Gaps) (whole_words : Bool) (from : ℕ) → IsPacked (λ line. Spans line tree) part gaps
-    → (HasWanted line part (record { first = from; past = length line; whole_words = whole_words }) → ⊥) → HasNoSpan line tree whole_words from
-no_span line tree part gaps whole_words from packed none start end s =
-    let some = s.some in
-    let inside = s.is_match.inside in
+-- A match that is not empty begins in a range, or none does.
+pub found_span : (line : List ℕ) (tree : Tree) (part : Shape) (gaps : Gaps) (at_start found whole_words : Bool) (first past cut : ℕ)
+    → IsPacked (λ line. Spans line tree) part gaps → at_start ≡ begins_at_start part → cut ≡ least_past at_start past
+    → IsTrue found ↔ HasWanted line part (words_in first cut whole_words)
+    → MatchBool found (SomeSpanBegins line tree whole_words first past) (NoSpanBegins line tree whole_words first past)
+found_span line tree part gaps at_start true whole_words first past cut packed starts cut_is found =
+    let has = found.0 refl in
+    let is = has.1.1 in
+    let below = is.begins.below in
+    let least = past_of at_start past cut cut_is in (
+      has.0,
+      has.1.0,
+      omega arith,
+      record {
+        begins = is.begins.least;
+        some = reads_forward line part has.0 has.1.0 is.word;
+        is_match = match_of_wanted line tree part gaps (words_in first cut whole_words) has.0 has.1.0 packed is;
+      },
+    )
+found_span line tree part gaps at_start false whole_words first past cut packed starts cut_is found = λ start end s.
+    elim (le_or_lt past start) [
+      | inl behind ↦ behind
+      | inr before ↦
+          absurd (false≢true (found.1 (
+            start,
+            (
+              end,
+              none_lost line part at_start whole_words first past cut start end starts cut_is
+                  (wanted_of_match line tree part gaps (words_in first past whole_words) start end packed s.is_match s.some s.begins before),
+            ),
+          )))
+    ]
+
+-- The last end of the words that begin at a position is that of the longest match there.
+pub found_end : (line : List ℕ) (tree : Tree) (part : Shape) (gaps : Gaps) (at_start : Bool) (found : Option ℕ) (whole_words : Bool) (start past cut : ℕ)
+    → IsPacked (λ line. Spans line tree) part gaps → at_start ≡ begins_at_start part → past ≡ start + 1 → cut ≡ least_past at_start past
+    → MatchOption found (HasWanted line part (words_in start cut whole_words) → ⊥) (IsLastEnd line part (words_in start cut whole_words))
+    → MatchOption found (HasNoSpanAt line tree whole_words start) (IsLongestEnd line tree whole_words start)
+found_end line tree part gaps at_start None whole_words start past cut packed starts past_is cut_is none = λ end s.
     none (
       start,
       (
         end,
-        wanted_of_match line tree part gaps (record { first = from; past = length line; whole_words = whole_words }) start end packed s.is_match some
-            s.begins (omega arith),
+        none_lost line part at_start whole_words start past cut start end starts cut_is
+            (wanted_of_match line tree part gaps (words_in start past whole_words) start end packed s.is_match s.some (omega arith) (omega arith)),
       ),
     )
-
--- A word begins at the least start, so one ends there.
-pub some_end : (line : List ℕ) (part : Shape) (whole_words : Bool) (from start past : ℕ) → past ≡ start + 1
-    → IsLeastStart line part (record { first = from; past = length line; whole_words = whole_words }) start
-    → (HasWanted line part (record { first = start; past = past; whole_words = whole_words }) → ⊥) → ⊥
-some_end line part whole_words from start past past_is is none =
-    none (
-      start,
-      begins_between line part (record { first = from; past = length line; whole_words = whole_words }) start past start (omega arith) (omega arith)
-          is.begins,
-    )
-
-pub first_span : (line : List ℕ) (tree : Tree) (part : Shape) (gaps : Gaps) (whole_words : Bool) (from start past end : ℕ) → past ≡ start + 1
-    → IsPacked (λ line. Spans line tree) part gaps → IsLeastStart line part (record { first = from; past = length line; whole_words = whole_words }) start
-    → IsLastEnd line part (record { first = start; past = past; whole_words = whole_words }) end
-    → IsFirstSpan line tree whole_words from (record { start = start; end = end })
-first_span line tree part gaps whole_words from start past end past_is packed least last = record {
-  is_span = record { begins = least.begins.1.begins.least; some = reads_forward line part start end here.word; is_match = match_of_wanted line tree part gaps only start end packed here };
-  leftmost = λ other past_other s.
-      (let some = s.some in
-      let inside = s.is_match.inside in
-      least.least other (
-        past_other,
-        wanted_of_match line tree part gaps (record { first = from; past = length line; whole_words = whole_words }) other past_other packed s.is_match some
-            s.begins (omega arith),
-      ));
+found_end line tree part gaps at_start (Some end) whole_words start past cut packed starts past_is cut_is last = record {
+  is_span = record { begins = omega arith; some = reads_forward line part start end here.word; is_match = match_of_wanted line tree part gaps only start end packed here };
   longest = λ other s.
-      last.last other (start, wanted_of_match line tree part gaps only start other packed s.is_match s.some (omega arith) (omega arith));
+      last.last other (
+        start,
+        none_lost line part at_start whole_words start past cut start other starts cut_is
+            (wanted_of_match line tree part gaps (words_in start past whole_words) start other packed s.is_match s.some (omega arith) (omega arith)),
+      );
 }
   where
     only : Wanted
-    only = record { first = start; past = past; whole_words = whole_words }
+    only = words_in start cut whole_words
 
     here : IsWanted line part only start end
     here =
         let low = last.ends.1.begins.least in
         let below = last.ends.1.begins.below in
+        let least = past_of at_start past cut cut_is in
         let same : last.ends.0 ≡ start = omega arith in
         subst (λ n. IsWanted line part only n end) same last.ends.1
 
--- A match that begins before all empty ones is a word that is looked for.
-begins_of_match : (line : List ℕ) (tree : Tree) (part : Shape) (gaps : Gaps) (whole_words : Bool) (past at end : ℕ) → IsPacked (λ line. Spans line tree) part gaps
-    → (IsFreeGap gaps line whole_words at → ⊥) → at < past → IsMatchAt line tree whole_words at end
-    → Begins line part (record { first = 0; past = past; whole_words = whole_words }) at
-begins_of_match line tree part gaps whole_words past at end packed no_gap below m =
-    elim (at_or_past at end m.ordered) [
-      | inl same ↦ absurd (no_gap (gap_of_match line tree part gaps whole_words at end packed m same))
-      | inr some ↦
-          (end, wanted_of_match line tree part gaps (record { first = 0; past = past; whole_words = whole_words }) at end packed m some (omega arith) below)
-    ]
+-- Nothing that is not empty begins at the line's end.
+pub none_at_end : (line : List ℕ) (tree : Tree) (whole_words : Bool) (start : ℕ) → length line ≤ start → HasNoSpanAt line tree whole_words start
+none_at_end line tree whole_words start past end s =
+    let some = s.some in
+    let inside = s.is_match.inside in
+    omega arith
 
--- No empty match is before the first one, or before the line's end if there is none.
-no_gap_before : (line : List ℕ) (gaps : Gaps) (whole_words : Bool) (gap : Option ℕ) (at : ℕ)
-    → MatchOption gap (HasNoFreeGap gaps line whole_words) (IsFirstGap gaps line whole_words) → at < unwrap_or gap (length line)
-    → IsFreeGap gaps line whole_words at → ⊥
-no_gap_before line gaps whole_words None at none below free = none at free
-no_gap_before line gaps whole_words (Some first) at is below free = let after = is.first at free in omega arith
-
-pub first_start : (line : List ℕ) (tree : Tree) (part : Shape) (gaps : Gaps) (whole_words : Bool) (gap : Option ℕ) (past start : ℕ)
-    → past ≡ unwrap_or gap (length line) → IsPacked (λ line. Spans line tree) part gaps
-    → MatchOption gap (HasNoFreeGap gaps line whole_words) (IsFirstGap gaps line whole_words)
-    → IsLeastStart line part (record { first = 0; past = past; whole_words = whole_words }) start → IsFirstStart line tree whole_words start
-first_start line tree part gaps whole_words gap past start past_is packed gaps_are least = record {
-  begins = (
-    least.begins.0,
-    match_of_wanted line tree part gaps (record { first = 0; past = past; whole_words = whole_words }) start least.begins.0 packed least.begins.1,
-  );
-  leftmost = λ before earlier end m.
-      (let below = least.begins.1.begins.below in
-      let inside : before < past = omega arith in
-      let not_before = least.least before (begins_of_match line tree part gaps whole_words past before end packed
-      (no_gap_before line gaps whole_words gap before gaps_are (subst (λ n. before < n) past_is inside)) inside m) in
-      omega arith);
-}
-
--- If no word begins before the first empty match, that match is the first one.
-pub gap_first : (line : List ℕ) (tree : Tree) (part : Shape) (gaps : Gaps) (whole_words : Bool) (gap : Option ℕ) (past : ℕ)
-    → past ≡ unwrap_or gap (length line) → IsPacked (λ line. Spans line tree) part gaps
-    → MatchOption gap (HasNoFreeGap gaps line whole_words) (IsFirstGap gaps line whole_words)
-    → (HasWanted line part (record { first = 0; past = past; whole_words = whole_words }) → ⊥)
-    → MatchOption gap (HasNoStart line tree whole_words) (IsFirstStart line tree whole_words)
-gap_first line tree part gaps whole_words None past past_is packed gaps_are none = λ start end m.
-    let ordered = m.ordered in
-    let inside = m.inside in
-    elim (at_or_past start past (omega arith)) [
-      | inr below ↦ none (start, begins_of_match line tree part gaps whole_words past start end packed (gaps_are start) below m)
-      | inl last ↦ gaps_are start (gap_of_match line tree part gaps whole_words start end packed m (omega arith))
-    ]
-gap_first line tree part gaps whole_words (Some first) past past_is packed gaps_are none = record {
-  begins = (first, match_of_gap line tree part gaps whole_words first packed gaps_are.free);
-  leftmost = λ before earlier end m.
-      (let below : before < past = omega arith in
-      none (before, begins_of_match line tree part gaps whole_words past before end packed (no_gap_before line gaps whole_words (Some first) before gaps_are earlier) below m));
+-- The first free empty word is the first empty match.
+pub found_empty : (line : List ℕ) (tree : Tree) (part : Shape) (gaps : Gaps) (found : Option ℕ) (whole_words : Bool) → IsPacked (λ line. Spans line tree) part gaps
+    → MatchOption found (HasNoFreeGap gaps line whole_words) (IsFirstGap gaps line whole_words)
+    → MatchOption found (HasNoEmpty line tree whole_words) (IsFirstEmpty line tree whole_words)
+found_empty line tree part gaps None whole_words packed none = λ at m. none at (gap_of_match line tree part gaps whole_words at at packed m refl)
+found_empty line tree part gaps (Some first) whole_words packed is = record {
+  is_match = match_of_gap line tree part gaps whole_words first packed is.free;
+  leftmost = λ other m. is.first other (gap_of_match line tree part gaps whole_words other other packed m refl);
 }

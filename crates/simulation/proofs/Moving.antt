@@ -9,7 +9,7 @@ use Rattle.std.proofs.lemmas.Nat.{shr-shr}
 use Rattle.std.proofs.lemmas.Nat.Bits.{bit_at_above}
 use Rattle.ere.specs.Bits.{has_bit}
 use Rattle.ere.proofs.Bits.{has_or, has_with, tests_bit}
-use Rattle.matcher.proofs.Bits.{false≢true, has_moved_to, or_none, position_is, position_set_same, position_set_other}
+use Rattle.spans.proofs.Bits.{false≢true, has_moved_to, or_none, position_is, position_set_same, position_set_other}
 use Rattle.simulation.specs.declared.part.Counts.{Counts}
 use Rattle.simulation.specs.Pending.{at, room, AnyTurn, Enters, Enters as enters, IsNarrow, IsNarrow as narrows}
 use Rattle.simulation.proofs.Tests.{or_cases, or_left, or_right, and_left, and_right, and_both}

@@ -3,14 +3,14 @@ use Rattle.std.proofs.Common.{◌≡◌, ℕ, ◌<◌, Bool, true, false, ◌&&�
 use Rattle.std.proofs.Common.{◌⊎◌, inl, inr, refl, sym, subst, ◌∙◌, arith}
 use Rattle.std.proofs.lemmas.Bool.Decides.{nat_tests}
 use Rattle.ere.specs.Tree.{empty, set, at_start, at_end, none}
-use Rattle.matcher.specs.Spans.{Relation, Spans, SpansEach, SpansSome}
+use Rattle.spans.specs.Spans.{Relation, Spans, SpansEach, SpansSome}
 use Rattle.simulation.specs.declared.part.Gaps.{Gaps}
 use Rattle.simulation.specs.Parts.{Shape, nothing, is_gap, Reads}
 use Rattle.simulation.specs.Parts.{set as one_of}
 use Rattle.simulation.specs.Packing.{IsPacked, StandsFor, StandsForEach, StandsForSome, nowhere, everywhere, gaps_of_both, gaps_of_either}
 use Rattle.simulation.proofs.Tests.{or_cases, or_left, or_right, and_left, and_right, and_both}
 use Rattle.simulation.proofs.Forward.{at_or_past}
-use Rattle.matcher.proofs.Bits.{false≢true}
+use Rattle.spans.proofs.Bits.{false≢true}
 
 -- The gaps at one position.
 gap_cases : (P : Gaps → Bool → Type 0) → ((g : Gaps) → P g g.alone) → ((g : Gaps) → P g g.start) → ((g : Gaps) → P g g.end) → ((g : Gaps) → P g g.inside)

@@ -4,7 +4,7 @@ use Rattle.std.proofs.Math.Nat.{mul-le-mul_right}
 use Rattle.std.proofs.lemmas.Nat.Bits.{bit_at_above}
 use Rattle.ere.specs.Bits.{has_bit}
 use Rattle.ere.proofs.Bits.{has_zero}
-use Rattle.matcher.proofs.Bits.{false≢true}
+use Rattle.spans.proofs.Bits.{false≢true}
 use Rattle.simulation.specs.Private.Rows.{Passes}
 use Rattle.simulation.proofs.Tests.{or_cases, or_left, or_right, and_left, and_right, and_both}
 use Rattle.simulation.proofs.Forward.{le_or_lt}

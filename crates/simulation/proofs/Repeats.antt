@@ -3,7 +3,7 @@ use Rattle.std.proofs.Common.{◌≡◌, ◌≢◌, ℕ, zero, suc, ◌+◌, ◌
 use Rattle.std.proofs.Common.{Option, Some, None, IfSome, ◌⊎◌, inl, inr, refl, sym, subst, ap, arith}
 use Rattle.std.proofs.lemmas.Bool.Decides.{nat_tests}
 use Rattle.ere.specs.Tree.{Tree, repeat}
-use Rattle.matcher.specs.Spans.{Relation, Spans, Steps}
+use Rattle.spans.specs.Spans.{Relation, Spans, Steps}
 use Rattle.simulation.specs.declared.part.Gaps.{Gaps}
 use Rattle.simulation.specs.declared.part.Places.{Places}
 use Rattle.simulation.specs.Parts.{Row as rows}

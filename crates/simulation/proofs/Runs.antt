@@ -4,7 +4,7 @@ use Rattle.std.proofs.lemmas.Bool.Decides.{nat_tests}
 use Rattle.std.proofs.lemmas.Nat.{mul-add-lt}
 use Rattle.std.proofs.lemmas.Nat.Bits.{bit_at_above}
 use Rattle.ere.specs.Bits.{has_bit}
-use Rattle.matcher.proofs.Bits.{false≢true}
+use Rattle.spans.proofs.Bits.{false≢true}
 use Rattle.simulation.specs.declared.part.Places.{Places}
 use Rattle.simulation.specs.Parts.{Shape, run, Reads, Row, Row as rows, IsRead}
 use Rattle.simulation.specs.Pending.{at, Advances, IsKept, IsRun, Pending}

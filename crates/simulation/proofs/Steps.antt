@@ -10,7 +10,7 @@ use Rattle.simulation.specs.Pending.{at, first_of, second_of, Pending, Tells, Is
 use Rattle.simulation.proofs.Tests.{or_cases, or_left, or_right, and_left, and_right, and_both}
 use Rattle.simulation.specs.Pending.{Enters, Enters as enters, AnyTurn}
 use Rattle.simulation.proofs.Forward.{reads_forward, pending_forward, stays, at_or_past, le_or_lt}
-use Rattle.matcher.proofs.Bits.{false≢true, is_false}
+use Rattle.spans.proofs.Bits.{false≢true, is_false}
 use Rattle.std.proofs.lemmas.Nat.{mul-add-lt}
 
 -- What the first cells of a part say is kept.

@@ -1,7 +1,7 @@
 -- A repeat as its words in a row, of which some can be left out.
 use Rattle.std.proofs.Common.{◌≡◌, ℕ, zero, suc, ◌+◌, ◌-◌, ◌<◌, ◌≤◌, List, Some, ◌⊎◌, inl, inr, refl, sym, subst, ◌∙◌, arith}
 use Rattle.ere.specs.Tree.{Tree, repeat, Trees, none, more}
-use Rattle.matcher.specs.Spans.{Relation, Spans, SpansEach, Steps}
+use Rattle.spans.specs.Spans.{Relation, Spans, SpansEach, Steps}
 use Rattle.simulation.specs.declared.part.Gaps.{Gaps}
 use Rattle.simulation.specs.declared.pack.Packed.{Packed}
 use Rattle.simulation.specs.declared.run.Row.{Row as RowValue}

@@ -2,7 +2,7 @@
 use Rattle.std.proofs.Common.{◌≡◌, ◌≢◌, ℕ, ◌+◌, ◌*◌, ◌/◌, ◌%◌, ◌<◌, ◌≤◌, Bool, true, false, nat_lt, List, length, get_or, set, refl, sym, ap, subst, ◌∙◌, arith}
 use Rattle.std.proofs.lemmas.Bool.Decides.{nat_tests}
 use Rattle.ere.specs.Bits.{has_bit}
-use Rattle.matcher.proofs.Bits.{position_in, position_set_same, position_set_other}
+use Rattle.spans.proofs.Bits.{position_in, position_set_same, position_set_other}
 use Rattle.simulation.specs.Pending.{at}
 use Rattle.simulation.specs.Private.Words.{AreWritten, AreChanged}
 

@@ -1,7 +1,7 @@
 -- Which part stands for a tree.
 use Rattle.std.specs.Prelude.{◌≡◌, ℕ, ◌≤◌, ◌<◌, Bool, true, false, ◌&&◌, ◌||◌, if◌then◌else◌, ◌==◌, IsTrue, List, Option, IfSome, IfNone}
 use Rattle.ere.specs.Tree.{Tree, Trees}
-use Rattle.matcher.specs.Spans.{Relation, Spans, SpansEach, SpansSome}
+use Rattle.spans.specs.Spans.{Relation, Spans, SpansEach, SpansSome}
 use Rattle.simulation.specs.declared.part.Gaps.{Gaps}
 use Rattle.simulation.specs.declared.pack.Packed.{Packed}
 use Rattle.simulation.specs.Parts.{Shape, shape, Reads, is_gap}
@@ -60,13 +60,15 @@ pub record IsPartFor (words : List ℕ → Relation) (part : Shape) (gaps : Gaps
   pub whole : IsWhole part copies
   pub sized : size_of part copies ≡ size
 
--- the same for a part that is built
+-- A part that is built stands for the words of a tree.
 abbrev pub IsTreePart : Tree → Packed → ℕ → Type 0
 IsTreePart tree built copies = IsPartFor (λ line. Spans line tree) (shape built.part) built.gaps copies built.size
 
+-- A part that is built stands for several trees: a word of it is a word of each, one after the other.
 abbrev pub IsEachPart : Trees → Packed → ℕ → Type 0
 IsEachPart trees built copies = IsPartFor (λ line. SpansEach line trees) (shape built.part) built.gaps copies built.size
 
+-- A part that is built stands for several trees: a word of it is a word of one of them.
 abbrev pub IsSomePart : Trees → Packed → ℕ → Type 0
 IsSomePart trees built copies = IsPartFor (λ line. SpansSome line trees) (shape built.part) built.gaps copies built.size
 

@@ -1,9 +1,9 @@
 -- The words of a part by positions of a line, which is not empty. No word is empty: where a part of a tree has the
 -- empty word is said by gaps, next to the parts that they join.
-use Rattle.std.specs.Prelude.{◌≡◌, ℕ, zero, suc, ◌*◌, ◌<◌, ◌≤◌, Bool, if◌then◌else◌, ◌==◌, IsTrue, List, length, slice_index, ◌⊎◌}
+use Rattle.std.specs.Prelude.{◌≡◌, ℕ, zero, suc, ◌*◌, ◌<◌, ◌≤◌, Bool, true, false, not, ◌&&◌, ◌||◌, if◌then◌else◌, ◌==◌, IsTrue, List, length, slice_index, ◌⊎◌}
 use Rattle.ere.specs.Bits.{has_bit}
 use Rattle.ere.specs.ByteSet.{has}
-use Rattle.matcher.specs.Spans.{Relation}
+use Rattle.spans.specs.Spans.{Relation}
 use Rattle.simulation.specs.declared.part.Gaps.{Gaps}
 use Rattle.simulation.specs.declared.part.Counts.{Counts}
 use Rattle.simulation.specs.declared.part.Sizes.{Sizes}
@@ -81,3 +81,14 @@ Reads line (loop body own) from to = (more : ℕ) × Chain (Reads line body) (su
 Reads line (times body counts) from to =
     (more : ℕ) × Chain (Reads line body) (suc more) from to × Fits counts (suc more)
     × (IsTrue (is_gap counts.gaps line from) ⊎ Suffices line counts (suc more) to)
+
+-- Whether each word of the part begins at the line's start. Where the second of two members follows the empty word, it begins
+-- where that word is.
+unfoldable pub begins_at_start : Shape → Bool
+begins_at_start nothing = true
+begins_at_start (set members) = false
+begins_at_start (run masks places) = false
+begins_at_start (both left right sizes before after) = begins_at_start left && (not before.inside || begins_at_start right)
+begins_at_start (either left right sizes) = begins_at_start left && begins_at_start right
+begins_at_start (loop body own) = begins_at_start body
+begins_at_start (times body counts) = begins_at_start body

@@ -1,7 +1,7 @@
 -- What the cells of a part hold at a position of the line: the words that have begun and are not read to their end.
 use Rattle.std.specs.Prelude.{◌≡◌, ℕ, suc, ◌+◌, ◌*◌, ◌/◌, ◌<◌, ◌≤◌, ◌↔◌, Bool, false, IsTrue, List, length, slice_index, take, drop, ◌⊎◌}
 use Rattle.ere.specs.Bits.{has_bit}
-use Rattle.matcher.specs.PositionSets.{has_position}
+use Rattle.spans.specs.PositionSets.{has_position}
 use Rattle.simulation.specs.declared.part.Counts.{Counts}
 use Rattle.simulation.specs.declared.part.Places.{Places}
 use Rattle.simulation.specs.declared.part.Sizes.{Sizes}
@@ -19,7 +19,7 @@ room cells = 64 * length cells
 abbrev pub first_of : Sizes → List ℕ → List ℕ
 first_of sizes cells = take sizes.first (drop sizes.own cells)
 
--- the cells of the second
+-- the cells of the second of two members
 abbrev pub second_of : Sizes → List ℕ → List ℕ
 second_of sizes cells = drop sizes.first (drop sizes.own cells)
 
@@ -48,6 +48,7 @@ pub record Tells (line : List ℕ) (here : ℕ) (part : Shape) (copies : ℕ) (c
   pub set : (k : ℕ) → k < copies → IsTrue (at cells k) → Pending line here part copies cells k here
   pub pending : (k : ℕ) → k < copies → Pending line here part copies cells k here → IsTrue (at cells k)
 
+-- The first cells of the part, and of each part in it, say which copies have a word that ends here.
 unfoldable pub IsKept : List ℕ → ℕ → Shape → ℕ → List ℕ → Type 0
 IsKept line here nothing copies cells = Tells line here nothing copies cells
 IsKept line here (set members) copies cells = Tells line here (set members) copies cells

@@ -1,7 +1,7 @@
 //! Where words of a part end in a line.
 
 ghost use Rattle.std.specs.Prelude.{◌≡◌, ℕ, ◌<◌, ◌≤◌, ◌↔◌, ◌&&◌, not, MatchOption, IsTrue, length};
-ghost use Rattle.matcher.specs.Private.Starts.{is_word_after, is_word_before};
+ghost use Rattle.spans.specs.Sides.{is_word_after, is_word_before};
 ghost use Rattle.simulation.specs.Parts.{shape};
 ghost use Rattle.simulation.specs.Pending.{at};
 ghost use Rattle.simulation.specs.Private.Reading.{AreClear, Ends, HasRoom, HasWanted, IsLastEnd, IsNextEnd, IsReadTo, IsStart, NoneEndsAfter};

@@ -1,9 +1,11 @@
 //! Where trees have the empty word.
 
-ghost use Rattle.std.specs.Prelude.{◌≡◌, IsTrue};
+ghost use Rattle.std.specs.Prelude.{◌≡◌, ◌≤◌, ◌↔◌, MatchOption, IsTrue, length};
 ghost use Rattle.simulation.specs.Packing.{everywhere, gaps_of_both, gaps_of_either, gaps_of_times, only_at, nowhere};
+ghost use Rattle.simulation.specs.Private.Reading.{HasNoFreeGap, IsFirstGap, IsFreeGap};
 
-use crate::part::Gaps;
+use crate::ends::{follows_word, precedes_word};
+use crate::part::{Gaps, is_gap};
 
 /// The empty word nowhere.
 pub(crate) fn nowhere() -> Gaps
@@ -86,4 +88,25 @@ pub(crate) fn are_same(one: Gaps, two: Gaps) -> bool
     ensures { IsTrue result → one ≡ two }
 {
     one == two
+}
+
+/// The least position of the empty word, or `None` if there is none. With `whole_words` no word byte is to be right
+/// before it or right after it.
+pub(crate) fn first_gap(gaps: Gaps, line: &[u8], whole_words: bool) -> Option<usize>
+    ensures { MatchOption result (HasNoFreeGap gaps line.now whole_words) (IsFirstGap gaps line.now whole_words) }
+{
+    for at in 0..line.len() + 1 {
+        if is_free_gap(gaps, line, whole_words, at) {
+            return Some(at);
+        }
+    }
+    None
+}
+
+/// Whether the empty word is at the position, and with `whole_words` no word byte right before it or right after it.
+fn is_free_gap(gaps: Gaps, line: &[u8], whole_words: bool, at: usize) -> bool
+    requires { at ≤ length line.now }
+    ensures { IsTrue result ↔ IsFreeGap gaps line.now whole_words at }
+{
+    is_gap(gaps, line, at) && !(whole_words && (follows_word(line, at) || precedes_word(line, at)))
 }

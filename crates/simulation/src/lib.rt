@@ -1,5 +1,5 @@
 //! Whether a line contains a match of an extended regular expression (POSIX.1-2017 XBD 9.4), and where the first one is, in
-//! a bounded time for each byte.
+//! a time for each byte that, as far as is measured, depends on the tree alone.
 #![tactic(auto)]
 
 mod cells;
@@ -9,7 +9,6 @@ mod pack;
 mod part;
 mod run;
 mod simulation;
-mod starts;
 mod step;
 mod turns;
 

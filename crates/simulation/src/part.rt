@@ -1,7 +1,7 @@
 //! The parts that the simulation steps through.
 
 ghost use Rattle.std.specs.Prelude.{◌≡◌, ◌<◌, length};
-ghost use Rattle.simulation.specs.Parts.{is_gap};
+ghost use Rattle.simulation.specs.Parts.{begins_at_start, is_gap, shape};
 
 use ere::ByteSet;
 
@@ -95,5 +95,23 @@ pub(crate) fn is_gap(gaps: Gaps, line: &[u8], at: usize) -> bool
         gaps.end
     } else {
         gaps.inside
+    }
+}
+
+/// Whether each word of the part begins at the line's start. `false` also for some parts of which that is so.
+#[cycle(anchors)]
+pub(crate) fn begins_at_start(part: &Part) -> bool
+    ensures { result ≡ begins_at_start (shape part.now) }
+{
+    match part {
+        Part::Nothing => true,
+        Part::Set(_) => false,
+        Part::Run(_, _) => false,
+        Part::Both(left, right, _, before, _) => {
+            begins_at_start(left) && (!before.inside || begins_at_start(right))
+        }
+        Part::Either(left, right, _) => begins_at_start(left) && begins_at_start(right),
+        Part::Loop(body, _) => begins_at_start(body),
+        Part::Times(body, _) => begins_at_start(body),
     }
 }

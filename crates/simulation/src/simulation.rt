@@ -2,25 +2,27 @@
 
 ghost use Rattle.std.specs.Prelude.{◌≡◌, ◌||◌, length};
 ghost use Rattle.simulation.specs.Parts.{is_gap};
+ghost use Rattle.simulation.specs.Private.Reading.{least_past};
 
 use crate::ends::{Wanted, has_word, last_end};
+use crate::gaps::first_gap;
 use crate::pack::pack;
-use crate::part::{Gaps, Part, is_gap};
-use crate::starts::{first_gap, least_start};
+use crate::part::{Gaps, Part, begins_at_start, is_gap};
 use ere::Ere;
-use matcher::Span;
 use std::alloc::{AllocError, Global};
 
 /// What is needed to look for matches of one tree in lines of any length.
 ///
 /// The tree is packed into parts. Each part has one cell for each of its copies, which are what a repeat of the tree
-/// around it would write out. A byte of a line is read by one walk through the parts, which takes a time that is
-/// bounded by the parts and the words of their cells.
+/// around it would write out. A byte of a line is read by one walk through the parts. As far as is measured, its time
+/// depends on the parts and the words of their cells alone.
 #[derive(Drop)]
 pub struct Simulation {
     part: Part,
     // Where the tree has the empty word.
     gaps: Gaps,
+    // Whether each of its words that is not empty begins at the line's start.
+    at_start: bool,
     // What begins before the next byte. It is of no use after that byte.
     entered: Vec<u64>,
     // What has been read so far.
@@ -28,12 +30,11 @@ pub struct Simulation {
 }
 
 impl Simulation {
-    ghost use Rattle.std.specs.Prelude.{◌↔◌, IsTrue, IfOk, MatchOption};
+    ghost use Rattle.std.specs.Prelude.{◌↔◌, IsTrue, IfOk, MatchBool, MatchOption};
     ghost use Rattle.ere.specs.Language.{ContainsMatch};
     ghost use Rattle.ere.specs.Limits.{IsWithinLimits};
     ghost use Rattle.ere.specs.Tree.{Tree, form};
-    ghost use Rattle.matcher.specs.FirstSpan.{HasNoSpan, IsFirstSpan};
-    ghost use Rattle.matcher.specs.FirstStart.{HasNoStart, IsFirstStart};
+    ghost use Rattle.spans.specs.Passes.{HasNoEmpty, HasNoSpanAt, IsFirstEmpty, IsLongestEnd, NoSpanBegins, SomeSpanBegins};
     ghost use Rattle.simulation.specs.Simulations.{IsSimulationOf};
 
     /// The simulation of a tree, which is within the limits.
@@ -44,9 +45,11 @@ impl Simulation {
         ensures { IfOk result (IsSimulationOf (form tree.now)) }
     {
         let packed = pack(alloc, tree, 1)?;
+        let at_start = begins_at_start(&packed.part);
         Ok(Simulation {
             part: packed.part,
             gaps: packed.gaps,
+            at_start,
             entered: vec![in alloc; 0; packed.size]?,
             cells: vec![in alloc; 0; packed.size]?,
         })
@@ -54,7 +57,7 @@ impl Simulation {
 
     /// Whether some part of the line is a match of the tree. Nothing is allocated.
     ///
-    /// The line can have any length. The time for each of its bytes is bounded by the tree alone.
+    /// The line can have any length. As far as is measured, the time for each of its bytes depends on the tree alone.
     pub fn matches(&mut self, line: &[u8]) -> bool
         requires { (tree : Tree) × IsSimulationOf tree self.old }
         ensures same { (tree : Tree) → IsSimulationOf tree self.old → IsSimulationOf tree self.new }
@@ -63,76 +66,57 @@ impl Simulation {
         if has_gap(self.gaps, line) {
             return true;
         }
-        let all = Wanted {
-            first: 0,
-            past: line.len(),
-            whole_words: false,
-        };
+        let all = wanted(self.at_start, 0, line.len(), false);
         has_word(&self.part, line, all, &mut self.entered, &mut self.cells)
     }
 
-    /// The first part of the line from the offset `from` on that is a match of the tree and not empty: of all these the
-    /// parts that begin leftmost, and of them the longest (POSIX.1-2017 XBD 9.1). With `whole_words` only parts with no
-    /// letter, digit or `_` right before them and right after them count. `None` if there is no such part, as from the end
-    /// of the line on. This is what `matcher::first_span` finds.
+    /// Whether a match that is not empty begins at some position from `first` up to but not including `past`. With
+    /// `whole_words` only matches with no letter, digit or `_` right before them and right after them count.
     ///
-    /// The line can have any length. Nothing is allocated, and there are no errors. The start is found by halving: the line
-    /// is read about as often as the distance of the start from `from` has binary digits, or twice as often, and once more
-    /// for the end. Each time reading begins at `from` or later, and stops where nothing is left that could become a match.
-    /// The time for each byte is bounded by the tree alone.
-    pub fn first_span(&mut self, line: &[u8], from: usize, whole_words: bool) -> Option<Span>
+    /// This is one pass over the line, from `first` on. It stops at the first end of such a match, and where nothing is left
+    /// that could become one. The line can have any length. As far as is measured, the time for each of its bytes depends
+    /// on the tree alone. Nothing is allocated, and there are no errors.
+    pub fn has_span(&mut self, line: &[u8], first: usize, past: usize, whole_words: bool) -> bool
         requires { (tree : Tree) × IsSimulationOf tree self.old }
         ensures same { (tree : Tree) → IsSimulationOf tree self.old → IsSimulationOf tree self.new }
-        ensures found { (tree : Tree) → IsSimulationOf tree self.old → MatchOption result (HasNoSpan line.now tree whole_words from) (IsFirstSpan line.now tree whole_words from) }
+        ensures found { (tree : Tree) → IsSimulationOf tree self.old
+            → MatchBool result (SomeSpanBegins line.now tree whole_words first past) (NoSpanBegins line.now tree whole_words first past) }
     {
-        let wanted = Wanted {
-            first: from,
-            past: line.len(),
-            whole_words,
-        };
-        let start = least_start(&self.part, line, wanted, &mut self.entered, &mut self.cells)?;
-        let leftmost = Wanted {
-            first: start,
-            past: start + 1,
-            whole_words,
-        };
-        let end = last_end(
-            &self.part,
-            line,
-            leftmost,
-            &mut self.entered,
-            &mut self.cells,
-        )?;
-        Some(Span { start, end })
+        let block = wanted(self.at_start, first, past, whole_words);
+        has_word(&self.part, line, block, &mut self.entered, &mut self.cells)
     }
 
-    /// Where the leftmost match of the tree in the line begins (POSIX.1-2017 XBD 9.1), as an offset from 0 to the line's
-    /// length. The match can be empty. With `whole_words` only matches with no letter, digit or `_` right before them and
-    /// right after them count. `None` if the line has no such match. This is what `matcher::first_start` finds.
+    /// The end of the longest match that begins at the position and is not empty, or `None` if there is none, as from the
+    /// line's end on. With `whole_words` only matches with no letter, digit or `_` right before them and right after them
+    /// count.
     ///
-    /// The line can have any length. Nothing is allocated, and there are no errors. The time is that of `first_span` without
-    /// the search for the end, and that of a look at each position up to the first empty match.
-    pub fn first_start(&mut self, line: &[u8], whole_words: bool) -> Option<usize>
+    /// This is one pass over the line, from `start` on. It stops where no match is pending any more. The line can have any
+    /// length. As far as is measured, the time for each of its bytes depends on the tree alone. Nothing is allocated, and
+    /// there are no errors.
+    pub fn longest_end(&mut self, line: &[u8], start: usize, whole_words: bool) -> Option<usize>
         requires { (tree : Tree) × IsSimulationOf tree self.old }
         ensures same { (tree : Tree) → IsSimulationOf tree self.old → IsSimulationOf tree self.new }
-        ensures found { (tree : Tree) → IsSimulationOf tree self.old → MatchOption result (HasNoStart line.now tree whole_words) (IsFirstStart line.now tree whole_words) }
+        ensures found { (tree : Tree) → IsSimulationOf tree self.old
+            → MatchOption result (HasNoSpanAt line.now tree whole_words start) (IsLongestEnd line.now tree whole_words start) }
     {
-        let gap = first_gap(self.gaps, line, whole_words);
-        let earlier = Wanted {
-            first: 0,
-            past: gap.unwrap_or(line.len()),
-            whole_words,
-        };
-        match least_start(
-            &self.part,
-            line,
-            earlier,
-            &mut self.entered,
-            &mut self.cells,
-        ) {
-            Some(start) => Some(start),
-            None => gap,
+        if start >= line.len() {
+            return None;
         }
+        let only = wanted(self.at_start, start, start + 1, whole_words);
+        last_end(&self.part, line, only, &mut self.entered, &mut self.cells)
+    }
+
+    /// The least position of an empty match, from 0 to the line's length, or `None` if there is none. With `whole_words` only
+    /// positions count with no letter, digit or `_` right before them and right after them.
+    ///
+    /// Whether a position has the empty match is known without reading. So this takes as long as a look at each position up
+    /// to the one that is found. Nothing is allocated, and there are no errors.
+    pub fn first_empty(&self, line: &[u8], whole_words: bool) -> Option<usize>
+        requires { (tree : Tree) × IsSimulationOf tree self.now }
+        ensures { (tree : Tree) → IsSimulationOf tree self.now
+            → MatchOption result (HasNoEmpty line.now tree whole_words) (IsFirstEmpty line.now tree whole_words) }
+    {
+        first_gap(self.gaps, line, whole_words)
     }
 }
 
@@ -141,4 +125,15 @@ fn has_gap(gaps: Gaps, line: &[u8]) -> bool
     ensures { result ≡ (is_gap gaps line.now 0 || is_gap gaps line.now (length line.now)) }
 {
     is_gap(gaps, line, 0) || is_gap(gaps, line, line.len())
+}
+
+/// The words that begin at one of these positions. They cannot begin behind the line's start if `at_start`.
+fn wanted(at_start: bool, first: usize, past: usize, whole_words: bool) -> Wanted
+    ensures { result ≡ (record { first = first; past = least_past at_start past; whole_words = whole_words }) }
+{
+    Wanted {
+        first,
+        past: if at_start { past.min(1) } else { past },
+        whole_words,
+    }
 }

@@ -9,4 +9,4 @@ mod fixtures;
 #[cfg(test)]
 mod matching;
 #[cfg(test)]
-mod spans;
+mod passes;

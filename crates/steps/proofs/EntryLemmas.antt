@@ -2,7 +2,6 @@
 use Rattle.std.proofs.Common.{◌≡◌, ℕ, ◌+◌, ◌≤◌, Bool, true, false, List, [], Option, Some, None, refl, sym, ap, subst, arith}
 use Rattle.index.specs.State.{State}
 use Rattle.search.specs.Request.{Request}
-use Rattle.search.specs.Shown.{Shown}
 use Rattle.script.specs.Items.{Item, put, load, remove, publish, search, search_in, find, sync, cancel, status, bad_line, bad_put, truncated, body_not_closed}
 use Rattle.transcript.specs.declared.entry.Entry.{Entry}
 use Rattle.transcript.specs.declared.entry.Entry.TheVariants.{Accepted, Refused, Published, Found, SearchRefused}
@@ -12,7 +11,7 @@ use Rattle.transcript.specs.declared.entry.SearchReason.{SearchReason}
 use Rattle.transcript.specs.declared.entry.SearchReason.TheVariants as search_reason
 use Rattle.steps.specs.Rows.{version_in, last_or, is_sync, searches_of, count_searches}
 use Rattle.steps.specs.LegalRows.{IsRoomFor, IsNamed, HasBody, HasLoaded, IsRemove, IsPublish, Limits, Context, search_number, state_before}
-use Rattle.steps.specs.LegalRows.{IsAnswered, IsSearched, IsUnknown, IsStatus, IsCommandEntry, IsEntryOf, HasEntry}
+use Rattle.steps.specs.LegalRows.{IsSearched, IsUnknown, IsStatus, IsCommandEntry, IsEntryOf, HasEntry}
 use Rattle.steps.specs.LegalRows as legal
 use Rattle.steps.specs.Asked.{Asks, IsFaultOf, IsFaultOfSearch, IsFaultOfSearchIn, IsFaultOfFind}
 use Rattle.steps.specs.Asked as asked
@@ -100,6 +99,12 @@ sync_is_no_search (search_in case name_text text) is = cc
 sync_is_no_search (find text) is = cc
 sync_is_no_search item is = refl
 
+pub asks_is_search : (item : Item) (request : Request) → Asks item request → searches_of item ≡ 1
+asks_is_search (search case text) request asks = refl
+asks_is_search (search_in case name_text text) request asks = refl
+asks_is_search (find text) request asks = refl
+asks_is_search item request asks = absurd asks
+
 pub fault_is_of_search : (item : Item) (why : SearchReason) → IsFaultOf item why → searches_of item ≡ 1
 fault_is_of_search (search case text) why h = refl
 fault_is_of_search (search_in case name_text text) why h = refl
@@ -158,23 +163,14 @@ module _ (Holds : List ℕ → List ℕ → Type 0) (limits : Limits) (context :
   legal_fault (find text) why h = legal.refused why h refl
   legal_fault item why h = absurd h
 
-  -- the refusal of a search that was open
-  pub legal_refusal : (item : Item) (entry : Entry) → searches_of item ≡ 1 → ((IsIt : Request → Type 0) → IsSearched limits context IsIt entry)
+  -- the entry of a search that was open
+  pub legal_search : (item : Item) (entry : Entry) (request : Request) → Asks item request → IsSearched limits context request entry
       → HasEntry Holds limits context item (Some entry)
   unfolding IsEntryOf
-  legal_refusal (search case text) entry one is = legal.searched (is (Asks (search case text)))
-  legal_refusal (search_in case name_text text) entry one is = legal.searched (is (Asks (search_in case name_text text)))
-  legal_refusal (find text) entry one is = legal.searched (is (Asks (find text)))
-  legal_refusal item entry one is = absurd (omega (arith, one))
-
-  pub legal_answer : (item : Item) (request : Request) (reader turn : ℕ) (answer : Shown) → Asks item request
-      → IsAnswered context request reader answer → HasEntry Holds limits context item (Some (Found (search_number context) reader turn answer))
-  unfolding IsEntryOf
-  legal_answer (search case text) request reader turn answer asks is = legal.searched (legal.found request reader turn answer asks refl is)
-  legal_answer (search_in case name_text text) request reader turn answer asks is =
-      legal.searched (legal.found request reader turn answer asks refl is)
-  legal_answer (find text) request reader turn answer asks is = legal.searched (legal.found request reader turn answer asks refl is)
-  legal_answer item request reader turn answer asks is = absurd asks
+  legal_search (search case text) entry request asks is = legal.searched request asks is
+  legal_search (search_in case name_text text) entry request asks is = legal.searched request asks is
+  legal_search (find text) entry request asks is = legal.searched request asks is
+  legal_search item entry request asks is = absurd asks
 
 -- The entry of a search publishes nothing.
 pub no_version : (entry : Entry) → unless_of_search (Some entry) ≡ None → version_in (Some entry) ≡ []

@@ -13,7 +13,7 @@ use Rattle.transcript.specs.declared.entry.Entry.{Entry}
 use Rattle.transcript.specs.declared.entry.Entry.TheVariants.{Found, SearchRefused}
 use Rattle.transcript.specs.declared.entry.SearchReason.{SearchReason}
 use Rattle.steps.specs.Rows.{Row, commands_of, version_in, published_in, last_or, published_last, before_sync, searches_of, count_searches}
-use Rattle.steps.specs.LegalRows.{Limits, Context, HasEntry, IsLegalRow, IsSearched, IsAnswered, search_number}
+use Rattle.steps.specs.LegalRows.{Limits, Context, HasEntry, IsLegalRow, IsSearched, found, IsAnswered, search_number}
 use Rattle.steps.specs.Asked.{Asks}
 use Rattle.steps.specs.Steps.{RunState, OpenSearch, latest, IsAnswerNow}
 use Rattle.steps.specs.StepRows.{with_its_entry, unless_of_search, unanswered, open_in, given_in, given_of, Rises}
@@ -22,7 +22,7 @@ use Rattle.steps.proofs.RowLemmas.{unanswered-append, given_of-append, same_comm
 use Rattle.steps.proofs.RowLemmas.{later_published, published_in-append, published_in-none, published_in-quiet, IsPlace, here, earlier, later, place_of, last_or-append}
 use Rattle.steps.proofs.RowLemmas.{rises_front, rises_rest, rises_last, rises_contains, sync_later}
 use Rattle.steps.proofs.OpenLemmas.{open_none, open_in-append, IsOpenRow}
-use Rattle.steps.proofs.EntryLemmas.{legal_refusal, legal_answer, no_version, not_legal_yet}
+use Rattle.steps.proofs.EntryLemmas.{legal_search, no_version, not_legal_yet}
 
 abbrev without_entry : Row → Row
 without_entry row = record row { entry = None }
@@ -71,21 +71,21 @@ pub record IsFilled (Holds : List ℕ → List ℕ → Type 0) (limits : Limits)
   pub noted : AllByRecursion (IsNoted s'.lasts) (given_of before ++ (given_in (Some entry) ++ given_of after))
 
 -- A search between these rows may be refused for this reason, whatever rows follow.
-abbrev pub MayBeRefused : Limits → ℕ → List Row → List Row → SearchReason → Type 1
+abbrev pub MayBeRefused : Limits → ℕ → List Row → List Row → SearchReason → Type 0
 MayBeRefused limits readers before after why =
     (context : Context) (later : List Row) → context.readers ≡ readers → unanswered context.before ≡ unanswered before
-    → unanswered context.after ≡ unanswered after ++ later → (IsIt : Request → Type 0)
-    → IsSearched limits context IsIt (SearchRefused (search_number context) why)
+    → unanswered context.after ≡ unanswered after ++ later → (request : Request)
+    → IsSearched limits context request (SearchRefused (search_number context) why)
 
--- No sync follows an open row, and without readers nothing does.
+-- No sync follows an open row, and without readers nothing does. It asks for something.
 pub after_open : (Holds : List ℕ → List ℕ → Type 0) (limits : Limits) (readers : ℕ) (s : RunState) (rows : List Row) → AreRows Holds limits readers s rows
     → (before : List Row) (row : Row) (after : List Row) → rows ≡ before ++ row ∷ after → row.entry ≡ None → searches_of row.numbered.item ≡ 1
-    → HasNoSync (unanswered after) × (readers ≡ 0 → unanswered after ≡ [])
+    → HasNoSync (unanswered after) × (readers ≡ 0 → unanswered after ≡ []) × (request : Request) × Asks row.numbered.item request
 after_open Holds limits readers s rows are before row after whole none one = by (are.stand before row after whole)
   where
     by : Stands Holds limits readers (unanswered before) row (unanswered after)
-        → HasNoSync (unanswered after) × (readers ≡ 0 → unanswered after ≡ [])
-    by (waits also also_one no_sync alone) = (no_sync, alone)
+        → HasNoSync (unanswered after) × (readers ≡ 0 → unanswered after ≡ []) × (request : Request) × Asks row.numbered.item request
+    by (waits request asks also no_sync alone) = (no_sync, alone, request, asks)
     by (legal is) =
         absurd (not_legal_yet Holds limits _ row.numbered.item row.entry none one
         (is before after [] refl (sym (append-nil (unanswered after))) (subst (Rises 0) (are.published ∙ ap published_in whole) are.rises)))
@@ -154,6 +154,9 @@ module _ (Holds : List ℕ → List ℕ → Type 0) (limits : Limits) (readers :
   pub number_is : (before' : List Row) → unanswered before' ≡ unanswered at.before → search.number ≡ count_searches before' + 1
   number_is before' e = omega (arith, ap (λ x. x.number) at.is, same_searches before' at.before e)
 
+  pub waiting : HasNoSync (unanswered at.after) × (readers ≡ 0 → unanswered at.after ≡ []) × (request : Request) × Asks at.row.numbered.item request
+  waiting = after_open Holds limits readers s rows are at.before at.row at.after at.whole at.none at.one
+
   pub refusal_stands : (why : SearchReason) → MayBeRefused limits readers at.before at.after why
       → Stands Holds limits readers (unanswered at.before) (with_its_entry (SearchRefused search.number why) at.row) (unanswered at.after)
   refusal_stands why may =
@@ -161,10 +164,8 @@ module _ (Holds : List ℕ → List ℕ → Type 0) (limits : Limits) (readers :
       let row' = with_its_entry (SearchRefused search.number why) at.row in
       let context : Context = record { readers = readers; before = before'; row = row'; after = after' } in
       subst (λ n. HasEntry Holds limits context at.row.numbered.item (Some (SearchRefused n why))) (sym (number_is before' e))
-      (legal_refusal Holds limits context at.row.numbered.item (SearchRefused (search_number context) why) at.one (may context more refl e e')))
-
-  pub waiting : HasNoSync (unanswered at.after) × (readers ≡ 0 → unanswered at.after ≡ [])
-  waiting = after_open Holds limits readers s rows are at.before at.row at.after at.whole at.none at.one
+      (legal_search Holds limits context at.row.numbered.item (SearchRefused (search_number context) why) waiting.2 waiting.3
+      (may context more refl e e' waiting.2)))
 
   -- A version that is published by now is no later than the latest.
   seen : (version : ℕ) → (version ≡ 0) ⊎ Contains s.published version → version ≤ latest s
@@ -259,8 +260,8 @@ module _ (Holds : List ℕ → List ℕ → Type 0) (limits : Limits) (readers :
     answer_legal : IsLegalRow Holds limits context
     answer_legal =
         subst (λ n. HasEntry Holds limits context at.row.numbered.item (Some (Found n reader turn answer))) (sym (number_is before' e))
-        (legal_answer Holds limits context at.row.numbered.item now.request reader turn answer
-        (subst (λ i. Asks i now.request) (ap (λ x. x.item) at.is) now.asks) is_answered)
+        (legal_search Holds limits context at.row.numbered.item (Found (search_number context) reader turn answer) now.request
+        (subst (λ i. Asks i now.request) (ap (λ x. x.item) at.is) now.asks) (found reader turn answer refl is_answered))
 
   pub answer_stands : (reader turn : ℕ) (answer : Shown) → IsAnswerNow s search reader turn answer
       → Stands Holds limits readers (unanswered at.before) (with_its_entry (Found search.number reader turn answer) at.row) (unanswered at.after)

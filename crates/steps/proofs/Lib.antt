@@ -9,3 +9,4 @@ pub mod StepLemmas
 pub mod RunLemmas
 pub mod WrittenLemmas
 pub mod OrderLemmas
+pub mod EarlierLemmas

@@ -132,7 +132,7 @@ module _ (entries : List Entry) (s : RunState) (old : AreInOrder entries s) wher
       (quiet_entry entry s'
       (plain_by (plain_entry Holds limits.commands (state_of s.accepted) loaded item.line item.item entry h) (λ e. given_in (Some e) ≡ []) (λ count. refl)
       (λ why. refl) refl) (ap (λ t. t.published) same) (ap (λ t. t.lasts) same))
-  order_step Holds limits readers taken written s' (steps.asked_for item may one takes writes same) =
+  order_step Holds limits readers taken written s' (steps.asked_for item request may asks takes writes same) =
       order_stays written s' writes (ap (λ t. t.published) same) (ap (λ t. t.lasts) same)
   order_step Holds limits readers taken written s' (steps.refused item why may fault takes writes same) =
       order_quiet (SearchRefused (s.searches + 1) why) written s' writes refl refl (ap (λ t. t.published) same) (ap (λ t. t.lasts) same)
@@ -243,7 +243,7 @@ module _ (number least : ℕ) (entries : List Entry) (s : RunState) (old : AreNo
       plain_by (plain_entry Holds limits.commands (state_of s.accepted) loaded item.line item.item entry h) (λ e. given_in (Some e) ≡ []) (λ count. refl)
       (λ why. refl) refl in
       let no = sym quiet ∙ ap (λ e. given_in (Some e)) is in absurd (cc))
-  older_step Holds limits readers taken written s' (steps.asked_for item may one takes writes same) =
+  older_step Holds limits readers taken written s' (steps.asked_for item request may asks takes writes same) =
       older_stays written s' writes (omega (arith, old.asked_before, ap (λ t. t.searches) same))
       (subst (AllByRecursion IsBound) (sym (ap (λ t. t.awaited) same))
       (each_both IsBound s.awaited (asked item.item s ∷ []) old.waiting ((λ is. absurd (omega (arith, is, old.asked_before))), tt)))
@@ -300,7 +300,7 @@ module _ (Holds : List ℕ → List ℕ → Type 0) (limits : Limits) (readers :
   asked_by : (s : RunState) (item : Numbered) (taken : List Numbered) (written : List Entry) (s' : RunState) → taken ≡ item ∷ [] → written ≡ []
       → searches_of item.item ≡ 1 → IsStep Holds limits readers s taken written s' → s' ≡ with_search item.item s
   asked_by s item taken written s' is nothing one (steps.carried_out other loaded entry may h takes writes same) = cc
-  asked_by s item taken written s' is nothing one (steps.asked_for other may also takes writes same) =
+  asked_by s item taken written s' is nothing one (steps.asked_for other request may also takes writes same) =
       let same_item : other ≡ item = cc in same ∙ ap (λ i. with_search i.item s) same_item
   asked_by s item taken written s' is nothing one (steps.refused other why may fault takes writes same) = cc
   asked_by s item taken written s' is nothing one (steps.answered place search reader turn answer is_open now takes writes same) = cc

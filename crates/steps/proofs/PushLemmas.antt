@@ -10,6 +10,7 @@ use Rattle.steps.specs.StepRows.{HasOwnEntry, unanswered, open_of, open_in, give
 use Rattle.steps.proofs.RowLemmas.{unanswered-append, given_of-append, commands_of-push, published_in-push, count_searches-push, split_push}
 use Rattle.steps.proofs.RowLemmas.{last_or-append, rises_append, no_sync_push}
 use Rattle.steps.proofs.OpenLemmas.{open_in-append, no_open}
+use Rattle.steps.proofs.EntryLemmas.{asks_is_search}
 
 -- What one more row does. It may follow an open search only if it is no sync and there are readers.
 pub record IsPushed (Holds : List ℕ → List ℕ → Type 0) (limits : Limits) (readers : ℕ) (s : RunState) (rows : List Row) (row : Row) (s' : RunState) : Type 0 where
@@ -31,8 +32,9 @@ stands_push : (Holds : List ℕ → List ℕ → Type 0) (limits : Limits) (read
     → Stands Holds limits readers front row back → Stands Holds limits readers front row (back ++ next ∷ [])
 stands_push Holds limits readers front row back next may (legal is) =
     legal (λ before after more e e' rises. is before after (next ∷ more) e (e' ∙ append_assoc back (next ∷ []) more) rises)
-stands_push Holds limits readers front row back next may (waits none one no_sync alone) =
-    waits none one (no_sync_push back next no_sync (may none one).1) (λ zero. absurd (omega (arith, zero, (may none one).0)))
+stands_push Holds limits readers front row back next may (waits request asks none no_sync alone) =
+    let follows = may none (asks_is_search row.numbered.item request asks) in
+    waits request asks none (no_sync_push back next no_sync follows.1) (λ zero. absurd (omega (arith, zero, follows.0)))
 
 module _ (Holds : List ℕ → List ℕ → Type 0) (limits : Limits) (readers : ℕ) (s : RunState) (rows : List Row) (row : Row) (s' : RunState)
     (are : AreRows Holds limits readers s rows) (push : IsPushed Holds limits readers s rows row s') where

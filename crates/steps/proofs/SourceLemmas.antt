@@ -5,7 +5,7 @@ use Rattle.script.specs.Items.{Item, Numbered, load}
 use Rattle.transcript.specs.declared.entry.Entry.{Entry}
 use Rattle.steps.specs.LegalRows.{Limits, IsNamed, HasLoaded, IsCommandEntry}
 use Rattle.steps.specs.LegalRows as legal
-use Rattle.steps.specs.Steps.{RunState, IsStep}
+use Rattle.steps.specs.Steps.{RunState, IsStep, Runs, begins, goes_on}
 use Rattle.steps.specs.Steps as steps
 
 module _ (H H' : List ℕ → List ℕ → Type 0) (more : (path body : List ℕ) → H path body → H' path body) (most : ℕ) where
@@ -30,7 +30,8 @@ module _ (H H' : List ℕ → List ℕ → Type 0) (more : (path body : List ℕ
       → IsStep H limits readers s taken written s' → IsStep H' limits readers s taken written s'
   step_mapped readers s taken written s' (steps.carried_out item loaded entry may h takes writes same) =
       steps.carried_out item loaded entry may (entry_mapped H H' more limits.commands _ loaded item.line item.item entry h) takes writes same
-  step_mapped readers s taken written s' (steps.asked_for item may one takes writes same) = steps.asked_for item may one takes writes same
+  step_mapped readers s taken written s' (steps.asked_for item request may asks takes writes same) =
+      steps.asked_for item request may asks takes writes same
   step_mapped readers s taken written s' (steps.refused item why may fault takes writes same) = steps.refused item why may fault takes writes same
   step_mapped readers s taken written s' (steps.answered place search reader turn answer is_open now takes writes same) =
       steps.answered place search reader turn answer is_open now takes writes same
@@ -46,3 +47,9 @@ module _ (H H' : List ℕ → List ℕ → Type 0) (more : (path body : List ℕ
       steps.no_such_search item number may is not_asked takes writes same
   step_mapped readers s taken written s' (steps.reported item may is takes writes same) = steps.reported item may is takes writes same
   step_mapped readers s taken written s' (steps.sync item is empty takes writes same) = steps.sync item is empty takes writes same
+
+  pub runs_mapped : (readers : ℕ) (from : RunState) {items : List Numbered} {entries : List Entry} {s : RunState}
+      → Runs H limits readers from items entries s → Runs H' limits readers from items entries s
+  runs_mapped readers from begins = begins
+  runs_mapped readers from (goes_on {taken = t} {written = w} {s = s} {s' = s'} run step is are) =
+      goes_on (runs_mapped readers from run) (step_mapped readers s t w s' step) is are

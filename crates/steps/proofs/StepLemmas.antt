@@ -4,6 +4,7 @@ use Rattle.std.proofs.Common.{◌∙◌, ◌≤◌, subst, arith, length-set, sl
 use Rattle.std.specs.List.{AllByRecursion}
 use Rattle.std.proofs.lemmas.List.{append-nil}
 use Rattle.index.specs.State.{state_of}
+use Rattle.search.specs.Request.{Request}
 use Rattle.search.specs.Shown.{Shown}
 use Rattle.script.specs.Items.{Item, Numbered, cancel, status}
 use Rattle.transcript.specs.declared.entry.Entry.{Entry}
@@ -16,7 +17,7 @@ use Rattle.steps.specs.Rows.{count_searches, list_of}
 use Rattle.steps.specs.LegalRows.{Limits, Context, IsCommandEntry, HasEntry, IsLegalRow, AreInTurn, WasAsked, WasNotAsked, HasCancel, search_number}
 use Rattle.steps.specs.LegalRows.{status_entry}
 use Rattle.steps.specs.LegalRows as searched
-use Rattle.steps.specs.Asked.{IsFaultOf}
+use Rattle.steps.specs.Asked.{Asks, IsFaultOf}
 use Rattle.steps.specs.Steps.{RunState, OpenSearch, IsStep, IsFirst, IsOpenAt, IsAnswerNow, MayTake, latest, with_entry, with_search, counted}
 use Rattle.steps.specs.Steps.{without, with_answer, last, status_now}
 use Rattle.steps.specs.Steps as steps
@@ -26,7 +27,7 @@ use Rattle.steps.proofs.RowLemmas.{not_empty, same_commands, same_published, sam
 use Rattle.steps.proofs.OpenLemmas.{open_few, open_one, open_none, open_no_search, IsOpenRow, open_row, around, no_open}
 use Rattle.steps.proofs.TurnLemmas.{turned_more, noted_more, rows_in_turn}
 use Rattle.steps.proofs.EntryLemmas.{IsPlain, plain_entry, plain_by, plain_rises, command_is_no_search}
-use Rattle.steps.proofs.EntryLemmas.{sync_is_no_search, fault_is_of_search, legal_sync, legal_command, legal_fault, legal_unknown, legal_status}
+use Rattle.steps.proofs.EntryLemmas.{sync_is_no_search, asks_is_search, fault_is_of_search, legal_sync, legal_command, legal_fault, legal_unknown, legal_status}
 use Rattle.steps.proofs.PushLemmas.{IsPushed, rows_pushed}
 use Rattle.steps.proofs.FillLemmas.{IsFilled, MayBeRefused, rows_filled, given_without, number_is, waiting, refusal_stands, answer_stands}
 
@@ -102,21 +103,23 @@ module _ (Holds : List ℕ → List ℕ → Type 0) (limits : Limits) (readers :
             ∙ sym (command_is_no_search Holds limits.commands (state_of s.accepted) loaded item.line item.item entry h));
       }
 
-  asked_for : (item : Numbered) (s' : RunState) → MayTake readers s item.item → searches_of item.item ≡ 1 → s' ≡ with_search item.item s
-      → IsPushed Holds limits readers s rows (row_of item None None) s'
-  asked_for item s' may one same = record {
-    stands = waits refl one tt (λ zero. refl);
-    may = may_take item.item may;
-    accepted = ap (λ t. t.accepted) same ∙ sym (append-nil s.accepted);
-    published = ap (λ t. t.published) same ∙ sym (append-nil s.published);
-    rises = tt;
-    within = are.within;
-    searches = omega (arith, ap (λ t. t.searches) same, one);
-    awaited = ap (λ t. t.awaited) same ∙ ap (λ l. s.awaited ++ l) (sym (open_one s.searches (latest s) item.item one));
-    lasts = ap (λ t. t.lasts) same;
-    given = refl;
-    own = λ entry is. cc;
-  }
+  asked_for : (item : Numbered) (request : Request) (s' : RunState) → MayTake readers s item.item → Asks item.item request
+      → s' ≡ with_search item.item s → IsPushed Holds limits readers s rows (row_of item None None) s'
+  asked_for item request s' may asks same =
+      let one = asks_is_search item.item request asks in
+      record {
+        stands = waits request asks refl tt (λ zero. refl);
+        may = may_take item.item may;
+        accepted = ap (λ t. t.accepted) same ∙ sym (append-nil s.accepted);
+        published = ap (λ t. t.published) same ∙ sym (append-nil s.published);
+        rises = tt;
+        within = are.within;
+        searches = omega (arith, ap (λ t. t.searches) same, one);
+        awaited = ap (λ t. t.awaited) same ∙ ap (λ l. s.awaited ++ l) (sym (open_one s.searches (latest s) item.item one));
+        lasts = ap (λ t. t.lasts) same;
+        given = refl;
+        own = λ entry is. cc;
+      }
 
   refused_at_once : (item : Numbered) (why : SearchReason) (s' : RunState) → MayTake readers s item.item → IsFaultOf item.item why → s' ≡ counted s
       → IsPushed Holds limits readers s rows (row_of item None (Some (SearchRefused (s.searches + 1) why))) s'
@@ -337,7 +340,7 @@ module _ (Holds : List ℕ → List ℕ → Type 0) (limits : Limits) (readers :
     some_readers (steps.beside some no_sync) = some
 
     may_cancel : (others : List Row) → among.after ≡ others ++ row ∷ [] → MayBeRefused limits readers among.before among.after search_reason.Cancelled
-    may_cancel others e context later same_readers e' e'' IsIt =
+    may_cancel others e context later same_readers e' e'' request =
         let front = take place s.awaited in
         let back = drop (place + 1) s.awaited in
         let number : search.number ≡ search_number context =
@@ -372,8 +375,9 @@ module _ (Holds : List ℕ → List ℕ → Type 0) (limits : Limits) (readers :
       → NextRows Holds limits readers rows taken written s'
   next_rows taken written s' (steps.carried_out item loaded entry may h takes writes same) =
       pushed Holds limits readers s rows are (row_of item loaded (Some entry)) s' taken written takes writes (carried_out Holds limits readers s rows are item loaded entry s' may h same)
-  next_rows taken written s' (steps.asked_for item may one takes writes same) =
-      pushed Holds limits readers s rows are (row_of item None None) s' taken written takes writes (asked_for Holds limits readers s rows are item s' may one same)
+  next_rows taken written s' (steps.asked_for item request may asks takes writes same) =
+      pushed Holds limits readers s rows are (row_of item None None) s' taken written takes writes
+      (asked_for Holds limits readers s rows are item request s' may asks same)
   next_rows taken written s' (steps.refused item why may fault takes writes same) =
       pushed Holds limits readers s rows are (row_of item None (Some (SearchRefused (s.searches + 1) why))) s' taken written takes writes
       (refused_at_once Holds limits readers s rows are item why s' may fault same)
@@ -381,10 +385,10 @@ module _ (Holds : List ℕ → List ℕ → Type 0) (limits : Limits) (readers :
       is_answered Holds limits readers s rows are place search is_open reader turn answer s' taken written now takes writes same
   next_rows taken written s' (steps.not_answered place search is_open takes writes same) =
       refused_later Holds limits readers s rows are place search is_open search_reason.OutOfMemory s' taken written takes writes same
-      (λ context later r e e' IsIt. searched.no_memory refl)
+      (λ context later r e e' request. searched.no_memory refl)
   next_rows taken written s' (steps.too_slow place search timed is_open takes writes same) =
       refused_later Holds limits readers s rows are place search is_open search_reason.TooSlow s' taken written takes writes same
-      (λ context later r e e' IsIt. searched.too_slow refl timed)
+      (λ context later r e e' request. searched.too_slow refl timed)
   next_rows taken written s' (steps.cancelled item place search may is is_open takes writes same) =
       cancelled item place search may is is_open s' taken written takes writes same
   next_rows taken written s' (steps.too_late item number may is was_asked not_open takes writes same) =
@@ -406,7 +410,8 @@ module _ (Holds : List ℕ → List ℕ → Type 0) (limits : Limits) (readers :
       by : Stands Holds limits readers (unanswered before) row (unanswered after)
           → IsLegalRow Holds limits (record { readers = readers; before = before; row = row; after = after })
       by (legal is) = is before after [] refl (sym (append-nil (unanswered after))) (subst (Rises 0) (are.published ∙ ap published_in e) are.rises)
-      by (waits none one no_sync alone) = absurd (no_open rows before row after (sym are.awaited ∙ empty) e none one)
+      by (waits request asks none no_sync alone) =
+          absurd (no_open rows before row after (sym are.awaited ∙ empty) e none (asks_is_search row.numbered.item request asks))
 
   pub are_in_turn : AreInTurn rows
   are_in_turn = rows_in_turn rows are.turns

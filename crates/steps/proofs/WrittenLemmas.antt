@@ -1,12 +1,13 @@
 -- What the entries of a run say, in the order of writing.
 use Rattle.std.proofs.Common.{◌≡◌, ◌≢◌, ℕ, ◌+◌, ◌≤◌, ◌<◌, ◌⊎◌, inl, inr, Bool, true, false, cond, eqb, List, [], ◌∷◌, ◌++◌, Option}
-use Rattle.std.proofs.Common.{take, drop, refl, sym, ap, ◌∙◌, subst, arith}
-use Rattle.std.specs.Prelude.{count_by, Contains}
+use Rattle.std.proofs.Common.{take, drop, length, length-append, refl, sym, ap, ◌∙◌, subst, arith}
+use Rattle.std.specs.Prelude.{count_by, sum_by, Contains}
 use Rattle.std.specs.List.{AllByRecursion}
 use Rattle.std.proofs.lemmas.List.{append-nil}
 use Rattle.std.proofs.lemmas.List.Elements.{All-contains, All-from_recursion, All-get_or}
 use Rattle.std.proofs.lemmas.Option.{slice_get_within, get_or_from_slice_get}
 use Rattle.std.proofs.lemmas.List.Sums.{sum_by-append}
+use Rattle.std.proofs.lemmas.Bool.{cases_lt}
 use Rattle.std.proofs.lemmas.Bool.Decides.{eqb_tells}
 use Rattle.std.proofs.lemmas.Grind.{flat_map-append}
 use Rattle.index.specs.State.{state_of}
@@ -20,11 +21,12 @@ use Rattle.steps.specs.Rows.{is_sync, searches_of}
 use Rattle.steps.specs.LegalRows.{Limits, IsCommandEntry, WasAsked, WasNotAsked}
 use Rattle.steps.specs.Steps.{RunState, OpenSearch, IsStep, Runs, IsFirst, IsOpenAt, IsNotOpen, MayTake, latest, asked, without, status_now}
 use Rattle.steps.specs.Steps as steps
+use Rattle.steps.specs.StepRows.{searches_in}
 use Rattle.steps.specs.Entries.{is_of, count_of, searches_among, line_in, lines_in, command_line, is_cancel, HaveLines, no_items, one_more, left_out, takes_memory}
 use Rattle.steps.proofs.OpenLemmas.{around}
 use Rattle.steps.proofs.TurnLemmas.{each_both}
 use Rattle.steps.proofs.EntryLemmas.{IsPlain, accepts, refuses, publishes, plain_entry, plain_by, command_is_no_search}
-use Rattle.steps.proofs.EntryLemmas.{sync_is_no_search, fault_is_of_search, is_late, fault_is_not_late}
+use Rattle.steps.proofs.EntryLemmas.{sync_is_no_search, asks_is_search, fault_is_of_search, is_late, fault_is_not_late}
 use Rattle.steps.proofs.RunLemmas.{runs_keep}
 
 -- One item is taken.
@@ -34,7 +36,7 @@ module _ (Holds : List ℕ → List ℕ → Type 0) (limits : Limits) (readers :
 
   taken_by : IsStep Holds limits readers s (item ∷ []) written s' → MayTake readers s item.item
   taken_by (steps.carried_out other loaded entry may h takes writes same) = subst (λ n. MayTake readers s n.item) (taken_is takes) may
-  taken_by (steps.asked_for other may one takes writes same) = subst (λ n. MayTake readers s n.item) (taken_is takes) may
+  taken_by (steps.asked_for other request may asks takes writes same) = subst (λ n. MayTake readers s n.item) (taken_is takes) may
   taken_by (steps.refused other why may fault takes writes same) = subst (λ n. MayTake readers s n.item) (taken_is takes) may
   taken_by (steps.answered place wanted reader turn answer is_open now takes writes same) = cc
   taken_by (steps.not_answered place wanted is_open takes writes same) = cc
@@ -71,7 +73,7 @@ module _ (Holds : List ℕ → List ℕ → Type 0) (limits : Limits) (readers :
       by (accepts count e) here = cc
       by (refuses why e memory) here = memory (cc)
       by (publishes e) here = cc
-  memory_refusal line is (steps.asked_for other may one takes writes same) = cc
+  memory_refusal line is (steps.asked_for other request may asks takes writes same) = cc
   memory_refusal line is (steps.refused other why may fault takes writes same) = cc
   memory_refusal line is (steps.answered place wanted reader turn answer is_open now takes writes same) = cc
   memory_refusal line is (steps.not_answered place wanted is_open takes writes same) = cc
@@ -111,8 +113,8 @@ module _ (Holds : List ℕ → List ℕ → Type 0) (limits : Limits) (readers :
       → written ≡ SearchRefused wanted.number search_reason.Cancelled ∷ []
   cancel_refuses place wanted is_open was_asked is (steps.carried_out other loaded entry may h takes writes same) =
       absurd (no_command (cancel wanted.number) is loaded other.line entry (λ h. h) takes h)
-  cancel_refuses place wanted is_open was_asked is (steps.asked_for other may one takes writes same) =
-      absurd (no_search_asked (cancel wanted.number) is refl takes one)
+  cancel_refuses place wanted is_open was_asked is (steps.asked_for other request may asks takes writes same) =
+      absurd (no_search_asked (cancel wanted.number) is refl takes (asks_is_search other.item request asks))
   cancel_refuses place wanted is_open was_asked is (steps.refused other why may fault takes writes same) =
       absurd (no_search_asked (cancel wanted.number) is refl takes (fault_is_of_search other.item why fault))
   cancel_refuses place wanted is_open was_asked is (steps.answered place' wanted' reader turn answer is_open' now takes writes same) = cc
@@ -137,7 +139,8 @@ module _ (Holds : List ℕ → List ℕ → Type 0) (limits : Limits) (readers :
       → (written ≡ status_now limits s item.line ∷ []) × (s' ≡ s)
   status_shows is (steps.carried_out other loaded entry may h takes writes same) =
       absurd (no_command status is loaded other.line entry (λ h. h) takes h)
-  status_shows is (steps.asked_for other may one takes writes same) = absurd (no_search_asked status is refl takes one)
+  status_shows is (steps.asked_for other request may asks takes writes same) =
+      absurd (no_search_asked status is refl takes (asks_is_search other.item request asks))
   status_shows is (steps.refused other why may fault takes writes same) =
       absurd (no_search_asked status is refl takes (fault_is_of_search other.item why fault))
   status_shows is (steps.answered place wanted reader turn answer is_open now takes writes same) = cc
@@ -192,8 +195,8 @@ module _ (Holds : List ℕ → List ℕ → Type 0) (limits : Limits) (readers :
         (ap lines_in writes
         ∙ plain_by (plain_entry Holds limits.commands (state_of s.accepted) loaded item.line item.item entry h) (λ e. line_in e ++ [] ≡ item.line ∷ [])
         (λ count. refl) (λ why. refl) refl)
-    step_lines s s' (steps.asked_for item may one takes writes same) =
-        line_of item [] takes (no_line_of_search item.line item.item one) (ap lines_in writes)
+    step_lines s s' (steps.asked_for item request may asks takes writes same) =
+        line_of item [] takes (no_line_of_search item.line item.item (asks_is_search item.item request asks)) (ap lines_in writes)
     step_lines s s' (steps.refused item why may fault takes writes same) =
         line_of item [] takes (no_line_of_search item.line item.item (fault_is_of_search item.item why fault)) (ap lines_in writes)
     step_lines s s' (steps.answered place wanted reader turn answer is_open now takes writes same) = none_taken takes (ap lines_in writes)
@@ -237,7 +240,7 @@ module _ (Holds : List ℕ → List ℕ → Type 0) (limits : Limits) (readers :
       one_timely entry written writes
       (plain_by (plain_entry Holds limits.commands (state_of s.accepted) loaded item.line item.item entry h) (λ e. is_timely e ≡ true)
       (λ count. refl) (λ why. refl) refl)
-  step_timely s taken written s' (steps.asked_for item may one takes writes same) = none_timely written writes
+  step_timely s taken written s' (steps.asked_for item request may asks takes writes same) = none_timely written writes
   step_timely s taken written s' (steps.refused item why may fault takes writes same) =
       one_timely _ written writes (timely_at_once (s.searches + 1) why (fault_is_not_late item.item why fault))
   step_timely s taken written s' (steps.answered place wanted reader turn answer is_open now takes writes same) = one_timely _ written writes refl
@@ -268,7 +271,7 @@ module _ (Holds : List ℕ → List ℕ → Type 0) (limits : Limits) (readers :
       absurd
       (plain_by (plain_entry Holds limits.commands (state_of s.accepted) loaded item.line item.item entry h)
       (λ e. e ≡ SearchRefused number search_reason.Cancelled → ⊥) (λ count e. cc) (λ why e. cc) (λ e. cc) (let e = sym writes ∙ is in cc))
-  refused_by_cancel (steps.asked_for item may one takes writes same) = cc
+  refused_by_cancel (steps.asked_for item request may asks takes writes same) = cc
   refused_by_cancel (steps.refused item why may fault takes writes same) =
       let same_why : why ≡ search_reason.Cancelled = let e = sym writes ∙ is in cc in
       let at_once = sym (fault_is_not_late item.item why fault) ∙ ap is_late same_why in
@@ -332,25 +335,28 @@ record IsStepCounted (s : RunState) (taken : List Numbered) (written : List Entr
   pub few : searches_among taken ≤ 1
   pub searches : s'.searches ≡ s.searches + searches_among taken
   pub counts : (number : ℕ) → total number written s' ≡ waiting number s.awaited + new s.searches number (searches_among taken)
+  pub still_open : length s'.awaited + sum_by searches_in written ≡ length s.awaited + searches_among taken
 
 module _ (Holds : List ℕ → List ℕ → Type 0) (limits : Limits) (readers : ℕ) (s : RunState) (taken : List Numbered) (written : List Entry) (s' : RunState) where
   -- an item that is no search
   no_search : (item : Numbered) → taken ≡ item ∷ [] → searches_of item.item ≡ 0 → s'.searches ≡ s.searches → s'.awaited ≡ s.awaited
-      → ((number : ℕ) → count_of number written ≡ 0) → IsStepCounted s taken written s'
-  no_search item takes none same same_open counts =
+      → ((number : ℕ) → count_of number written ≡ 0) → sum_by searches_in written ≡ 0 → IsStepCounted s taken written s'
+  no_search item takes none same same_open counts quiet =
       let zero : searches_among taken ≡ 0 = omega (arith, ap searches_among takes, none) in
       record {
         few = omega (arith, zero);
         searches = omega (arith, zero, same);
         counts = λ number.
             omega (arith, counts number, ap (waiting number) same_open, none_new s.searches number (searches_among taken) zero);
+        still_open = omega (arith, zero, quiet, ap length same_open);
       }
 
   -- an open search has its entry
   entered : (place : ℕ) (wanted : OpenSearch) → IsOpenAt s place wanted → searches_among taken ≡ 0 → s'.searches ≡ s.searches
       → s'.awaited ≡ take place s.awaited ++ drop (place + 1) s.awaited
-      → ((number : ℕ) → count_of number written ≡ cond (eqb wanted.number number) 1 0) → IsStepCounted s taken written s'
-  entered place wanted is_open zero same left counts = record {
+      → ((number : ℕ) → count_of number written ≡ cond (eqb wanted.number number) 1 0) → sum_by searches_in written ≡ 1
+      → IsStepCounted s taken written s'
+  entered place wanted is_open zero same left counts its = record {
     few = omega (arith, zero);
     searches = omega (arith, zero, same);
     counts = λ number.
@@ -361,12 +367,23 @@ module _ (Holds : List ℕ → List ℕ → Type 0) (limits : Limits) (readers :
           waiting_around number s place wanted is_open,
           none_new s.searches number (searches_among taken) zero,
         );
+    still_open =
+        omega (
+          arith,
+          zero,
+          its,
+          ap length left,
+          ap length (around s.awaited place wanted is_open),
+          length-append (take place s.awaited) (wanted ∷ drop (place + 1) s.awaited),
+          length-append (take place s.awaited) (drop (place + 1) s.awaited),
+        );
   }
 
   refused_later : (place : ℕ) (wanted : OpenSearch) (why : SearchReason) → IsOpenAt s place wanted → searches_among taken ≡ 0
       → written ≡ SearchRefused wanted.number why ∷ [] → s' ≡ without place s → IsStepCounted s taken written s'
   refused_later place wanted why is_open zero writes same =
       entered place wanted is_open zero (ap (λ t. t.searches) same) (ap (λ t. t.awaited) same) (λ number. omega (arith, ap (count_of number) writes))
+      (ap (sum_by searches_in) writes)
 
   step_counted : IsStep Holds limits readers s taken written s' → IsStepCounted s taken written s'
   step_counted (steps.carried_out item loaded entry may h takes writes same) =
@@ -376,8 +393,11 @@ module _ (Holds : List ℕ → List ℕ → Type 0) (limits : Limits) (readers :
       ap (count_of number) writes
       ∙ plain_by (plain_entry Holds limits.commands (state_of s.accepted) loaded item.line item.item entry h) (λ e. count_of number (e ∷ []) ≡ 0)
       (λ count. refl) (λ why. refl) refl)
-  step_counted (steps.asked_for item may one takes writes same) =
-      let is_one : searches_among taken ≡ 1 = omega (arith, ap searches_among takes, one) in
+      (ap (sum_by searches_in) writes
+      ∙ plain_by (plain_entry Holds limits.commands (state_of s.accepted) loaded item.line item.item entry h) (λ e. sum_by searches_in (e ∷ []) ≡ 0)
+      (λ count. refl) (λ why. refl) refl)
+  step_counted (steps.asked_for item request may asks takes writes same) =
+      let is_one : searches_among taken ≡ 1 = omega (arith, ap searches_among takes, asks_is_search item.item request asks) in
       record {
         few = omega (arith, is_one);
         searches = omega (arith, is_one, ap (λ t. t.searches) same);
@@ -388,6 +408,14 @@ module _ (Holds : List ℕ → List ℕ → Type 0) (limits : Limits) (readers :
               ap (λ t. waiting number t.awaited) same,
               waiting-append number s.awaited (asked item.item s ∷ []),
               ap (new s.searches number) is_one,
+            );
+        still_open =
+            omega (
+              arith,
+              is_one,
+              ap (sum_by searches_in) writes,
+              ap (λ t. length t.awaited) same,
+              length-append s.awaited (asked item.item s ∷ []),
             );
       }
   step_counted (steps.refused item why may fault takes writes same) =
@@ -402,10 +430,11 @@ module _ (Holds : List ℕ → List ℕ → Type 0) (limits : Limits) (readers :
               ap (λ t. waiting number t.awaited) same,
               ap (new s.searches number) is_one,
             );
+        still_open = omega (arith, is_one, ap (sum_by searches_in) writes, ap (λ t. length t.awaited) same);
       }
   step_counted (steps.answered place wanted reader turn answer is_open now takes writes same) =
       entered place wanted is_open (ap searches_among takes) (ap (λ t. t.searches) same) (ap (λ t. t.awaited) same)
-      (λ number. omega (arith, ap (count_of number) writes))
+      (λ number. omega (arith, ap (count_of number) writes)) (ap (sum_by searches_in) writes)
   step_counted (steps.not_answered place wanted is_open takes writes same) =
       refused_later place wanted search_reason.OutOfMemory is_open (ap searches_among takes) writes same
   step_counted (steps.too_slow place wanted timed is_open takes writes same) =
@@ -414,13 +443,16 @@ module _ (Holds : List ℕ → List ℕ → Type 0) (limits : Limits) (readers :
       refused_later place wanted search_reason.Cancelled is_open (omega (arith, ap searches_among takes, ap searches_of is)) writes same
   step_counted (steps.too_late item number may is was_asked not_open takes writes same) =
       no_search item takes (ap searches_of is) (ap (λ t. t.searches) same) (ap (λ t. t.awaited) same) (λ number. ap (count_of number) writes)
+      (ap (sum_by searches_in) writes)
   step_counted (steps.no_such_search item number may is not_asked takes writes same) =
       no_search item takes (ap searches_of is) (ap (λ t. t.searches) same) (ap (λ t. t.awaited) same) (λ number. ap (count_of number) writes)
+      (ap (sum_by searches_in) writes)
   step_counted (steps.reported item may is takes writes same) =
       no_search item takes (ap searches_of is) (ap (λ t. t.searches) same) (ap (λ t. t.awaited) same) (λ number. ap (count_of number) writes)
+      (ap (sum_by searches_in) writes)
   step_counted (steps.sync item is empty takes writes same) =
       no_search item takes (sync_is_no_search item.item is) (ap (λ t. t.searches) same) (ap (λ t. t.awaited) same)
-      (λ number. ap (count_of number) writes)
+      (λ number. ap (count_of number) writes) (ap (sum_by searches_in) writes)
 
 -- Each search so far has one entry, or it is open.
 pub record AreCounted (items : List Numbered) (entries : List Entry) (s : RunState) : Type 0 where
@@ -429,6 +461,19 @@ pub record AreCounted (items : List Numbered) (entries : List Entry) (s : RunSta
   pub past : (number : ℕ) → s.searches < number → count_of number entries + count_by (λ x. eqb x.number number) s.awaited ≡ 0
   pub once : (number : ℕ) → 0 < number → number ≤ s.searches
       → count_of number entries + count_by (λ x. eqb x.number number) s.awaited ≡ 1
+  pub still_open : length s.awaited + sum_by searches_in entries ≡ s.searches
+
+-- At any time each number has at most one entry.
+pub once_at_most : (items : List Numbered) (entries : List Entry) (s : RunState) → AreCounted items entries s → (number : ℕ)
+    → count_of number entries ≤ 1
+once_at_most items entries s counted number = by (cases_lt s.searches number) (cases_lt 0 number)
+  where
+    by : (s.searches < number) ⊎ (number ≤ s.searches) → (0 < number) ⊎ (number ≤ 0) → count_of number entries ≤ 1
+    by (inl past) some = omega (arith, counted.past number past)
+    by (inr le) (inl some) = omega (arith, counted.once number some le)
+    by (inr le) (inr none) =
+        let zero : number ≡ 0 = omega (arith, none) in
+        omega (arith, ap (λ n. count_of n entries) zero, counted.zero)
 
 module _ (items : List Numbered) (entries : List Entry) (s : RunState) (taken : List Numbered) (written : List Entry) (s' : RunState)
     (old : AreCounted items entries s) (step : IsStepCounted s taken written s') where
@@ -441,6 +486,7 @@ module _ (items : List Numbered) (entries : List Entry) (s : RunState) (taken : 
     zero = by_zero (new_or_not s.searches 0 (searches_among taken));
     past = λ number lt. by_past number lt (new_or_not s.searches number (searches_among taken));
     once = λ number some le. by_once number some le (new_or_not s.searches number (searches_among taken));
+    still_open = omega (arith, old.still_open, step.still_open, step.searches, sum_by-append searches_in entries written);
   }
     where
       by_zero : IsNew s.searches 0 (searches_among taken) → total 0 (entries ++ written) s' ≡ 0
@@ -473,5 +519,6 @@ run_counted Holds limits readers from first =
       zero = omega (arith, ap (waiting 0) first.awaited);
       past = λ number lt. omega (arith, ap (waiting number) first.awaited);
       once = λ number some le. absurd (omega (arith, some, le, first.searches));
+      still_open = omega (arith, first.searches, ap length first.awaited);
     })
     (λ items entries s taken written s' old step. counted_push items entries s taken written s' old (step_counted Holds limits readers s taken written s' step))

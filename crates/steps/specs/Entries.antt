@@ -5,6 +5,8 @@ use Rattle.script.specs.Items.{Item, Numbered, put, load, remove, publish, searc
 use Rattle.transcript.specs.declared.entry.Entry.{Entry}
 use Rattle.transcript.specs.declared.entry.Entry.TheVariants.{Accepted, Refused, Published, Found, SearchRefused, Status}
 use Rattle.steps.specs.Rows.{version_in, failures_in, searches_of}
+use Rattle.steps.specs.LegalRows.{Limits}
+use Rattle.steps.specs.Steps.{RunState, Runs}
 use Rattle.steps.specs.StepRows.{Given, given_in}
 
 -- whether the entry answers or refuses the search of this number
@@ -41,6 +43,7 @@ line_in (Published line version) = line ∷ []
 line_in (Status line version documents bytes accepted most waiting) = line ∷ []
 line_in entry = []
 
+-- the lines that entries name, without those of searches
 abbrev pub lines_in : List Entry → List ℕ
 lines_in entries = flat_map line_in entries
 
@@ -52,6 +55,7 @@ command_line line (find text) = []
 command_line line sync = []
 command_line line item = line ∷ []
 
+-- whether the item is a cancel
 abbrev pub is_cancel : Item → Bool
 is_cancel (cancel number) = true
 is_cancel item = false
@@ -64,6 +68,14 @@ pub data HaveLines : List Numbered → List ℕ → Type 0 where
       → items' ≡ items ++ item ∷ [] → lines' ≡ lines ++ command_line item.line item.item → HaveLines items' lines'
   left_out : {items items' : List Numbered} {lines : List ℕ} (item : Numbered) → HaveLines items lines → is_cancel item.item ≡ true
       → items' ≡ items ++ item ∷ [] → HaveLines items' lines
+
+-- These entries begin with what legal steps write that take these items.
+pub record HasTaken (Holds : List ℕ → List ℕ → Type 0) (limits : Limits) (readers : ℕ) (from : RunState) (items : List Numbered) (entries : List Entry) : Type 0 where
+  pub written : List Entry
+  pub others : List Entry
+  pub state : RunState
+  pub runs : Runs Holds limits readers from items written state
+  pub whole : entries ≡ written ++ others
 
 -- whether memory may run out for an item that is no search
 abbrev pub takes_memory : Item → Bool

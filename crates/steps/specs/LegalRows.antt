@@ -41,6 +41,7 @@ pub data HasBody (most : ℕ) (state : State) (body : List ℕ) (line : ℕ) (en
   bad_body : (fault : BodyErrorKind) → IsBodyFault fault body → entry ≡ Refused line (reason.Body fault) → HasBody most state body line entry
   with_body : IsBody body → IsRoomFor most state line entry → HasBody most state body line entry
 
+-- What the entry of a put may be: the name has a fault or, if not, the body has one, there is no room, or the put is accepted.
 abbrev pub IsPut : ℕ → State → List ℕ → List ℕ → ℕ → Entry → Type 0
 IsPut most state name body line entry = IsNamed name line entry (HasBody most state body line entry)
 
@@ -55,6 +56,7 @@ pub data IsRemove (most : ℕ) (state : State) (name : List ℕ) (line : ℕ) (e
   no_such_file : number_of name state.documents ≡ None → entry ≡ Refused line reason.NoSuchFile → IsRemove most state name line entry
   is_there : number_of name state.documents ≢ None → IsRoomFor most state line entry → IsRemove most state name line entry
 
+-- What the entry of a publish may be: the version of the commands accepted so far, or the refusal for memory.
 pub data IsPublish (state : State) (line : ℕ) (entry : Entry) : Type 0 where
   published : entry ≡ Published line state.version → IsPublish state line entry
   no_memory : entry ≡ Refused line reason.OutOfMemory → IsPublish state line entry
@@ -66,6 +68,7 @@ pub record Context : Type 0 where
   pub row : Row
   pub after : List Row
 
+-- the row with those before and after it
 abbrev pub all_rows : Context → List Row
 all_rows context = context.before ++ context.row ∷ context.after
 
@@ -102,21 +105,20 @@ until_sync rows = unwrap_or (before_sync rows) rows
 abbrev pub HasCancel : ℕ → List Row → Type 0
 HasCancel number rows = Contains (map (λ r. r.numbered.item) rows) (cancel number)
 
--- What becomes of a search that is not refused for its texts. It is refused for memory; or at a cancel that follows it,
--- with readers and no sync in between; or as too slow, if searches have a limit of time. Or it is answered, for what it
--- asks for.
-pub data IsSearched (limits : Limits) (context : Context) (IsIt : Request → Type 0) (entry : Entry) : Type 0 where
-  no_memory : entry ≡ SearchRefused (search_number context) search_reason.OutOfMemory → IsSearched limits context IsIt entry
+-- What becomes of a search that was taken, and asks for this. It is refused for memory; or at a cancel that follows it,
+-- with readers and no sync in between; or as too slow, if searches have a limit of time. Or it is answered.
+pub data IsSearched (limits : Limits) (context : Context) (request : Request) (entry : Entry) : Type 0 where
+  no_memory : entry ≡ SearchRefused (search_number context) search_reason.OutOfMemory → IsSearched limits context request entry
   cancelled : entry ≡ SearchRefused (search_number context) search_reason.Cancelled → 0 < context.readers
-      → HasCancel (search_number context) (until_sync context.after) → IsSearched limits context IsIt entry
-  too_slow : entry ≡ SearchRefused (search_number context) search_reason.TooSlow → limits.timed ≡ true → IsSearched limits context IsIt entry
-  found : (request : Request) (reader turn : ℕ) (answer : Shown) → IsIt request → entry ≡ Found (search_number context) reader turn answer
-      → IsAnswered context request reader answer → IsSearched limits context IsIt entry
+      → HasCancel (search_number context) (until_sync context.after) → IsSearched limits context request entry
+  too_slow : entry ≡ SearchRefused (search_number context) search_reason.TooSlow → limits.timed ≡ true → IsSearched limits context request entry
+  found : (reader turn : ℕ) (answer : Shown) → entry ≡ Found (search_number context) reader turn answer
+      → IsAnswered context request reader answer → IsSearched limits context request entry
 
--- A search is refused for its texts, or it is searched.
+-- A search is refused when it is taken, for its texts or for memory. Or what it asks for can be read, and is searched for.
 pub data IsSearch (limits : Limits) (context : Context) (item : Item) (entry : Entry) : Type 0 where
   refused : (why : SearchReason) → IsFaultOf item why → entry ≡ SearchRefused (search_number context) why → IsSearch limits context item entry
-  searched : IsSearched limits context (Asks item) entry → IsSearch limits context item entry
+  searched : (request : Request) → Asks item request → IsSearched limits context request entry → IsSearch limits context item entry
 
 -- The search of this number was asked, of so many.
 abbrev pub WasAsked : ℕ → ℕ → Type 0
@@ -141,7 +143,8 @@ abbrev pub status_entry : ℕ → ℕ → List Command → ℕ → ℕ → Entry
 status_entry line version commands most waiting =
     Status line version (length (documents_at version commands)) (body_bytes (documents_at version commands)) (length commands) most waiting
 
--- The searches that are open at a status are among those before it, and without readers there are none.
+-- The searches that are open at a status are among those before it, and without readers there are none. How many they are
+-- is said by the steps, as they depend on when searches get their entries.
 pub record IsStatus (limits : Limits) (context : Context) (line : ℕ) (entry : Entry) : Type 0 where
   pub waiting : ℕ
   pub few : waiting ≤ count_searches context.before
@@ -182,6 +185,7 @@ HasEntry Holds limits context (cancel number) None = WasAsked number (count_sear
 HasEntry Holds limits context item None = ⊥
 HasEntry Holds limits context item (Some entry) = IsEntryOf Holds limits context context.row.numbered.line item entry
 
+-- The entry of the row is one that its item may have, or it has none where it may have none.
 abbrev pub IsLegalRow : (List ℕ → List ℕ → Type 0) → Limits → Context → Type 0
 IsLegalRow Holds limits context = HasEntry Holds limits context context.row.numbered.item context.row.entry
 

@@ -1,6 +1,7 @@
 -- The rows of a run between two steps: each item that was taken, with its entry if it has one by now.
 use Rattle.std.specs.Prelude.{◌≡◌, ℕ, ◌+◌, ◌≤◌, List, [], ◌∷◌, ◌++◌, length, map, flat_map, Option, Some, None, false}
 use Rattle.std.specs.List.{AllByRecursion}
+use Rattle.search.specs.Request.{Request}
 use Rattle.search.specs.Shown.{Shown}
 use Rattle.script.specs.Items.{Item, Numbered, search, search_in, find}
 use Rattle.transcript.specs.declared.entry.Entry.{Entry}
@@ -8,9 +9,11 @@ use Rattle.transcript.specs.declared.entry.Entry.TheVariants.{Found, SearchRefus
 use Rattle.transcript.specs.declared.entry.SearchReason.{SearchReason}
 use Rattle.steps.specs.declared.last.Last.{Last}
 use Rattle.steps.specs.Rows.{Row, list_of, commands_of, version_in, published_in, last_or, is_sync, searches_of, count_searches}
+use Rattle.steps.specs.Asked.{Asks}
 use Rattle.steps.specs.LegalRows.{Limits, IsLegalRow, IsInTurn}
 use Rattle.steps.specs.Steps.{RunState, OpenSearch, latest, last_of}
 
+-- the row with this entry
 abbrev pub with_its_entry : Entry → Row → Row
 with_its_entry entry row = record row { entry = Some entry }
 
@@ -47,6 +50,7 @@ unless_of_search (Some (Found number reader turn answer)) = None
 unless_of_search (Some (SearchRefused number why)) = None
 unless_of_search entry = entry
 
+-- the row without its entry, if that is the entry of a search
 abbrev pub unanswered_row : Row → Row
 unanswered_row row = record row { entry = unless_of_search row.entry }
 
@@ -54,6 +58,7 @@ unanswered_row row = record row { entry = unless_of_search row.entry }
 abbrev pub unanswered : List Row → List Row
 unanswered rows = map unanswered_row rows
 
+-- an open search, by its parts
 abbrev pub open_search : ℕ → Item → ℕ → OpenSearch
 open_search number item least = record { number = number; item = item; least = least }
 
@@ -77,10 +82,12 @@ pub record Given : Type 0 where
   pub turn : ℕ
   pub version : ℕ
 
+-- the answer of an entry, if it is one
 abbrev pub given_in : Option Entry → List Given
 given_in (Some (Found number reader turn answer)) = record { reader = reader; turn = turn; version = answer.version } ∷ []
 given_in entry = []
 
+-- the answers of rows
 abbrev pub given_of : List Row → List Given
 given_of rows = flat_map (λ row. given_in row.entry) rows
 
@@ -89,24 +96,26 @@ abbrev pub Rises : ℕ → List ℕ → Type 0
 Rises from [] = Unit {0}
 Rises from (x ∷ xs) = (from ≤ x) × Rises x xs
 
+-- None of the rows is a sync.
 abbrev pub HasNoSync : List Row → Type 0
 HasNoSync [] = Unit {0}
 HasNoSync (row ∷ rows) = (is_sync row.numbered.item ≡ false) × HasNoSync rows
 
--- The row's entry is legal, whatever rows follow, if no version that they publish is older. Or the row is an open search:
--- no sync follows it, and without readers nothing does. front, back: the rows before and after it, unanswered.
+-- The row's entry is legal, whatever rows follow, if no version that they publish is older. Or the row is an open search,
+-- which asks for something: no sync follows it, and without readers nothing does. front, back: the rows before and after it, unanswered.
 pub data Stands (Holds : List ℕ → List ℕ → Type 0) (limits : Limits) (readers : ℕ) (front : List Row) (row : Row) (back : List Row) : Type 0 where
   legal : ((before after more : List Row) → unanswered before ≡ front → unanswered after ≡ back ++ more
       → Rises 0 (published_in (before ++ row ∷ after))
       → IsLegalRow Holds limits (record { readers = readers; before = before; row = row; after = after }))
       → Stands Holds limits readers front row back
-  waits : row.entry ≡ None → searches_of row.numbered.item ≡ 1 → HasNoSync back → (readers ≡ 0 → back ≡ [])
+  waits : (request : Request) → Asks row.numbered.item request → row.entry ≡ None → HasNoSync back → (readers ≡ 0 → back ≡ [])
       → Stands Holds limits readers front row back
 
 -- If one reader gave both answers, they are in turn.
 abbrev pub AreTurned : Given → Given → Type 0
 AreTurned first second = first.reader ≡ second.reader → IsInTurn first.turn second.turn first.version second.version
 
+-- Any two of the answers are in turn, if one reader gave both.
 abbrev pub AllTurned : List Given → Type 0
 AllTurned [] = Unit {0}
 AllTurned (first ∷ others) = AllByRecursion (AreTurned first) others × AllTurned others

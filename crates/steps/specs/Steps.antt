@@ -12,7 +12,7 @@ use Rattle.transcript.specs.declared.entry.Reason.TheVariants.{NoSuchSearch}
 use Rattle.transcript.specs.declared.entry.SearchReason.{SearchReason}
 use Rattle.transcript.specs.declared.entry.SearchReason.TheVariants as reason
 use Rattle.steps.specs.declared.last.Last.{Last}
-use Rattle.steps.specs.Rows.{command_of, accepted_by, version_in, last_or, is_sync, searches_of}
+use Rattle.steps.specs.Rows.{command_of, accepted_by, version_in, last_or, is_sync}
 use Rattle.steps.specs.Asked.{Asks, IsFaultOf}
 use Rattle.steps.specs.LegalRows.{Limits, IsCommandEntry, WasAsked, WasNotAsked, status_entry}
 
@@ -23,6 +23,7 @@ pub record OpenSearch : Type 0 where
   pub item : Item
   pub least : ℕ
 
+-- the last answer of a reader, by its parts
 abbrev pub last : ℕ → ℕ → Last
 last turn version = record { turn = turn; version = version }
 
@@ -40,6 +41,7 @@ pub record RunState : Type 0 where
 abbrev pub latest : RunState → ℕ
 latest s = last_or 0 s.published
 
+-- the last answer of this reader; turn 0 and version 0 if there is none
 abbrev pub last_of : List Last → ℕ → Last
 last_of lasts reader = slice_index_or lasts reader (last 0 0)
 
@@ -54,6 +56,7 @@ with_entry item loaded entry s = record s {
 abbrev pub counted : RunState → RunState
 counted s = record s { searches = s.searches + 1 }
 
+-- the open search of an item that is taken now
 abbrev pub asked : Item → RunState → OpenSearch
 asked item s = record { number = s.searches + 1; item = item; least = latest s }
 
@@ -106,7 +109,7 @@ pub data IsStep (Holds : List ℕ → List ℕ → Type 0) (limits : Limits) (re
   carried_out : (item : Numbered) (loaded : Option (List ℕ)) (entry : Entry) → MayTake readers s item.item
       → IsCommandEntry Holds limits.commands (state_of s.accepted) loaded item.line item.item entry
       → taken ≡ item ∷ [] → written ≡ entry ∷ [] → s' ≡ with_entry item.item loaded entry s → IsStep Holds limits readers s taken written s'
-  asked_for : (item : Numbered) → MayTake readers s item.item → searches_of item.item ≡ 1
+  asked_for : (item : Numbered) (request : Request) → MayTake readers s item.item → Asks item.item request
       → taken ≡ item ∷ [] → written ≡ [] → s' ≡ with_search item.item s → IsStep Holds limits readers s taken written s'
   refused : (item : Numbered) (why : SearchReason) → MayTake readers s item.item → IsFaultOf item.item why
       → taken ≡ item ∷ [] → written ≡ SearchRefused (s.searches + 1) why ∷ [] → s' ≡ counted s → IsStep Holds limits readers s taken written s'

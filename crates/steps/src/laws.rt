@@ -1,6 +1,6 @@
 //! Laws of legal steps. Each is a function that does nothing: its clause is the law.
 
-ghost use Rattle.std.specs.Prelude.{◌≡◌, ℕ, ◌+◌, ◌<◌, ◌≤◌, List, [], ◌∷◌, ◌++◌, Contains, IsPermutation, true, false};
+ghost use Rattle.std.specs.Prelude.{◌≡◌, ℕ, ◌+◌, ◌<◌, ◌≤◌, List, [], ◌∷◌, ◌++◌, Contains, IsPermutation, length, sum_by, true, false};
 ghost use Rattle.script.specs.Items.{Numbered as NumberedItem, numbered as numbered_item, cancel, status};
 ghost use Rattle.search.specs.Shown.{Shown};
 ghost use Rattle.transcript.specs.declared.entry.Entry.{Entry};
@@ -10,8 +10,8 @@ ghost use Rattle.transcript.specs.declared.entry.SearchReason.TheVariants.{Cance
 ghost use Rattle.steps.specs.Rows.{Row, items_of, entries_of, is_sync, last_or, searches_of, count_failures};
 ghost use Rattle.steps.specs.LegalRows.{Limits, IsLegalRow, AreInTurn};
 ghost use Rattle.steps.specs.Steps.{RunState, OpenSearch, IsStep, IsOpenAt, IsFirst, Runs, status_now};
-ghost use Rattle.steps.specs.StepRows.{AreRows, AreNext};
-ghost use Rattle.steps.specs.Entries.{count_of, failures_of, versions_of, searches_among, lines_in, HaveLines, takes_memory, IsInOrder};
+ghost use Rattle.steps.specs.StepRows.{AreRows, AreNext, searches_in};
+ghost use Rattle.steps.specs.Entries.{count_of, failures_of, versions_of, searches_among, lines_in, HaveLines, takes_memory, HasTaken, is_of, IsInOrder};
 
 /// What a source of loads can return.
 pub trait Holding {
@@ -57,14 +57,36 @@ pub fn entries_keep_their_order<H: Holding>()
         × (count_failures rows ≡ failures_of entries) }
 {}
 
-/// Once no search is open, each search has one entry.
+/// Each search has at most one entry at any time, and once no search is open it has one. As many are open as have none.
 pub fn one_entry_each<H: Holding>()
     ensures one { (limits : Limits) (readers : ℕ) (from : RunState) (items : List NumberedItem) (entries : List Entry) (s : RunState)
         → IsFirst readers from → Runs H.holds limits readers from items entries s → s.awaited ≡ []
         → (number : ℕ) → 0 < number → number ≤ searches_among items → count_of number entries ≡ 1 }
+    ensures at_most { (limits : Limits) (readers : ℕ) (from : RunState) (items : List NumberedItem) (entries : List Entry) (s : RunState)
+        → IsFirst readers from → Runs H.holds limits readers from items entries s → (number : ℕ) → count_of number entries ≤ 1 }
+    ensures without_entry { (limits : Limits) (readers : ℕ) (from : RunState) (items : List NumberedItem) (entries : List Entry) (s : RunState)
+        → IsFirst readers from → Runs H.holds limits readers from items entries s
+        → length s.awaited + sum_by searches_in entries ≡ searches_among items }
     ensures no_other { (limits : Limits) (readers : ℕ) (from : RunState) (items : List NumberedItem) (entries : List Entry) (s : RunState)
         → IsFirst readers from → Runs H.holds limits readers from items entries s
         → (count_of 0 entries ≡ 0) × ((number : ℕ) → searches_among items < number → count_of number entries ≡ 0) }
+{}
+
+/// All items before a search are taken before its entry is written. So what stands before the entry begins with what steps
+/// write that take these items. Each of them has its entry there, unless it is a search that is open when the search is
+/// taken, a sync, or a cancel, which may have none.
+pub fn earlier_items_come_first<H: Holding>()
+    ensures taken { (limits : Limits) (readers : ℕ) (from : RunState) (items : List NumberedItem) (entries : List Entry) (s : RunState)
+        → IsFirst readers from → Runs H.holds limits readers from items entries s
+        → (before : List NumberedItem) (search : NumberedItem) (after : List NumberedItem) → items ≡ before ++ search ∷ after
+        → (front : List Entry) (entry : Entry) (back : List Entry) → entries ≡ front ++ entry ∷ back
+        → is_of (searches_among before + 1) entry ≡ true → HasTaken H.holds limits readers from before front }
+    ensures lines { (limits : Limits) (readers : ℕ) (from : RunState) (items : List NumberedItem) (entries : List Entry) (s : RunState)
+        → IsFirst readers from → Runs H.holds limits readers from items entries s
+        → (before : List NumberedItem) (search : NumberedItem) (after : List NumberedItem) → items ≡ before ++ search ∷ after
+        → (front : List Entry) (entry : Entry) (back : List Entry) → entries ≡ front ++ entry ∷ back
+        → is_of (searches_among before + 1) entry ≡ true
+        → (lines others : List ℕ) × HaveLines before lines × (lines_in front ≡ lines ++ others) }
 {}
 
 /// An answer has a version that was published before it, and no reader's versions fall as its turns rise.

@@ -1,8 +1,17 @@
--- What is taken from an input is determined by the bytes that are taken.
-use Rattle.std.specs.Prelude.{◌≡◌, ℕ, List, [], Option, IsFalse}
-use Rattle.script.specs.Items.{Item, ItemsFrom}
+-- What is taken from an input is determined by its bytes.
+use Rattle.std.specs.Prelude.{◌≡◌, ℕ, List, [], ◌∷◌, Option, Some, IsTrue, IsFalse}
+use Rattle.std.specs.Io.KnownBytes.{Consumes}
+use Rattle.script.specs.Items.{Item, Numbered, numbered, ItemsFrom}
 use Rattle.stream.specs.declared.item.TakenItem.{TakenItem}
 use Rattle.stream.specs.Stream.{StreamState, Shows, Takes}
+
+-- An item that is taken from an input of known bytes is the first of its items. If the reading ends with it, the input has no other.
+abbrev pub TakenItemIsFirst : Type 0
+TakenItemIsFirst =
+    (old new : StreamState) (taken : TakenItem) (input bytes : List ℕ) (left : Option (List ℕ)) → Consumes (Some input) left bytes
+    → Takes old taken new bytes (Some input) left
+    → (item : Item) × Shows taken.item item
+    × ((items : List Numbered) × ItemsFrom old.line input (numbered taken.line item ∷ items) × (IsTrue taken.ended → items ≡ []))
 
 -- Two items that are taken as the same bytes are on the same line, and show the same.
 abbrev pub TakenItemsAreOne : Type 0

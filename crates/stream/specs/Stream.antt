@@ -3,7 +3,7 @@ use Rattle.std.specs.Prelude.{◌≡◌, ◌⊎◌, ℕ, ◌<◌, List, [], ◌�
 use Rattle.std.specs.declared.result.Result.{Result}
 use Rattle.std.specs.Io.KnownBytes.{IsAtEnd}
 use Rattle.index.specs.declared.body.TheConstants.{MAX_BODY}
-use Rattle.script.specs.Items.{Item, Numbered, numbered, ItemsFrom, put, bad_put, body_not_closed}
+use Rattle.script.specs.Items.{Item, Numbered, numbered, ItemsFrom, put}
 use Rattle.script.specs.Reading.{shown_item}
 use Rattle.stream.specs.declared.item.StreamItem.{StreamItem}
 use Rattle.stream.specs.declared.item.StreamItem.TheVariants as variants
@@ -15,6 +15,7 @@ pub record StreamState : Type 0 where
   pub line : ℕ
   pub ended : Bool
 
+-- the state of a stream, by its parts
 abbrev pub stream_at : ℕ → Bool → StreamState
 stream_at line ended = record { line = line; ended = ended }
 
@@ -25,25 +26,30 @@ Shows (variants.LongPut name) item = (body : List ℕ) × (item ≡ put name.now
 Shows (variants.LostPut name) item = (body : List ℕ) × (item ≡ put name.now body)
 Shows (variants.Other other) item = item ≡ shown_item other
 
--- A fault after which bytes may be left.
-pub data IsFault : Item → Type 0 where
-  no_header : IsFault bad_put
-  no_end : IsFault body_not_closed
-
 -- The bytes begin at the line of the first number: lines that are skipped, and then this item. What follows them begins at the line of
--- the second number; or, if `true`, the reading ends with the item.
-abbrev pub IsItemOf : ℕ → List ℕ → Numbered → Bool → ℕ → Type 0
-IsItemOf line bytes item false next = (rest : List ℕ) (items : List Numbered) → ItemsFrom next rest items → ItemsFrom line (bytes ++ rest) (item ∷ items)
-IsItemOf line bytes item true next = ItemsFrom line bytes (item ∷ [])
+-- the second number.
+abbrev pub IsNextItem : ℕ → List ℕ → Numbered → ℕ → Type 0
+IsNextItem line bytes item next = (rest : List ℕ) (items : List Numbered) → ItemsFrom next rest items → ItemsFrom line (bytes ++ rest) (item ∷ items)
+
+-- The bytes begin at the line of the number, and the reading ends with this item, after lines that are skipped. The input is at its end,
+-- and the bytes have no other item; or it is a fault: whatever follows the bytes, they have this item and no more. `was` is what the
+-- input had before the bytes, and `left` what it has after them.
+pub data IsLastItem (line : ℕ) (bytes : List ℕ) (item : Numbered) (was left : Option (List ℕ)) : Type 0 where
+  at_end : OnSome was (IsAtEnd left) → ItemsFrom line bytes (item ∷ []) → IsLastItem line bytes item was left
+  at_fault : ((rest : List ℕ) → ItemsFrom line (bytes ++ rest) (item ∷ [])) → IsLastItem line bytes item was left
+
+-- the item of these bytes; if `true`, the reading ends with it
+abbrev pub IsItemOf : Bool → ℕ → List ℕ → Numbered → ℕ → Option (List ℕ) → Option (List ℕ) → Type 0
+IsItemOf false line bytes item next was left = IsNextItem line bytes item next
+IsItemOf true line bytes item next was left = IsLastItem line bytes item was left
 
 -- An item was taken from an input, as these bytes. `was` is what the input had before them, and `left` what it has
 -- after them.
 pub record Takes (old : StreamState) (taken : TakenItem) (new : StreamState) (bytes : List ℕ) (was left : Option (List ℕ)) : Type 0 where
   pub item : Item
   pub shows : Shows taken.item item
-  pub whole : IsItemOf old.line bytes (numbered taken.line item) taken.ended new.line
+  pub whole : IsItemOf taken.ended old.line bytes (numbered taken.line item) new.line was left
   pub ended : new.ended ≡ taken.ended
-  pub end : IsTrue taken.ended → OnSome was (IsAtEnd left) ⊎ IsFault item
 
 -- What a call returns, if these bytes were taken from the input.
 abbrev pub IsNext : StreamState → Result (Option TakenItem) StreamError → StreamState → List ℕ → Option (List ℕ) → Option (List ℕ) → Type 0

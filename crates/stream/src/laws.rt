@@ -1,6 +1,12 @@
 //! Laws of streams. Each function does nothing: its clauses are the law.
 
-ghost use Rattle.stream.specs.Laws.{NextLinesAreOne, TakenBytesHaveAnItem, TakenItemsAreOne};
+ghost use Rattle.stream.specs.Laws.{NextLinesAreOne, TakenBytesHaveAnItem, TakenItemIsFirst, TakenItemsAreOne};
+
+/// An item that is taken from an input of known bytes is the first of the items that the input has. If the reading ends
+/// with it, it is the only one.
+pub fn taken_item_is_first()
+    ensures { TakenItemIsFirst }
+{}
 
 /// The bytes that are taken determine the item, the number of its line, and that of the next line if the reading
 /// goes on.

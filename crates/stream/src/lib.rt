@@ -10,6 +10,6 @@ mod owned;
 mod stream;
 
 pub use item::{StreamError, StreamItem, TakenItem};
-pub use laws::taken_items_are_one;
+pub use laws::{taken_item_is_first, taken_items_are_one};
 pub use owned::OwnedItem;
 pub use stream::ItemStream;

@@ -5,6 +5,7 @@ use Rattle.transcript.specs.declared.entry.Entry.{Entry}
 use Rattle.transcript.specs.declared.entry.Entry.TheVariants.{Accepted, Refused, Published, Found, SearchRefused, Status}
 use Rattle.transcript.specs.Transcript.{line_refusal, search_refusal, status_line}
 
+-- the first line of an answer, or the whole text of any other entry
 abbrev pub head_of_entry : Bool → Entry → List ℕ
 head_of_entry stats (Accepted line commands) = []
 head_of_entry stats (Refused line reason) = line_refusal line reason
@@ -14,6 +15,7 @@ head_of_entry stats (SearchRefused number reason) = search_refusal number reason
 head_of_entry stats (Status line version documents bytes accepted most open_searches) =
     status_line line version documents bytes accepted most open_searches
 
+-- the other lines of an answer; nothing for any other entry
 abbrev pub lines_of_entry : Entry → List ℕ
 lines_of_entry (Accepted line commands) = []
 lines_of_entry (Refused line reason) = []

@@ -7,12 +7,14 @@ use Rattle.index.specs.declared.error.BodyErrorKind.TheVariants as body
 use Rattle.transcript.specs.declared.entry.Reason.{Reason}
 use Rattle.transcript.specs.declared.entry.Reason.TheVariants as line
 
+-- what is wrong with a name
 abbrev pub text_of_name_error : NameError → List ℕ
 text_of_name_error name.Empty = codes "name empty"
 text_of_name_error name.TooLong = codes "name too long"
 text_of_name_error name.BadByte = codes "bad byte in name"
 text_of_name_error name.OutOfMemory = codes "out of memory"
 
+-- what is wrong with a body
 abbrev pub text_of_body_error : BodyErrorKind → List ℕ
 text_of_body_error body.TooLong = codes "body too long"
 text_of_body_error body.NotText = codes "byte 0 in body"

@@ -12,9 +12,11 @@ use Rattle.transcript.specs.declared.entry.SearchReason.TheVariants as search
 use Rattle.ere.specs.Faults.{reason_of}
 use Rattle.transcript.specs.Reasons.{text_of_reason}
 
+-- what is wrong with a pattern, and at which byte
 abbrev pub text_of_fault : EreError → List ℕ
 text_of_fault error = reason_of error.kind ++ codes " at " ++ decimal error.at
 
+-- why a search is refused
 abbrev pub text_of_search_reason : SearchReason → List ℕ
 text_of_search_reason (search.Pattern error) = text_of_fault error
 text_of_search_reason (search.NamePattern error) = codes "name pattern: " ++ text_of_fault error
@@ -24,9 +26,11 @@ text_of_search_reason search.Cancelled = codes "cancelled"
 text_of_search_reason search.TooSlow = codes "too slow"
 text_of_search_reason search.OutOfMemory = codes "out of memory"
 
+-- the line that refuses an item
 abbrev pub line_refusal : ℕ → Reason → List ℕ
 line_refusal line reason = codes "line " ++ decimal line ++ codes " refused: " ++ text_of_reason reason ++ line_end
 
+-- the line that refuses a search
 abbrev pub search_refusal : ℕ → SearchReason → List ℕ
 search_refusal number reason = codes "search " ++ decimal number ++ codes " refused: " ++ text_of_search_reason reason ++ line_end
 
@@ -49,6 +53,7 @@ text_of_entry stats (Status line version documents bytes accepted most open_sear
 abbrev pub text_of_transcript : Bool → List Entry → List ℕ
 text_of_transcript stats entries = flat_map (text_of_entry stats) entries
 
+-- whether the entry refuses something
 abbrev pub is_refusal : Entry → Bool
 is_refusal (Accepted line commands) = false
 is_refusal (Refused line reason) = true
@@ -57,6 +62,7 @@ is_refusal (Found number reader turn answer) = false
 is_refusal (SearchRefused number reason) = true
 is_refusal (Status line version documents bytes accepted most open_searches) = false
 
+-- whether the entry is an answer that shows something
 abbrev pub has_hit : Entry → Bool
 has_hit (Accepted line commands) = false
 has_hit (Refused line reason) = false

@@ -23,6 +23,7 @@ pub data Analysis : Type 0 where
   -- and a condition that every set with all trigrams of a word meets
   loose : Bool → Texts → Texts → SetTest → Analysis
 
+-- the empty text alone
 abbrev pub just_empty : Texts
 just_empty = [] ∷ []
 
@@ -50,14 +51,17 @@ are_kept texts = nat_le (length texts) most_texts && list_all (λ text. nat_le (
 abbrev pub settle_known : Texts → Analysis
 settle_known texts = if are_kept texts then known texts else loosen (known texts)
 
+-- whether a word can be empty
 abbrev pub is_nullable : Analysis → Bool
 is_nullable (known texts) = has_text texts []
 is_nullable (loose nullable prefixes suffixes condition) = nullable
 
+-- texts, one of which begins each word
 abbrev pub prefixes_of : Analysis → Texts
 prefixes_of (known texts) = texts
 prefixes_of (loose nullable prefixes suffixes condition) = prefixes
 
+-- texts, one of which ends each word
 abbrev pub suffixes_of : Analysis → Texts
 suffixes_of (known texts) = texts
 suffixes_of (loose nullable prefixes suffixes condition) = suffixes
@@ -67,6 +71,7 @@ abbrev pub condition_beside : Analysis → SetTest
 condition_beside (known texts) = λ _. true
 condition_beside (loose nullable prefixes suffixes condition) = condition
 
+-- the condition that every set with all trigrams of a word meets
 abbrev pub condition_of : Analysis → SetTest
 condition_of (known texts) = has_all_of_one texts
 condition_of (loose nullable prefixes suffixes condition) = condition
@@ -86,6 +91,7 @@ abbrev pub joined_prefixes : Analysis → Analysis → Texts
 joined_prefixes (known texts) right = joins texts (prefixes_of right)
 joined_prefixes (loose nullable prefixes suffixes condition) right = if nullable then union prefixes (prefixes_of right) else prefixes
 
+-- the suffixes of two neighbours together
 abbrev pub joined_suffixes : Analysis → Analysis → Texts
 joined_suffixes left (known texts) = joins (suffixes_of left) texts
 joined_suffixes left (loose nullable prefixes suffixes condition) = if nullable then union suffixes (suffixes_of left) else suffixes
@@ -129,6 +135,7 @@ repeated one least (Some most) =
 unfoldable pub bytes_in : List Bool → List ℕ
 bytes_in members = filter (has members) (range_with_len 0 256)
 
+-- a byte of a set
 abbrev pub one_byte : List Bool → Analysis
 one_byte members =
     if nat_le (length (bytes_in members)) most_texts then known (map (λ b. b ∷ []) (bytes_in members))
@@ -151,6 +158,7 @@ unfoldable mutual
   both_all left tree.none = left
   both_all left (tree.more first others) = both_all (both left (analysis_of first)) others
 
+  -- alternatives, from the left, two at a time
   pub either_all : Analysis → Trees → Analysis
   either_all left tree.none = left
   either_all left (tree.more first others) = either_all (either left (analysis_of first)) others

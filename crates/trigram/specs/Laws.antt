@@ -25,6 +25,7 @@ abbrev pub TrigramsAreHeld : Type 0
 TrigramsAreHeld =
     (text : List ℕ) (set : TrigramSet) → IsTrue (has_all_trigrams text set) ↔ ((trigram : ℕ) → IsTrue (trigrams_of_text text trigram) → IsTrue (set trigram))
 
+-- No text is in the list twice.
 abbrev pub HasEachOnce : Texts → Type 0
 HasEachOnce [] = Unit {0}
 HasEachOnce (text ∷ texts) = IsFalse (has_text texts text) × HasEachOnce texts

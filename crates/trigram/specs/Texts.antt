@@ -5,6 +5,7 @@ use Rattle.std.specs.List.{list_any}
 use Rattle.std.specs.Str.{bytes_eq}
 pub use Rattle.query.specs.Texts.{Texts, joined_texts, has_all_of_one}
 
+-- whether the text is one of these
 abbrev pub has_text : Texts → List ℕ → Bool
 has_text texts text = list_any (λ other. bytes_eq other text) texts
 
@@ -12,6 +13,7 @@ has_text texts text = list_any (λ other. bytes_eq other text) texts
 abbrev pub with_text : Texts → List ℕ → Texts
 with_text texts text = if has_text texts text then texts else texts ++ text ∷ []
 
+-- more texts, each if it is not there yet
 unfoldable pub with_texts : Texts → Texts → Texts
 with_texts texts [] = texts
 with_texts texts (text ∷ others) = with_texts (with_text texts text) others
@@ -35,6 +37,7 @@ ending count text = drop (length text - count) text
 abbrev pub Cut : Type 0
 Cut = ℕ → List ℕ → List ℕ
 
+-- the cut texts, each once
 abbrev pub cuts : Cut → ℕ → Texts → Texts
 cuts cut count texts = distinct (map (cut count) texts)
 
@@ -52,6 +55,7 @@ kept_bytes cut texts =
 abbrev pub is_shorter_end : Cut → List ℕ → List ℕ → Bool
 is_shorter_end cut part text = nat_lt (length part) (length text) && bytes_eq (cut (length part) text) part
 
+-- whether one of the texts is a shorter end of this one
 abbrev pub has_shorter_end : Cut → Texts → List ℕ → Bool
 has_shorter_end cut texts text = list_any (λ part. is_shorter_end cut part text) texts
 

@@ -33,7 +33,7 @@ module _ (H H' : List ℕ → List ℕ → Type 0) (more : (path body : List ℕ
       rows_of.legal (λ before after others e e' rises.
       entry_mapped (record { readers = readers; before = before; row = row; after = after }) row.numbered.item row.entry
       (is before after others e e' rises))
-  stands_mapped readers front row back (rows_of.waits none one no_sync alone) = rows_of.waits none one no_sync alone
+  stands_mapped readers front row back (rows_of.waits request asks none no_sync alone) = rows_of.waits request asks none no_sync alone
 
   pub rows_mapped : (readers : ℕ) (s : RunState) (rows : List Row) → AreRows H limits readers s rows → AreRows H' limits readers s rows
   rows_mapped readers s rows are = record {

@@ -4,8 +4,8 @@ use Rattle.std.proofs.Common.{◌∙◌, subst, arith, append_assoc}
 use Rattle.std.proofs.lemmas.List.{append-nil, length-replicate}
 use Rattle.std.proofs.lemmas.List.Elements.{All-replicate}
 use Rattle.std.proofs.lemmas.List.Sums.{sum_by-append}
-use Rattle.std.proofs.lemmas.List.Sorted.{IsPermutation-refl}
-use Rattle.std.specs.Prelude.{Contains, Result, Ok, Err, OnOk}
+use Rattle.std.proofs.lemmas.List.Sorted.{IsPermutation-refl, IsPermutation-trans, IsPermutation-append_left}
+use Rattle.std.specs.Prelude.{Contains, IsPermutation, Result, Ok, Err, OnOk}
 use Rattle.script.specs.Items.{Item, Numbered, ItemsFrom, IsItemsOf, search, search_in, find}
 use Rattle.script.specs.Position.{Position, position}
 use Rattle.script.specs.Reading as reading
@@ -16,7 +16,7 @@ use Rattle.transcript.specs.declared.entry.SearchReason.TheVariants.{OutOfMemory
 use Rattle.steps.specs.Rows.{Row, entries_of, list_of, version_in, last_or, is_sync, searches_of, count_searches, failures_in, count_failures}
 use Rattle.steps.specs.LegalRows.{IsFailedTimes}
 use Rattle.steps.specs.Entries.{failures_of}
-use Rattle.steps.specs.Steps.{RunState, IsStep, IsFirst, MayTake, last}
+use Rattle.steps.specs.Steps.{RunState, IsStep, Runs, begins, goes_on, IsFirst, MayTake, last}
 use Rattle.steps.specs.Steps as steps
 use Rattle.steps.specs.StepRows.{AreNext, AreRows, HasOwnEntry, IsOfSearch, open_of, open_in, searches_in, with_its_entry}
 use Rattle.steps.specs.StepRows as rows_of
@@ -26,12 +26,13 @@ use Rattle.steps.proofs.StepLemmas.{first_rows, next_rows, each_is_legal, are_in
 use Rattle.service.specs.Service.{ServiceState, first_service, run_of, Fits, Steps, Takes, Gives, versions_in}
 use Rattle.service.specs.Service as service
 use Rattle.service.specs.Collected.{CollectedState, IsCollected, number_in, place_in, place_by, slot_by, pushed, filled}
-use Rattle.service.specs.Private.Entries.{IsCounted}
+use Rattle.service.specs.Service.{IsCounted}
 use Rattle.service.proofs.ServiceLemmas.{gives_step}
 use Rattle.service.proofs.CollectedLemmas.{AreAnswered, slots_at_end, collected_more, collected_same, collected_filled}
 use Rattle.tsearch.specs.declared.run.Options.{Options}
 use Rattle.tsearch.specs.Legal.{IsLegal, limits_in}
-use Rattle.tsearch.specs.Private.Running.{IsRunning, TakesOne, AreFilled, none, one_more}
+use Rattle.tsearch.specs.Private.Running.{first_run, IsRunning, TakesOne, AreFilled, none, one_more}
+use Rattle.steps.proofs.SourceLemmas.{runs_mapped}
 use Rattle.tsearch.proofs.HeldLemmas.{rows_mapped}
 
 pub on_ok : {X E P Q : Type 0} (r : Result X E) → (P → Q) → OnOk r P → OnOk r Q
@@ -105,6 +106,12 @@ module _ (Holds : List ℕ → List ℕ → Type 0) (options : Options) (first :
       record {
         rows = next.0;
         published = published';
+        written = was.written ++ written;
+        runs = goes_on was.runs one refl refl;
+        same =
+            IsPermutation-trans (entries_of next.0) (entries_of was.rows ++ written) (was.written ++ written)
+            (next_entries was.rows taken written next.0 next.1)
+            (IsPermutation-append_left written (entries_of was.rows) was.written was.same);
         taken = next_items was.rows taken written next.0 next.1 ∙ ap (λ l. l ++ taken) was.taken;
         are_rows = next.2;
         fits = step.fits;
@@ -268,6 +275,16 @@ first_version : (version : ℕ) → Contains (0 ∷ []) version → (version ≡
 first_version version (zero, within, is) = inl (sym is)
 first_version version (suc k, within, is) = absurd (omega arith)
 
+first_is_first : (options : Options) → IsFirst options.readers (first_run options)
+first_is_first options = record {
+  accepted = refl;
+  published = refl;
+  searches = refl;
+  awaited = refl;
+  count = length-replicate (options.readers + 1) (last 0 0);
+  lasts = All-replicate (λ l. l ≡ last 0 0) (options.readers + 1) (last 0 0) refl;
+}
+
 no_failures : (failed : ℕ) → IsCounted (count_failures []) failed failed
 unfolding count_failures
 no_failures failed = none_failed failed
@@ -281,16 +298,11 @@ run_begins Holds options script failed collected no_entries no_places = record {
   running = record {
     rows = [];
     published = [];
+    written = [];
+    runs = begins;
+    same = IsPermutation-refl [];
     taken = refl;
-    are_rows =
-        first_rows Holds (limits_in options) options.readers (run_of (first_service (limits_in options) options.readers) []) (record {
-          accepted = refl;
-          published = refl;
-          searches = refl;
-          awaited = refl;
-          count = length-replicate (options.readers + 1) (last 0 0);
-          lasts = All-replicate (λ l. l ≡ last 0 0) (options.readers + 1) (last 0 0) refl;
-        });
+    are_rows = first_rows Holds (limits_in options) options.readers (first_run options) (first_is_first options);
     fits = record { latest = refl; kept = first_version };
     limits = refl;
     are_collected = record { entries = no_entries; places = no_places };
@@ -304,6 +316,9 @@ running_mapped : (H H' : List ℕ → List ℕ → Type 0) → ((path body : Lis
 running_mapped H H' holds options first items service collected failed was = record {
   rows = was.rows;
   published = was.published;
+  written = was.written;
+  runs = runs_mapped H H' holds (limits_in options) options.readers (first_run options) was.runs;
+  same = was.same;
   taken = was.taken;
   are_rows = rows_mapped H H' holds (limits_in options) options.readers (run_of service was.published) was.rows was.are_rows;
   fits = was.fits;
@@ -355,13 +370,24 @@ pub run_is_legal : (Holds : List ℕ → List ℕ → Type 0) (options : Options
 run_is_legal Holds options script first left old collected failed new collected' run ended fills few =
     let is = filled_on Holds options first run.items old collected failed new collected' run.running fills in
     let empty : new.awaited ≡ [] = none_open new.awaited few in
+    let whole : collected'.entries ≡ entries_of is.rows =
+    is.are_collected.entries ∙ slots_at_end 0 is.rows (are_answered 0 0 is.rows (sym is.are_rows.awaited ∙ empty)) in
     record {
       rows = is.rows;
       items = subst (IsItemsOf script) (append-nil run.items ∙ sym is.taken) (run.reads [] ended);
-      whole = is.are_collected.entries ∙ slots_at_end 0 is.rows (are_answered 0 0 is.rows (sym is.are_rows.awaited ∙ empty));
+      whole = whole;
       each = each_is_legal Holds (limits_in options) options.readers (run_of new is.published) is.rows is.are_rows empty;
       turns = are_in_turn Holds (limits_in options) options.readers (run_of new is.published) is.rows is.are_rows;
       failures = is.failures.rises;
+      begin = first_run options;
+      end = run_of new is.published;
+      written = is.written;
+      first = first_is_first options;
+      runs =
+          subst (λ (items : List Numbered). Runs Holds (limits_in options) options.readers (first_run options) items is.written (run_of new is.published))
+          (sym is.taken) is.runs;
+      settled = empty;
+      same = subst (λ (entries : List Entry). IsPermutation entries is.written) (sym whole) is.same;
     }
   where
     none_open : {X : Type 0} (xs : List X) → length xs ≤ 0 → xs ≡ []

@@ -4,14 +4,14 @@ use Rattle.std.specs.List.{list_any}
 use Rattle.std.specs.Io.KnownBytes.{Appends}
 use Rattle.script.specs.Items.{Item, Numbered, put}
 use Rattle.reads.specs.declared.item.ReadItem.{ReadItem}
-use Rattle.reads.specs.Read.{AreShown, CameIn, InboxState, IsReadOf}
+use Rattle.reads.specs.Read.{AreShown, Came, CameIn, InboxState, IsReadOf}
 use Rattle.stream.specs.declared.owned.OwnedItem.{OwnedItem}
 use Rattle.stream.specs.declared.owned.OwnedItem.TheVariants.{Sync}
 use Rattle.stream.specs.Owned.{ShowsOwned}
 use Rattle.steps.specs.Entries.{failures_of}
 use Rattle.steps.specs.Steps.{RunState, Runs}
 use Rattle.service.specs.Service.{ServiceState, Fits, Gives, TakesPut, first_service, run_of}
-use Rattle.service.specs.Private.Entries.{IsCounted}
+use Rattle.service.specs.Service.{IsCounted}
 use Rattle.transcript.specs.declared.entry.Entry.{Entry}
 use Rattle.transcript.specs.Transcript.{is_refusal, has_hit, text_of_entry, text_of_transcript}
 use Rattle.transcript.specs.Written.{AppendsFront}
@@ -115,7 +115,7 @@ pub data MayTakeNow (readers : ℕ) (service : ServiceState) (item : OwnedItem) 
 -- An item or the end of the reading came, or an open search may have got its entry.
 pub data TakesEvent (input : Option (List ℕ)) (stats : Bool) (inbox : InboxState) (old : ServiceState) (marks : Marks) (output : Option (List ℕ))
     (inbox' : InboxState) (new : ServiceState) (marks' : Marks) (output' : Option (List ℕ)) : Type 0 where
-  came : CameIn inbox inbox' → IsReadOf input inbox'.came → new ≡ old → marks' ≡ marks → output' ≡ output
+  came : (this : Came) → CameIn this inbox inbox' → IsReadOf input inbox'.came → new ≡ old → marks' ≡ marks → output' ≡ output
       → TakesEvent input stats inbox old marks output inbox' new marks' output'
   answered : inbox' ≡ inbox → Answers stats old marks output new marks' output'
       → TakesEvent input stats inbox old marks output inbox' new marks' output'

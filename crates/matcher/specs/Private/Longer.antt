@@ -1,7 +1,7 @@
 -- Trees whose words do not depend on where the line ends.
 use Rattle.std.specs.Prelude.{ℕ, List, take}
 use Rattle.ere.specs.Tree.{Tree}
-use Rattle.matcher.specs.Spans.{Spans}
+use Rattle.spans.specs.Spans.{Spans}
 
 -- Wherever a word of the tree leads in a prefix of a line, it leads in the whole line too.
 abbrev pub HoldsInLonger : Tree → Type 0

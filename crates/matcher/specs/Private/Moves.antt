@@ -1,7 +1,7 @@
 -- Sets of positions, seen only by `has_position` and `absent`, and how they move.
-use Rattle.std.specs.Prelude.{◌≡◌, ℕ, zero, suc, ◌*◌, ◌≤◌, ◌<◌, Bool, true, false, not, ◌&&◌, ◌||◌, ◌⊎◌, IsTrue, List, length}
-use Rattle.matcher.specs.PositionSets.{has_position}
-use Rattle.matcher.specs.Spans.{Relation}
+use Rattle.std.specs.Prelude.{◌≡◌, ℕ, zero, suc, ◌*◌, Bool, true, false, not, ◌&&◌, ◌||◌, ◌⊎◌, IsTrue, List, length}
+use Rattle.spans.specs.PositionSets.{has_position}
+use Rattle.spans.specs.Spans.{Relation}
 
 -- the count, and one more if the position is not in the set
 abbrev pub more_unless : Bool → ℕ → ℕ
@@ -19,10 +19,6 @@ absent words = absent_below words (64 * length words)
 
 pub record HasNone (set : List ℕ) : Type 0 where
   pub none : (k : ℕ) → has_position set k ≡ false
-
--- No position from `first` up to but not including `past` is in the set.
-abbrev pub HasNoneFrom : List ℕ → ℕ → ℕ → Type 0
-HasNoneFrom set first past = (k : ℕ) → first ≤ k → k < past → has_position set k ≡ false
 
 -- the positions that are in either of two sets
 pub record IsEither (left right both : List ℕ) : Type 0 where

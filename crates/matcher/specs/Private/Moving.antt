@@ -2,7 +2,7 @@
 use Rattle.std.specs.Prelude.{◌≡◌, ◌+◌, ◌<◌, ℕ, zero, suc, Bool, false, ◌&&◌, ◌||◌, List, length, nat_le, nat_lt, slice_index}
 use Rattle.ere.specs.ByteSet.{has}
 use Rattle.ere.specs.Bits.{has_bit}
-use Rattle.matcher.specs.PositionSets.{has_position}
+use Rattle.spans.specs.PositionSets.{has_position}
 
 -- whether a byte of the set follows the position
 abbrev pub passes : List Bool → List ℕ → ℕ → Bool

@@ -1,7 +1,7 @@
 -- Rounds of a repeat, each of which goes on only from new positions.
 use Rattle.std.specs.Prelude.{ℕ, suc, IsTrue, List, ◌⊎◌}
-use Rattle.matcher.specs.PositionSets.{has_position}
-use Rattle.matcher.specs.Spans.{Relation, Steps}
+use Rattle.spans.specs.PositionSets.{has_position}
+use Rattle.spans.specs.Spans.{Relation, Steps}
 use Rattle.matcher.specs.Private.Moves.{IsEither, IsNew, Moves, MovesPast}
 
 -- by any number of steps

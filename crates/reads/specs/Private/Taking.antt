@@ -4,7 +4,7 @@ use Rattle.std.specs.declared.result.Result.{Result}
 use Rattle.std.specs.Io.KnownBytes.{IsAtEnd}
 use Rattle.script.specs.Items.{Item, numbered, ItemsFrom}
 use Rattle.stream.specs.declared.item.StreamError.{StreamError}
-use Rattle.stream.specs.Stream.{StreamState, IsItemOf, IsFault}
+use Rattle.stream.specs.Stream.{StreamState, IsItemOf}
 use Rattle.stream.specs.Owned.{ShowsOwned}
 use Rattle.reads.specs.declared.item.ReadItem.{ReadItem}
 
@@ -13,8 +13,7 @@ use Rattle.reads.specs.declared.item.ReadItem.{ReadItem}
 pub record TakesRead (old : StreamState) (read : ReadItem) (new : StreamState) (bytes : List ℕ) (was left : Option (List ℕ)) : Type 0 where
   pub item : Item
   pub shows : ShowsOwned read.item item
-  pub whole : IsItemOf old.line bytes (numbered read.line item) new.ended new.line
-  pub end : IsTrue new.ended → OnSome was (IsAtEnd left) ⊎ IsFault item
+  pub whole : IsItemOf new.ended old.line bytes (numbered read.line item) new.line was left
 
 -- what a call returns, if these bytes were taken from the input
 abbrev pub IsNextRead : StreamState → Result (Option ReadItem) StreamError → StreamState → List ℕ → Option (List ℕ) → Option (List ℕ) → Type 0

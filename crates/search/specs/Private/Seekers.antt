@@ -1,11 +1,46 @@
--- The ways in which matches of a tree within a line are looked for.
+-- How matches within a line are looked for.
+use Rattle.std.specs.Prelude.{◌≡◌, ◌≢◌, ℕ, ◌<◌, ◌≤◌, Bool, true, false, List, length, slice_index, Option, Some, None, IfSome}
 use Rattle.ere.specs.Tree.{Tree}
-use Rattle.matcher.specs.Steps.{IsQuick}
-use Rattle.simulation.specs.Simulations.{IsSimulationOf}
+use Rattle.finder.specs.Patterns.{IsFinderOf}
+use Rattle.request.specs.declared.options.View.{View}
+use Rattle.request.specs.declared.options.View.TheVariants as view
+use Rattle.search.specs.Prepared.{request_of}
+use Rattle.search.specs.View.{shown_tree}
+use Rattle.search.specs.declared.pattern.Prepared.{Prepared}
 use Rattle.search.specs.declared.seeker.Seeker.{Seeker}
-use Rattle.search.specs.declared.seeker.Seeker.TheVariants.{Matcher, Simulation}
+use Rattle.search.specs.declared.seeker.Tried.{Tried}
+use Rattle.search.specs.declared.seeker.Tried.TheVariants.{Span, From}
+use Rattle.simulation.specs.Simulations.{IsSimulationOf}
+use Rattle.spans.specs.FirstSpan.{IsFirstSpan, IsSpan}
+use Rattle.spans.specs.Passes.{NoSpanBegins}
 
--- The way is for the tree: the matcher only if the tree is quick, and the simulation only if it is not.
-unfoldable pub Seeks : Tree → Seeker → Type 0
-Seeks tree Matcher = IsQuick tree
-Seeks tree (Simulation simulation) = IsSimulationOf tree simulation × (IsQuick tree → ⊥)
+-- Its simulation is one of the tree, and so is its finder, if it has one.
+pub record Seeks (tree : Tree) (seeker : Seeker) : Type 0 where
+  pub finder : IfSome seeker.finder (IsFinderOf tree)
+  pub simulation : IsSimulationOf tree seeker.simulation
+
+-- columns or spans are shown
+abbrev pub shows_matches : View → Bool
+shows_matches view.Column = true
+shows_matches view.Spans = true
+shows_matches _ = false
+
+-- There is a seeker of the matches that are shown, or none are shown.
+unfoldable pub CanShow : Prepared → Option Seeker → Type 0
+CanShow prepared None = shows_matches prepared.view ≡ false
+CanShow prepared (Some seeker) = Seeks (shown_tree (request_of prepared)) seeker
+
+-- The line has no line feed.
+abbrev pub IsOneLine : List ℕ → Type 0
+IsOneLine line = (k : ℕ) → k < length line → slice_index line k ≢ 10
+
+-- A span begins at the position, which is before `past`, and none from `from` on begins before it.
+pub record IsLeastStart (line : List ℕ) (tree : Tree) (whole_words : Bool) (from past start : ℕ) : Type 0 where
+  pub begins : (end : ℕ) × IsSpan line tree whole_words from start end
+  pub before : start < past
+  pub least : NoSpanBegins line tree whole_words from start
+
+-- The first span from a position on was found, or there is none before another position.
+unfoldable pub IsTried : List ℕ → Tree → Bool → ℕ → Tried → Type 0
+IsTried line tree whole_words from (Span span) = IsFirstSpan line tree whole_words from span
+IsTried line tree whole_words from (From next) = (from ≤ next) × NoSpanBegins line tree whole_words from next

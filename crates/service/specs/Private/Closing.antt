@@ -1,10 +1,11 @@
 -- Open searches that get their entries.
 use Rattle.std.specs.Prelude.{◌≡◌, ◌≢◌, ℕ, ◌+◌, ◌<◌, ◌≤◌, List, [], ◌∷◌, ◌++◌, length, take, drop, All, Bool, Some, slice_get}
 use mathlib.Core.List.{IsPrefix}
+use Rattle.search.specs.Request.{Request}
 use Rattle.search.specs.Shown.{Shown}
 use Rattle.script.specs.Items.{Item}
 use Rattle.steps.specs.LegalRows.{WasAsked, WasNotAsked}
-use Rattle.steps.specs.Asked.{IsFaultOf}
+use Rattle.steps.specs.Asked.{Asks, IsFaultOf}
 use Rattle.steps.specs.Steps.{OpenSearch, last}
 use Rattle.steps.specs.declared.last.Last.{Last}
 use Rattle.shared.specs.Desk.{DeskState}
@@ -14,9 +15,9 @@ use Rattle.transcript.specs.declared.entry.Entry.TheVariants.{Refused, SearchRef
 use Rattle.transcript.specs.declared.entry.Reason.TheVariants.{NoSuchSearch}
 use Rattle.transcript.specs.declared.entry.SearchReason.{SearchReason}
 use Rattle.transcript.specs.declared.entry.SearchReason.TheVariants as search_reason
+use Rattle.service.specs.Collected.{number_in}
 use Rattle.service.specs.Opening.{limits_of}
 use Rattle.service.specs.Service.{ServiceState, CanStand}
-use Rattle.service.specs.declared.tasks.Task.{Task}
 use Rattle.service.specs.declared.taken.Taken.{Taken}
 use Rattle.service.specs.declared.taken.Taken.TheVariants as taken
 
@@ -66,9 +67,10 @@ pub record IsRefused (why : SearchReason) (old : ServiceState) (result : Taken) 
   pub entry : result ≡ taken.Entry (SearchRefused (old.searches + 1) why)
   pub left : new ≡ record old { searches = old.searches + 1 }
 
--- A search was taken: it is open, or refused.
+-- A search was taken: it is open, and asks for something; or it is refused.
 pub data IsAsked (item : Item) (old : ServiceState) (result : Taken) (new : ServiceState) : Type 0 where
-  asked_for : (task : Task) → result ≡ taken.Search task → new ≡ with_search item old → IsAsked item old result new
+  asked_for : (request : Request) → Asks item request → result ≡ taken.Search (old.searches + 1) → new ≡ with_search item old
+      → IsAsked item old result new
   refused : (why : SearchReason) → IsFaultOf item why → IsRefused why old result new → IsAsked item old result new
 
 -- The open search at this place has this number.
@@ -76,6 +78,10 @@ pub record IsPlaceOf (awaited : List OpenSearch) (number place : ℕ) : Type 0 w
   pub search : OpenSearch
   pub is_open : slice_get awaited place ≡ Some search
   pub same : search.number ≡ number
+
+-- The entry is that of the open search at this place.
+abbrev pub IsOwnEntry : List OpenSearch → ℕ → Entry → Type 0
+IsOwnEntry awaited place entry = (search : OpenSearch) → slice_get awaited place ≡ Some search → number_in entry ≡ search.number
 
 -- The search at this place is refused for this reason.
 pub record IsGivenUp (place : ℕ) (why : SearchReason) (old : ServiceState) (entry : Entry) (new : ServiceState) : Type 0 where

@@ -22,8 +22,9 @@ use Rattle.transcript.specs.declared.entry.Reason.{Reason}
 use Rattle.transcript.specs.declared.entry.Reason.TheVariants as reason
 use Rattle.transcript.specs.declared.entry.SearchReason.{SearchReason}
 use Rattle.transcript.specs.declared.entry.SearchReason.TheVariants as search_reason
-use Rattle.steps.specs.LegalRows.{IsRoomFor, HasBody, IsRemove, IsNamed, HasLoaded, IsFailedTimes, greatest_failures}
+use Rattle.steps.specs.LegalRows.{IsRoomFor, HasBody, IsRemove, IsNamed, HasLoaded}
 use Rattle.steps.specs.Rows.{command_of, failures_in}
+use Rattle.service.specs.Service.{IsCounted}
 
 abbrev pub reason_of_name : NameError → Reason
 reason_of_name name.OutOfMemory = reason.OutOfMemory
@@ -80,11 +81,6 @@ HasBodyOrNoMemory most state body line entry = HasBody most state body line entr
 -- A remove needs a document of that name, and then room. If there is room, memory can run out.
 abbrev pub IsRemoveOrNoMemory : ℕ → State → List ℕ → ℕ → Entry → Type 0
 IsRemoveOrNoMemory most state name line entry = IsRemove most state name line entry ⊎ ((state.version < most) × RanOut line entry)
-
--- A source's count rose by this number of failures, and no longer changes once it is the greatest.
-pub record IsCounted (failures failed failed' : ℕ) : Type 0 where
-  pub rises : IsFailedTimes failures failed failed'
-  pub stays : failed ≡ greatest_failures → failed' ≡ greatest_failures
 
 -- A load: the source is asked once, unless the load is refused at its name, and failed exactly if the entry says so.
 pub record IsLoaded (Holds : List ℕ → List ℕ → Type 0) (desk : DeskState) (failed : ℕ) (name path : List ℕ) (done : Result ℕ Reason)

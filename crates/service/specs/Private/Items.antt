@@ -11,7 +11,7 @@ use Rattle.steps.specs.Rows.{accepted_by, command_of, version_in, failures_in, s
 use Rattle.steps.specs.StepRows.{searches_in}
 use Rattle.steps.specs.LegalRows.{IsCommandEntry}
 use Rattle.index.specs.State.{state_of}
-use Rattle.service.specs.Private.Entries.{IsCounted}
+use Rattle.service.specs.Service.{IsCounted}
 
 -- What a reading can learn after the entry: after a publish, everything accepted; otherwise, the same as before.
 pub data Tells (desk : DeskState) (told : Known) (entry : Entry) (told' : Known) : Type 0 where

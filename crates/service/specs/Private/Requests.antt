@@ -1,11 +1,5 @@
 -- Searches as they are asked for.
-use Rattle.std.specs.Prelude.{ℕ, List}
-use Rattle.index.specs.declared.command.Command.{Command}
-use Rattle.index.specs.State.{state_of}
-use Rattle.search.specs.Request.{Request}
-use Rattle.search.specs.Shown.{IsShownOf, Shown}
 use Rattle.search.specs.declared.pattern.Prepared.{Prepared}
-use Rattle.steps.specs.Asked.{Asks}
 use Rattle.script.specs.Items.{Item, search, search_in, find}
 use Rattle.service.specs.declared.question.Texts.{Texts}
 use Rattle.service.specs.declared.question.Texts.TheVariants as texts
@@ -23,7 +17,3 @@ pub record Asked : Type 0 where
 
 abbrev pub asked : Item → Prepared → Asked
 asked item prepared = record { item = item; prepared = prepared }
-
--- The answer is that of these commands, for what the search asks for.
-abbrev pub IsFound : Item → List Command → Shown → Type 0
-IsFound item commands answer = (request : Request) × Asks item request × IsShownOf (state_of commands) request answer

@@ -1,10 +1,14 @@
 -- A line that is read byte by byte.
-use Rattle.std.specs.Prelude.{◌≡◌, ℕ, ◌<◌, ◌≤◌, Bool, ◌&&◌, IsFalse, IsTrue, List, length, slice_index}
-use Rattle.matcher.specs.Private.Starts.{is_word_after, is_word_before}
+use Rattle.std.specs.Prelude.{◌≡◌, ℕ, ◌<◌, ◌≤◌, Bool, ◌&&◌, if◌then◌else◌, min, IsFalse, IsTrue, List, length, slice_index}
+use Rattle.spans.specs.Sides.{is_word_after, is_word_before}
 use Rattle.simulation.specs.declared.ends.Wanted.{Wanted}
 use Rattle.simulation.specs.declared.part.Gaps.{Gaps}
 use Rattle.simulation.specs.Parts.{Shape, Reads, is_gap}
 use Rattle.simulation.specs.Pending.{IsKept, IsWhole, Pending, size_of}
+
+-- the positions before another one at which words can begin: the first of all, if they begin at the line's start only
+abbrev pub least_past : Bool → ℕ → ℕ
+least_past at_start past = if at_start then min past 1 else past
 
 -- No cell is set.
 abbrev pub AreClear : List ℕ → Type 0
@@ -54,11 +58,6 @@ Begins line part wanted start = (end : ℕ) × IsWanted line part wanted start e
 -- Such a word is in the line.
 abbrev pub HasWanted : List ℕ → Shape → Wanted → Type 0
 HasWanted line part wanted = (start : ℕ) × Begins line part wanted start
-
--- No such word begins before it.
-pub record IsLeastStart (line : List ℕ) (part : Shape) (wanted : Wanted) (start : ℕ) : Type 0 where
-  pub begins : Begins line part wanted start
-  pub least : (other : ℕ) → Begins line part wanted other → start ≤ other
 
 -- The line is read up to here: the words that begin where one can begin that is looked for, and end here or later, are pending.
 pub record IsReadTo (line : List ℕ) (here : ℕ) (part : Shape) (wanted : Wanted) (cells : List ℕ) : Type 0 where

@@ -1,21 +1,29 @@
 -- A run between two steps.
-use Rattle.std.specs.Prelude.{◌≡◌, ◌<◌, ℕ, List, [], ◌∷◌, ◌++◌}
+use Rattle.std.specs.Prelude.{◌≡◌, ◌<◌, ℕ, List, [], ◌∷◌, ◌++◌, IsPermutation}
 use Rattle.script.specs.Items.{Numbered}
-use Rattle.steps.specs.Rows.{Row, items_of, count_failures}
+use Rattle.steps.specs.Rows.{Row, items_of, entries_of, count_failures}
+use Rattle.steps.specs.Steps.{RunState, Runs}
 use Rattle.steps.specs.StepRows.{AreRows}
 use Rattle.transcript.specs.declared.entry.Entry.{Entry}
 use Rattle.service.specs.Collected.{CollectedState, IsCollected, number_in, filled}
-use Rattle.service.specs.Service.{ServiceState, Fits, Gives, run_of}
-use Rattle.service.specs.Private.Entries.{IsCounted}
+use Rattle.service.specs.Service.{ServiceState, Fits, Gives, first_service, run_of}
+use Rattle.service.specs.Service.{IsCounted}
 use Rattle.tsearch.specs.Legal.{limits_in}
 use Rattle.tsearch.specs.declared.run.Options.{Options}
 
--- These items were taken. Their rows are those of the run that the service is in, and their entries are collected. failed,
--- failed': how often the source had failed before the run, and how often by now.
+-- the run before its first item
+abbrev pub first_run : Options → RunState
+first_run options = run_of (first_service (limits_in options) options.readers) []
+
+-- These items were taken, by legal steps that led to the state of the service. Their rows have what the steps wrote, and
+-- their entries are collected. failed, failed': how often the source had failed before the run, and how often by now.
 pub record IsRunning (Holds : List ℕ → List ℕ → Type 0) (options : Options) (failed : ℕ) (items : List Numbered) (service : ServiceState)
     (collected : CollectedState) (failed' : ℕ) : Type 0 where
   pub rows : List Row
   pub published : List ℕ
+  pub written : List Entry
+  pub runs : Runs Holds (limits_in options) options.readers (first_run options) items written (run_of service published)
+  pub same : IsPermutation (entries_of rows) written
   pub taken : items_of rows ≡ items
   pub are_rows : AreRows Holds (limits_in options) options.readers (run_of service published) rows
   pub fits : Fits service published

@@ -3,7 +3,7 @@ use Rattle.live.specs.Private.Serving.{came, answered}
 use Rattle.live.proofs.items.take_event.Goals as goal
 
 pub returns-in-Ok-clause-ok : goal.returns-in-Ok-clause-ok
-returns-in-Ok-clause-ok g c = (refl, came c.in-Ok.ensures.ok c.in-Ok.ensures.read c.next_event.ensures refl refl)
+returns-in-Ok-clause-ok g c = (refl, came _ c.in-Ok.ensures.ok c.in-Ok.ensures.read c.next_event.ensures refl refl)
 
 pub returns-in_ok-take_answer-in-Some-Answer-clause-ok : goal.returns-in_ok-take_answer-in-Some-Answer-clause-ok
 returns-in_ok-take_answer-in-Some-Answer-clause-ok g c =

@@ -1,7 +1,7 @@
 use Rattle.std.proofs.Common.{◌≡◌, ◌+◌, ◌-◌, refl, length, map, drop, sym, ap, subst, ◌∙◌, arith}
 use Rattle.ere.specs.Tree.{form, trees_of}
 use Rattle.ere.proofs.Forms.{form-Empty, form-Set, form-Start, form-End, form-Cat, form-Alt, form-Repeat}
-use Rattle.matcher.specs.Spans.{Spans, SpansEach, SpansSome, Steps}
+use Rattle.spans.specs.Spans.{Spans, SpansEach, SpansSome, Steps}
 use Rattle.matcher.specs.Private.Moves.{Moves, MovesPast}
 use Rattle.matcher.proofs.Walks as walks
 use Rattle.matcher.proofs.Rounds as rounds

@@ -1,6 +1,6 @@
 use Rattle.std.proofs.Common.{ℕ, List, map, drop}
 use Rattle.ere.specs.Tree.{form, trees_of}
-use Rattle.matcher.specs.Spans.{Spans, SpansEach, SpansSome, Steps}
+use Rattle.spans.specs.Spans.{Spans, SpansEach, SpansSome, Steps}
 use Rattle.matcher.specs.Private.Moves.{absent, Moves, MovesIf, MovesPast}
 use Rattle.matcher.proofs.Walks.{IsWidenedBy}
 use Rattle.matcher.specs.Private.Rounds.{IsRounded, KeepsRounds}

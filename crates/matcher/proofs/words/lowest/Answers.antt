@@ -1,5 +1,5 @@
 use Rattle.std.proofs.Common.{arith}
-use Rattle.matcher.proofs.Bits.{some_bit, lowest_bit}
+use Rattle.spans.proofs.Bits.{some_bit, lowest_bit}
 use Rattle.matcher.proofs.words.lowest.Goals as goal
 
 pub returns-clause-inside : goal.returns-clause-inside

@@ -1,4 +1,4 @@
-use Rattle.matcher.proofs.Bits.{has_moved_to}
+use Rattle.spans.proofs.Bits.{has_moved_to}
 use Rattle.matcher.proofs.words.moved_to.Goals as goal
 
 pub returns : goal.returns

@@ -1,5 +1,5 @@
 use Rattle.std.proofs.Common.{arith}
-use Rattle.matcher.proofs.Bits.{moved_lowest, moved_others}
+use Rattle.spans.proofs.Bits.{moved_lowest, moved_others}
 use Rattle.matcher.proofs.words.moved_up.Goals as goal
 
 pub returns-clause-lowest : goal.returns-clause-lowest

@@ -1,4 +1,4 @@
-use Rattle.matcher.proofs.Bits.{has_through}
+use Rattle.spans.proofs.Bits.{has_through}
 use Rattle.matcher.proofs.words.through_bit.Goals as goal
 
 pub returns : goal.returns

@@ -1,7 +1,7 @@
 use Rattle.std.proofs.Common.{sym}
 use Rattle.ere.specs.Bits.{has_bit}
 use Rattle.ere.proofs.Bits.{has_with}
-use Rattle.matcher.proofs.Bits.{or_none}
+use Rattle.spans.proofs.Bits.{or_none}
 use Rattle.matcher.proofs.words.with_bit_if.Goals as goal
 
 pub returns-then-comes : goal.returns-then-comes

@@ -1,5 +1,5 @@
 use Rattle.ere.proofs.Bits.{has_cleared}
-use Rattle.matcher.proofs.Bits.{cleared_less}
+use Rattle.spans.proofs.Bits.{cleared_less}
 use Rattle.matcher.proofs.words.without_bit.Goals as goal
 
 pub returns-clause-each : goal.returns-clause-each

@@ -1,19 +1,23 @@
-use Rattle.std.proofs.Common.{◌≡◌, ◌+◌, true, false, refl, sym, ◌∙◌, ap, arith, get_or}
+use Rattle.std.proofs.Common.{◌≡◌, ◌+◌, true, false, Some, refl, sym, ◌∙◌, ap, arith, get_or}
 use Rattle.std.proofs.lemmas.List.Elements.{All-more}
 use Rattle.std.proofs.lemmas.List.Sums.{count_by_more_no, count_by_more_yes}
 use Rattle.request.specs.Names.{clashes, is_same}
-use Rattle.request.proofs.NameLemmas.{free_if_other, free_if_repeatable, same_name, same_itself}
+use Rattle.request.specs.Private.Kept.{shown_settings}
+use Rattle.request.proofs.NameLemmas.{clash_if_excluded, clash_if_twice, free_if_other, free_if_repeatable, same_name, same_itself}
 use Rattle.request.proofs.OptionLemmas.{filler}
-use Rattle.request.proofs.SettingLemmas.{free_of_all, some_shown}
+use Rattle.request.proofs.SettingLemmas.{clash_here, counted_all, free_of_all, no_clash}
 use Rattle.request.proofs.settings.fault_after.Goals as goal
 use Rattle.request.proofs.settings.fault_after.Goals.{then-is+else-not-is_repeatable, else-is+else-excludes}
 
 pub returns-then-not-is_repeatable : goal.returns-then-not-is_repeatable
-returns-then-not-is_repeatable c = λ text named. (
-  named,
-  sym c.if-not-is_repeatable.ensures,
-  some_shown c.args.earlier.now c.loop-setting.setting-index filler c.args.name c.loop-setting-test.true (same_name _ _ (sym c.if-is.ensures)),
-)
+returns-then-not-is_repeatable c = λ text named.
+    let here = get_or c.args.earlier.now c.loop-setting.setting-index filler in
+    let same : here.name ≡ c.args.name = same_name _ _ (sym c.if-is.ensures) in (
+      named,
+      clash_here c.args.earlier.now c.loop-setting.setting-index filler c.args.name c.loop-setting-test.true c.loop-setting.invariant.together
+          (clash_if_twice here.name c.args.name same (sym c.if-not-is_repeatable.ensures))
+          ∙ ap (λ n. Some n) same,
+    )
 
 pub returns-then-excludes : goal.returns-then-excludes
 returns-then-excludes c = λ text named.
@@ -23,8 +27,21 @@ returns-then-excludes c = λ text named.
           let test : is_same here.name c.args.name ≡ true = ap (λ n. is_same n c.args.name) same ∙ same_itself c.args.name in
           let no : false ≡ true = c.if-is.ensures ∙ test in
           absurd (cc no),
-      sym c.if-excludes.ensures,
-      some_shown c.args.earlier.now c.loop-setting.setting-index filler here.name c.loop-setting-test.true refl,
+      clash_here c.args.earlier.now c.loop-setting.setting-index filler c.args.name c.loop-setting-test.true c.loop-setting.invariant.together
+          (clash_if_excluded here.name c.args.name (sym c.if-excludes.ensures)),
+    )
+
+pub returns-then-times-ge-MAX_TIMES : goal.returns-then-times-ge-MAX_TIMES
+returns-then-times-ge-MAX_TIMES c = λ text named.
+    let free = free_of_all c.args.earlier.now c.args.name c.loop-setting.setting-index c.loop-setting-test.false c.loop-setting.invariant.together in (
+      named,
+      no_clash (shown_settings c.args.earlier.now) c.args.name free,
+      omega (
+        arith,
+        counted_all c.args.earlier.now c.args.name c.loop-setting.setting-index c.loop-setting.times c.loop-setting-test.false
+            c.loop-setting.invariant.counted,
+        c.if-times-ge-MAX_TIMES.true,
+      ),
     )
 
 pub loop-setting-preserved : goal.loop-setting-preserved
@@ -60,5 +77,13 @@ loop-setting-preserved c =
 
 pub returns : goal.returns
 returns c =
-    free_of_all c.args.earlier.now c.args.name c.loop-setting.setting-index c.loop-setting.times c.loop-setting-test.false
-    c.loop-setting.invariant.together c.loop-setting.invariant.counted c.if-times-ge-MAX_TIMES.false
+    record {
+      together = free_of_all c.args.earlier.now c.args.name c.loop-setting.setting-index c.loop-setting-test.false c.loop-setting.invariant.together;
+      few =
+          omega (
+            arith,
+            counted_all c.args.earlier.now c.args.name c.loop-setting.setting-index c.loop-setting.times c.loop-setting-test.false
+                c.loop-setting.invariant.counted,
+            c.if-times-ge-MAX_TIMES.false,
+          );
+    }

@@ -2,7 +2,8 @@ use Rattle.search.proofs.GathersLemmas.{gathers-none, gathers-next, gathers-rest
 use Rattle.search.proofs.gathered.gather_by.Goals as goal
 
 pub loop-document-init : goal.loop-document-init
-loop-document-init g c = record { so_far = gathers-none c.args.wanted.now c.args.gathered.now; way = c.requires }
+loop-document-init g c =
+    record { so_far = gathers-none c.args.wanted.now c.args.gathered.now; way = c.requires.way; seeker = c.requires.seeker }
 
 pub loop-document-preserved : goal.loop-document-preserved
 loop-document-preserved g c =
@@ -12,16 +13,17 @@ loop-document-preserved g c =
           gathers-next c.args.wanted.now c.args.documents.now c.args.gathered.now at.gathered c.gather_one.new.gathered at.document-index
           c.document-item.result c.loop-document-test.true c.document-item.is at.invariant.so_far c.in_ok-gather_one.ensures.gathers;
       way = c.gather_one.ensures.way;
+      seeker = c.gather_one.ensures.seeker;
     }
 
-pub returns-then-gathered : goal.returns-then-gathered
-returns-then-gathered g c =
+pub returns-then-gathered-clause-gathers : goal.returns-then-gathered-clause-gathers
+returns-then-gathered-clause-gathers g c =
     let at = c.loop-document in
     gathers-rest c.args.wanted.now c.args.documents.now c.args.gathered.now at.gathered at.gathered at.document-index c.if-gathered.true
     at.invariant.so_far
 
-pub returns : goal.returns
-returns g c =
+pub returns-clause-gathers : goal.returns-clause-gathers
+returns-clause-gathers g c =
     let at = c.loop-document in
     gathers-end c.args.wanted.now c.args.documents.now c.args.gathered.now at.gathered at.gathered at.document-index c.loop-document-test.false
     at.invariant.so_far

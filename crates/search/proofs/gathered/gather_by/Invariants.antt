@@ -1,6 +1,7 @@
 use Rattle.std.proofs.Common.{take}
 use Rattle.ere.specs.Tree.{form}
 use Rattle.search.specs.Private.Gathered.{GathersMore}
+use Rattle.search.specs.Private.Seekers.{CanShow}
 use Rattle.search.specs.Private.Ways.{Finds}
 use Rattle.search.proofs.gathered.gather_by.Given as goal
 
@@ -8,4 +9,5 @@ abbrev pub invariant-loop-document : goal.invariant-loop-document
 invariant-loop-document g l = record {
   so_far : GathersMore l.wanted (take l.document-index l.documents) l.initial.gathered l.gathered;
   way : Finds (form l.wanted.prepared.now.line.tree) l.way;
+  seeker : CanShow l.wanted.prepared.now l.seeker;
 }

@@ -5,11 +5,11 @@ use Rattle.search.specs.Private.Gathered.{GathersMore}
 use Rattle.search.proofs.GathersLemmas.{gathers-none, gathers-over}
 use Rattle.search.proofs.gathered.gather_compiled.Goals as goal
 
-pub returns-then-is_empty : goal.returns-then-is_empty
-returns-then-is_empty g c =
+pub returns-then-is_empty-clause-gathers : goal.returns-then-is_empty-clause-gathers
+returns-then-is_empty-clause-gathers g c =
     let empty : length c.args.documents.now ≡ 0 = grind (arith, nat_tests) in
     subst (λ ds. GathersMore c.args.wanted.now ds c.args.gathered.now c.args.gathered.now) (sym (nil_from_length c.args.documents.now empty))
     (gathers-none c.args.wanted.now c.args.gathered.now)
 
-pub returns-then-gathered : goal.returns-then-gathered
-returns-then-gathered g c = gathers-over c.args.wanted.now c.args.documents.now c.args.gathered.now c.if-gathered.true
+pub returns-then-gathered-clause-gathers : goal.returns-then-gathered-clause-gathers
+returns-then-gathered-clause-gathers g c = gathers-over c.args.wanted.now c.args.documents.now c.args.gathered.now c.if-gathered.true

@@ -5,7 +5,7 @@ use Rattle.search.specs.Private.Added.{AddsUpTo}
 use Rattle.search.specs.Private.Documents.{lines_of_taken}
 use Rattle.search.specs.Selects.{IsAsked}
 use Rattle.search.specs.Tests.{test_of}
-use Rattle.search.proofs.FitLemmas.{rising, short}
+use Rattle.search.proofs.FitLemmas.{rising, feedless}
 use Rattle.search.proofs.GathersLemmas.{asks-names, case-true, case-false, gathers-last, gathers-name, gathers-no_name}
 use Rattle.search.proofs.gathered.gather_name.Goals as goal
 
@@ -43,7 +43,8 @@ add_rows-requires g c =
     let adds = subst (λ old. AddsUpTo c.args.most Has (lines_of_taken d) old found) c.new-hits.ensures c.in_ok-scan_document-2.ensures.hits in
     record {
       rising = rising Has d c.args.most found adds None;
-      short = short Has d c.args.most found adds None c.in_ok-scan_document-2.ensures.short;
+      lines = feedless Has d c.args.most found adds None;
+      seeker = c.requires.seeker;
     }
 
 pub returns-clause-gathers : goal.returns-clause-gathers
@@ -60,4 +61,4 @@ returns-clause-gathers g c =
     c.left_of-left.ensures adds r.rows c.requires.view
     (case-false c.is_used_up.result (c.left_of-left.result ≡ Some 0) (c.left_of-left.result ≡ Some 0 → ⊥) c.if-is_used_up.false
     c.is_used_up.ensures) (λ none. let size : length found ≡ 0 = ap length none in absurd (omega (arith, size, many))) r.are_rows
-    (r.more ∙ c.requires.more) r.text r.row_count r.count) c.add_rows.ensures
+    (r.more ∙ c.requires.more) r.text r.row_count r.count) c.add_rows.ensures.rows

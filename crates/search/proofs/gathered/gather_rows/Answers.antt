@@ -1,14 +1,15 @@
-use Rattle.std.proofs.Common.{◌≡◌, ◌≤◌, ◌+◌, length, map, refl, sym, ◌∙◌, ap, subst}
+use Rattle.std.proofs.Common.{◌≡◌, ◌+◌, length, map, refl, sym, ◌∙◌, ap, subst}
 use Rattle.std.specs.Prelude.{All}
 use Rattle.std.specs.List.Sorted.{IsStrictlyIncreasing}
 use Rattle.std.proofs.lemmas.Result.{on_ok_weaker}
 use Rattle.search.specs.Prepared.{request_of}
 use Rattle.search.specs.Private.Added.{AddsUpTo}
 use Rattle.search.specs.Private.Documents.{lines_of_taken}
+use Rattle.search.specs.Private.Seekers.{IsOneLine}
 use Rattle.search.specs.Scan.{Hit}
 use Rattle.search.specs.Selects.{IsAsked}
 use Rattle.search.specs.Tests.{test_of}
-use Rattle.search.proofs.FitLemmas.{rising, short}
+use Rattle.search.proofs.FitLemmas.{rising, feedless}
 use Rattle.search.proofs.GathersLemmas.{gathers-rows, gathers-no_rows, rows_if}
 use Rattle.search.proofs.gathered.gather_rows.Goals as goal
 
@@ -23,9 +24,10 @@ add_rows-requires g c =
       rising =
           subst (λ hits. IsStrictlyIncreasing (map (λ (h : Hit). h.line) hits)) (sym c.cut-gathered.ensures.hits)
           (rising Has d c.one_over.result found adds c.left_of-left.result);
-      short =
-          subst (λ hits. All (λ (h : Hit). length h.text ≤ 16384) hits) (sym c.cut-gathered.ensures.hits)
-          (short Has d c.one_over.result found adds c.left_of-left.result c.in_ok-scan_document.ensures.short);
+      lines =
+          subst (λ hits. All (λ (h : Hit). IsOneLine h.text) hits) (sym c.cut-gathered.ensures.hits)
+          (feedless Has d c.one_over.result found adds c.left_of-left.result);
+      seeker = c.requires.seeker;
     }
 
 pub returns-then-count-eq0-clause-gathers : goal.returns-then-count-eq0-clause-gathers
@@ -53,4 +55,4 @@ returns-clause-gathers g c =
     c.left_of-left.ensures adds c.cut-gathered.new.hits r.rows c.requires.view c.one_over.ensures c.cut-gathered.ensures.hits
     (rows_if (request_of wanted.prepared.now) wanted.prepared.now.view d c.cut-gathered.new.hits r.rows
     (λ none. c.if-count-eq0.false (size ∙ ap length none)) r.are_rows) (r.more ∙ c.cut-gathered.ensures.more) r.text r.row_count
-    (r.count ∙ ap (λ n. c.args.gathered.now.count + n) size)) c.add_rows.ensures
+    (r.count ∙ ap (λ n. c.args.gathered.now.count + n) size)) c.add_rows.ensures.rows

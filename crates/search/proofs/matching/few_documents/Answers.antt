@@ -20,7 +20,7 @@ returns-then-size-left c =
     let more = bytes_in-more c.args.documents.now c.loop-at.at c.index-documents-at.result c.loop-at-test.true c.index-documents-at.is in
     record {
       some = c.loop-at.invariant.at;
-      slow = λ slow. absurd (slow quick);
+      quick = λ some. quick;
       within = omega (arith, c.loop-at.invariant.left);
       most = λ flat inside. omega (arith, more, c.body_size-size.ensures, c.if-size-left.true, c.loop-at.invariant.left);
     }
@@ -33,7 +33,7 @@ returns c =
     ap (λ n. bytes_in (take n c.args.documents.now)) end in
     record {
       some = omega arith;
-      slow = λ slow. absurd (slow quick);
+      quick = λ some. quick;
       within = omega (arith, bytes, c.loop-at.invariant.left);
       most = λ quick inside. absurd (omega (arith, inside));
     }

@@ -14,10 +14,10 @@ loop-test-preserved g c =
     named_by_more tests c.loop-test.test-index c.test-item.result c.args.documents.items c.loop-test.kept.items c.in_ok-kept.kept.items
     (omega (arith, c.loop-test-test.true, c.deref-test-items.ensures.len))
     (subst (λ items. c.test-item.result ≡ get_or items c.loop-test.test-index c.test-item.result) c.deref-test-items.ensures.value c.test-item.is)
-    c.loop-test.invariant c.in_ok-kept.ensures
+    c.loop-test.invariant c.in_ok-kept.ensures.kept
 
-pub returns : goal.returns
-returns g c =
+pub returns-clause-kept : goal.returns-clause-kept
+returns-clause-kept g c =
     let tests = c.args.prepared.now.names.items in
     subst (λ ts. Selects (IsNamedForAll (map test_of ts)) c.args.documents.items c.loop-test.kept.items)
     (take_all c.loop-test.test-index tests (omega (arith, c.loop-test-test.false, c.deref-test-items.ensures.len, c.loop-test.auto)))

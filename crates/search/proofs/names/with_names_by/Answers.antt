@@ -39,8 +39,8 @@ loop-document-preserved-in-Continue-branch-2 g c =
       way = c.passes.ensures.way;
     }
 
-pub returns : goal.returns
-returns g c =
+pub returns-clause-kept : goal.returns-clause-kept
+returns-clause-kept g c =
     let at = c.loop-document in
     let none = nil_from_length (into_iter_items at.document-iterator) (sym at.invariant.len ∙ c.in-None.ensures.steps.0) in
     subst (λ all. Selects (IsNamed (test_of c.args.test.now)) all at.kept.items) c.into_iter-document-iterator.ensures.into_iter_gives.0

@@ -11,4 +11,5 @@ returns-clause-asked c =
 pub returns-in_err-word-clause-refused : goal.returns-in_err-word-clause-refused
 returns-in_err-word-clause-refused c =
     let p = err_from_is_err_and c.from_residual-in_err-word.result c.from_residual-in_err-word.ensures.1 in
-    rw (p.1, p.2) (λ real tree for. c.in_err-word.ensures.refused real tree for.spelled)
+    let of = c.in_ok-tree.ensures.tree in
+    rw (p.1, p.2) (λ real. absurd (c.in_err-word.ensures.refused real of.0 of.1.spelled))

@@ -19,7 +19,7 @@ returns-in-Err-clause-refused c =
     let given = c.as_slice-names.result.now in
     λ real text.
     name_fault (shown_options options) text c.loop-at.at
-    (shown_test (get_or given c.loop-at.at (record { pattern = record { ref_ptr = (0, 0); now = [] }; wanted = false }))) (map test_of c.loop-at.tests.items)
+    (shown_test (get_or given c.loop-at.at (record { pattern = record { ref_ptr = (0, 0); now = [] }; wanted = false }))) c.in-Err.error (map test_of c.loop-at.tests.items)
     c.loop-at.invariant
     (name_there given options.names.items c.as_slice-names.ensures.value c.loop-at.at
     (record { pattern = record { ref_ptr = (0, 0); now = [] }; wanted = false }) c.loop-at-test.true)

@@ -1,20 +1,40 @@
-use Rattle.std.proofs.lemmas.Result.{on_ok_weaker}
-use Rattle.ere.specs.Tree.{form}
+use Rattle.std.proofs.Common.{◌+◌}
+use Rattle.spans.specs.FirstStart.{HasNoStart, IsFirstStart}
 use Rattle.search.specs.Hits.{hit_of}
 use Rattle.search.specs.Prepared.{request_of}
 use Rattle.search.specs.Text.{text_of_row}
-use Rattle.search.specs.View.{hit}
-use Rattle.search.proofs.RowLemmas.{no_column}
+use Rattle.search.specs.View.{at_column, hit, shown_tree}
+use Rattle.search.proofs.RowLemmas.{has_column, no_column}
+use Rattle.search.proofs.SeekerLemmas.{none_of, some_of}
 use Rattle.search.proofs.rows.append_column.Goals as goal
 
-pub returns-in-None-clause-row : goal.returns-in-None-clause-row
+pub first_start-requires-clause-seeks : goal.first_start-requires-clause-seeks
+first_start-requires-clause-seeks g c = (shown_tree (request_of c.args.prepared.now), c.requires.seeks)
+
+pub returns-in_ok-append_at_column-in-Some-clause-row : goal.returns-in_ok-append_at_column-in-Some-clause-row
 unfolding text_of_row
-returns-in-None-clause-row c =
+returns-in_ok-append_at_column-in-Some-clause-row g c =
     let found = hit_of c.args.found.now in
-    let shown = c.shown_test-whole_words in
-    on_ok_weaker c.append_hit.result (λ grown. (
+    let request = request_of c.args.prepared.now in
+    let tree = shown_tree request in
+    let words = c.shows_words.result in (
+      at_column (c.in-Some.start + 1) found,
+      has_column request found words c.in-Some.start c.shows_words.ensures
+          (some_of (HasNoStart found.text tree words) (IsFirstStart found.text tree words) c.in_ok-start.field-0 c.in-Some.start c.in-Some.is
+          (c.in_ok-start.ensures.found tree c.requires.seeks)),
+      c.in_ok-append_at_column-in-Some.ensures,
+    )
+
+pub returns-in_ok-append_hit-in-None-clause-row : goal.returns-in_ok-append_hit-in-None-clause-row
+unfolding text_of_row
+returns-in_ok-append_hit-in-None-clause-row g c =
+    let found = hit_of c.args.found.now in
+    let request = request_of c.args.prepared.now in
+    let tree = shown_tree request in
+    let words = c.shows_words.result in (
       hit found,
-      no_column (request_of c.args.prepared.now) found (form shown.result.0.now.tree) shown.result.1 shown.ensures.tree shown.ensures.whole_words
-          c.in-None.ensures.found,
-      grown,
-    )) c.append_hit.ensures.ok
+      no_column request found words c.shows_words.ensures
+          (none_of (HasNoStart found.text tree words) (IsFirstStart found.text tree words) c.in_ok-start.field-0 c.in-None.is
+          (c.in_ok-start.ensures.found tree c.requires.seeks)),
+      c.in_ok-append_hit-in-None.ensures.ok,
+    )

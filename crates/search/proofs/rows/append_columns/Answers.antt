@@ -1,28 +1,29 @@
-use Rattle.std.proofs.Common.{◌≤◌, length, sym, ◌∙◌, subst}
+use Rattle.std.proofs.Common.{sym, ◌∙◌, subst}
 use Rattle.std.specs.List.{All}
 use Rattle.std.proofs.lemmas.List.Elements.{All-head, All-rest}
 use Rattle.search.specs.Hits.{hit_of}
 use Rattle.search.specs.Prepared.{request_of}
+use Rattle.search.specs.Private.Seekers.{IsOneLine}
 use Rattle.search.specs.Scan.{Hit}
 use Rattle.search.specs.View.{IsColumnRow}
 use Rattle.search.proofs.RowLemmas.{each_begin, each_more, each_total}
 use Rattle.search.proofs.rows.append_columns.Goals as goal
 
-abbrev IsShort : Hit → Type 0
-IsShort h = length h.text ≤ 16384
+abbrev HasOneLine : Hit → Type 0
+HasOneLine h = IsOneLine h.text
 
 pub loop-found-init : goal.loop-found-init
 loop-found-init g c = record {
   so_far = each_begin c.args.prepared.now.zero (IsColumnRow (request_of c.args.prepared.now)) c.into_iter-found-iterator.result c.args.out.now.items;
-  short =
-      subst (λ hs. All IsShort hs) (sym (c.into_iter-found-iterator.ensures.into_iter_gives ∙ c.again-found-items.ensures)) c.requires;
-  seeks = c.in_ok-seeker.ensures;
+  lines =
+      subst (λ hs. All HasOneLine hs) (sym (c.into_iter-found-iterator.ensures.into_iter_gives ∙ c.again-found-items.ensures)) c.requires.lines;
+  seeks = c.requires.seeks;
 }
 
-pub append_column-requires-clause-short : goal.append_column-requires-clause-short
-append_column-requires-clause-short g c =
-    All-head IsShort (hit_of c.in-Some.found) c.next.new.self
-    (subst (λ hs. All IsShort hs) c.in-Some.ensures.steps c.loop-found.invariant.short)
+pub append_column-requires-clause-one_line : goal.append_column-requires-clause-one_line
+append_column-requires-clause-one_line g c =
+    All-head HasOneLine (hit_of c.in-Some.found) c.next.new.self
+    (subst (λ hs. All HasOneLine hs) c.in-Some.ensures.steps c.loop-found.invariant.lines)
 
 pub loop-found-preserved : goal.loop-found-preserved
 loop-found-preserved g c = record {
@@ -30,14 +31,14 @@ loop-found-preserved g c = record {
       each_more c.args.prepared.now.zero (IsColumnRow (request_of c.args.prepared.now)) c.loop-found.found-iterator c.next.new.self
       c.into_iter-found-iterator.result c.args.out.now.items c.loop-found.out.items c.append_column.new.out.items (hit_of c.in-Some.found)
       c.in-Some.ensures.steps c.in_ok-append_column.ensures.row c.loop-found.invariant.so_far;
-  short =
-      All-rest IsShort (hit_of c.in-Some.found) c.next.new.self c.loop-found.found-iterator c.in-Some.ensures.steps
-      c.loop-found.invariant.short;
+  lines =
+      All-rest HasOneLine (hit_of c.in-Some.found) c.next.new.self c.loop-found.found-iterator c.in-Some.ensures.steps
+      c.loop-found.invariant.lines;
   seeks = c.append_column.ensures.seeks;
 }
 
-pub returns : goal.returns
-returns g c =
+pub returns-clause-rows : goal.returns-clause-rows
+returns-clause-rows g c =
     each_total c.args.prepared.now.zero (IsColumnRow (request_of c.args.prepared.now)) c.loop-found.found-iterator
     c.into_iter-found-iterator.result c.args.hits.now c.args.out.now.items c.loop-found.out.items c.len.result c.in-None.ensures.steps.0
     (c.into_iter-found-iterator.ensures.into_iter_gives ∙ c.again-found-items.ensures) c.len.ensures c.loop-found.invariant.so_far

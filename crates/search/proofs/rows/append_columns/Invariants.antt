@@ -1,14 +1,13 @@
-use Rattle.std.proofs.Common.{◌≤◌, length}
 use Rattle.std.specs.List.{All}
 use Rattle.search.specs.Prepared.{request_of}
 use Rattle.search.specs.View.{IsColumnRow, shown_tree}
-use Rattle.search.specs.Private.Seekers.{Seeks}
+use Rattle.search.specs.Private.Seekers.{IsOneLine, Seeks}
 use Rattle.search.proofs.RowLemmas.{RowsOfSoFar}
 use Rattle.search.proofs.rows.append_columns.Given as goal
 
 abbrev pub invariant-loop-found : goal.invariant-loop-found
 invariant-loop-found g l = record {
   so_far : RowsOfSoFar l.prepared.zero (IsColumnRow (request_of l.prepared)) l.found-iterator l.initial.found-iterator l.initial.out.items l.out.items;
-  short : All (λ h. length h.text ≤ 16384) l.found-iterator;
+  lines : All (λ h. IsOneLine h.text) l.found-iterator;
   seeks : Seeks (shown_tree (request_of l.prepared)) l.seeker;
 }

@@ -1,14 +1,15 @@
 use Rattle.std.proofs.Common.{◌-◌, length}
-use Rattle.ere.specs.Tree.{form}
+use Rattle.search.specs.Prepared.{request_of}
+use Rattle.search.specs.View.{shown_tree}
 use Rattle.search.specs.Private.Seekers.{Seeks}
 use Rattle.search.proofs.RowLemmas.{SpansSoFar}
 use Rattle.search.proofs.rows.append_spans.Given as goal
 
-abbrev pub invariant-loop-seeker : goal.invariant-loop-seeker
-invariant-loop-seeker g l = record {
-  so_far : SpansSoFar l.line (form l.test.tree) l.whole_words l.from l.initial.out.items l.out.items l.before;
-  seeks : Seeks (form l.test.tree) l.seeker;
+abbrev pub invariant-loop-span : goal.invariant-loop-span
+invariant-loop-span g l = record {
+  so_far : SpansSoFar l.line (shown_tree (request_of l.prepared)) l.whole_words l.from l.initial.out.items l.out.items l.before;
+  seeks : Seeks (shown_tree (request_of l.prepared)) l.seeker;
 }
 
-abbrev pub decreases-loop-seeker : goal.decreases-loop-seeker
-decreases-loop-seeker g l = length l.line - l.from
+abbrev pub decreases-loop-span : goal.decreases-loop-span
+decreases-loop-span g l = length l.line - l.from

@@ -1,9 +1,8 @@
-use Rattle.ere.specs.Tree.{form}
+use Rattle.std.proofs.Common.{refl}
 use Rattle.search.specs.Hits.{hit_of}
-use Rattle.search.specs.Prepared.{request_of}
 use Rattle.search.specs.Text.{text_of_place, text_of_row, text_of_spans}
 use Rattle.search.specs.View.{with_spans}
-use Rattle.search.proofs.RowLemmas.{shown_text, spans_row}
+use Rattle.search.proofs.RowLemmas.{shown_text}
 use Rattle.search.proofs.rows.append_with_spans.Goals as goal
 
 pub returns-clause-row : goal.returns-clause-row
@@ -13,8 +12,7 @@ returns-clause-row g c =
     let shown = c.in_ok-append_spans.ensures.spans in
     let grown = c.in_ok-append_all.ensures.ok in (
       with_spans shown.0 found,
-      spans_row (request_of c.args.prepared.now) found (form c.shown_test-whole_words.result.0.now.tree) c.shown_test-whole_words.result.1 shown.0 c.shown_test-whole_words.ensures.tree
-          c.shown_test-whole_words.ensures.whole_words shown.1,
+      (shown.0, shown.1, refl),
       shown_text c.args.out.now.items c.append_place.new.out.items c.append_spans.new.out.items c.append_all.new.out.items
           (text_of_place c.args.prepared.now.zero 58 found) (text_of_spans shown.0) c.as_slice.result.now c.args.found.now.text.now
           c.as_slice-2.result.now c.in_ok-append_place.ensures shown.2 c.as_slice.ensures c.as_slice-2.ensures grown,

@@ -11,27 +11,27 @@ use Rattle.search.proofs.side_by_side.+gather_parts.Goals as goal
 abbrev Found : Wanted → List SharedDocument → Joined → Type 0
 Found wanted documents joined = HaveOwnNames documents → Joins wanted wanted.limit documents joined
 
-pub returns-then-found : goal.returns-then-found
-returns-then-found g t c = λ own.
+pub returns-then-found-clause-joins : goal.returns-then-found-clause-joins
+returns-then-found-clause-joins g t c = λ own.
     let wanted = c.args.wanted.now in
     let first = c.split_at.result.0.now in
     let others = c.split_at.result.1.now in
     let same = both-sides c.args.documents.now first others c.documents_with.result c.split_at.ensures.front c.split_at.ensures.back in
     let own_both = subst HaveOwnNames (sym same) own in
-    let one = IfOk-at_ok (Found wanted first) c.in_ok-found.was c.join-found.ensures.first in
+    let one = IfOk-at_ok (Found wanted first) c.in_ok-found.was c.join-found.ensures.first.0 in
     subst (λ ds. Joins wanted wanted.limit ds c.in_ok-found.found) same
     (joins-over wanted wanted.limit first others c.in_ok-found.found own_both c.if-found.true (one (own-left first others own_both)))
 
-pub returns : goal.returns
-returns g t c =
+pub returns-clause-joins : goal.returns-clause-joins
+returns-clause-joins g t c =
     let wanted = c.args.wanted.now in
     let first = c.split_at.result.0.now in
     let others = c.split_at.result.1.now in
     let same = both-sides c.args.documents.now first others c.documents_with.result c.split_at.ensures.front c.split_at.ensures.back in
-    let one = IfOk-at_ok (Found wanted first) c.in_ok-found.was c.join-found.ensures.first in
-    let two = IfOk-at_ok (Found wanted others) c.in_ok-rest.was c.join-found.ensures.second in
+    let one = IfOk-at_ok (Found wanted first) c.in_ok-found.was c.join-found.ensures.first.0 in
+    let two = IfOk-at_ok (Found wanted others) c.in_ok-rest.was c.join-found.ensures.second.0 in
     IfOk-weaker c.join_parts.result _ _ (λ joined is. λ own.
     let own_both = subst HaveOwnNames (sym same) own in
     subst (λ ds. Joins wanted wanted.limit ds joined) same
     (is first others own_both c.if-found.false (one (own-left first others own_both))
-    (c.in_ok-fitting.ensures (own-right first others own_both) (two (own-right first others own_both))))) c.join_parts.ensures
+    (c.in_ok-fitting.ensures.joins (own-right first others own_both) (two (own-right first others own_both))))) c.join_parts.ensures.joins

@@ -39,4 +39,4 @@ returns-clause-rows c =
     let rows = gap_rows (shows_context (view_of c.args.wanted.now)) c.args.all.now.rows c.args.after in
     let one : rows ≡ gap ∷ [] = subst (λ b. HasGap b rows) c.if-not-has_gap.false c.has_gap.ensures in
     let size : length rows ≡ 1 = ap length one in
-    omega (arith, size, c.in_ok-all.ensures)
+    omega (arith, size, c.in_ok-all.ensures.sum)

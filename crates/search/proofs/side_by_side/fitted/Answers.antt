@@ -5,8 +5,8 @@ use Rattle.search.proofs.JoinLemmas.{joins-for, joins-within}
 use Rattle.search.proofs.LimitLemmas.{nothing_taken, is_over-left}
 use Rattle.search.proofs.side_by_side.fitted.Goals as goal
 
-pub returns-then-fits : goal.returns-then-fits
-returns-then-fits g c = λ own is.
+pub returns-then-fits-clause-joins : goal.returns-then-fits-clause-joins
+returns-then-fits-clause-joins g c = λ own is.
     let wanted = c.args.wanted.now in
     let documents = c.args.documents.now in
     let back = c.args.back in
@@ -17,11 +17,11 @@ returns-then-fits g c = λ own is.
           (is_over-left _ (left_from wanted.limit c.args.before) back.count c.left_of-limit.ensures fits.1) is
     ]
 
-pub returns : goal.returns
-returns g c =
+pub returns-clause-joins : goal.returns-clause-joins
+returns-clause-joins g c =
     let wanted = c.args.wanted.now in
     let documents = c.args.documents.now in
     IfOk-weaker c.gather_part.result _ _ (λ joined is. λ own before.
     joins-for wanted c.left_of-limit.result (left_from wanted.limit c.args.before) documents joined
     (subst (λ l. Joins (record { prepared = wanted.prepared; lines = wanted.lines; limit = c.left_of-limit.result }) l documents joined)
-    c.left_of-limit.ensures (is own))) c.gather_part.ensures
+    c.left_of-limit.ensures (is own))) c.gather_part.ensures.joins

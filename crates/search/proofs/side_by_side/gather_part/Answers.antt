@@ -8,9 +8,9 @@ pub part_of-requires : goal.part_of-requires
 part_of-requires g c = λ lines.
     ap (λ (p : ℕ × ℕ). p.0) c.without_gap-from.ensures ∙ no-gap c.args.wanted.now lines c.in_ok-gathered.gathered.rows
 
-pub returns : goal.returns
-returns g c = λ own.
+pub returns-clause-joins : goal.returns-clause-joins
+returns-clause-joins g c = λ own.
     joins-one c.args.wanted.now c.args.documents.now c.in_ok-gathered.gathered _ c.without_gap-from.result.0 c.in_ok-part.part own
-    (c.in_ok-gathered.ensures own) c.without_gap-from.ensures c.in_ok-part.ensures
+    (c.in_ok-gathered.ensures.gathers own) c.without_gap-from.ensures c.in_ok-part.ensures.part
     (ap (λ parts. text_of_parts parts) (c.in_ok-push.ensures.items ∙ ap (λ parts. parts ++ c.in_ok-part.part ∷ []) c.new-parts.ensures.items)
     ∙ append-nil c.in_ok-part.part) refl refl

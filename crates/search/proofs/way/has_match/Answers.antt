@@ -15,17 +15,17 @@ returns-in-FromMatchToMatch-clause-found c =
 
 pub returns-in-Simulation-clause-way : goal.returns-in-Simulation-clause-way
 returns-in-Simulation-clause-way c =
+    let was = simulation_of (form c.args.tree.now) c.args.way.now c.in-Simulation.simulation c.in-Simulation.is c.requires.way in
     finds_by_simulation (form c.args.tree.now) c.matches-in-Simulation.new.self
-    (c.matches-in-Simulation.ensures.same (form c.args.tree.now)
-    (simulation_of (form c.args.tree.now) c.args.way.now c.in-Simulation.simulation c.in-Simulation.is c.requires.way))
+    (c.matches-in-Simulation.ensures.same (form c.args.tree.now) was.0) was.1
 
 pub returns-in-Simulation-clause-found : goal.returns-in-Simulation-clause-found
 returns-in-Simulation-clause-found c =
     c.matches-in-Simulation.ensures.found (form c.args.tree.now)
-    (simulation_of (form c.args.tree.now) c.args.way.now c.in-Simulation.simulation c.in-Simulation.is c.requires.way)
+    (simulation_of (form c.args.tree.now) c.args.way.now c.in-Simulation.simulation c.in-Simulation.is c.requires.way).0
 
 pub matches-requires-in-Simulation : goal.matches-requires-in-Simulation
 matches-requires-in-Simulation c = (
   form c.args.tree.now,
-  simulation_of (form c.args.tree.now) c.args.way.now c.in-Simulation.simulation c.in-Simulation.is c.requires.way,
+  (simulation_of (form c.args.tree.now) c.args.way.now c.in-Simulation.simulation c.in-Simulation.is c.requires.way).0,
 )

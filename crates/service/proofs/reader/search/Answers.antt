@@ -11,4 +11,4 @@ returns-clause-answer g c =
     IfOk-weaker c.show.result
     (λ answer. (state : State) (request : Request) → IsTakenOf state request c.in_ok-taken.taken → IsShownOf state request answer)
     (IsShownOf (state_of c.take.new.reading.commands) (request_of c.args.prepared.now))
-    (λ answer right. right _ _ c.in_ok-taken.ensures.taken) c.show.ensures
+    (λ answer right. right _ _ c.in_ok-taken.ensures.taken) c.show.ensures.shown

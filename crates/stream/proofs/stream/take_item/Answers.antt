@@ -1,9 +1,8 @@
-use Rattle.std.proofs.Common.{◌+◌, [], inr, refl}
+use Rattle.std.proofs.Common.{◌+◌, [], refl}
 use Rattle.std.proofs.KnownBytes.{Consumes-nil}
 use Rattle.script.specs.Items.{bad_put}
 use Rattle.script.specs.Reading.{shown_item}
 use Rattle.stream.specs.declared.item.StreamItem.TheVariants as variants
-use Rattle.stream.specs.Stream.{no_header}
 use Rattle.stream.proofs.TakingLemmas.{step_bad_put, step_other, takes_next}
 use Rattle.stream.proofs.stream.take_item.Goals as goal
 
@@ -19,8 +18,7 @@ returns-in-BadPut g c = (
   record {
     item = bad_put;
     shows = refl;
-    whole = step_bad_put c.args.number c.args.line.now c.requires.is_line c.in-BadPut.ensures.0 c.in-BadPut.ensures.1;
-    end = λ none. inr no_header;
+    whole = step_bad_put c.args.number c.args.line.now c.requires.is_line _ _ c.in-BadPut.ensures.0 c.in-BadPut.ensures.1;
   },
 )
 

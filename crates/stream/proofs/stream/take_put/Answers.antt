@@ -1,7 +1,6 @@
-use Rattle.std.proofs.Common.{◌≡◌, ◌++◌, length, inl, inr, refl, subst, arith}
+use Rattle.std.proofs.Common.{◌≡◌, ◌++◌, length, refl, subst, arith}
 use Rattle.std.proofs.KnownBytes.{Consumes-trans}
 use Rattle.script.specs.Items.{put, truncated, body_not_closed}
-use Rattle.stream.specs.Stream.{no_end}
 use Rattle.stream.specs.Private.Bytes.{Closes}
 use Rattle.stream.specs.Private.Taking.{TakesItem}
 use Rattle.stream.proofs.ErrLemmas.{at_err}
@@ -28,8 +27,9 @@ returns-then-put-size g c =
       λ line is. record {
         item = truncated;
         shows = refl;
-        whole = step_truncated c.args.number c.args.size line c.args.name.now bytes is (omega (arith, counts.0, c.if-put-size.true));
-        end = λ none. inl (upto.1 (omega (arith, counts.0, c.if-put-size.true)));
+        whole =
+            step_truncated c.args.number c.args.size line c.args.name.now bytes is _ _
+            (upto.1 (omega (arith, counts.0, c.if-put-size.true))) (omega (arith, counts.0, c.if-put-size.true));
       },
     )
 
@@ -72,8 +72,7 @@ returns-in-InputEnd g c =
       λ line is. record {
         item = put c.args.name.now bytes;
         shows = c.put_item-item.ensures c.args.size bytes holds long;
-        whole = step_last c.args.number c.args.size line c.args.name.now bytes is long last closes.0;
-        end = λ none. inl (end_later _ _ _ bytes taken closes.1);
+        whole = step_last c.args.number c.args.size line c.args.name.now bytes is long last _ _ (end_later _ _ _ bytes taken closes.1) closes.0;
       },
     )
 
@@ -90,7 +89,6 @@ returns g c =
       λ line is. record {
         item = body_not_closed;
         shows = refl;
-        whole = step_open c.args.number c.args.size line c.args.name.now bytes is long last b is_byte other;
-        end = λ none. inr no_end;
+        whole = step_open c.args.number c.args.size line c.args.name.now bytes is long last b _ _ is_byte other;
       },
     )

@@ -1,5 +1,4 @@
-use Rattle.matcher.proofs.Bits.{none_held}
-use Rattle.matcher.proofs.Joining.{empty_bounded, cleared_more, cleared_all}
+use Rattle.matcher.proofs.Joining.{none_held, empty_bounded, cleared_more, cleared_all}
 use Rattle.matcher.proofs.positions.PositionsPositionSet.clear.Goals as goal
 
 pub loop-i-preserved : goal.loop-i-preserved

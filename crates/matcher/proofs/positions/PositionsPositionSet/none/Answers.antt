@@ -1,5 +1,4 @@
-use Rattle.matcher.proofs.Bits.{none_held}
-use Rattle.matcher.proofs.Joining.{in_room, empty_words, empty_bounded}
+use Rattle.matcher.proofs.Joining.{none_held, in_room, empty_words, empty_bounded}
 use Rattle.matcher.proofs.positions.PositionsPositionSet.none.Goals as goal
 
 pub invariant_of-result : goal.invariant_of-result

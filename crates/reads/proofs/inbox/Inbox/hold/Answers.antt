@@ -1,5 +1,5 @@
 use Rattle.std.proofs.Common.{◌≡◌, [], ◌∷◌, ◌++◌, None, ◌∙◌, ap, subst, rules}
-use Rattle.reads.specs.Read.{InboxState, inbox_state, IsReadOf, item}
+use Rattle.reads.specs.Read.{InboxState, inbox_state, IsReadOf}
 use Rattle.reads.proofs.inbox.Inbox.hold.Goals as goal
 
 pub returns-then-not-follows-clause-read : goal.returns-then-not-follows-clause-read
@@ -11,5 +11,4 @@ returns-in-Ok-clause-ok g c =
     let held : c.push_back.new.self.items ≡ c.self.inside.held.items ++ last ∷ [] = c.in-Ok.ensures.items in
     let came : c.args.sent.read ≡ c.self.inside.came ++ last ∷ [] = search rules in
     let over : c.self.inside.over ≡ None = ap (λ (s : InboxState). s.over) c.self.view_is ∙ c.requires in
-    item last
-    ((cc) ∙ ap (λ (s : InboxState). inbox_state (s.held ++ last ∷ []) (s.came ++ last ∷ []) None) c.self.view_is)
+    (cc) ∙ ap (λ (s : InboxState). inbox_state (s.held ++ last ∷ []) (s.came ++ last ∷ []) None) c.self.view_is

@@ -1,19 +1,29 @@
-use Rattle.ere.specs.Tree.{form}
-use Rattle.search.proofs.SeekerLemmas.{simulation_in, goes_on}
+use Rattle.std.proofs.Common.{Bool, MatchOption, sym, subst}
+use Rattle.std.proofs.lemmas.Result.{IfOk-weaker}
+use Rattle.spans.specs.FirstStart.{HasNoStart, IsFirstStart}
+use Rattle.search.proofs.SeekerLemmas.{by_finder, finder_in}
 use Rattle.search.proofs.seeker.Seeker.first_start.Goals as goal
 
-pub first_start-requires-in-Simulation : goal.first_start-requires-in-Simulation
-first_start-requires-in-Simulation c = (
-  form c.args.tree.now,
-  simulation_in (form c.args.tree.now) c.args.self.now c.in-Simulation.simulation c.in-Simulation.is c.requires.seeks,
-)
+pub halved_start-requires : goal.halved_start-requires
+halved_start-requires g c = (c.requires.seeks.0, c.requires.seeks.1.simulation)
 
-pub returns-in-Simulation-clause-seeks : goal.returns-in-Simulation-clause-seeks
-returns-in-Simulation-clause-seeks c =
-    goes_on (form c.args.tree.now) c.args.self.now c.in-Simulation.simulation c.in-Simulation.is c.requires.seeks
-    c.first_start-in-Simulation.new.self (c.first_start-in-Simulation.ensures.same (form c.args.tree.now))
+pub halved_start-requires-in-None : goal.halved_start-requires-in-None
+halved_start-requires-in-None g c = (c.requires.seeks.0, c.requires.seeks.1.simulation)
 
-pub returns-in-Simulation-clause-found : goal.returns-in-Simulation-clause-found
-returns-in-Simulation-clause-found c =
-    c.first_start-in-Simulation.ensures.found (form c.args.tree.now)
-    (simulation_in (form c.args.tree.now) c.args.self.now c.in-Simulation.simulation c.in-Simulation.is c.requires.seeks)
+pub returns-then-whole_words-clause-found : goal.returns-then-whole_words-clause-found
+returns-then-whole_words-clause-found g c =
+    IfOk-weaker c.halved_start.result _ _ (λ found is tree seeks.
+    subst (λ (w : Bool). MatchOption found (HasNoStart c.args.line.now tree w) (IsFirstStart c.args.line.now tree w)) (sym c.if-whole_words.true)
+    (is tree seeks.simulation)) c.halved_start.ensures.found
+
+pub returns-in-None-clause-found : goal.returns-in-None-clause-found
+returns-in-None-clause-found g c =
+    IfOk-weaker c.halved_start-in-None.result _ _ (λ found is tree seeks.
+    subst (λ (w : Bool). MatchOption found (HasNoStart c.args.line.now tree w) (IsFirstStart c.args.line.now tree w)) (sym c.if-whole_words.false)
+    (is tree seeks.simulation)) c.halved_start-in-None.ensures.found
+
+pub returns-in_ok-ask-in-Some-clause-found : goal.returns-in_ok-ask-in-Some-clause-found
+returns-in_ok-ask-in-Some-clause-found g c = λ tree seeks.
+    subst (λ (w : Bool). MatchOption c.next_start.result (HasNoStart c.args.line.now tree w) (IsFirstStart c.args.line.now tree w)) (sym c.if-whole_words.false)
+    (by_finder c.args.line.now tree c.next_start.result
+    (c.next_start.ensures.found tree (finder_in tree c.args.self.now c.in-Some.finder c.in-Some.is seeks)))

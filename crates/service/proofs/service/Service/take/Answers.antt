@@ -1,10 +1,10 @@
-use Rattle.std.proofs.Common.{◌∙◌, [], ◌∷◌, subst, sym}
+use Rattle.std.proofs.Common.{◌∙◌, [], ◌∷◌, refl, subst, sym}
 use Rattle.std.specs.Prelude.{is_some}
-use Rattle.script.specs.Items.{numbered}
+use Rattle.script.specs.Items.{numbered, cancel}
 use Rattle.script.specs.Reading.{shown_item}
 use Rattle.service.specs.Service.{Takes, written_by}
 use Rattle.service.specs.Private.Closing.{service_of}
-use Rattle.service.proofs.ServiceLemmas.{entered_takes, asked_takes, sync_takes, cancel_takes, status_takes, left_same}
+use Rattle.service.proofs.ServiceLemmas.{entered_takes, asked_takes, asked_number, no_number, sync_takes, cancel_takes, status_takes, left_same}
 use Rattle.service.proofs.service.Service.take.Goals as goal
 
 pub returns-in-Entry-clause-takes : goal.returns-in-Entry-clause-takes
@@ -24,7 +24,13 @@ returns-in-Search-clause-takes g c =
     let item = numbered c.args.item.line (shown_item c.args.item.item) in
     subst (λ o. Takes (g.S.Source.holds c.args.source.now) o item (written_by c.ask.result) c.ask.new.self)
     (left_same c.self.inside.desk c.self.inside.told _ c.carry_out.new.desk c.carry_out.new.told _ _ _ _ _ _ c.in-Search.ensures.done.1 ∙ c.self.view_is)
-    (asked_takes (g.S.Source.holds c.args.source.now) _ item c.ask.result c.ask.new.self c.in-Search.ensures.done.0 c.ask.ensures)
+    (asked_takes (g.S.Source.holds c.args.source.now) _ item c.ask.result c.ask.new.self c.ask.ensures)
+
+pub returns-in-Search-clause-number : goal.returns-in-Search-clause-number
+returns-in-Search-clause-number g c = asked_number _ _ c.ask.result c.ask.new.self c.ask.ensures
+
+pub returns-in-Cancel-clause-number : goal.returns-in-Cancel-clause-number
+returns-in-Cancel-clause-number g c = no_number c.cancel.new.self.searches (cancel c.in-Cancel.number) c.cancel.result refl c.cancel.ensures.kind
 
 pub returns-in-Sync-clause-takes : goal.returns-in-Sync-clause-takes
 returns-in-Sync-clause-takes g c =

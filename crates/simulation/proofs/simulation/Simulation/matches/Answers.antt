@@ -1,5 +1,7 @@
 use Rattle.simulation.specs.Parts.{shape}
-use Rattle.std.proofs.Common.{sym, ◌∙◌, refl}
+use Rattle.simulation.specs.Private.Reading.{HasWanted}
+use Rattle.std.proofs.Common.{IsTrue, length, sym, subst, ◌∙◌, ◌↔◌, false, refl}
+use Rattle.simulation.proofs.Anchors as anchors
 use Rattle.simulation.proofs.Lines as lines
 use Rattle.simulation.proofs.simulation.Simulation.matches.Goals as goal
 
@@ -14,4 +16,6 @@ returns-then-has_gap-clause-found c = λ tree is. (
 pub returns-clause-found : goal.returns-clause-found
 returns-clause-found c = λ tree is.
     lines.found_by_word c.args.line.now tree (shape c.args.self.now.part) c.args.self.now.gaps c.has_gap.result c.has_word.result is.part.packed
-    c.has_gap.ensures c.if-has_gap.false c.has_word.ensures
+    c.has_gap.ensures c.if-has_gap.false
+    (anchors.none_lost_at_all c.args.line.now (shape c.args.self.now.part) c.args.self.now.at_start c.has_word.result false 0 (length c.args.line.now) _
+    is.at_start refl (subst (λ w. IsTrue c.has_word.result ↔ HasWanted c.args.line.now (shape c.args.self.now.part) w) c.wanted-all.ensures c.has_word.ensures))

@@ -1,5 +1,0 @@
-use Rattle.matcher.proofs.SpanLaws.{one_list}
-use Rattle.matcher.proofs.laws.one_list_of_spans.Goals as goal
-
-pub returns : goal.returns
-returns c = one_list

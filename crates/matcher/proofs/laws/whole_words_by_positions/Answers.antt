@@ -1,5 +1,0 @@
-use Rattle.matcher.proofs.SpanLaws.{whole_by_positions}
-use Rattle.matcher.proofs.laws.whole_words_by_positions.Goals as goal
-
-pub returns : goal.returns
-returns c = whole_by_positions

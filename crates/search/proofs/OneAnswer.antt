@@ -1,0 +1,188 @@
+-- A state and a pattern have one answer, and a state and a request have one thing that is shown.
+use Rattle.std.proofs.Common.{◌≡◌, ℕ, ◌+◌, ◌<◌, ◌⊎◌, inl, inr, Bool, List, [], ◌∷◌, length, Contains, refl, sym, ◌∙◌, ap, subst, arith}
+use Rattle.std.specs.Prelude.{is_some}
+use Rattle.std.specs.Cmp.{IsTotalOrder}
+use Rattle.std.specs.Cmp.Lexicographic.{nat_list_cmp_total}
+use Rattle.std.specs.List.{AllByRecursion}
+use Rattle.std.specs.List.Sorted.{IsStrictlySortedBy}
+use Rattle.std.specs.Ordering.{ordering_reverse}
+use Rattle.std.specs.declared.cmp.Ordering.TheVariants.{Less}
+use Rattle.std.proofs.lemmas.Cmp.{nat_cmp_total, on_total, then_total}
+use Rattle.ere.specs.Tree.{Tree}
+use Rattle.index.specs.Documents.{Document}
+use Rattle.index.specs.State.{State}
+use Rattle.index.proofs.DocumentLemmas.{Contains-cons, Contains-head, Contains-tail}
+use Rattle.spans.specs.FirstSpan.{AreSpans}
+use Rattle.spans.specs.FirstStart.{IsFirstStart}
+use Rattle.spans.specs.declared.span.Span.{Span}
+use Rattle.request.specs.declared.options.View.{View}
+use Rattle.request.specs.declared.options.View.TheVariants as view
+use Rattle.search.specs.Pattern.{Pattern}
+use Rattle.search.specs.Request.{Request}
+use Rattle.search.specs.Scan.{Answer, Hit, IsAnswerOf, hit_cmp}
+use Rattle.search.specs.Shown.{IsShownOf, Shown}
+use Rattle.search.specs.Text.{text_of_rows}
+use Rattle.search.specs.View.{AreRows, IsColumnRow, IsSpansRow, Row, RowsOf, at_column, at_most, is_over, shown_tree, total, with_spans}
+use Rattle.search.specs.View.{RowsOf as rows_of}
+
+-- ---- hits
+
+hits_total : IsTotalOrder hit_cmp
+hits_total =
+    then_total (on_total (λ f. f.name) nat_list_cmp_total) (on_total (λ f. f.line) nat_cmp_total)
+
+not_both : (x y : Hit) → hit_cmp x y ≡ Less → hit_cmp y x ≡ Less → ⊥
+not_both x y below above =
+    let both : Less ≡ ordering_reverse Less = sym below ∙ hits_total.antisymm x y ∙ ap ordering_reverse above in
+    absurd (cc both)
+
+below_all : (x : Hit) (xs : List Hit) → AllByRecursion (λ y. hit_cmp x y ≡ Less) xs → (y : Hit) → Contains xs y → hit_cmp x y ≡ Less
+below_all x [] all y there = absurd (omega (arith, there.1))
+below_all x (z ∷ xs) all y there = go (below_all x xs all.1 y) (Contains-cons z xs y there)
+  where
+    go : (Contains xs y → hit_cmp x y ≡ Less) → (z ≡ y) ⊎ Contains xs y → hit_cmp x y ≡ Less
+    go deeper (inl same) = subst (λ h. hit_cmp x h ≡ Less) same all.0
+    go deeper (inr later) = deeper later
+
+-- Rising lists with the same hits have the same first one,
+same_first : (x y : Hit) (xs ys : List Hit) → AllByRecursion (λ h. hit_cmp x h ≡ Less) xs → AllByRecursion (λ h. hit_cmp y h ≡ Less) ys
+    → Contains (y ∷ ys) x → Contains (x ∷ xs) y → x ≡ y
+same_first x y xs ys low high first second = go (Contains-cons y ys x first) (Contains-cons x xs y second)
+  where
+    go : (y ≡ x) ⊎ Contains ys x → (x ≡ y) ⊎ Contains xs y → x ≡ y
+    go (inl same) other = sym same
+    go (inr later) (inl same) = same
+    go (inr later) (inr after) = absurd (not_both x y (below_all x xs low y after) (below_all y ys high x later))
+
+-- and the same ones after it.
+same_rest : (x y : Hit) (xs ys : List Hit) → x ≡ y → AllByRecursion (λ h. hit_cmp x h ≡ Less) xs
+    → ((h : Hit) → Contains (x ∷ xs) h → Contains (y ∷ ys) h) → (h : Hit) → Contains xs h → Contains ys h
+same_rest x y xs ys same low all h there = go (Contains-cons y ys h (all h (Contains-tail x xs h there)))
+  where
+    go : (y ≡ h) ⊎ Contains ys h → Contains ys h
+    go (inl first) =
+        let below : hit_cmp x x ≡ Less = subst (λ z. hit_cmp x z ≡ Less) (sym (same ∙ first)) (below_all x xs low h there) in
+        absurd (not_both x x below below)
+    go (inr later) = later
+
+same_hits : (xs ys : List Hit) → IsStrictlySortedBy hit_cmp xs → IsStrictlySortedBy hit_cmp ys → ((h : Hit) → Contains xs h → Contains ys h)
+    → ((h : Hit) → Contains ys h → Contains xs h) → xs ≡ ys
+unfolding IsStrictlySortedBy
+same_hits [] [] low high there back = refl
+same_hits [] (y ∷ ys) low high there back = let none = back y (Contains-head y ys) in absurd (omega (arith, none.1))
+same_hits (x ∷ xs) [] low high there back = let none = there x (Contains-head x xs) in absurd (omega (arith, none.1))
+same_hits (x ∷ xs) (y ∷ ys) low high there back =
+    let first : x ≡ y = same_first x y xs ys low.0 high.0 (there x (Contains-head x xs)) (back y (Contains-head y ys)) in
+    let rest : xs ≡ ys =
+    same_hits xs ys low.1 high.1 (same_rest x y xs ys first low.0 there) (same_rest y x ys xs (sym first) high.0 back) in
+    ap (λ h. h ∷ xs) first ∙ ap (λ t. y ∷ t) rest
+
+-- ---- answers
+
+answer_with : ℕ → List Hit → ℕ → ℕ → Answer
+answer_with version hits documents candidates = record { version = version; hits = hits; documents = documents; candidates = candidates }
+
+pub one_answer : (state : State) (pattern : Pattern) (answer other : Answer) → IsAnswerOf state pattern answer → IsAnswerOf state pattern other
+    → answer ≡ other
+unfolding answer_with
+one_answer state pattern answer other one two =
+    let hits : answer.hits ≡ other.hits =
+    same_hits answer.hits other.hits one.hits.rises two.hits.rises (λ h there. (two.hits.exact h).1 ((one.hits.exact h).0 there))
+    (λ h there. (one.hits.exact h).1 ((two.hits.exact h).0 there)) in
+    ap (λ v. answer_with v answer.hits answer.documents answer.candidates) (one.version ∙ sym two.version)
+    ∙ ap (λ h. answer_with other.version h answer.documents answer.candidates) hits
+    ∙ ap (λ d. answer_with other.version other.hits d answer.candidates) (one.documents ∙ sym two.documents)
+    ∙ ap (λ c. answer_with other.version other.hits other.documents c) (one.candidates ∙ sym two.candidates)
+
+-- ---- rows
+
+-- a line has one list of spans
+abbrev pub OneList : Type 0
+OneList = (line : List ℕ) (tree : Tree) (whole_words : Bool) (from : ℕ) (left right : List Span) → AreSpans line tree whole_words from left
+    → AreSpans line tree whole_words from right → left ≡ right
+
+one_start : (line : List ℕ) (tree : Tree) (whole_words : Bool) (left right : ℕ) → IsFirstStart line tree whole_words left
+    → IsFirstStart line tree whole_words right → left ≡ right
+one_start line tree whole_words left right one two =
+    let first : (left < right → ⊥) = λ before. two.leftmost left before one.begins.0 one.begins.1 in
+    let second : (right < left → ⊥) = λ before. one.leftmost right before two.begins.0 two.begins.1 in
+    omega (arith, first, second)
+
+one_column : (request : Request) (found : Hit) (row other : Row) → IsColumnRow request found row → IsColumnRow request found other → row ≡ other
+one_column request found row other (inl one) (inl two) =
+    one.2 ∙ ap (λ n. at_column (n + 1) found) (one_start found.text (shown_tree request) (is_some request.word) one.0 two.0 one.1 two.1)
+    ∙ sym two.2
+one_column request found row other (inl one) (inr two) = absurd (two.0 one.0 one.1.begins.0 one.1.begins.1)
+one_column request found row other (inr one) (inl two) = absurd (one.0 two.0 two.1.begins.0 two.1.begins.1)
+one_column request found row other (inr one) (inr two) = one.1 ∙ sym two.1
+
+one_row_of_spans : OneList → (request : Request) (found : Hit) (row other : Row) → IsSpansRow request found row → IsSpansRow request found other
+    → row ≡ other
+one_row_of_spans law request found row other one two =
+    one.2 ∙ ap (λ spans. with_spans spans found) (law found.text (shown_tree request) (is_some request.word) 0 one.0 two.0 one.1 two.1) ∙ sym two.2
+
+each_row : {IsRow : Hit → Row → Type 0} → ((found : Hit) (row other : Row) → IsRow found row → IsRow found other → row ≡ other) → {hits : List Hit}
+    → {rows others : List Row} → RowsOf IsRow hits rows → RowsOf IsRow hits others → rows ≡ others
+each_row one rows_of.done rows_of.done = refl
+each_row one (rows_of.more {found = found} {row = row} {rows = rows} is rest) (rows_of.more {row = other} {rows = others} too remaining) =
+    ap (λ r. r ∷ rows) (one found row other is too) ∙ ap (λ rs. other ∷ rs) (each_row one rest remaining)
+
+one_list_of_rows : OneList → (request : Request) (shown : View) (documents : List Document) (hits : List Hit) (rows others : List Row)
+    → AreRows request shown documents hits rows → AreRows request shown documents hits others → rows ≡ others
+unfolding AreRows
+one_list_of_rows law request view.Lines documents hits rows others one two = one ∙ sym two
+one_list_of_rows law request (view.Context most) documents hits rows others one two = one ∙ sym two
+one_list_of_rows law request view.Column documents hits rows others one two = each_row (one_column request) one two
+one_list_of_rows law request view.Spans documents hits rows others one two = each_row (one_row_of_spans law request) one two
+one_list_of_rows law request view.Names documents hits rows others one two = one ∙ sym two
+one_list_of_rows law request view.Counts documents hits rows others one two = one ∙ sym two
+one_list_of_rows law request view.Header documents hits rows others one two = one ∙ sym two
+
+-- ---- what is shown
+
+shown_with : Request → Answer → List Row → Shown
+shown_with request answer rows = record {
+  view = request.view;
+  version = answer.version;
+  count = at_most request.limit (total request.view answer.hits);
+  more = is_over request.limit (total request.view answer.hits);
+  rows = length rows;
+  text = text_of_rows request.zero rows;
+  documents = answer.documents;
+  candidates = answer.candidates;
+}
+
+fields : View → ℕ → ℕ → Bool → ℕ → List ℕ → ℕ → ℕ → Shown
+fields v version count more rows text documents candidates = record {
+  view = v;
+  version = version;
+  count = count;
+  more = more;
+  rows = rows;
+  text = text;
+  documents = documents;
+  candidates = candidates;
+}
+
+shown_is : (state : State) (request : Request) (shown : Shown) (is : IsShownOf state request shown) → shown ≡ shown_with request is.answer is.rows
+unfolding shown_with fields
+shown_is state request shown is =
+    let made = shown_with request is.answer is.rows in
+    ap (λ x. fields x shown.version shown.count shown.more shown.rows shown.text shown.documents shown.candidates) is.view
+    ∙ ap (λ x. fields made.view x shown.count shown.more shown.rows shown.text shown.documents shown.candidates) is.version
+    ∙ ap (λ x. fields made.view made.version x shown.more shown.rows shown.text shown.documents shown.candidates) is.count
+    ∙ ap (λ x. fields made.view made.version made.count x shown.rows shown.text shown.documents shown.candidates) is.more
+    ∙ ap (λ x. fields made.view made.version made.count made.more x shown.text shown.documents shown.candidates) is.row_count
+    ∙ ap (λ x. fields made.view made.version made.count made.more made.rows x shown.documents shown.candidates) is.text
+    ∙ ap (λ x. fields made.view made.version made.count made.more made.rows made.text x shown.candidates) is.documents
+    ∙ ap (λ x. fields made.view made.version made.count made.more made.rows made.text made.documents x) is.candidates
+
+pub one_shown : OneList → (state : State) (request : Request) (shown other : Shown) → IsShownOf state request shown
+    → IsShownOf state request other → shown ≡ other
+one_shown law state request shown other one two =
+    let answer : one.answer ≡ two.answer = one_answer state request.pattern one.answer two.answer one.is_answer two.is_answer in
+    let rows : one.rows ≡ two.rows =
+    one_list_of_rows law request request.view state.documents two.answer.hits one.rows two.rows
+    (subst (λ a. AreRows request request.view state.documents a.hits one.rows) answer one.are_rows) two.are_rows in
+    shown_is state request shown one ∙ ap (λ a. shown_with request a one.rows) answer ∙ ap (λ rs. shown_with request two.answer rs) rows
+    ∙ sym (shown_is state request other two)

@@ -1,0 +1,17 @@
+-- Laws of answers and of what is shown of them: each is the contract of a function that does nothing.
+use Rattle.std.specs.Prelude.{◌≡◌}
+use Rattle.index.specs.State.{State}
+use Rattle.search.specs.Pattern.{Pattern}
+use Rattle.search.specs.Request.{Request}
+use Rattle.search.specs.Scan.{Answer, IsAnswerOf}
+use Rattle.search.specs.Shown.{IsShownOf, Shown}
+
+-- In a state a pattern has at most one answer.
+abbrev pub AnswersAreOne : Type 0
+AnswersAreOne = (state : State) (pattern : Pattern) (answer other : Answer) → IsAnswerOf state pattern answer → IsAnswerOf state pattern other
+    → answer ≡ other
+
+-- In a state at most one thing is what a request shows, whatever its view.
+abbrev pub ShownAreOne : Type 0
+ShownAreOne = (state : State) (request : Request) (shown other : Shown) → IsShownOf state request shown → IsShownOf state request other
+    → shown ≡ other

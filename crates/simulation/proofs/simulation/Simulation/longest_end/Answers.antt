@@ -1,0 +1,15 @@
+use Rattle.std.proofs.Common.{◌+◌, MatchOption, subst, refl, arith}
+use Rattle.simulation.specs.Parts.{shape}
+use Rattle.simulation.specs.Private.Reading.{HasWanted, IsLastEnd}
+use Rattle.simulation.proofs.Matches as matches
+use Rattle.simulation.proofs.simulation.Simulation.longest_end.Goals as goal
+
+pub returns-then-start-line-clause-found : goal.returns-then-start-line-clause-found
+returns-then-start-line-clause-found c = λ tree is. matches.none_at_end c.args.line.now tree c.args.whole_words c.args.start (omega arith)
+
+pub returns-clause-found : goal.returns-clause-found
+returns-clause-found c = λ tree is.
+    matches.found_end c.args.line.now tree (shape c.args.self.now.part) c.args.self.now.gaps c.args.self.now.at_start c.last_end.result c.args.whole_words
+    c.args.start (c.args.start + 1) _ is.part.packed is.at_start refl refl
+    (subst (λ w. MatchOption c.last_end.result (HasWanted c.args.line.now (shape c.args.self.now.part) w → ⊥) (IsLastEnd c.args.line.now (shape c.args.self.now.part) w))
+    c.wanted-only.ensures c.last_end.ensures)
