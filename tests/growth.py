@@ -520,7 +520,8 @@ def length_of_a_pattern_behind_words(n):
 
 
 def whole_words_far_from_the_end_of_a_line(n):
-    """Beyond a search for the same lines. Both matches of each line are at its front, and the first of them is no whole word."""
+    """Beyond a search for the same lines. Both matches of each line are at its front, and the first of them is no whole word. What is
+    left of a line is only asked for an empty match."""
     lines = put(b"a", (b"xs x " + b"a" * n + b"\n") * 10) + b"publish\n"
     return lines + b"find -w -- x\n", lines + b"find -w --column -- x\n"
 
@@ -614,7 +615,7 @@ GROWTHS = [
     Row(spans_of_whole_words_in_a_long_line, 400, (SESSION,)),
     Row(spans_of_a_pattern_that_can_be_empty, 400, (SESSION,)),
     Row(whole_words_in_long_lines, 3_000, (SESSION,), 6),
-    Row(whole_words_far_from_the_end_of_a_line, 1_000, (SESSION,), 3),
+    Row(whole_words_far_from_the_end_of_a_line, 1_000, (SESSION,)),
     Row(lines_that_match_at_their_front, 1_000, (SESSION,), LEVEL, LEVEL),
     Row(lines_in_which_nothing_begins_any_more, 1_000, (SESSION,), LEVEL, LEVEL),
     Row(lines_without_a_match_that_match_at_their_front, 1_000, (SESSION,), LEVEL, LEVEL),
@@ -863,7 +864,7 @@ def simulations_are_small(runs):
 
 def simulations_of_equal_patterns(runs):
     """An alternative of bytes takes no more work than a set, and a count of what can be left out no more than what it stands for. The
-    work is what columns take beyond the lines, which are read whole for them."""
+    work is what columns of whole words take beyond the lines, which are read whole for them by the simulation."""
     letters = bytes(range(97, 123))
     alternatives, counts = letters * 10 + b"01\n", b"ab" * 10 + b"c"
     pairs = [
@@ -871,8 +872,8 @@ def simulations_of_equal_patterns(runs):
         (counts * 10 + b"01\n", b"((([ab]{0,20}c)*0)*1)+", b"(((%sc)*0)*1)+" % (b"[ab]?" * 20)),
     ]
     for line, *patterns in pairs:
-        lines = put(b"a", line * 20) + b"publish\n"
-        scripts = [[lines + b"find %s-- %s\n" % (words, pattern) for words in (b"--column ", b"")] for pattern in patterns]
+        lines = put(b"a", line * 60) + b"publish\n"
+        scripts = [[lines + b"find -w %s-- %s\n" % (words, pattern) for words in (b"--column ", b"")] for pattern in patterns]
         work, other = (runs.instructions(SESSION, more) - runs.instructions(SESSION, less) for more, less in scripts)
         yield f"instructions for {patterns[0].decode()[:40]}", work, other // 2, 2 * other
 
@@ -1056,7 +1057,7 @@ def publishes_change_one_copy(runs):
 def copies_are_brought_up_to_date_once(runs):
     """A session that waits for items brings the second copy up to date when it first waits after a publish, and not each time."""
     pending, shown = (runs.instructions_of_a_talk(SESSION_OF_ONE_READER, put(b"a", b"x") + b"publish\n" * count, 400) for count in (0, 1))
-    yield "instructions of the first thread for 400 waits behind a publish", shown - pending, -pending, 400 * 100
+    yield "instructions of the first thread for 400 waits behind a publish", shown - pending, -pending, 400 * 400
 
 
 def small_documents_are_searched_as_a_large_one(runs):

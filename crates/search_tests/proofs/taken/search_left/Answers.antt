@@ -14,7 +14,7 @@ returns-in-Ok c =
     let two = Put c.args.second.0 c.args.second.1 in
     let after_one = c.in_ok-apply.ensures.ok ∙ (ap (applied one) c.new-index.ensures ∙ sym (state_of-push [] one)) in
     let after_two = c.in_ok-apply-2.ensures.ok ∙ (ap (applied two) after_one ∙ sym (state_of-push (one ∷ []) two)) in
-    let are_shown = c.in-Ok.ensures _ (request_of own) c.in_ok-taken.ensures in (
+    let are_shown = c.in-Ok.ensures.shown _ (request_of own) c.in_ok-taken.ensures in (
       pattern_of own,
       c.in_ok-prepared.ensures.pattern,
       subst (λ r. IsShownOf (state_of (one ∷ two ∷ [])) r c.in-Ok.shown) c.in_ok-prepared.ensures.request
